@@ -1,0 +1,21 @@
+-- Lemmas that several proofs share.
+pub mod SourceLemmas
+pub mod SinkLemmas
+pub mod RowLemmas
+pub mod TerrainLemmas
+pub mod LineLemmas
+pub mod HeaderLemmas
+pub mod FollowLemmas
+pub mod TakenLines
+pub mod RunLemmas
+pub mod ScanLemmas
+pub mod RowTaken
+pub mod RowsTaken
+pub mod RestTaken
+pub mod HeaderJudged
+pub mod HeaderTaken
+pub mod Standing
+pub mod Judging
+pub mod MapTaken
+pub mod MapLemmas
+pub mod Deciding

@@ -1,0 +1,136 @@
+-- What calls on a sink hand on, one after another.
+use Rattle.std.proofs.Common.{◌≡◌, ℕ, ◌-◌, Bool, true, false, eqb, List, [], ◌++◌, length, take, drop, Result, Ok, Err, OnOk, OnErr, is_ok, refl, sym, ap, subst, ◌∙◌, append_assoc, append-nil, take-append-drop, arith, length-drop}
+use Rattle.std.proofs.lemmas.Bool.{ne_eqb}
+use Rattle.std.proofs.lemmas.List.{take_all}
+use Rattle.std.proofs.lemmas.Result.{on_ok_weaker, on_err_weaker}
+use Rattle.std.specs.Prelude.{Option, ◌&&◌}
+use Rattle.std.proofs.KnownBytes.{Appends-nil, Appends-trans}
+use Rattle.grid.specs.declared.sink.Sink.{Sink}
+use Rattle.grid.specs.Counted.{Rises}
+use Rattle.grid.specs.Sink.{held_back, sink_writer, Puts, Breaks}
+use Rattle.grid.specs.Writing.{WritesText}
+
+-- a part of a slice that ends where the slice does
+pub take-drop-all : (xs : List ℕ) (n : ℕ) → take (length xs - n) (drop n xs) ≡ drop n xs
+take-drop-all xs n = take_all (length xs - n) (drop n xs) (omega (arith, length-drop n xs))
+
+-- all that a write did not take is what follows
+pub rest_after : (all sent rest : List ℕ) (n : ℕ) → all ≡ sent ++ rest → all ≡ (sent ++ take n rest) ++ drop n rest
+rest_after all sent rest n e = e ∙ ap (λ l. sent ++ l) (sym (take-append-drop n rest)) ∙ sym (append_assoc sent (take n rest) (drop n rest))
+
+-- a count that is not 0 fails a test for 0
+pub not_zero_and : (n : ℕ) (b : Bool) → (n ≡ 0 → ⊥) → (eqb n 0 && b) ≡ false
+not_zero_and n b some = ap (λ t. t && b) (ne_eqb n 0 some)
+
+-- a clause on `Ok` or on `Err`, from the test
+pub OnOk-from : {T E P : Type 0} (r : Result T E) → (is_ok r ≡ true → P) → OnOk r P
+OnOk-from (Ok x) h = h refl
+OnOk-from (Err e) h = tt
+
+pub OnErr-from : {T E P : Type 0} (r : Result T E) → (is_ok r ≡ false → P) → OnErr r P
+OnErr-from (Ok x) h = tt
+OnErr-from (Err e) h = h refl
+
+module _ {W : Type 0} (contents : W → Option (List ℕ)) where
+  -- nothing happens where nothing is put
+  pub Puts-same : (s : Sink W) → Puts contents s s []
+  Puts-same s = record { same_writer = refl; sent = []; appended = Appends-nil _; in_order = append-nil (held_back s); failures = refl }
+
+  -- one call after another puts the bytes of both
+  pub Puts-trans : (old mid new : Sink W) (first second : List ℕ) → Puts contents old mid first → Puts contents mid new second
+      → Puts contents old new (first ++ second)
+  Puts-trans old mid new first second p q = record {
+    same_writer = q.same_writer ∙ p.same_writer;
+    sent = p.sent ++ q.sent;
+    appended = Appends-trans _ _ _ p.sent q.sent p.appended q.appended;
+    in_order = sym (append_assoc (held_back old) first second) ∙ ap (λ l. l ++ second) p.in_order ∙ append_assoc p.sent (held_back mid) second
+        ∙ ap (λ l. p.sent ++ l) q.in_order ∙ sym (append_assoc p.sent q.sent (held_back new));
+    failures = q.failures ∙ p.failures;
+  }
+
+  -- the writer failed in a later call
+  pub Breaks-after : (old mid new : Sink W) (first second : List ℕ) → Puts contents old mid first → Breaks contents mid new second
+      → Breaks contents old new (first ++ second)
+  Breaks-after old mid new first second p q = record {
+    same_writer = q.same_writer ∙ p.same_writer;
+    sent = p.sent ++ q.sent;
+    appended = Appends-trans _ _ _ p.sent q.sent p.appended q.appended;
+    rest = q.rest;
+    begins = sym (append_assoc (held_back old) first second) ∙ ap (λ l. l ++ second) p.in_order ∙ append_assoc p.sent (held_back mid) second
+        ∙ ap (λ l. p.sent ++ l) q.begins ∙ sym (append_assoc p.sent q.sent q.rest);
+    failures = subst (λ n. Rises n (sink_writer new).failures) p.failures q.failures;
+  }
+
+  -- what the writer took is also a beginning of more
+  pub Breaks-more : (old new : Sink W) (first second : List ℕ) → Breaks contents old new first → Breaks contents old new (first ++ second)
+  Breaks-more old new first second p = record {
+    same_writer = p.same_writer;
+    sent = p.sent;
+    appended = p.appended;
+    rest = p.rest ++ second;
+    begins = sym (append_assoc (held_back old) first second) ∙ ap (λ l. l ++ second) p.begins ∙ append_assoc p.sent p.rest second;
+    failures = p.failures;
+  }
+
+  -- a writer that was given what is held back and the bytes, where nothing else is held back
+  pub Puts-sent : (old new : Sink W) (bytes : List ℕ) → new.writer.ghost_name ≡ old.writer.ghost_name → held_back new ≡ []
+      → WritesText true (contents (sink_writer old).inner) (contents (sink_writer new).inner) (sink_writer old).failures (sink_writer new).failures (held_back old ++ bytes)
+      → Puts contents old new bytes
+  Puts-sent old new bytes name none w = record {
+    same_writer = name;
+    sent = held_back old ++ bytes;
+    appended = w.0;
+    in_order = sym (append-nil _) ∙ ap (λ l. (held_back old ++ bytes) ++ l) (sym none);
+    failures = w.1;
+  }
+
+  pub Breaks-sent : (old new : Sink W) (bytes : List ℕ) → new.writer.ghost_name ≡ old.writer.ghost_name
+      → WritesText false (contents (sink_writer old).inner) (contents (sink_writer new).inner) (sink_writer old).failures (sink_writer new).failures (held_back old ++ bytes)
+      → Breaks contents old new bytes
+  Breaks-sent old new bytes name w = record {
+    same_writer = name;
+    sent = w.0;
+    appended = w.3;
+    rest = w.1;
+    begins = w.2;
+    failures = w.4;
+  }
+
+  -- bytes that were sent behind others that were handed on
+  pub Puts-send : {E : Type 0} (old mid new : Sink W) (bytes : List ℕ) (r : Result Unit E) → Puts contents old mid [] → held_back mid ≡ []
+      → new.writer.ghost_name ≡ mid.writer.ghost_name → held_back new ≡ held_back mid
+      → WritesText (is_ok r) (contents (sink_writer mid).inner) (contents (sink_writer new).inner) (sink_writer mid).failures (sink_writer new).failures bytes
+      → OnOk r (Puts contents old new bytes)
+  Puts-send old mid new bytes r p none name held w = OnOk-from r (λ ok.
+      let all : WritesText true (contents (sink_writer mid).inner) (contents (sink_writer new).inner) (sink_writer mid).failures (sink_writer new).failures (held_back mid ++ bytes)
+      = subst (λ l. WritesText true (contents (sink_writer mid).inner) (contents (sink_writer new).inner) (sink_writer mid).failures (sink_writer new).failures (l ++ bytes)) (sym none)
+      (subst (λ b. WritesText b (contents (sink_writer mid).inner) (contents (sink_writer new).inner) (sink_writer mid).failures (sink_writer new).failures bytes) ok w) in
+      Puts-trans old mid new [] bytes p (Puts-sent mid new bytes name (held ∙ none) all))
+
+  pub Breaks-send : {E : Type 0} (old mid new : Sink W) (bytes : List ℕ) (r : Result Unit E) → Puts contents old mid [] → held_back mid ≡ []
+      → new.writer.ghost_name ≡ mid.writer.ghost_name
+      → WritesText (is_ok r) (contents (sink_writer mid).inner) (contents (sink_writer new).inner) (sink_writer mid).failures (sink_writer new).failures bytes
+      → OnErr r (Breaks contents old new bytes)
+  Breaks-send old mid new bytes r p none name w = OnErr-from r (λ err.
+      let all : WritesText false (contents (sink_writer mid).inner) (contents (sink_writer new).inner) (sink_writer mid).failures (sink_writer new).failures (held_back mid ++ bytes)
+      = subst (λ l. WritesText false (contents (sink_writer mid).inner) (contents (sink_writer new).inner) (sink_writer mid).failures (sink_writer new).failures (l ++ bytes)) (sym none)
+      (subst (λ b. WritesText b (contents (sink_writer mid).inner) (contents (sink_writer new).inner) (sink_writer mid).failures (sink_writer new).failures bytes) err w) in
+      Breaks-after old mid new [] bytes p (Breaks-sent mid new bytes name all))
+
+  -- a call after another, where the bytes of both are the text
+  pub Puts-then : {E : Type 0} (old mid new : Sink W) (first second text : List ℕ) (r : Result Unit E) → first ++ second ≡ text
+      → Puts contents old mid first → OnOk r (Puts contents mid new second) → OnOk r (Puts contents old new text)
+  Puts-then old mid new first second text r e p = on_ok_weaker r (λ q. subst (Puts contents old new) e (Puts-trans old mid new first second p q))
+
+  pub Breaks-then : {E : Type 0} (old mid new : Sink W) (first second text : List ℕ) (r : Result Unit E) → first ++ second ≡ text
+      → Puts contents old mid first → OnErr r (Breaks contents mid new second) → OnErr r (Breaks contents old new text)
+  Breaks-then old mid new first second text r e p = on_err_weaker r (λ q. subst (Breaks contents old new) e (Breaks-after old mid new first second p q))
+
+  -- a call that failed, where its bytes begin the text
+  pub Breaks-text : (old new : Sink W) (first second text : List ℕ) → first ++ second ≡ text → Breaks contents old new first → Breaks contents old new text
+  Breaks-text old new first second text e p = subst (Breaks contents old new) e (Breaks-more old new first second p)
+
+  -- a call that failed after another
+  pub Breaks-text-after : (old mid new : Sink W) (first second third text : List ℕ) → (first ++ second) ++ third ≡ text
+      → Puts contents old mid first → Breaks contents mid new second → Breaks contents old new text
+  Breaks-text-after old mid new first second third text e p q = Breaks-text old new (first ++ second) third text e (Breaks-after old mid new first second p q)

@@ -1,0 +1,160 @@
+-- The faults of a map text, and where each stands.
+use Rattle.std.specs.Prelude.{◌≡◌, ◌≢◌, ℕ, ◌+◌, ◌*◌, ◌<◌, ◌⊎◌, zero, suc, min, false, IsTrue, List, [], ◌∷◌, ◌++◌, length, codes, Result, Ok, Err}
+use Rattle.std.specs.List.{list_all}
+use Rattle.grid.specs.declared.map_fault.MapFault.{MapFault}
+use Rattle.grid.specs.declared.map_fault.MapFault.TheVariants.{BadHeader, BadNumber, TooLarge, BadTerrain, ShortRow, LongRow, MissingRows, TextAfter, ReadFailed, OutOfMemory}
+use Rattle.grid.specs.Counted.{greatest}
+use Rattle.grid.specs.Text.{carriage_return, is_blank}
+use Rattle.grid.specs.Terrain.{is_terrain}
+use Rattle.grid.specs.Map.{Grid, IsSize}
+use Rattle.grid.specs.MapText.{is_tail, IsTypeLine, IsNumberLine, IsMapLine, IsRowOf, is_rest_byte}
+use Rattle.grid.specs.Reading.{Place, at_byte, at_end, JudgedAt, IsOver, Outcome, is_value, is_fault, is_failed, is_refused}
+
+-- The line that is due, by what the lines before it said: one of the header, or a row of a width where so many rows are due. No row
+-- is due in the blank lines after the last.
+pub data Due : Type 0 where
+  type_due height_due : Due
+  width_due : (height : ℕ) → Due
+  map_due rows_due : (width count : ℕ) → Due
+
+-- a height that a map may have
+abbrev pub IsHeight : ℕ → Type 0
+IsHeight height = (0 < height) × (height < 65536)
+
+-- a row, as long as it should be
+pub record IsRow (width : ℕ) (line : List ℕ) : Type 0 where
+  pub characters : List ℕ
+  pub bytes : IsRowOf characters line
+  pub count : length characters ≡ width
+  pub terrain : IsTrue (list_all is_terrain characters)
+
+-- the line is right where it is due, and what is due next
+abbrev pub Follows : Due → List ℕ → Due → Type 0
+Follows type_due line next = IsTypeLine line × (next ≡ height_due)
+Follows height_due line next =
+    (height : ℕ) × IsNumberLine (codes "height") height line × IsHeight height × (next ≡ width_due height)
+Follows (width_due height) line next =
+    (width : ℕ) × IsNumberLine (codes "width") width line × IsSize width height × (next ≡ map_due width height)
+Follows (map_due width height) line next = IsMapLine line × (next ≡ rows_due width height)
+Follows (rows_due width zero) line next = IsTrue (list_all is_rest_byte line) × (next ≡ rows_due width zero)
+Follows (rows_due width (suc count)) line next = IsRow width line × (next ≡ rows_due width count)
+
+-- the lines are right, one after another, from what is due at first to what is due at last
+abbrev pub Leads : Due → List (List ℕ) → Due → Type 0
+Leads first [] last = last ≡ first
+Leads first (line ∷ lines) last = (next : Due) × Follows first line next × Leads next lines last
+
+-- the word, a blank, and something more before the end of the line and the blanks there
+pub record HasValue (word line : List ℕ) : Type 0 where
+  pub blank : ℕ
+  pub more : List ℕ
+  pub bytes : line ≡ word ++ blank ∷ more
+  pub is_blank : IsTrue (is_blank blank)
+  pub some : is_tail more ≡ false
+
+-- the word and a number above 0
+abbrev pub HasNumber : List ℕ → List ℕ → Type 0
+HasNumber word line = (n : ℕ) × IsNumberLine word n line × (0 < n)
+
+-- characters that are terrain, and fewer than the width
+pub record IsBeginning (width : ℕ) (characters : List ℕ) : Type 0 where
+  pub short : length characters < width
+  pub terrain : IsTrue (list_all is_terrain characters)
+
+-- characters that are terrain, as many as the width
+pub record IsWhole (width : ℕ) (characters : List ℕ) : Type 0 where
+  pub whole : length characters ≡ width
+  pub terrain : IsTrue (list_all is_terrain characters)
+
+-- after the characters comes a byte that is no line end, or a CR and then a byte that makes it none
+abbrev pub GoesOn : List ℕ → List ℕ → Type 0
+GoesOn characters line =
+    ((b : ℕ) × (line ≡ characters ++ b ∷ []) × (b ≢ carriage_return))
+    ⊎ ((b : ℕ) × (line ≡ characters ++ carriage_return ∷ b ∷ []))
+
+-- the same where the first byte is no terrain either
+abbrev pub GoesWrong : List ℕ → List ℕ → Type 0
+GoesWrong characters line =
+    ((b : ℕ) × (line ≡ characters ++ b ∷ []) × (b ≢ carriage_return) × (is_terrain b ≡ false))
+    ⊎ ((b : ℕ) × (line ≡ characters ++ carriage_return ∷ b ∷ []))
+
+-- The line is not what a header has there at all: another form, or for a number no word, blank and something more.
+abbrev pub HasOtherForm : Due → List ℕ → Type 0
+HasOtherForm type_due line = IsTypeLine line → ⊥
+HasOtherForm height_due line = HasValue (codes "height") line → ⊥
+HasOtherForm (width_due height) line = HasValue (codes "width") line → ⊥
+HasOtherForm (map_due width height) line = IsMapLine line → ⊥
+HasOtherForm (rows_due width count) line = ⊥
+
+-- the word, a blank and something more, which is no number above 0
+abbrev pub HasOtherValue : Due → List ℕ → Type 0
+HasOtherValue type_due line = ⊥
+HasOtherValue height_due line = HasValue (codes "height") line × (HasNumber (codes "height") line → ⊥)
+HasOtherValue (width_due height) line = HasValue (codes "width") line × (HasNumber (codes "width") line → ⊥)
+HasOtherValue (map_due width height) line = ⊥
+HasOtherValue (rows_due width count) line = ⊥
+
+-- a number past the limits
+abbrev pub HasLargeValue : Due → List ℕ → Type 0
+HasLargeValue type_due line = ⊥
+HasLargeValue height_due line = (n : ℕ) × IsNumberLine (codes "height") n line × (65535 < n)
+HasLargeValue (width_due height) line =
+    (n : ℕ) × IsNumberLine (codes "width") n line × ((65535 < n) ⊎ (4194304 < n * height))
+HasLargeValue (map_due width height) line = ⊥
+HasLargeValue (rows_due width count) line = ⊥
+
+-- A row of the width is due.
+abbrev pub IsRowDue : Due → ℕ → Type 0
+IsRowDue due width = (count : ℕ) × (due ≡ rows_due width (suc count))
+
+-- The fault of a line at a place, by what was due there; the row of the fault table that each fault has.
+abbrev pub HasFault : MapFault → Place → Due → ℕ → List ℕ → Type 0
+HasFault (BadHeader at) place due number line = (at ≡ number) × IsOver place × HasOtherForm due line
+HasFault (BadNumber at) place due number line = (at ≡ number) × IsOver place × HasOtherValue due line
+HasFault (TooLarge at) place due number line = (at ≡ number) × IsOver place × HasLargeValue due line
+HasFault (BadTerrain at column) place due number line =
+    (at ≡ number) × (place ≡ at_byte)
+    × (width : ℕ) × IsRowDue due width
+    × (characters : List ℕ) × IsBeginning width characters × GoesWrong characters line × (column ≡ length characters + 1)
+HasFault (ShortRow at) place due number line =
+    (at ≡ number) × IsOver place
+    × (width : ℕ) × IsRowDue due width
+    × (characters : List ℕ) × IsBeginning width characters × IsRowOf characters line × (place ≡ at_end → line ≢ [])
+HasFault (LongRow at) place due number line =
+    (at ≡ number) × (place ≡ at_byte)
+    × (width : ℕ) × IsRowDue due width
+    × (characters : List ℕ) × IsWhole width characters × GoesOn characters line
+HasFault (MissingRows at) place due number line = (at ≡ number) × (place ≡ at_end) × (width : ℕ) × IsRowDue due width × (line ≡ [])
+HasFault (TextAfter at) place due number line =
+    (at ≡ number) × (place ≡ at_byte)
+    × (width : ℕ) × (due ≡ rows_due width zero)
+    × (front : List ℕ) × (b : ℕ) × (line ≡ front ++ b ∷ []) × IsTrue (list_all is_rest_byte front) × (is_rest_byte b ≡ false)
+HasFault ReadFailed place due number line = ⊥
+HasFault OutOfMemory place due number line = ⊥
+
+-- the number of the line after these, from 1 on; it stays at the greatest value
+abbrev pub line_number : List (List ℕ) → ℕ
+line_number before = min (length before + 1) greatest
+
+-- The fault stands at the place where the text ends, and the lines before are right.
+pub record MapFaultAt (fault : MapFault) (place : Place) (text : List ℕ) : Type 0 where
+  pub before : List (List ℕ)
+  pub line : List ℕ
+  pub due : Due
+  pub judged : JudgedAt place before line text
+  pub right : Leads type_due before due
+  pub faulty : HasFault fault place due (line_number before) line
+
+-- what `read_map` answered, as a reader's outcome
+abbrev pub map_outcome : Result Grid MapFault → Outcome Grid MapFault
+map_outcome (Ok m) = is_value m
+map_outcome (Err (BadHeader line)) = is_fault (BadHeader line)
+map_outcome (Err (BadNumber line)) = is_fault (BadNumber line)
+map_outcome (Err (TooLarge line)) = is_fault (TooLarge line)
+map_outcome (Err (BadTerrain line column)) = is_fault (BadTerrain line column)
+map_outcome (Err (ShortRow line)) = is_fault (ShortRow line)
+map_outcome (Err (LongRow line)) = is_fault (LongRow line)
+map_outcome (Err (MissingRows line)) = is_fault (MissingRows line)
+map_outcome (Err (TextAfter line)) = is_fault (TextAfter line)
+map_outcome (Err ReadFailed) = is_failed
+map_outcome (Err OutOfMemory) = is_refused

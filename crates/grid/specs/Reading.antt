@@ -1,0 +1,71 @@
+-- What a reader of any text format answers, by the format's grammar and its faults.
+use Rattle.std.specs.Prelude.{◌≡◌, ℕ, ◌⊎◌, List, [], ◌∷◌, ◌++◌, Option, true, false, ⊤}
+use Rattle.std.specs.Io.KnownBytes.{Consumes, IsAtEnd}
+use Rattle.grid.specs.Counted.{Rises}
+use Rattle.grid.specs.Text.{lines_of, ends_in_line_feed}
+
+-- Where a fault is judged: at the LF of a line, at another byte of it, or at the end of the input.
+pub data Place : Type 0 where
+  at_line_feed at_byte at_end : Place
+
+-- text goes up to a place where line is judged, after the lines before it. Where the input ended before that line, the line is empty.
+abbrev pub JudgedAt : Place → List (List ℕ) → List ℕ → List ℕ → Type 0
+JudgedAt at_line_feed before line text = (lines_of text ≡ before ++ line ∷ []) × (ends_in_line_feed text ≡ true)
+JudgedAt at_byte before line text = (lines_of text ≡ before ++ line ∷ []) × (ends_in_line_feed text ≡ false)
+JudgedAt at_end before line text =
+    ((lines_of text ≡ before ++ line ∷ []) × (ends_in_line_feed text ≡ false)) ⊎ ((lines_of text ≡ before) × (line ≡ []))
+
+-- the line is judged as a whole: its LF came, or the end of the input
+abbrev pub IsOver : Place → Type 0
+IsOver at_line_feed = ⊤
+IsOver at_byte = ⊥
+IsOver at_end = ⊤
+
+-- the place is a byte
+abbrev pub IsByte : Place → Type 0
+IsByte at_line_feed = ⊤
+IsByte at_byte = ⊤
+IsByte at_end = ⊥
+
+-- The bytes decide the fault, however the text goes on: it stands at one of them. `FaultAt f place text` says of a format that
+-- f stands at the place at which text ends, and that all before it is right.
+abbrev pub Decides : {F : Type 0} → (F → Place → List ℕ → Type 0) → F → List ℕ → Type 0
+Decides FaultAt fault bytes =
+    (front rest : List ℕ) × (place : Place) × (bytes ≡ front ++ rest) × IsByte place × FaultAt fault place front
+
+-- the first fault of a whole text
+abbrev pub IsFirstFault : {F : Type 0} → (F → Place → List ℕ → Type 0) → F → List ℕ → Type 0
+IsFirstFault FaultAt fault text = Decides FaultAt fault text ⊎ FaultAt fault at_end text
+
+-- what a reader answered: a value, a fault of the text, that the reader failed, or that memory was refused
+pub data Outcome (V F : Type 0) : Type 0 where
+  is_value : V → Outcome V F
+  is_fault : F → Outcome V F
+  is_failed is_refused : Outcome V F
+
+-- What an outcome says of the bytes that the reader delivered, and of those that it has left.
+abbrev pub Answers : {V F : Type 0} → (V → List ℕ → Type 0) → (F → Place → List ℕ → Type 0) → List ℕ → Option (List ℕ) → Outcome V F → Type 0
+-- the whole text spells the value
+Answers Spells FaultAt delivered left (is_value v) = Spells v delivered × IsAtEnd left
+-- the fault is the first of every text that begins so, or of the whole text
+Answers Spells FaultAt delivered left (is_fault f) = Decides FaultAt f delivered ⊎ (FaultAt f at_end delivered × IsAtEnd left)
+-- no fault is decided
+Answers {V} {F} Spells FaultAt delivered left is_failed = (f : F) → Decides FaultAt f delivered → ⊥
+Answers Spells FaultAt delivered left is_refused = ⊤
+
+-- the reader failed in the call exactly where the answer says so
+abbrev pub FailsAs : {V F : Type 0} → Outcome V F → ℕ → ℕ → Type 0
+FailsAs (is_value v) old new = new ≡ old
+FailsAs (is_fault f) old new = new ≡ old
+FailsAs is_failed old new = Rises old new
+FailsAs is_refused old new = new ≡ old
+
+-- A reader of texts answered by what was delivered, however it was cut: left is what a counted reader had and has to give, and
+-- failures its counts.
+pub record ReadsText
+    {V F : Type 0} (Spells : V → List ℕ → Type 0) (FaultAt : F → Place → List ℕ → Type 0)
+    (old_left new_left : Option (List ℕ)) (old_failures new_failures : ℕ) (outcome : Outcome V F) : Type 0 where
+  pub delivered : List ℕ
+  pub consumed : Consumes old_left new_left delivered
+  pub answer : Answers Spells FaultAt delivered new_left outcome
+  pub failures : FailsAs outcome old_failures new_failures

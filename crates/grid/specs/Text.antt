@@ -1,0 +1,43 @@
+-- The characters and lines that every format speaks of.
+use Rattle.std.specs.Prelude.{ℕ, Bool, true, false, ◌||◌, ◌==◌, if◌then◌else◌, List, [], ◌∷◌, ◌++◌}
+use Rattle.std.specs.List.{flat_map}
+
+abbrev pub tab : ℕ
+tab = 9
+
+abbrev pub line_feed : ℕ
+line_feed = 10
+
+abbrev pub carriage_return : ℕ
+carriage_return = 13
+
+abbrev pub space : ℕ
+space = 32
+
+-- a space or a tab
+abbrev pub is_blank : ℕ → Bool
+is_blank b = b == space || b == tab
+
+-- a byte of a line, which its LF ends
+abbrev pub is_line_byte : ℕ → Bool
+is_line_byte b = if b == line_feed then false else true
+
+-- b stands before the first of the lines
+abbrev pub onto_first : ℕ → List (List ℕ) → List (List ℕ)
+onto_first b [] = (b ∷ []) ∷ []
+onto_first b (line ∷ lines) = (b ∷ line) ∷ lines
+
+-- the lines of a text, each without the LF that ends it; the end of the text may end the last
+abbrev pub lines_of : List ℕ → List (List ℕ)
+lines_of [] = []
+lines_of (b ∷ bytes) = if b == line_feed then [] ∷ lines_of bytes else onto_first b (lines_of bytes)
+
+-- the lines, each ended by an LF
+abbrev pub ended : List (List ℕ) → List ℕ
+ended lines = flat_map (λ line. line ++ line_feed ∷ []) lines
+
+-- whether an LF is the last byte
+abbrev pub ends_in_line_feed : List ℕ → Bool
+ends_in_line_feed [] = false
+ends_in_line_feed (b ∷ []) = b == line_feed
+ends_in_line_feed (b ∷ c ∷ bytes) = ends_in_line_feed (c ∷ bytes)

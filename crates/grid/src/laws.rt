@@ -1,0 +1,21 @@
+//! What the definitions of a map's text mean: laws, which hold of all texts and need no code.
+ghost use Rattle.std.specs.Prelude.{◌≡◌, ℕ, ◌⊎◌, List};
+ghost use Rattle.grid.specs.declared.map_fault.MapFault.{MapFault};
+ghost use Rattle.grid.specs.Reading.{IsFirstFault};
+ghost use Rattle.grid.specs.Map.{Grid, IsMap};
+ghost use Rattle.grid.specs.MapText.{MapText, canonical_text};
+ghost use Rattle.grid.specs.MapFault.{MapFaultAt};
+
+/// Each text has exactly one reading as a map: one map that it spells, or one first fault.
+pub fn one_reading()
+    ensures some { (text : List ℕ) → ((m : Grid) × MapText m text) ⊎ ((f : MapFault) × IsFirstFault MapFaultAt f text) }
+    ensures one_map { (text : List ℕ) (m n : Grid) → MapText m text → MapText n text → m ≡ n }
+    ensures one_fault { (text : List ℕ) (f g : MapFault) → IsFirstFault MapFaultAt f text → IsFirstFault MapFaultAt g text → f ≡ g }
+    ensures never_both { (text : List ℕ) (m : Grid) (f : MapFault) → MapText m text → IsFirstFault MapFaultAt f text → ⊥ }
+{}
+
+/// The text that is written for a map spells that map, and no other.
+pub fn written_text()
+    ensures spells { (m : Grid) → IsMap m → MapText m (canonical_text m) }
+    ensures only { (m n : Grid) → IsMap m → MapText n (canonical_text m) → n ≡ m }
+{}

@@ -1,0 +1,129 @@
+//! Bytes for a writer, handed on a piece at a time.
+ghost use Rattle.std.specs.Prelude.{◌≡◌, ◌+◌, ◌≤◌, [], ◌++◌, length, take, OnOk, OnErr, is_ok};
+ghost use Rattle.grid.specs.Counted.{counted_inner, failures_of};
+ghost use Rattle.grid.specs.Writing.{WritesText};
+
+use crate::Counted;
+use std::io::Write;
+use thiserror::Error;
+
+/// Why a text was not written.
+#[derive(Clone, Copy, Debug, PartialEq, Eq, Error)]
+pub enum WriteFault {
+    #[error("WriteFailed")]
+    WriteFailed,
+}
+
+/// Up to 65,536 bytes.
+#[derive(Drop)]
+struct Piece {
+    bytes: [u8; 65536],
+    len: usize,
+    ghost in_piece: { len ≤ 65536 },
+}
+
+impl Piece {
+    fn as_slice(&self) -> &[u8]
+        ensures { result.now ≡ take self.now.len self.now.bytes }
+    {
+        &self.bytes[..self.len]
+    }
+
+    fn room(&self) -> usize
+        ensures { result + self.now.len ≡ 65536 }
+    {
+        self.bytes.len() - self.len
+    }
+
+    fn clear(&mut self)
+        ensures { self.new.len ≡ 0 }
+    {
+        self.len = 0;
+    }
+
+    fn append(&mut self, bytes: &[u8])
+        requires { self.old.len + length bytes.now ≤ 65536 }
+        ensures { take self.new.len self.new.bytes ≡ take self.old.len self.old.bytes ++ bytes.now }
+    {
+        let end = self.len + bytes.len();
+        self.bytes[self.len..end].copy_from_slice(bytes);
+        self.len = end;
+    }
+}
+
+/// Collects bytes for a writer, and hands on a piece of 65,536 at a time, or more where more are put at once.
+pub struct Sink<'a, W> {
+    writer: &'a mut Counted<W>,
+    piece: Piece,
+}
+
+impl<W> Drop for Sink<'_, W> {
+    fn drop(self)
+        ensures { self.exit.0.now ≡ self.entry.writer.now }
+    {
+        let Sink {
+            writer: _,
+            piece: _,
+        } = self;
+    }
+}
+
+impl<'a, W: Write> Sink<'a, W> {
+    ghost use Rattle.grid.specs.Sink.{held_back, sink_writer, Puts, Breaks};
+
+    /// Nothing is put yet.
+    pub fn new(writer: &'a mut Counted<W>) -> Sink<'a, W>
+        ensures same_writer { result.writer.ghost_name ≡ writer.entry.ghost_name }
+        ensures writer { sink_writer result ≡ writer.old }
+        ensures held_back { held_back result ≡ [] }
+    {
+        Sink {
+            writer,
+            piece: Piece {
+                bytes: [0; 65536],
+                len: 0,
+            },
+        }
+    }
+
+    /// Puts bytes behind those that were put before.
+    pub fn put(&mut self, bytes: &[u8]) -> Result<(), WriteFault>
+        ensures ok { OnOk result (Puts W.contents self.old self.new bytes.now) }
+        ensures err { OnErr result (Breaks W.contents self.old self.new bytes.now) }
+    {
+        if self.piece.room() < bytes.len() {
+            self.hand_on()?;
+            if self.piece.room() < bytes.len() {
+                return send(self.writer, bytes);
+            }
+        }
+        self.piece.append(bytes);
+        Ok(())
+    }
+
+    /// Hands on all that is held back.
+    pub fn hand_on(&mut self) -> Result<(), WriteFault>
+        ensures ok { OnOk result (Puts W.contents self.old self.new []) }
+        ensures none_held { OnOk result (held_back self.new ≡ []) }
+        ensures err { OnErr result (Breaks W.contents self.old self.new []) }
+    {
+        send(self.writer, self.piece.as_slice())?;
+        self.piece.clear();
+        Ok(())
+    }
+}
+
+/// Gives a writer all of the bytes, up to its first failure.
+fn send<W: Write>(writer: &mut Counted<W>, bytes: &[u8]) -> Result<(), WriteFault>
+    ensures { WritesText (is_ok result) (W.contents (counted_inner writer.old)) (W.contents (counted_inner writer.new)) (failures_of writer.old) (failures_of writer.new) bytes.now }
+{
+    let mut rest = bytes;
+    while !rest.is_empty() {
+        match writer.write(rest) {
+            Ok(0) => return Err(WriteFault::WriteFailed),
+            Ok(n) => rest = &rest[n..],
+            Err(_) => return Err(WriteFault::WriteFailed),
+        }
+    }
+    Ok(())
+}

@@ -1,0 +1,74 @@
+//! The program `mapf`: opens files and hands them to the commands.
+#![tactic(auto)]
+
+use grid::Counted;
+use mapf_cmd::{Line, LineFault, Status, line, map_cmd, report};
+use std::env;
+use std::fs::File;
+use std::io::ErrorKind;
+use std::process::ExitCode;
+
+const HELP: &str = "Reads maps, and answers what they hold.
+
+Usage: mapf COMMAND
+
+Commands:
+  map FILE    reads a map and writes it in canonical form
+  help        shows this text
+";
+
+const USAGE: &str = "usage: mapf map FILE (mapf help says more)";
+
+fn main(rt: HostRuntime) -> ExitCode {
+    ExitCode::from(run(&rt))
+}
+
+/// Reads the words of the command line and answers them with the exit status.
+fn run(rt: &HostRuntime) -> u8 {
+    let words = match env::args(rt) {
+        Ok(words) => words.collect(rt.alloc()),
+        Err(e) if e.kind() == ErrorKind::OutOfMemory => return failed(rt, "OutOfMemory"),
+        Err(_) => return refused(rt, LineFault::BadCommand),
+    };
+    let words: Vec<String> = match words {
+        Ok(words) => words,
+        Err(_) => return failed(rt, "OutOfMemory"),
+    };
+    match line(rt.alloc(), words.as_slice()) {
+        Ok(line) => perform(rt, line),
+        Err(fault) => refused(rt, fault),
+    }
+}
+
+/// Opens the files of a command and performs it.
+fn perform(rt: &HostRuntime, line: Line) -> u8 {
+    let mut out = Counted::new(rt.stdout());
+    let mut err = Counted::new(rt.stderr());
+    match line {
+        Line::Map { file } => match File::open(rt, &file) {
+            Ok(map) => map_cmd(rt.alloc(), &mut Counted::new(map), &mut out, &mut err),
+            Err(_) => failed(rt, "OpenFailed"),
+        },
+    }
+}
+
+/// Says why the words are no command.
+fn refused(rt: &HostRuntime, fault: LineFault) -> u8 {
+    match fault {
+        LineFault::Help => match rt.print(HELP) {
+            Ok(()) => Status::Done.code(),
+            Err(_) => failed(rt, "WriteFailed"),
+        },
+        LineFault::BadCommand => {
+            let _ = rt.eprintln(USAGE);
+            Status::BadCommand.code()
+        }
+        LineFault::OutOfMemory => failed(rt, "OutOfMemory"),
+    }
+}
+
+/// Says which file or device failed, or that memory did.
+fn failed(rt: &HostRuntime, fault: &str) -> u8 {
+    let _ = report(&mut Counted::new(rt.stderr()), fault);
+    Status::Failure.code()
+}

@@ -1,0 +1,4 @@
+-- The definitions that the contracts cite.
+pub mod Words
+pub mod Status
+pub mod MapCommand

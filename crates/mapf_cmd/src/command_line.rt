@@ -1,0 +1,47 @@
+//! A command line as a value.
+ghost use Rattle.std.specs.Prelude.{◌≡◌};
+ghost use Rattle.clap.specs.Words.{kind_of};
+ghost use Rattle.mapf_cmd.specs.Words.{fault_of_kind};
+ghost use Rattle.mapf_cmd.specs.declared.command_line.LineFault.TheVariants.{OutOfMemory as out_of_memory};
+
+use clap::error::{Error as ClapError, ErrorKind};
+use std::alloc::AllocError;
+use thiserror::Error;
+
+/// A command with what its words say.
+#[derive(Debug, Drop, PartialEq, Eq)]
+pub enum Line {
+    /// Reads a map and writes it in canonical form.
+    Map { file: String },
+}
+
+/// Why the words are no command.
+#[derive(Clone, Copy, Debug, PartialEq, Eq, Error)]
+pub enum LineFault {
+    #[error("Help")]
+    Help,
+    #[error("BadCommand")]
+    BadCommand,
+    #[error("OutOfMemory")]
+    OutOfMemory,
+}
+
+impl From<AllocError> for LineFault {
+    ghost from_gives = { λ _ e. e ≡ out_of_memory };
+
+    fn from(_e: AllocError) -> LineFault {
+        LineFault::OutOfMemory
+    }
+}
+
+impl From<ClapError> for LineFault {
+    ghost from_gives = { λ e f. f ≡ fault_of_kind (kind_of e) };
+
+    fn from(e: ClapError) -> LineFault {
+        match e.kind() {
+            ErrorKind::DisplayHelp => LineFault::Help,
+            ErrorKind::OutOfMemory => LineFault::OutOfMemory,
+            _ => LineFault::BadCommand,
+        }
+    }
+}

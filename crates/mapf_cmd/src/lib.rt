@@ -1,0 +1,12 @@
+//! The command line of `mapf` as a value, and each command over readers and writers.
+#![tactic(auto)]
+
+mod command_line;
+mod map_command;
+mod status;
+mod words;
+
+pub use command_line::{Line, LineFault};
+pub use map_command::map_cmd;
+pub use status::{Status, report};
+pub use words::line;

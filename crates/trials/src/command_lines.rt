@@ -1,0 +1,58 @@
+//! Command lines and what each is read as.
+use mapf_cmd::{Line, LineFault, line};
+use std::alloc::{AllocError, Global};
+use std::test::Fail;
+
+fn words(alloc: Global, text: &str) -> Result<Vec<String>, AllocError> {
+    let mut words = Vec::new(alloc);
+    for word in text.split(' ') {
+        words.push(String::from_str(alloc, word)?)?;
+    }
+    Ok(words)
+}
+
+#[test]
+fn map_lines(rt: HostRuntime) -> Result<(), Fail> {
+    for (text, want) in [
+        ("mapf map F", "F"),
+        ("mapf map ./a/b.map", "./a/b.map"),
+        ("other map map", "map"),
+        ("mapf map -- -h", "-h"),
+        ("mapf map -", "-"),
+    ] {
+        let words = words(rt.alloc(), text)?;
+        let Line::Map { file } = line(rt.alloc(), words.as_slice())?;
+        assert_eq!(rt; file.as_str(), want, "at {text:?}");
+    }
+    Ok(())
+}
+
+#[test]
+fn refused_lines(rt: HostRuntime) -> Result<(), Fail> {
+    for (text, want) in [
+        ("mapf", LineFault::BadCommand),
+        ("mapf map", LineFault::BadCommand),
+        ("mapf map a b", LineFault::BadCommand),
+        ("mapf map -x", LineFault::BadCommand),
+        ("mapf nosuch", LineFault::BadCommand),
+        ("mapf -x", LineFault::BadCommand),
+        ("mapf Map F", LineFault::BadCommand),
+        ("mapf -h", LineFault::Help),
+        ("mapf --help", LineFault::Help),
+        ("mapf help", LineFault::Help),
+        ("mapf help map", LineFault::Help),
+        ("mapf map -h", LineFault::Help),
+        ("mapf map --help", LineFault::Help),
+        ("mapf map F --help", LineFault::Help),
+    ] {
+        let words = words(rt.alloc(), text)?;
+        let got = line(rt.alloc(), words.as_slice());
+        assert_eq!(rt; got.err(), Some(want), "at {text:?}");
+    }
+    let none: [String; 0] = [];
+    assert_eq!(rt;
+        line(rt.alloc(), none.as_slice()).err(),
+        Some(LineFault::BadCommand)
+    );
+    Ok(())
+}

@@ -1,0 +1,19 @@
+//! Tests that cross crates: texts cut at every place, failing readers and writers, and whole commands.
+#![tactic(auto)]
+
+#[cfg(test)]
+mod answers;
+#[cfg(test)]
+mod command_lines;
+#[cfg(test)]
+mod counting;
+#[cfg(test)]
+mod fake_readers;
+#[cfg(test)]
+mod fake_writers;
+#[cfg(test)]
+mod map_command;
+#[cfg(test)]
+mod map_texts;
+#[cfg(test)]
+mod map_trouble;
