@@ -1,8 +1,8 @@
 -- Each text has a reading: the pass over its bytes finds one.
-use Rattle.std.proofs.Common.{◌≡◌, ◌≢◌, ℕ, zero, suc, ◌+◌, ◌*◌, ◌<◌, ◌≤◌, ◌⊎◌, min, Bool, true, false, cond, List, [], ◌∷◌, ◌++◌, length, map, refl, sym, ap, ◌∙◌, subst, inl, inr, arith, append_assoc, append-nil, Option, Some, None, codes}
-use Rattle.std.specs.Prelude.{◌==◌, if◌then◌else◌, nat_lt, is_some, unwrap_or, IsTrue, ⊤}
+use Rattle.std.proofs.Common.{◌≡◌, ◌≢◌, ℕ, zero, suc, ◌+◌, ◌*◌, ◌<◌, ◌≤◌, ◌⊎◌, min, Bool, true, false, cond, List, [], ◌∷◌, ◌++◌, length, map, refl, sym, ap, ◌∙◌, subst, inl, inr, arith, append_assoc, append-nil, codes}
+use Rattle.std.specs.Prelude.{◌==◌, nat_lt, IsTrue, ⊤}
 use Rattle.std.specs.List.{list_all, fold, AllByRecursion}
-use Rattle.std.proofs.lemmas.Bool.{and_parts, and_from, or_cases, or_parts, cond-true, cond-false, eqb-true, eqb-false, ne_eqb, both_ways, ltb-true, ltb-false, lt-ltb, le-ltb, cases_lt}
+use Rattle.std.proofs.lemmas.Bool.{and_from, or_cases, or_parts, cond-true, cond-false, eqb-true, eqb-false, ne_eqb, ltb-true, ltb-false, lt-ltb, le-ltb, cases_lt}
 use Rattle.std.proofs.lemmas.List.{length-append, length-map, nil_from_length}
 use Rattle.std.proofs.lemmas.List.Folds.{list_all-append}
 use Rattle.std.proofs.Math.Nat.{mul-suc, mul-zero}
@@ -13,9 +13,8 @@ use Rattle.grid.specs.declared.header_line.Saying.TheVariants.{Whole, Size, NoSi
 use Rattle.grid.specs.declared.map_fault.MapFault.{MapFault}
 use Rattle.grid.specs.declared.map_fault.MapFault.TheVariants.{BadHeader, BadNumber, TooLarge, BadTerrain, ShortRow, LongRow, MissingRows, TextAfter}
 use Rattle.grid.specs.declared.terrain.Terrain.{Terrain}
-use Rattle.grid.specs.declared.terrain.Terrain.TheVariants.{Floor, Grass, Void, OutOfBounds, Trees, Swamp, Water}
 use Rattle.grid.specs.Text.{line_feed, carriage_return, is_line_byte, lines_of, ended, ends_in_line_feed}
-use Rattle.grid.specs.Terrain.{character_of, is_terrain, kind_of}
+use Rattle.grid.specs.Terrain.{is_terrain, kind_of}
 use Rattle.grid.specs.Map.{Grid, IsSize}
 use Rattle.grid.specs.MapText.{IsNumberLine, IsTypeLine, IsMapLine, IsRowOf, is_rest_byte, AreRows, MapText}
 use Rattle.grid.specs.Reading.{Place, at_line_feed, at_byte, at_end, IsOver, IsByte, Decides, IsFirstFault}
@@ -26,6 +25,7 @@ use Rattle.grid.proofs.LineLemmas.{is_line_byte-from, lines_of-whole, lines_of-o
 use Rattle.grid.proofs.HeaderLemmas.{HasSize, height_has_size, width_has_size, Whole-from_type_line, type_line-from_Whole, Whole-from_map_line, map_line-from_Whole, Size-from_number_line, number_line-from_Size, HasValue-from_Size, HasValue-from_NoSize, says-from_HasValue}
 use Rattle.grid.proofs.Standing.{Standing, going, stopped, number_of, after_words, after_number, is_large_height, is_large_width, row_state, row_length, row_length-row, row_state-terrain, row_state-returned, after_line, on_byte, on_row_byte, pass, standing_of}
 use Rattle.grid.proofs.Judging.{Leads-append}
+use Rattle.grid.proofs.TerrainLemmas.{map-character_of-kind}
 
 -- ---- what a whole line decides
 
@@ -494,31 +494,6 @@ means_of text = Means-fold [] (going type_due 0 []) text (record {
 
 -- ---- the map that right lines spell
 
--- a test of one more terrain character, before others
-one_character : (b k : ℕ) (t : Terrain) (others : Option Terrain) → character_of t ≡ k
-    → (is_some others ≡ true → character_of (unwrap_or others Void) ≡ b)
-    → is_some (if b == k then Some t else others) ≡ true → character_of (unwrap_or (if b == k then Some t else others) Void) ≡ b
-one_character b k t others is rest = go (b == k) refl
-  where
-    go : (r : Bool) → (b == k) ≡ r → is_some (cond r (Some t) others) ≡ true → character_of (unwrap_or (cond r (Some t) others) Void) ≡ b
-    go true e h = is ∙ sym (eqb-true b k e)
-    go false e h = rest h
-
--- the character of a terrain character's terrain
-pub character_of-kind_of : (b : ℕ) → is_terrain b ≡ true → character_of (kind_of b) ≡ b
-character_of-kind_of b =
-    one_character b 46 Floor _ refl (one_character b 71 Grass _ refl (one_character b 64 Void _ refl
-    (one_character b 79 OutOfBounds _ refl (one_character b 84 Trees _ refl (one_character b 83 Swamp _ refl
-    (one_character b 87 Water None refl (λ h. absurd (both_ways false refl h))))))))
-
--- the characters of a row's terrain
-pub map-character_of-kind_of : (row : List ℕ) → IsTrue (list_all is_terrain row) → map character_of (map kind_of row) ≡ row
-map-character_of-kind_of [] h = refl
-map-character_of-kind_of (b ∷ row) h =
-    let parts = and_parts (is_terrain b) (list_all is_terrain row) h in
-    ap (λ x. x ∷ map character_of (map kind_of row)) (character_of-kind_of b parts.0)
-    ∙ ap (λ xs. b ∷ xs) (map-character_of-kind_of row parts.1)
-
 -- the rows that are due, with their terrain, and the blank lines after them
 pub record HasRows (width rows : ℕ) (lines : List (List ℕ)) : Type 0 where
   pub terrain : List Terrain
@@ -549,7 +524,7 @@ row_more width rows line lines row h =
         h.terrain,
         refl,
         same ∙ whole,
-        subst (λ cs. IsRowOf cs line) (sym (map-character_of-kind_of row.characters row.terrain)) row.bytes,
+        subst (λ cs. IsRowOf cs line) (sym (map-character_of-kind row.characters row.terrain)) row.bytes,
         h.are_rows,
       );
       are_blank = h.are_blank;

@@ -3,6 +3,7 @@ use Rattle.std.proofs.Common.{◌≡◌, ℕ, zero, ◌+◌, true, false, List, 
 use Rattle.std.specs.Prelude.{Option, IsTrue, ◌&&◌}
 use Rattle.std.specs.List.{list_all, AllByRecursion}
 use Rattle.std.proofs.lemmas.List.Folds.{list_all-append}
+use Rattle.std.proofs.lemmas.Bool.{and_parts}
 use Rattle.grid.specs.declared.source.Source.{Source}
 use Rattle.grid.specs.declared.map_fault.MapFault.TheVariants.{TextAfter}
 use Rattle.grid.specs.Counted.{greatest}
@@ -13,7 +14,6 @@ use Rattle.grid.specs.MapText.{is_rest_byte}
 use Rattle.grid.specs.MapFault.{rows_due, Leads}
 use Rattle.grid.specs.Following.{IsLine, TakesRight, number_after, TakesFault, TakesFailure}
 use Rattle.grid.proofs.LineLemmas.{is_line_byte-from, differs, ended_push}
-use Rattle.grid.proofs.TerrainLemmas.{and_true}
 use Rattle.grid.proofs.SourceLemmas.{Takes-trans, Takes-then_none}
 use Rattle.grid.proofs.FollowLemmas.{has_failed-goes_on, has_failed-at_end, is_line_byte-other}
 use Rattle.grid.proofs.TakenLines.{all-append}
@@ -25,7 +25,7 @@ IsBlankLine line = IsTrue (list_all is_rest_byte line)
 blank_is_line : (line : List ℕ) → IsBlankLine line → IsLine line
 blank_is_line [] h = refl
 blank_is_line (b ∷ line) h =
-    let both = and_true (is_rest_byte b) (list_all is_rest_byte line) h in
+    let both = and_parts (is_rest_byte b) (list_all is_rest_byte line) h in
     ap (λ t. t && list_all is_line_byte line) (is_line_byte-from b (differs is_rest_byte line_feed b refl both.0)) ∙ blank_is_line line both.1
 
 blank_are_lines : (lines : List (List ℕ)) → AllByRecursion IsBlankLine lines → AllByRecursion IsLine lines

@@ -2,7 +2,7 @@
 use Rattle.std.proofs.Common.{◌≡◌, ℕ, suc, ◌+◌, ◌<◌, ◌≤◌, true, false, List, [], ◌∷◌, ◌++◌, length, refl, sym, ap, subst, ◌∙◌, inl, inr, arith, append_assoc, append-nil, length-append, min}
 use Rattle.std.specs.Prelude.{Option, IsTrue, ◌&&◌}
 use Rattle.std.specs.List.{list_all}
-use Rattle.std.proofs.lemmas.Bool.{true_from_ne_false}
+use Rattle.std.proofs.lemmas.Bool.{and_parts, true_from_ne_false}
 use Rattle.std.proofs.lemmas.List.Folds.{list_all-append}
 use Rattle.grid.specs.declared.source.Source.{Source}
 use Rattle.grid.specs.declared.map_fault.MapFault.{MapFault}
@@ -17,7 +17,6 @@ use Rattle.grid.specs.MapText.{IsRowOf}
 use Rattle.grid.specs.MapFault.{rows_due}
 use Rattle.grid.specs.Following.{IsLine, number_after, TakesFault, TakesFailure, StopsReading, HasNoTerrain, IsRowEnd, TakesOther, EndsRow, StopsRow, TakesRow}
 use Rattle.grid.proofs.LineLemmas.{is_line_byte-from, differs}
-use Rattle.grid.proofs.TerrainLemmas.{and_true}
 use Rattle.grid.proofs.SourceLemmas.{Takes-trans, Takes-then_none, slice_range-empty}
 use Rattle.grid.proofs.FollowLemmas.{has_failed-goes_on, has_failed-at_end}
 
@@ -25,7 +24,7 @@ use Rattle.grid.proofs.FollowLemmas.{has_failed-goes_on, has_failed-at_end}
 pub terrain_is_line : (row : List ℕ) → IsTrue (list_all is_terrain row) → IsLine row
 terrain_is_line [] h = refl
 terrain_is_line (b ∷ row) h =
-    let both = and_true (is_terrain b) (list_all is_terrain row) h in
+    let both = and_parts (is_terrain b) (list_all is_terrain row) h in
     ap (λ t. t && list_all is_line_byte row) (is_line_byte-from b (differs is_terrain line_feed b refl both.0)) ∙ terrain_is_line row both.1
 
 both_lines : (first second : List ℕ) → IsLine first → IsLine second → IsLine (first ++ second)

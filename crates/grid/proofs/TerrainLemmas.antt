@@ -2,7 +2,7 @@
 use Rattle.std.proofs.Common.{◌≡◌, ℕ, ◌+◌, ◌*◌, ◌<◌, ltb, arith, Bool, true, false, cond, eqb, List, [], ◌∷◌, length, get_or, Some, None, map, refl, sym, ap, ◌∙◌}
 use Rattle.std.specs.Prelude.{Option, IsTrue, is_some, unwrap_or, ◌&&◌, slice_get, option_map}
 use Rattle.std.specs.List.{list_all}
-use Rattle.std.proofs.lemmas.Bool.{false≢true, true_from_ne_false, eqb-true, lt-ltb}
+use Rattle.std.proofs.lemmas.Bool.{and_parts, false≢true, true_from_ne_false, eqb-true, lt-ltb}
 use Rattle.std.proofs.lemmas.Nat.{mul-add-lt}
 use Rattle.std.proofs.lemmas.List.Folds.{list_all_at}
 use Rattle.std.proofs.lemmas.Option.{slice_get-map, slice_get-get_or}
@@ -11,11 +11,6 @@ use Rattle.grid.specs.declared.terrain.Terrain.TheVariants.{Floor, Grass, Void, 
 use Rattle.grid.specs.declared.cell.Cell.{Cell}
 use Rattle.grid.specs.Map.{Grid, terrain_at}
 use Rattle.grid.specs.Terrain.{character_of, terrain_of, is_terrain, kind_of}
-
--- both tests hold
-pub and_true : (a b : Bool) → (a && b) ≡ true → (a ≡ true) × (b ≡ true)
-and_true true b h = (refl, h)
-and_true false b h = absurd (false≢true h)
 
 -- a character that has a terrain
 some_from : (o : Option Terrain) → is_some o ≡ true → o ≡ Some (unwrap_or o Void)
@@ -47,7 +42,7 @@ character_of-kind b =
 pub map-character_of-kind : (bytes : List ℕ) → IsTrue (list_all is_terrain bytes) → map character_of (map kind_of bytes) ≡ bytes
 map-character_of-kind [] h = refl
 map-character_of-kind (b ∷ bytes) h =
-    let both = and_true (is_terrain b) (list_all is_terrain bytes) h in
+    let both = and_parts (is_terrain b) (list_all is_terrain bytes) h in
     ap (λ c. c ∷ map character_of (map kind_of bytes)) (character_of-kind b both.0) ∙ ap (λ l. b ∷ l) (map-character_of-kind bytes both.1)
 
 -- each of the characters is terrain
