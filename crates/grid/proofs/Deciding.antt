@@ -13,14 +13,14 @@ use Rattle.grid.specs.declared.header_line.Saying.TheVariants.{Whole, Size, NoSi
 use Rattle.grid.specs.declared.map_fault.MapFault.{MapFault}
 use Rattle.grid.specs.declared.map_fault.MapFault.TheVariants.{BadHeader, BadNumber, TooLarge, BadTerrain, ShortRow, LongRow, MissingRows, TextAfter}
 use Rattle.grid.specs.declared.terrain.Terrain.{Terrain}
-use Rattle.grid.specs.Text.{line_feed, carriage_return, is_line_byte, lines_of, ended, ends_in_line_feed}
+use Rattle.grid.specs.Text.{line_feed, carriage_return, is_line_byte, lines_of, ended, ends_in_line_feed, IsLine}
 use Rattle.grid.specs.Terrain.{is_terrain, kind_of}
 use Rattle.grid.specs.Map.{Grid, IsSize}
 use Rattle.grid.specs.MapText.{IsNumberLine, IsTypeLine, IsMapLine, IsRowOf, is_rest_byte, AreRows, MapText}
-use Rattle.grid.specs.Reading.{Place, at_line_feed, at_byte, at_end, IsOver, IsByte, Decides, IsFirstFault}
-use Rattle.grid.specs.MapFault.{Due, type_due, height_due, width_due, map_due, rows_due, IsHeight, IsRow, Follows, Leads, HasValue, HasNumber, HasOtherForm, HasFault, line_number, MapFaultAt}
+use Rattle.grid.specs.Reading.{Place, at_line_feed, at_byte, at_end, IsOver, IsByte, Decides, IsFirstFault, line_number}
+use Rattle.grid.specs.MapFault.{Due, type_due, height_due, width_due, map_due, rows_due, IsHeight, IsRow, Follows, Leads, HasValue, HasNumber, HasOtherForm, HasFault, MapFaultAt}
 use Rattle.grid.specs.HeaderLine.{word_of, saying_of}
-use Rattle.grid.specs.Following.{IsLine, IsOpen}
+use Rattle.grid.specs.Following.{IsOpen}
 use Rattle.grid.proofs.LineLemmas.{is_line_byte-from, lines_of-whole, lines_of-open, lines_of-all, ends_in_line_feed-whole, ends_in_line_feed-open, ended_push, AllByRecursion_push}
 use Rattle.grid.proofs.HeaderLemmas.{HasSize, height_has_size, width_has_size, Whole-from_type_line, type_line-from_Whole, Whole-from_map_line, map_line-from_Whole, Size-from_number_line, number_line-from_Size, HasValue-from_Size, HasValue-from_NoSize, says-from_HasValue}
 use Rattle.grid.proofs.Standing.{Standing, going, stopped, number_of, after_words, after_number, is_large_height, is_large_width, row_state, row_length, row_length-row, row_state-terrain, row_state-returned, after_line, on_byte, on_row_byte, pass, standing_of}

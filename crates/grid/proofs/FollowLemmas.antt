@@ -6,9 +6,8 @@ use Rattle.std.proofs.lemmas.List.Folds.{list_all-append}
 use Rattle.grid.specs.declared.source.Source.{Source}
 use Rattle.grid.specs.declared.source.Stop.{Stop}
 use Rattle.grid.specs.declared.source.Stop.TheVariants.{End, Failure}
-use Rattle.grid.specs.Text.{line_feed, is_line_byte}
+use Rattle.grid.specs.Text.{line_feed, is_line_byte, IsLine}
 use Rattle.grid.specs.Source.{has_failed, is_end, is_failure, GoesOn, Takes, StopsBy, IsAtEnd}
-use Rattle.grid.specs.Following.{IsLine}
 use Rattle.grid.proofs.LineLemmas.{is_line_byte-from}
 
 -- a byte that is no LF

@@ -10,7 +10,8 @@ use Rattle.grid.specs.declared.map_fault.MapFault.TheVariants.{BadHeader, BadNum
 use Rattle.grid.specs.Reading.{Place, at_line_feed, at_end, IsOver}
 use Rattle.grid.specs.MapFault.{Due, type_due, height_due, map_due, rows_due, HasFault}
 use Rattle.grid.specs.HeaderLine.{saying_of}
-use Rattle.grid.specs.Following.{IsLine, IsOpen, TakesLine, TakesRight, number_after, TakesFault, TakesFailure, StopsReading, FailsInLine, SaysNoWords, SaysNoSize}
+use Rattle.grid.specs.Text.{IsLine}
+use Rattle.grid.specs.Following.{IsOpen, TakesLine, TakesRight, number_after, TakesFault, TakesFailure, StopsReading, FailsInLine, SaysNoWords, SaysNoSize}
 use Rattle.grid.proofs.HeaderLemmas.{Whole-from_type_line, type_line-from_Whole, Whole-from_map_line, map_line-from_Whole}
 use Rattle.grid.proofs.HeaderJudged.{says_words}
 use Rattle.grid.proofs.TakenLines.{TakesFault-line, TakesRight-line}

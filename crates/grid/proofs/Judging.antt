@@ -8,12 +8,12 @@ use Rattle.std.proofs.lemmas.List.Sums.{fold-append}
 use Rattle.std.proofs.lemmas.List.Folds.{list_all-append}
 use Rattle.grid.specs.declared.map_fault.MapFault.{MapFault}
 use Rattle.grid.specs.declared.map_fault.MapFault.TheVariants.{BadHeader, BadNumber, TooLarge, BadTerrain, ShortRow, LongRow, MissingRows, TextAfter, ReadFailed, OutOfMemory}
-use Rattle.grid.specs.Text.{line_feed, carriage_return, is_line_byte, lines_of}
+use Rattle.grid.specs.Text.{line_feed, carriage_return, is_line_byte, lines_of, IsLine}
 use Rattle.grid.specs.Terrain.{is_terrain}
 use Rattle.grid.specs.MapText.{IsRowOf, is_rest_byte}
-use Rattle.grid.specs.Reading.{Place, at_line_feed, at_byte, at_end, IsOver, IsByte, Decides, IsFirstFault}
-use Rattle.grid.specs.MapFault.{Due, type_due, height_due, width_due, map_due, rows_due, Follows, Leads, HasOtherForm, HasOtherValue, HasLargeValue, IsBeginning, IsWhole, GoesOn, GoesWrong, HasFault, line_number, MapFaultAt}
-use Rattle.grid.specs.Following.{IsLine, IsOpen, IsUndecided}
+use Rattle.grid.specs.Reading.{Place, at_line_feed, at_byte, at_end, IsOver, IsByte, Decides, IsFirstFault, line_number}
+use Rattle.grid.specs.MapFault.{Due, type_due, height_due, width_due, map_due, rows_due, Follows, Leads, HasOtherForm, HasOtherValue, HasLargeValue, IsBeginning, IsWhole, GoesOn, GoesWrong, HasFault, MapFaultAt}
+use Rattle.grid.specs.Following.{IsOpen, IsUndecided}
 use Rattle.grid.proofs.LineLemmas.{is_line_byte-true, whole_parts, open_parts, lines_parts, AreLines}
 use Rattle.grid.proofs.Standing.{going, stopped, number_of, characters, returned, row_state, row_length, row_length-row, row_state-terrain, row_state-returned, after_line, on_byte, on_row_byte, pass, standing_of, stopped-stays, missing, fault_after, fault_of, after_line-form, after_line-value, after_line-large, after_line-next, pass-terrain, pass-returned, pass-open, open-from_Follows, pass-line_feed, standing_of-lines}
 

@@ -19,3 +19,5 @@ pub mod Judging
 pub mod MapTaken
 pub mod MapLemmas
 pub mod Deciding
+pub mod LineTaking
+pub mod PlaceLemmas

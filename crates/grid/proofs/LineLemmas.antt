@@ -5,8 +5,7 @@ use Rattle.std.specs.List.{list_all, AllByRecursion}
 use Rattle.std.proofs.lemmas.Bool.{and_parts, and_from, cond-true, cond-false, eqb-true, both_ways}
 use Rattle.std.proofs.lemmas.List.{same_from_push}
 use Rattle.std.proofs.lemmas.List.Concat.{flat_map-append}
-use Rattle.grid.specs.Text.{line_feed, is_line_byte, onto_first, lines_of, ended, ends_in_line_feed}
-use Rattle.grid.specs.Following.{IsLine}
+use Rattle.grid.specs.Text.{line_feed, is_line_byte, onto_first, lines_of, ended, ends_in_line_feed, IsLine}
 
 -- ---- a byte before the lines
 

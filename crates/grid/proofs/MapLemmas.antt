@@ -13,14 +13,13 @@ use Rattle.grid.specs.declared.header_line.HeaderLine.{HeaderLine}
 use Rattle.grid.specs.declared.map_fault.MapFault.{MapFault}
 use Rattle.grid.specs.declared.terrain.Terrain.{Terrain}
 use Rattle.grid.specs.declared.terrain.Terrain.TheVariants.{Floor, Grass, Void, OutOfBounds, Trees, Swamp, Water}
-use Rattle.grid.specs.Text.{line_feed, carriage_return, is_line_byte}
+use Rattle.grid.specs.Text.{line_feed, carriage_return, is_line_byte, IsLine}
 use Rattle.grid.specs.Terrain.{character_of, is_terrain, kind_of}
 use Rattle.grid.specs.Map.{Grid, IsMap}
 use Rattle.grid.specs.MapText.{IsNumberLine, IsRowOf, is_rest_byte, AreRows, MapText, rows_of, header_lines, canonical_text}
 use Rattle.grid.specs.Reading.{IsFirstFault}
 use Rattle.grid.specs.MapFault.{type_due, height_due, width_due, map_due, rows_due, Leads, MapFaultAt}
 use Rattle.grid.specs.HeaderLine.{word_of, saying_of}
-use Rattle.grid.specs.Following.{IsLine}
 use Rattle.grid.proofs.LineLemmas.{differs, is_line_byte-from, lines_of-all}
 use Rattle.grid.proofs.HeaderLemmas.{HasSize, height_has_size, width_has_size, Size-from_number_line}
 use Rattle.grid.proofs.Judging.{Leads-append, fault_of-lines, fault_of-first}

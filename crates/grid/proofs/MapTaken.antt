@@ -1,29 +1,27 @@
 -- The text that the reader of a map took, and what it answers for it.
-use Rattle.std.proofs.Common.{◌≡◌, ℕ, zero, ◌+◌, ◌*◌, Bool, true, false, List, [], ◌∷◌, ◌++◌, length, map, Some, None, Err, refl, sym, ap, subst, ◌∙◌, inl, inr, arith, append-nil, length-append, min, codes}
-use Rattle.std.specs.Prelude.{Option, IsTrue, is_some, ◌&&◌}
+use Rattle.std.proofs.Common.{◌≡◌, ℕ, zero, ◌+◌, ◌*◌, true, false, List, [], ◌∷◌, ◌++◌, length, map, Err, refl, sym, ap, subst, ◌∙◌, inl, inr, arith, append-nil, length-append, min, codes}
+use Rattle.std.specs.Prelude.{Option, IsTrue, ◌&&◌}
 use Rattle.std.specs.List.{list_all, AllByRecursion}
 use Rattle.std.specs.Io.KnownBytes.{IsAtEnd as IsSpent}
-use Rattle.std.proofs.lemmas.Bool.{false≢true}
 use Rattle.std.proofs.lemmas.List.{map-append, length-map}
 use Rattle.std.proofs.lemmas.List.Folds.{list_all-append}
 use Rattle.std.proofs.Math.Nat.{mul-suc, mul-zero}
 use Rattle.grid.specs.declared.source.Source.{Source}
-use Rattle.grid.specs.declared.source.Stop.{Stop}
 use Rattle.grid.specs.declared.map_fault.MapFault.{MapFault}
 use Rattle.grid.specs.declared.map_fault.MapFault.TheVariants.{BadHeader, BadNumber, TooLarge, BadTerrain, ShortRow, LongRow, MissingRows, TextAfter, ReadFailed, OutOfMemory}
-use Rattle.grid.specs.Counted.{greatest, Rises}
-use Rattle.grid.specs.Text.{lines_of, ended}
+use Rattle.grid.specs.Counted.{greatest}
+use Rattle.grid.specs.Text.{lines_of, ended, IsLine}
 use Rattle.grid.specs.Terrain.{kind_of, is_terrain}
 use Rattle.grid.specs.Map.{Grid, IsSize}
-use Rattle.grid.specs.Source.{at_hand, source_reader, has_ended, has_failed, is_failure, is_end, is_stopped, EndsAt, FailsOnce, GoesOn, Takes, IsAtEnd}
-use Rattle.grid.specs.Reading.{Place, at_line_feed, at_byte, at_end, JudgedAt, ReadsText, is_value, is_fault, is_failed, is_refused}
+use Rattle.grid.specs.Source.{at_hand, source_reader, has_ended, has_failed, is_stopped, GoesOn, Takes, IsAtEnd}
+use Rattle.grid.specs.Reading.{Place, at_line_feed, at_byte, at_end, JudgedAt, ReadsText, is_value, is_fault, is_failed, is_refused, line_number}
 use Rattle.grid.specs.MapText.{MapText, IsTypeLine, IsNumberLine, IsMapLine, IsRowOf, AreRows, is_rest_byte}
-use Rattle.grid.specs.MapFault.{Due, type_due, height_due, width_due, map_due, rows_due, Leads, HasFault, line_number, MapFaultAt, map_outcome}
-use Rattle.grid.specs.Following.{IsLine, TakesLines, TakesRight, TakesUpTo, number_after, TakesFault, TakesFailure, TakesRefusal, StopsReading, TakesRows, HaveRows}
+use Rattle.grid.specs.MapFault.{Due, type_due, height_due, width_due, map_due, rows_due, Leads, HasFault, MapFaultAt, map_outcome}
+use Rattle.grid.specs.Following.{TakesLines, TakesRight, TakesUpTo, number_after, TakesFault, TakesFailure, TakesRefusal, StopsReading, TakesRows, HaveRows}
 use Rattle.grid.proofs.LineLemmas.{lines_of-whole, lines_of-open, lines_of-all, ends_in_line_feed-whole, ends_in_line_feed-open, AllByRecursion-append}
 use Rattle.grid.proofs.Judging.{undecided}
 use Rattle.grid.proofs.TerrainLemmas.{map-character_of-kind}
-use Rattle.grid.proofs.SourceLemmas.{slice_range-empty}
+use Rattle.grid.proofs.SourceLemmas.{slice_range-empty, spent, same_failures, more_failures, not_ended, failed_is_stopped}
 use Rattle.grid.proofs.FollowLemmas.{has_failed-goes_on}
 use Rattle.grid.proofs.RowsTaken.{Leads-rows}
 
@@ -131,30 +129,6 @@ map_of_lines text header rows rest width height characters is h size have count 
 }
 
 -- ---- what was delivered
-
--- where a reader that went on ended, all its bytes came
-spent : (a b : Bool) (old new : Option (List ℕ)) → a ≡ false → b ≡ true → EndsAt a b old new → IsSpent new
-spent false true old new ea eb h = h
-spent false false old new ea eb h = absurd (false≢true eb)
-spent true b old new ea eb h = absurd (false≢true (sym ea))
-
-same_failures : (a b : Bool) (old new : ℕ) → a ≡ false → b ≡ false → FailsOnce a b old new → new ≡ old
-same_failures false false old new ea eb h = h
-same_failures false true old new ea eb h = absurd (false≢true (sym eb))
-same_failures true b old new ea eb h = absurd (false≢true (sym ea))
-
-more_failures : (a b : Bool) (old new : ℕ) → a ≡ false → b ≡ true → FailsOnce a b old new → Rises old new
-more_failures false true old new ea eb h = h
-more_failures false false old new ea eb h = absurd (false≢true eb)
-more_failures true b old new ea eb h = absurd (false≢true (sym ea))
-
-not_ended : (stop : Option Stop) → is_some stop ≡ false → is_end stop ≡ false
-not_ended None h = refl
-not_ended (Some stop) h = absurd (false≢true (sym h))
-
-failed_is_stopped : (stop : Option Stop) → is_failure stop ≡ true → is_some stop ≡ true
-failed_is_stopped None h = absurd (false≢true h)
-failed_is_stopped (Some stop) h = refl
 
 -- the number of a line counts from the text's beginning
 number_of_line : (before : List (List ℕ)) → number_after 0 before ≡ line_number before

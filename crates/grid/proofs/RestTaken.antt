@@ -7,12 +7,12 @@ use Rattle.std.proofs.lemmas.Bool.{and_parts}
 use Rattle.grid.specs.declared.source.Source.{Source}
 use Rattle.grid.specs.declared.map_fault.MapFault.TheVariants.{TextAfter}
 use Rattle.grid.specs.Counted.{greatest}
-use Rattle.grid.specs.Text.{line_feed, is_line_byte, ended}
+use Rattle.grid.specs.Text.{line_feed, is_line_byte, ended, IsLine}
 use Rattle.grid.specs.Source.{has_failed, GoesOn, Takes, IsAtEnd}
 use Rattle.grid.specs.Reading.{at_byte}
 use Rattle.grid.specs.MapText.{is_rest_byte}
 use Rattle.grid.specs.MapFault.{rows_due, Leads}
-use Rattle.grid.specs.Following.{IsLine, TakesRight, number_after, TakesFault, TakesFailure}
+use Rattle.grid.specs.Following.{TakesRight, number_after, TakesFault, TakesFailure}
 use Rattle.grid.proofs.LineLemmas.{is_line_byte-from, differs, ended_push}
 use Rattle.grid.proofs.SourceLemmas.{Takes-trans, Takes-then_none}
 use Rattle.grid.proofs.FollowLemmas.{has_failed-goes_on, has_failed-at_end, is_line_byte-other}

@@ -9,13 +9,13 @@ use Rattle.grid.specs.declared.map_fault.MapFault.{MapFault}
 use Rattle.grid.specs.declared.map_fault.MapFault.TheVariants.{BadHeader, BadNumber, TooLarge, BadTerrain, ShortRow, LongRow, MissingRows, TextAfter, ReadFailed, OutOfMemory}
 use Rattle.grid.specs.declared.map_reader.LineEnd.TheVariants.{Line, Input, Other, Failure}
 use Rattle.grid.specs.Counted.{greatest}
-use Rattle.grid.specs.Text.{line_feed, carriage_return, is_line_byte}
+use Rattle.grid.specs.Text.{line_feed, carriage_return, is_line_byte, IsLine}
 use Rattle.grid.specs.Terrain.{is_terrain}
 use Rattle.grid.specs.Source.{at_hand, is_stopped, GoesOn, Takes}
 use Rattle.grid.specs.Reading.{at_line_feed, at_byte, at_end}
 use Rattle.grid.specs.MapText.{IsRowOf}
 use Rattle.grid.specs.MapFault.{rows_due}
-use Rattle.grid.specs.Following.{IsLine, number_after, TakesFault, TakesFailure, StopsReading, HasNoTerrain, IsRowEnd, TakesOther, EndsRow, StopsRow, TakesRow}
+use Rattle.grid.specs.Following.{number_after, TakesFault, TakesFailure, StopsReading, HasNoTerrain, IsRowEnd, TakesOther, EndsRow, StopsRow, TakesRow}
 use Rattle.grid.proofs.LineLemmas.{is_line_byte-from, differs}
 use Rattle.grid.proofs.SourceLemmas.{Takes-trans, Takes-then_none, slice_range-empty}
 use Rattle.grid.proofs.FollowLemmas.{has_failed-goes_on, has_failed-at_end}

@@ -8,7 +8,8 @@ use Rattle.grid.specs.Terrain.{is_terrain}
 use Rattle.grid.specs.Source.{has_failed}
 use Rattle.grid.specs.MapText.{IsRowOf}
 use Rattle.grid.specs.MapFault.{rows_due, Leads}
-use Rattle.grid.specs.Following.{IsLine, TakesLines, StopsReading, TakesRow, HaveRows}
+use Rattle.grid.specs.Text.{IsLine}
+use Rattle.grid.specs.Following.{TakesLines, StopsReading, TakesRow, HaveRows}
 use Rattle.grid.proofs.TakenLines.{TakesLines-append, StopsReading-after, all-append}
 
 -- one row more

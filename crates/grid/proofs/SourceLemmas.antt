@@ -3,7 +3,7 @@ use Rattle.std.proofs.Common.{◌≡◌, ℕ, ◌+◌, ◌-◌, ◌<◌, ◌≤�
 use Rattle.std.proofs.lemmas.Bool.{false≢true}
 use Rattle.std.proofs.lemmas.List.{drop-take}
 use Rattle.std.proofs.KnownBytes.{Consumes-nil, Consumes-trans}
-use Rattle.std.specs.Io.KnownBytes.{Consumes, Keeps}
+use Rattle.std.specs.Io.KnownBytes.{Consumes, Keeps, IsAtEnd as IsSpent}
 use Rattle.std.specs.Prelude.{Option, is_some}
 use Rattle.grid.specs.declared.source.Source.{Source}
 use Rattle.grid.specs.declared.source.Stop.{Stop}
@@ -60,6 +60,34 @@ FailsOnce-trans false true true old mid new p q = subst (λ n. Rises old n) (sym
 FailsOnce-trans true false c old mid new p q = absurd p
 FailsOnce-trans true true false old mid new p q = absurd q
 FailsOnce-trans true true true old mid new p q = q ∙ p
+
+-- a stop that is none is no end
+pub not_ended : (stop : Option Stop) → is_some stop ≡ false → is_end stop ≡ false
+not_ended None h = refl
+not_ended (Some stop) h = absurd (false≢true (sym h))
+
+-- a failure is a stop
+pub failed_is_stopped : (stop : Option Stop) → is_failure stop ≡ true → is_some stop ≡ true
+failed_is_stopped None h = absurd (false≢true h)
+failed_is_stopped (Some stop) h = refl
+
+-- where a reader that went on ended, all its bytes came
+pub spent : (a b : Bool) (old new : Option (List ℕ)) → a ≡ false → b ≡ true → EndsAt a b old new → IsSpent new
+spent false true old new ea eb h = h
+spent false false old new ea eb h = absurd (false≢true eb)
+spent true b old new ea eb h = absurd (false≢true (sym ea))
+
+-- where a reader did not fail, its failures stay
+pub same_failures : (a b : Bool) (old new : ℕ) → a ≡ false → b ≡ false → FailsOnce a b old new → new ≡ old
+same_failures false false old new ea eb h = h
+same_failures false true old new ea eb h = absurd (false≢true (sym eb))
+same_failures true b old new ea eb h = absurd (false≢true (sym ea))
+
+-- where it failed, they rise
+pub more_failures : (a b : Bool) (old new : ℕ) → a ≡ false → b ≡ true → FailsOnce a b old new → Rises old new
+more_failures false true old new ea eb h = h
+more_failures false false old new ea eb h = absurd (false≢true eb)
+more_failures true b old new ea eb h = absurd (false≢true (sym ea))
 
 module _ {R : Type 0} (remaining : R → Option (List ℕ)) where
   -- bytes that were at hand are taken with no call of the reader

@@ -11,13 +11,13 @@ use Rattle.grid.specs.declared.header_line.Saying.TheVariants.{Whole, Size, NoSi
 use Rattle.grid.specs.declared.map_fault.MapFault.{MapFault}
 use Rattle.grid.specs.declared.map_fault.MapFault.TheVariants.{BadHeader, BadNumber, TooLarge, BadTerrain, ShortRow, LongRow, MissingRows, TextAfter}
 use Rattle.grid.specs.Counted.{greatest}
-use Rattle.grid.specs.Text.{line_feed, carriage_return, is_line_byte, ended}
+use Rattle.grid.specs.Text.{line_feed, carriage_return, is_line_byte, ended, IsLine}
 use Rattle.grid.specs.Terrain.{is_terrain}
 use Rattle.grid.specs.Map.{IsSize}
 use Rattle.grid.specs.MapText.{IsNumberLine, IsRowOf, is_rest_byte}
 use Rattle.grid.specs.MapFault.{Due, type_due, height_due, width_due, map_due, rows_due, Follows, Leads, HasValue, HasNumber, HasOtherForm, HasOtherValue, HasLargeValue}
 use Rattle.grid.specs.HeaderLine.{word_of, saying_of}
-use Rattle.grid.specs.Following.{IsLine, IsOpen}
+use Rattle.grid.specs.Following.{IsOpen}
 use Rattle.grid.proofs.LineLemmas.{is_line_byte-true, differs, ended-line}
 use Rattle.grid.proofs.HeaderLemmas.{HasSize, height_has_size, width_has_size, Whole-from_type_line, type_line-from_Whole, Whole-from_map_line, map_line-from_Whole, Size-from_number_line, number_line-from_Size, HasValue-from_Size, HasValue-from_NoSize, says-from_HasValue}
 

@@ -9,11 +9,11 @@ use Rattle.grid.specs.declared.source.Stop.{Stop}
 use Rattle.grid.specs.declared.map_fault.MapFault.{MapFault}
 use Rattle.grid.specs.declared.map_fault.MapFault.TheVariants.{BadHeader, BadNumber, TooLarge, BadTerrain, ShortRow, LongRow, MissingRows, TextAfter, ReadFailed, OutOfMemory}
 use Rattle.grid.specs.Counted.{greatest}
-use Rattle.grid.specs.Text.{line_feed, ended}
+use Rattle.grid.specs.Text.{line_feed, ended, IsLine}
 use Rattle.grid.specs.Source.{at_hand, is_end, Takes, IsAtEnd}
 use Rattle.grid.specs.Reading.{Place, at_line_feed, at_byte, at_end}
 use Rattle.grid.specs.MapFault.{Due, Follows, HasFault}
-use Rattle.grid.specs.Following.{IsLine, TakesLine, TakesLines, TakesRight, TakesUpTo, number_after, TakesFault, TakesFailure, TakesRefusal, StopsReading}
+use Rattle.grid.specs.Following.{TakesLine, TakesLines, TakesRight, TakesUpTo, number_after, TakesFault, TakesFailure, TakesRefusal, StopsReading}
 use Rattle.grid.proofs.SourceLemmas.{Takes-trans, Takes-then_none}
 use Rattle.grid.proofs.FollowLemmas.{has_failed-goes_on, has_failed-at_end}
 use Rattle.grid.proofs.Judging.{Leads-append}

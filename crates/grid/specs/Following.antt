@@ -9,17 +9,13 @@ use Rattle.grid.specs.declared.map_reader.LineEnd.TheVariants.{Line, Input, Othe
 use Rattle.grid.specs.declared.map_fault.MapFault.{MapFault}
 use Rattle.grid.specs.declared.map_fault.MapFault.TheVariants.{BadHeader, BadNumber, TooLarge, BadTerrain, ShortRow, MissingRows, ReadFailed, OutOfMemory}
 use Rattle.grid.specs.Counted.{greatest}
-use Rattle.grid.specs.Text.{line_feed, carriage_return, is_line_byte, ended}
+use Rattle.grid.specs.Text.{line_feed, carriage_return, is_line_byte, IsLine, ended}
 use Rattle.grid.specs.Terrain.{is_terrain}
 use Rattle.grid.specs.Source.{Takes, IsAtEnd, GoesOn, has_failed, at_hand}
 use Rattle.grid.specs.Reading.{Place, at_line_feed, at_byte, at_end}
 use Rattle.grid.specs.MapText.{IsRowOf, is_rest_byte}
 use Rattle.grid.specs.MapFault.{Due, type_due, height_due, width_due, map_due, rows_due, Leads, HasFault}
 use Rattle.grid.specs.HeaderLine.{saying_of}
-
--- the bytes of a line, without an LF
-abbrev pub IsLine : List ℕ → Type 0
-IsLine line = IsTrue (list_all is_line_byte line)
 
 -- the beginning of a line that is due, in which no fault is judged yet
 abbrev pub IsOpen : Due → List ℕ → Type 0

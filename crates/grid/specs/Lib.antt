@@ -11,3 +11,4 @@ pub mod MapText
 pub mod MapFault
 pub mod HeaderLine
 pub mod Following
+pub mod Lines

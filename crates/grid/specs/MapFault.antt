@@ -3,12 +3,11 @@ use Rattle.std.specs.Prelude.{◌≡◌, ◌≢◌, ℕ, ◌+◌, ◌*◌, ◌<�
 use Rattle.std.specs.List.{list_all}
 use Rattle.grid.specs.declared.map_fault.MapFault.{MapFault}
 use Rattle.grid.specs.declared.map_fault.MapFault.TheVariants.{BadHeader, BadNumber, TooLarge, BadTerrain, ShortRow, LongRow, MissingRows, TextAfter, ReadFailed, OutOfMemory}
-use Rattle.grid.specs.Counted.{greatest}
 use Rattle.grid.specs.Text.{carriage_return, is_blank}
 use Rattle.grid.specs.Terrain.{is_terrain}
 use Rattle.grid.specs.Map.{Grid, IsSize}
 use Rattle.grid.specs.MapText.{is_tail, IsTypeLine, IsNumberLine, IsMapLine, IsRowOf, is_rest_byte}
-use Rattle.grid.specs.Reading.{Place, at_byte, at_end, JudgedAt, IsOver, Outcome, is_value, is_fault, is_failed, is_refused}
+use Rattle.grid.specs.Reading.{Place, at_byte, at_end, IsOver, LeadsBy, FaultAt, Outcome, is_value, is_fault, is_failed, is_refused}
 
 -- The line that is due, by what the lines before it said: one of the header, or a row of a width where so many rows are due. No row
 -- is due in the blank lines after the last.
@@ -39,10 +38,9 @@ Follows (map_due width height) line next = IsMapLine line × (next ≡ rows_due 
 Follows (rows_due width zero) line next = IsTrue (list_all is_rest_byte line) × (next ≡ rows_due width zero)
 Follows (rows_due width (suc count)) line next = IsRow width line × (next ≡ rows_due width count)
 
--- the lines are right, one after another, from what is due at first to what is due at last
+-- the lines are right, one after another
 abbrev pub Leads : Due → List (List ℕ) → Due → Type 0
-Leads first [] last = last ≡ first
-Leads first (line ∷ lines) last = (next : Due) × Follows first line next × Leads next lines last
+Leads = LeadsBy Follows
 
 -- the word, a blank, and something more before the end of the line and the blanks there
 pub record HasValue (word line : List ℕ) : Type 0 where
@@ -132,18 +130,9 @@ HasFault (TextAfter at) place due number line =
 HasFault ReadFailed place due number line = ⊥
 HasFault OutOfMemory place due number line = ⊥
 
--- the number of the line after these, from 1 on; it stays at the greatest value
-abbrev pub line_number : List (List ℕ) → ℕ
-line_number before = min (length before + 1) greatest
-
--- The fault stands at the place where the text ends, and the lines before are right.
-pub record MapFaultAt (fault : MapFault) (place : Place) (text : List ℕ) : Type 0 where
-  pub before : List (List ℕ)
-  pub line : List ℕ
-  pub due : Due
-  pub judged : JudgedAt place before line text
-  pub right : Leads type_due before due
-  pub faulty : HasFault fault place due (line_number before) line
+-- the fault stands at the place where the text ends, and the lines before are right
+abbrev pub MapFaultAt : MapFault → Place → List ℕ → Type 0
+MapFaultAt = FaultAt Follows HasFault type_due
 
 -- what `read_map` answered, as a reader's outcome
 abbrev pub map_outcome : Result Grid MapFault → Outcome Grid MapFault

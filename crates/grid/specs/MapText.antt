@@ -1,10 +1,8 @@
 -- The text of a map of type `octile` (MovingAI, map format): which texts spell a map.
 use Rattle.std.specs.Prelude.{◌≡◌, ℕ, ◌<◌, ◌⊎◌, Bool, true, false, ◌&&◌, ◌||◌, ◌==◌, IsTrue, List, [], ◌∷◌, ◌++◌, length, map, take, drop, zero, suc, codes, decimal}
 use Rattle.std.specs.List.{list_all, AllByRecursion}
-use Rattle.std.specs.Char.{is_ascii_digit}
-use Rattle.std.specs.Str.Parse.{digits_value}
 use Rattle.grid.specs.declared.terrain.Terrain.{Terrain}
-use Rattle.grid.specs.Text.{carriage_return, is_blank, lines_of, ended}
+use Rattle.grid.specs.Text.{carriage_return, is_blank, lines_of, ended, IsGap, SpellsNumber}
 use Rattle.grid.specs.Terrain.{character_of}
 use Rattle.grid.specs.Map.{Grid, IsMap}
 
@@ -16,14 +14,6 @@ is_empty (b ∷ bytes) = false
 abbrev pub is_tail : List ℕ → Bool
 is_tail [] = true
 is_tail (b ∷ bytes) = (is_blank b && is_tail bytes) || (b == carriage_return && is_empty bytes)
-
--- one blank or more
-abbrev pub IsGap : List ℕ → Type 0
-IsGap gap = IsTrue (list_all is_blank gap) × (0 < length gap)
-
--- one digit or more that spell a number
-abbrev pub SpellsNumber : ℕ → List ℕ → Type 0
-SpellsNumber n digits = IsTrue (list_all is_ascii_digit digits) × (0 < length digits) × (digits_value 10 digits ≡ n)
 
 -- `type octile`
 pub record IsTypeLine (line : List ℕ) : Type 0 where

@@ -1,7 +1,7 @@
 -- What a reader of any text format answers, by the format's grammar and its faults.
-use Rattle.std.specs.Prelude.{◌≡◌, ℕ, ◌⊎◌, List, [], ◌∷◌, ◌++◌, Option, true, false, ⊤}
+use Rattle.std.specs.Prelude.{◌≡◌, ℕ, ◌+◌, min, length, ◌<◌, ◌⊎◌, List, [], ◌∷◌, ◌++◌, length, Option, true, false, ⊤}
 use Rattle.std.specs.Io.KnownBytes.{Consumes, IsAtEnd}
-use Rattle.grid.specs.Counted.{Rises}
+use Rattle.grid.specs.Counted.{greatest, Rises}
 use Rattle.grid.specs.Text.{lines_of, ends_in_line_feed}
 
 -- Where a fault is judged: at the LF of a line, at another byte of it, or at the end of the input.
@@ -15,6 +15,14 @@ JudgedAt at_byte before line text = (lines_of text ≡ before ++ line ∷ []) ×
 JudgedAt at_end before line text =
     ((lines_of text ≡ before ++ line ∷ []) × (ends_in_line_feed text ≡ false)) ⊎ ((lines_of text ≡ before) × (line ≡ []))
 
+-- Where the line stands among the lines of a text: with its LF, as the beginning of a line, or as what the end of the text ends.
+abbrev pub StandsIn : Place → List (List ℕ) → List ℕ → List ℕ → Type 0
+StandsIn at_line_feed before line text =
+    (after : List (List ℕ)) × (lines_of text ≡ before ++ line ∷ after) × (after ≡ [] → ends_in_line_feed text ≡ true)
+StandsIn at_byte before line text =
+    (0 < length line) × (more : List ℕ) × (after : List (List ℕ)) × (lines_of text ≡ before ++ (line ++ more) ∷ after)
+StandsIn at_end before line text = JudgedAt at_end before line text
+
 -- the line is judged as a whole: its LF came, or the end of the input
 abbrev pub IsOver : Place → Type 0
 IsOver at_line_feed = ⊤
@@ -26,6 +34,28 @@ abbrev pub IsByte : Place → Type 0
 IsByte at_line_feed = ⊤
 IsByte at_byte = ⊤
 IsByte at_end = ⊥
+
+-- The lines are right, one after another, from what is due at first to what is due at last. `Follows due line next` says of a
+-- format that the line is right where it is due, and what is due next.
+abbrev pub LeadsBy : {D : Type 0} → (D → List ℕ → D → Type 0) → D → List (List ℕ) → D → Type 0
+LeadsBy Follows first [] last = last ≡ first
+LeadsBy {D} Follows first (line ∷ lines) last = (next : D) × Follows first line next × LeadsBy Follows next lines last
+
+-- the number of the line after these, from 1 on; it stays at the greatest value
+abbrev pub line_number : List (List ℕ) → ℕ
+line_number before = min (length before + 1) greatest
+
+-- The fault stands at the place where the text ends, and the lines before are right. `HasFault fault place due number line` says of
+-- a format that the line, with its number, has the fault there where it is due.
+pub record FaultAt
+    {F D : Type 0} (Follows : D → List ℕ → D → Type 0) (HasFault : F → Place → D → ℕ → List ℕ → Type 0) (first : D)
+    (fault : F) (place : Place) (text : List ℕ) : Type 0 where
+  pub before : List (List ℕ)
+  pub line : List ℕ
+  pub due : D
+  pub judged : JudgedAt place before line text
+  pub right : LeadsBy Follows first before due
+  pub faulty : HasFault fault place due (line_number before) line
 
 -- The bytes decide the fault, however the text goes on: it stands at one of them. `FaultAt f place text` says of a format that
 -- f stands at the place at which text ends, and that all before it is right.

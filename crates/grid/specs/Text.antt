@@ -1,6 +1,8 @@
 -- The characters and lines that every format speaks of.
-use Rattle.std.specs.Prelude.{ℕ, Bool, true, false, ◌||◌, ◌==◌, if◌then◌else◌, List, [], ◌∷◌, ◌++◌}
-use Rattle.std.specs.List.{flat_map}
+use Rattle.std.specs.Prelude.{◌≡◌, ℕ, ◌<◌, Bool, true, false, ◌||◌, ◌==◌, if◌then◌else◌, IsTrue, List, [], ◌∷◌, ◌++◌, length}
+use Rattle.std.specs.List.{flat_map, list_all}
+use Rattle.std.specs.Char.{is_ascii_digit}
+use Rattle.std.specs.Str.Parse.{digits_value}
 
 abbrev pub tab : ℕ
 tab = 9
@@ -22,6 +24,10 @@ is_blank b = b == space || b == tab
 abbrev pub is_line_byte : ℕ → Bool
 is_line_byte b = if b == line_feed then false else true
 
+-- the bytes of a line, without an LF
+abbrev pub IsLine : List ℕ → Type 0
+IsLine line = IsTrue (list_all is_line_byte line)
+
 -- b stands before the first of the lines
 abbrev pub onto_first : ℕ → List (List ℕ) → List (List ℕ)
 onto_first b [] = (b ∷ []) ∷ []
@@ -41,3 +47,11 @@ abbrev pub ends_in_line_feed : List ℕ → Bool
 ends_in_line_feed [] = false
 ends_in_line_feed (b ∷ []) = b == line_feed
 ends_in_line_feed (b ∷ c ∷ bytes) = ends_in_line_feed (c ∷ bytes)
+
+-- one digit or more that spell a number
+abbrev pub SpellsNumber : ℕ → List ℕ → Type 0
+SpellsNumber n digits = IsTrue (list_all is_ascii_digit digits) × (0 < length digits) × (digits_value 10 digits ≡ n)
+
+-- one blank or more
+abbrev pub IsGap : List ℕ → Type 0
+IsGap gap = IsTrue (list_all is_blank gap) × (0 < length gap)

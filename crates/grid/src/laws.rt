@@ -1,7 +1,9 @@
-//! What the definitions of a map's text mean: laws, which hold of all texts and need no code.
-ghost use Rattle.std.specs.Prelude.{◌≡◌, ℕ, ◌⊎◌, List};
+//! What the definitions of texts mean: laws, which hold of all texts and need no code.
+ghost use Rattle.std.specs.Prelude.{◌≡◌, ℕ, ◌<◌, ◌⊎◌, List, [], ◌∷◌, ◌++◌, length, true};
+ghost use Rattle.std.specs.List.{AllByRecursion};
 ghost use Rattle.grid.specs.declared.map_fault.MapFault.{MapFault};
-ghost use Rattle.grid.specs.Reading.{IsFirstFault};
+ghost use Rattle.grid.specs.Text.{IsLine, lines_of, ended, ends_in_line_feed};
+ghost use Rattle.grid.specs.Reading.{Place, at_end, IsByte, JudgedAt, StandsIn, IsFirstFault};
 ghost use Rattle.grid.specs.Map.{Grid, IsMap};
 ghost use Rattle.grid.specs.MapText.{MapText, canonical_text};
 ghost use Rattle.grid.specs.MapFault.{MapFaultAt};
@@ -18,4 +20,17 @@ pub fn one_reading()
 pub fn written_text()
     ensures spells { (m : Grid) → IsMap m → MapText m (canonical_text m) }
     ensures only { (m n : Grid) → IsMap m → MapText n (canonical_text m) → n ≡ m }
+{}
+
+/// A place in a text is told by the lines of the text, and lines that are written one by one are those of what is written.
+pub fn places()
+    ensures stands { (text front rest : List ℕ) (place : Place) (before : List (List ℕ)) (line : List ℕ) → text ≡ front ++ rest
+        → IsByte place → JudgedAt place before line front → StandsIn place before line text }
+    ensures found { (text : List ℕ) (place : Place) (before : List (List ℕ)) (line : List ℕ) → IsByte place → StandsIn place before line text
+        → (front rest : List ℕ) × (text ≡ front ++ rest) × JudgedAt place before line front }
+    ensures last { (text : List ℕ) (before : List (List ℕ)) (line : List ℕ) → JudgedAt at_end before line text
+        → ((line ≡ []) × (lines_of text ≡ before)) ⊎ ((0 < length line) × (lines_of text ≡ before ++ line ∷ [])) }
+    ensures are_lines { (text : List ℕ) → AllByRecursion IsLine (lines_of text) }
+    ensures written { (lines : List (List ℕ)) → AllByRecursion IsLine lines → lines_of (ended lines) ≡ lines }
+    ensures written_end { (line : List ℕ) (lines : List (List ℕ)) → ends_in_line_feed (ended (line ∷ lines)) ≡ true }
 {}

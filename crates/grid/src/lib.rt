@@ -5,6 +5,7 @@ mod cell;
 mod counted;
 mod header_line;
 pub mod laws;
+mod lines;
 mod map;
 mod map_fault;
 mod map_reader;
@@ -16,6 +17,7 @@ mod terrain_scan;
 
 pub use cell::Cell;
 pub use counted::Counted;
+pub use lines::TakenLine;
 pub use map::Map;
 pub use map_fault::MapFault;
 pub use map_reader::read_map;

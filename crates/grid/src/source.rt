@@ -42,6 +42,7 @@ impl<R> Drop for Source<'_, R> {
 
 impl<'a, R: Read> Source<'a, R> {
     ghost use Rattle.grid.specs.Source.{at_hand, source_reader, is_stopped, GoesOn, Takes, StopsBy};
+    ghost use Rattle.grid.specs.Lines.{HasTaken};
 
     /// Nothing is read yet.
     pub fn new(reader: &'a mut Counted<R>) -> Source<'a, R>
@@ -49,6 +50,7 @@ impl<'a, R: Read> Source<'a, R> {
         ensures reader { source_reader result ≡ reader.old }
         ensures at_hand { at_hand result ≡ [] }
         ensures stop { is_stopped result ≡ false }
+        ensures none_taken { HasTaken R.remaining reader.old result [] }
     {
         Source {
             reader,

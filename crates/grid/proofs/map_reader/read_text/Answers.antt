@@ -5,7 +5,7 @@ use Rattle.grid.specs.Counted.{greatest}
 use Rattle.grid.specs.Terrain.{kind_of}
 use Rattle.grid.specs.Map.{Grid}
 use Rattle.grid.specs.MapFault.{type_due, rows_due}
-use Rattle.grid.specs.Following.{IsLine}
+use Rattle.grid.specs.Text.{IsLine}
 use Rattle.grid.proofs.TakenLines.{TakesLines-append, TakesRight-append, StopsReading-after, all-append}
 use Rattle.grid.proofs.MapTaken.{reads_stop, reads_map, map_of_lines, header_from_Leads, blank_from_Leads, length-rows, terrain_of_rows, same_reader_of_stop, same_reader_of_lines, rows_right}
 use Rattle.grid.proofs.map_reader.read_text.Goals as goal
