@@ -1,8 +1,8 @@
 #!/usr/bin/env python3
-"""Makes maps of any size, the same for the same seed.
+"""Makes maps and scenarios of any size, the same for the same seed.
 
-Usage: generate.py KIND WIDTH HEIGHT [--seed N]      (KIND: open, random, rooms, terrain)
-The map goes to standard output.
+Usage: generate.py KIND WIDTH HEIGHT [--seed N] [--rows N]      (KIND: open, random, rooms, terrain, scen)
+The text goes to standard output; `scen` makes a scenario of so many rows for a map of that size.
 """
 import argparse
 import random
@@ -58,14 +58,32 @@ def map_text(kind, width, height, seed):
     return "\n".join(["type octile", f"height {height}", f"width {width}", "map", *rows, ""])
 
 
+def scen_text(width, height, seed, count):
+    """The text of a scenario, with octile distances as its lengths."""
+    rng = random.Random(f"scen {width} {height} {seed}")
+    lines = ["version 1"]
+    for row in range(count):
+        start_x, goal_x = rng.randrange(width), rng.randrange(width)
+        start_y, goal_y = rng.randrange(height), rng.randrange(height)
+        less, more = sorted((abs(start_x - goal_x), abs(start_y - goal_y)))
+        length = more - less + less * 2**0.5
+        fields = (row // 10, "maps/arena-2048.map", width, height, start_x, start_y, goal_x, goal_y, f"{length:.8f}")
+        lines.append("\t".join(str(field) for field in fields))
+    return "\n".join([*lines, ""])
+
+
 def main():
     parser = argparse.ArgumentParser()
-    parser.add_argument("kind", choices=KINDS)
+    parser.add_argument("kind", choices=(*KINDS, "scen"))
     parser.add_argument("width", type=int)
     parser.add_argument("height", type=int)
     parser.add_argument("--seed", type=int, default=1)
+    parser.add_argument("--rows", type=int, default=100_000)
     given = parser.parse_args()
-    sys.stdout.write(map_text(given.kind, given.width, given.height, given.seed))
+    if given.kind == "scen":
+        sys.stdout.write(scen_text(given.width, given.height, given.seed, given.rows))
+    else:
+        sys.stdout.write(map_text(given.kind, given.width, given.height, given.seed))
 
 
 if __name__ == "__main__":

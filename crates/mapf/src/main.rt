@@ -2,22 +2,23 @@
 #![tactic(auto)]
 
 use grid::Counted;
-use mapf_cmd::{Line, LineFault, Status, line, map_cmd, report};
-use std::env;
+use mapf_cmd::{Line, LineFault, Status, line, map_cmd, report, scen_cmd};
 use std::fs::File;
 use std::io::ErrorKind;
 use std::process::ExitCode;
+use std::{env, io};
 
-const HELP: &str = "Reads maps, and answers what they hold.
+const HELP: &str = "Reads maps and scenarios, and answers what they hold.
 
 Usage: mapf COMMAND
 
 Commands:
-  map FILE    reads a map and writes it in canonical form
-  help        shows this text
+  map FILE     reads a map and writes it in canonical form
+  scen FILE    reads a scenario and writes it in canonical form
+  help         shows this text
 ";
 
-const USAGE: &str = "usage: mapf map FILE (mapf help says more)";
+const USAGE: &str = "usage: mapf map FILE | mapf scen FILE (mapf help says more)";
 
 fn main(rt: HostRuntime) -> ExitCode {
     ExitCode::from(run(&rt))
@@ -35,20 +36,27 @@ fn run(rt: &HostRuntime) -> u8 {
         Err(_) => return failed(rt, "OutOfMemory"),
     };
     match line(rt.alloc(), words.as_slice()) {
-        Ok(line) => perform(rt, line),
+        Ok(line) => match perform(rt, line) {
+            Ok(status) => status,
+            Err(_) => failed(rt, "OpenFailed"),
+        },
         Err(fault) => refused(rt, fault),
     }
 }
 
-/// Opens the files of a command and performs it.
-fn perform(rt: &HostRuntime, line: Line) -> u8 {
+/// Opens the files of a command and performs it. An error is that of a file that could not be opened.
+fn perform(rt: &HostRuntime, line: Line) -> io::Result<u8> {
     let mut out = Counted::new(rt.stdout());
     let mut err = Counted::new(rt.stderr());
     match line {
-        Line::Map { file } => match File::open(rt, &file) {
-            Ok(map) => map_cmd(rt.alloc(), &mut Counted::new(map), &mut out, &mut err),
-            Err(_) => failed(rt, "OpenFailed"),
-        },
+        Line::Map { file } => {
+            let mut map = Counted::new(File::open(rt, &file)?);
+            Ok(map_cmd(rt.alloc(), &mut map, &mut out, &mut err))
+        }
+        Line::Scen { file } => {
+            let mut scen = Counted::new(File::open(rt, &file)?);
+            Ok(scen_cmd(rt.alloc(), &mut scen, &mut out, &mut err))
+        }
     }
 }
 

@@ -1,6 +1,6 @@
 -- Lemmas on the command line and on commands.
-mod Given
 mod Stops
 mod Filled
+mod Commands
 mod Taken
-mod Flushing
+mod Rewriting

@@ -1,10 +1,12 @@
 -- The command line of `mapf`, in the words of clap.
-use Rattle.std.specs.Prelude.{◌≡◌, true, List, codes, Some, string_bytes}
-use Rattle.clap.specs.Words.{App, Row, Rule, Text, first_of, new_app, new_rule, subcommand_of, with_rule, with_subcommand}
+use Rattle.std.specs.Prelude.{◌≡◌, true, IsTrue, MatchOption, List, [], ◌∷◌, map, fold, find, codes, Some, is_some, string_bytes}
+use Rattle.std.specs.List.{AllByRecursion}
+use Rattle.std.specs.Str.{bytes_eq}
+use Rattle.clap.specs.Words.{App, Row, Rule, Text, first_of, new_app, new_rule, subcommand_of, with_subcommand}
 use Rattle.clap.specs.declared.error.kind.ErrorKind.{ErrorKind}
 use Rattle.clap.specs.declared.error.kind.ErrorKind.TheVariants as kind
 use Rattle.mapf_cmd.specs.declared.command_line.Line.{Line}
-use Rattle.mapf_cmd.specs.declared.command_line.Line.TheVariants.{Map}
+use Rattle.mapf_cmd.specs.declared.command_line.Line.TheVariants.{Map, Scen}
 use Rattle.mapf_cmd.specs.declared.command_line.LineFault.{LineFault}
 use Rattle.mapf_cmd.specs.declared.command_line.LineFault.TheVariants.{Help, BadCommand, OutOfMemory}
 
@@ -14,13 +16,24 @@ fault_of_kind kind.DisplayHelp = Help
 fault_of_kind kind.OutOfMemory = OutOfMemory
 fault_of_kind _ = BadCommand
 
+-- a command's name, with the names of the words that it requires
+abbrev pub map_command : Text × List Text
+map_command = (codes "map", codes "file" ∷ [])
+
+abbrev pub scen_command : Text × List Text
+scen_command = (codes "scen", codes "file" ∷ [])
+
+-- all commands
+abbrev pub commands : List (Text × List Text)
+commands = map_command ∷ scen_command ∷ []
+
 -- one required word
 abbrev pub required_word : Text → Rule
 required_word name = record (new_rule name) { required = true }
 
--- `map FILE`
-abbrev pub map_command : App
-map_command = with_rule (new_app (codes "map")) (required_word (codes "file"))
+-- a command as clap takes it
+abbrev pub command_of : Text × List Text → App
+command_of c = record (new_app c.0) { top = record (new_app c.0).top { rules = map required_word c.1 } }
 
 -- the program without its commands: one of them is required
 abbrev pub bare_program : App
@@ -28,9 +41,18 @@ bare_program = record (new_app (codes "mapf")) { top = record (new_app (codes "m
 
 -- the program with all its commands
 abbrev pub program_app : App
-program_app = with_subcommand bare_program map_command.top
+program_app = fold (λ app c. with_subcommand app (command_of c).top) bare_program commands
+
+-- the rows have a value of each word that the command with this name requires
+abbrev pub HasWords : Text → List Row → Type 0
+HasWords name rows =
+    MatchOption (find (λ c. bytes_eq c.0 name) commands) ⊥ (λ c. AllByRecursion (λ word. IsTrue (is_some (first_of word rows))) c.1)
+
+-- the line is the command with this name, and its words have the values that the rows give
+abbrev pub IsCommand : Text → List Row → Line → Type 0
+IsCommand name rows (Map file) = (name ≡ codes "map") × (first_of (codes "file") rows ≡ Some (string_bytes file))
+IsCommand name rows (Scen file) = (name ≡ codes "scen") × (first_of (codes "file") rows ≡ Some (string_bytes file))
 
 -- the line is the command that clap's definition of the program gives for the words
 abbrev pub IsLineOf : List Text → Line → Type 0
-IsLineOf words (Map file) = (rows : List Row) × (subcommand_of program_app words ≡ Some (codes "map", rows))
-    × (first_of (codes "file") rows ≡ Some (string_bytes file))
+IsLineOf words line = (name : Text) × (rows : List Row) × (subcommand_of program_app words ≡ Some (name, rows)) × IsCommand name rows line

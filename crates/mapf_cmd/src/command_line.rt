@@ -13,6 +13,8 @@ use thiserror::Error;
 pub enum Line {
     /// Reads a map and writes it in canonical form.
     Map { file: String },
+    /// Reads a scenario and writes it in canonical form.
+    Scen { file: String },
 }
 
 /// Why the words are no command.

@@ -3,10 +3,13 @@
 
 mod command_line;
 mod map_command;
+mod scen_command;
 mod status;
 mod words;
+mod writing;
 
 pub use command_line::{Line, LineFault};
 pub use map_command::map_cmd;
+pub use scen_command::scen_cmd;
 pub use status::{Status, report};
 pub use words::line;

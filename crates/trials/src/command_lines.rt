@@ -21,7 +21,23 @@ fn map_lines(rt: HostRuntime) -> Result<(), Fail> {
         ("mapf map -", "-"),
     ] {
         let words = words(rt.alloc(), text)?;
-        let Line::Map { file } = line(rt.alloc(), words.as_slice())?;
+        let Line::Map { file } = line(rt.alloc(), words.as_slice())? else {
+            assert!(rt; false, "another command at {text:?}");
+            return Ok(());
+        };
+        assert_eq!(rt; file.as_str(), want, "at {text:?}");
+    }
+    Ok(())
+}
+
+#[test]
+fn scen_lines(rt: HostRuntime) -> Result<(), Fail> {
+    for (text, want) in [("mapf scen F", "F"), ("mapf scen scen", "scen")] {
+        let words = words(rt.alloc(), text)?;
+        let Line::Scen { file } = line(rt.alloc(), words.as_slice())? else {
+            assert!(rt; false, "another command at {text:?}");
+            return Ok(());
+        };
         assert_eq!(rt; file.as_str(), want, "at {text:?}");
     }
     Ok(())
@@ -33,6 +49,9 @@ fn refused_lines(rt: HostRuntime) -> Result<(), Fail> {
         ("mapf", LineFault::BadCommand),
         ("mapf map", LineFault::BadCommand),
         ("mapf map a b", LineFault::BadCommand),
+        ("mapf scen", LineFault::BadCommand),
+        ("mapf scen a b", LineFault::BadCommand),
+        ("mapf map scen F", LineFault::BadCommand),
         ("mapf map -x", LineFault::BadCommand),
         ("mapf nosuch", LineFault::BadCommand),
         ("mapf -x", LineFault::BadCommand),
@@ -41,6 +60,7 @@ fn refused_lines(rt: HostRuntime) -> Result<(), Fail> {
         ("mapf --help", LineFault::Help),
         ("mapf help", LineFault::Help),
         ("mapf help map", LineFault::Help),
+        ("mapf scen --help", LineFault::Help),
         ("mapf map -h", LineFault::Help),
         ("mapf map --help", LineFault::Help),
         ("mapf map F --help", LineFault::Help),

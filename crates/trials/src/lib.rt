@@ -12,8 +12,16 @@ mod fake_readers;
 #[cfg(test)]
 mod fake_writers;
 #[cfg(test)]
+mod lengths;
+#[cfg(test)]
 mod map_command;
 #[cfg(test)]
 mod map_texts;
 #[cfg(test)]
 mod map_trouble;
+#[cfg(test)]
+mod scen_command;
+#[cfg(test)]
+mod scen_texts;
+#[cfg(test)]
+mod scen_trouble;

@@ -1,0 +1,63 @@
+use Rattle.std.proofs.Common.{◌≡◌, true, refl, sym, ap, ◌∙◌, subst}
+use Rattle.scen.specs.Query.{IsQuery}
+use Rattle.scen.specs.ScenText.{SpellsRow}
+use Rattle.scen.specs.ScenFault.{is_in_grid}
+use Rattle.scen.specs.Parsing.{fields_seen}
+use Rattle.scen.proofs.RowLemmas.{IsQuery-from_fields, SpellsRow-from_fields}
+use Rattle.scen.proofs.ReadRowLemmas.{in_grid-from_numbers, coordinates, row_read, row_line-from_content, faults-number, faults-grid, faults-length, are_right}
+use Rattle.scen.proofs.row_reader.read_row.Goals as goal
+
+pub returns-in-Err : goal.returns-in-Err
+returns-in-Err c =
+    let f = fields_seen c.in-Some.fields in
+    let line = row_line-from_content c.args.line.now c.content_of-content.result.now c.is_empty.result f c.requires.line c.requires.short
+    c.content_of-content.ensures c.is_empty.ensures c.if-is_empty.false c.in-Some.ensures in
+    faults-number c.args.number c.args.line.now f c.in-Err.field line c.in-Err.ensures
+
+pub returns-then-not-is_in_grid : goal.returns-then-not-is_in_grid
+returns-then-not-is_in_grid c =
+    let f = fields_seen c.in-Some.fields in
+    let line = row_line-from_content c.args.line.now c.content_of-content.result.now c.is_empty.result f c.requires.line c.requires.short
+    c.content_of-content.ensures c.is_empty.ensures c.if-is_empty.false c.in-Some.ensures in
+    faults-grid c.args.number c.args.line.now f line c.in-Ok.ensures.0
+    (sym (in_grid-from_numbers f c.in-Ok.numbers c.in-Ok.ensures.0 c.in-Ok.ensures.1) ∙ (sym c.is_in_grid.ensures ∙ c.if-not-is_in_grid.true))
+
+pub returns-in_default-listed_of : goal.returns-in_default-listed_of
+returns-in_default-listed_of c =
+    let f = fields_seen c.in-Some.fields in
+    let line = row_line-from_content c.args.line.now c.content_of-content.result.now c.is_empty.result f c.requires.line c.requires.short
+    c.content_of-content.ensures c.is_empty.ensures c.if-is_empty.false c.in-Some.ensures in
+    faults-length c.args.number c.args.line.now f line c.in-Ok.ensures.0
+    (sym (in_grid-from_numbers f c.in-Ok.numbers c.in-Ok.ensures.0 c.in-Ok.ensures.1) ∙ (sym c.is_in_grid.ensures ∙ c.if-not-is_in_grid.false))
+    c.in_default-listed_of.ensures
+
+pub from_parts-requires : goal.from_parts-requires
+from_parts-requires c =
+    let f = fields_seen c.in-Some.fields in
+    let inside : is_in_grid f ≡ true =
+    sym (in_grid-from_numbers f c.in-Ok.numbers c.in-Ok.ensures.0 c.in-Ok.ensures.1) ∙ (sym c.is_in_grid.ensures ∙ c.if-not-is_in_grid.false) in
+    let line = row_line-from_content c.args.line.now c.content_of-content.result.now c.is_empty.result f c.requires.line c.requires.short
+    c.content_of-content.ensures c.is_empty.ensures c.if-is_empty.false c.in-Some.ensures in
+    let at = coordinates f c.in-Ok.numbers c.in-Ok.ensures.0 c.in-Ok.ensures.1 inside in
+    let read = row_read f c.in-Ok.numbers _ c.in-Ok.ensures.1 at refl c.in_ok-name.ensures refl refl
+    (ap (λ cell. cell.x) c.start.ensures) (ap (λ cell. cell.y) c.start.ensures) (ap (λ cell. cell.x) c.goal.ensures) (ap (λ cell. cell.y) c.goal.ensures)
+    c.in-Some-listed_of.ensures.1 c.in-Some-listed_of.ensures.2 in
+    subst IsQuery (sym read)
+    (IsQuery-from_fields c.args.line.now f (are_right c.args.line.now f line c.in-Ok.ensures.0 inside c.in-Some-listed_of.ensures.0))
+
+pub returns : goal.returns
+returns c =
+    let f = fields_seen c.in-Some.fields in
+    let inside : is_in_grid f ≡ true =
+    sym (in_grid-from_numbers f c.in-Ok.numbers c.in-Ok.ensures.0 c.in-Ok.ensures.1) ∙ (sym c.is_in_grid.ensures ∙ c.if-not-is_in_grid.false) in
+    let line = row_line-from_content c.args.line.now c.content_of-content.result.now c.is_empty.result f c.requires.line c.requires.short
+    c.content_of-content.ensures c.is_empty.ensures c.if-is_empty.false c.in-Some.ensures in
+    let at = coordinates f c.in-Ok.numbers c.in-Ok.ensures.0 c.in-Ok.ensures.1 inside in
+    let made = c.from_parts.ensures in
+    let read = row_read f c.in-Ok.numbers c.from_parts.result c.in-Ok.ensures.1 at (ap (λ q. q.bucket) made)
+    (ap (λ q. q.name) made ∙ c.in_ok-name.ensures) (ap (λ q. q.width) made) (ap (λ q. q.height) made)
+    (ap (λ q. q.start.x) made ∙ ap (λ cell. cell.x) c.start.ensures) (ap (λ q. q.start.y) made ∙ ap (λ cell. cell.y) c.start.ensures)
+    (ap (λ q. q.goal.x) made ∙ ap (λ cell. cell.x) c.goal.ensures) (ap (λ q. q.goal.y) made ∙ ap (λ cell. cell.y) c.goal.ensures)
+    (ap (λ q. q.listed) made ∙ c.in-Some-listed_of.ensures.1) (ap (λ q. q.decimals) made ∙ c.in-Some-listed_of.ensures.2) in
+    subst (λ q. SpellsRow q c.args.line.now) (sym read)
+    (SpellsRow-from_fields c.args.line.now f (are_right c.args.line.now f line c.in-Ok.ensures.0 inside c.in-Some-listed_of.ensures.0))

@@ -1,0 +1,91 @@
+-- Each line as it was taken, and what the whole text is at its end.
+use Rattle.std.proofs.Common.{◌≡◌, ◌++◌, ◌∷◌, [], take, ◌∙◌, subst, arith, length-append, length-take}
+use Rattle.std.proofs.lemmas.Result.{err_from_is_err_and}
+use Rattle.grid.specs.Reading.{line_number}
+use Rattle.scen.specs.Parsing.{due_after, Refuses}
+use Rattle.scen.proofs.LinesRead.{reads_push, last_line, end_line, refused_line, refused_end, ended, long_line, failed}
+use Rattle.scen.proofs.scen_reader.read_lines.Goals as goal
+
+pub slice_bounds-room-end : goal.slice_bounds-room-end
+slice_bounds-room-end g c =
+    let inv = c.lines.invariant in
+    let t = c.in-WithLineFeed.ensures.taken _ inv.0 inv.1 in
+    t.in_room
+
+pub slice_bounds-add_line-end : goal.slice_bounds-add_line-end
+slice_bounds-add_line-end g c =
+    let inv = c.lines.invariant in
+    let t = c.in-WithLineFeed.ensures.taken _ inv.0 inv.1 in
+    omega (arith, t.in_room, length-take c.in-WithLineFeed.count c.take_line.new.room)
+
+pub add_line-requires-clause-line : goal.add_line-requires-clause-line
+add_line-requires-clause-line g c =
+    let inv = c.lines.invariant in
+    let t = c.in-WithLineFeed.ensures.taken _ inv.0 inv.1 in
+    last_line inv.0 _ t.taken.are_lines
+
+pub returns-in_err-add_line-in-WithLineFeed-clause-reads : goal.returns-in_err-add_line-in-WithLineFeed-clause-reads
+returns-in_err-add_line-in-WithLineFeed-clause-reads g c =
+    let p = err_from_is_err_and c.from_residual.result c.from_residual.ensures.1 in
+    let inv = c.lines.invariant in
+    rw (p.1, p.2) (refused_line g.R.Read.remaining _ _ inv.0 c.take_line.new.room c.in-WithLineFeed.count c.lines.progress.has_version c.lines.progress.rows.items
+    c.in_err-add_line-in-WithLineFeed.field-0.0 (c.in-WithLineFeed.ensures.taken _ inv.0 inv.1) (inv.2, inv.3)
+    (subst (λ n. Refuses (due_after c.lines.progress.has_version) n (take c.in-WithLineFeed.count c.take_line.new.room) c.in_err-add_line-in-WithLineFeed.field-0.0)
+    inv.4 c.in_err-add_line-in-WithLineFeed.ensures))
+
+pub lines-preserved : goal.lines-preserved
+lines-preserved g c =
+    let inv = c.lines.invariant in
+    let t = c.in-WithLineFeed.ensures.taken _ inv.0 inv.1 in
+    let line = take c.in-WithLineFeed.count c.take_line.new.room in
+    let more = reads_push inv.0 line c.lines.progress.has_version c.add_line.new.self.has_version c.lines.progress.rows.items
+    c.add_line.new.self.rows.items (inv.2, inv.3) c.in_ok-add_line-in-WithLineFeed.ensures in
+    let number : c.saturating_add-number.result ≡ line_number (inv.0 ++ line ∷ []) =
+    omega (arith, c.saturating_add-number.ensures, inv.4, length-append inv.0 (line ∷ [])) in
+    (inv.0 ++ line ∷ [], t.taken, more.0, more.1, number, c.in-WithLineFeed.ensures.same_reader ∙ inv.5)
+
+pub slice_bounds-room-end-in-AtEnd : goal.slice_bounds-room-end-in-AtEnd
+slice_bounds-room-end-in-AtEnd g c =
+    let inv = c.lines.invariant in
+    let t = c.in-AtEnd.ensures.taken _ inv.0 inv.1 in
+    t.in_room
+
+pub slice_bounds-add_line-end-in-AtEnd : goal.slice_bounds-add_line-end-in-AtEnd
+slice_bounds-add_line-end-in-AtEnd g c =
+    let inv = c.lines.invariant in
+    let t = c.in-AtEnd.ensures.taken _ inv.0 inv.1 in
+    omega (arith, t.in_room, length-take c.in-AtEnd.count c.take_line.new.room)
+
+pub add_line-requires-in-AtEnd-clause-line : goal.add_line-requires-in-AtEnd-clause-line
+add_line-requires-in-AtEnd-clause-line g c =
+    let inv = c.lines.invariant in
+    let t = c.in-AtEnd.ensures.taken _ inv.0 inv.1 in
+    end_line c.places.ensures.are_lines t.come.front inv.0 _ t.come.judged
+
+pub returns-in_err-add_line-in-AtEnd-clause-reads : goal.returns-in_err-add_line-in-AtEnd-clause-reads
+returns-in_err-add_line-in-AtEnd-clause-reads g c =
+    let p = err_from_is_err_and c.from_residual-in_err-add_line-in-AtEnd.result c.from_residual-in_err-add_line-in-AtEnd.ensures.1 in
+    let inv = c.lines.invariant in
+    rw (p.1, p.2) (refused_end g.R.Read.remaining _ _ inv.0 c.take_line.new.room c.in-AtEnd.count c.lines.progress.has_version c.lines.progress.rows.items
+    c.in_err-add_line-in-AtEnd.field-0.0 (c.in-AtEnd.ensures.taken _ inv.0 inv.1) (inv.2, inv.3)
+    (subst (λ n. Refuses (due_after c.lines.progress.has_version) n (take c.in-AtEnd.count c.take_line.new.room) c.in_err-add_line-in-AtEnd.field-0.0)
+    inv.4 c.in_err-add_line-in-AtEnd.ensures))
+
+pub returns-in-AtEnd-clause-reads : goal.returns-in-AtEnd-clause-reads
+returns-in-AtEnd-clause-reads g c =
+    let inv = c.lines.invariant in
+    ended g.R.Read.remaining _ _ c.places.ensures.are_lines c.places.ensures.last inv.0 c.take_line.new.room c.in-AtEnd.count
+    c.lines.progress.has_version c.add_line-in-AtEnd.new.self.has_version c.lines.progress.rows.items c.add_line-in-AtEnd.new.self.rows.items
+    c.scenario.result c.scenario.ensures (c.in-AtEnd.ensures.taken _ inv.0 inv.1) (inv.2, inv.3) c.in_ok-add_line-in-AtEnd.ensures
+
+pub returns-in-TooLong-clause-reads : goal.returns-in-TooLong-clause-reads
+returns-in-TooLong-clause-reads g c =
+    let inv = c.lines.invariant in
+    long_line g.R.Read.remaining _ _ inv.0 c.take_line.new.room c.lines.progress.has_version c.lines.progress.rows.items c.lines.number inv.4
+    (omega (arith, c.take_line.auto.room)) (c.in-TooLong.ensures.taken _ inv.0 inv.1) (inv.2, inv.3)
+
+pub returns-in-Failed-clause-reads : goal.returns-in-Failed-clause-reads
+returns-in-Failed-clause-reads g c =
+    let inv = c.lines.invariant in
+    failed g.R.Read.remaining _ _ c.places.ensures.stands inv.0 c.take_line.new.room c.lines.progress.has_version c.lines.progress.rows.items
+    (omega (arith, c.take_line.auto.room)) (c.in-Failed.ensures.taken _ inv.0 inv.1) (inv.2, inv.3)

@@ -1,0 +1,130 @@
+//! Scenarios and their rows.
+ghost use Rattle.std.specs.Prelude.{◌≡◌, ◌+◌, ◌^◌, ◌<◌, ◌≤◌};
+ghost use Rattle.scen.specs.Query.{Query, IsQuery};
+
+use crate::Listed;
+use grid::Cell;
+use std::marker::Model;
+
+/// A query from a start to a goal, on a map of a width and a height, and the length that is listed for it.
+#[derive(Debug, Drop)]
+pub struct Row {
+    bucket: u32,
+    name: Vec<u8>,
+    width: u32,
+    height: u32,
+    start: Cell,
+    goal: Cell,
+    listed: Listed,
+}
+
+impl Model for Row {
+    ghost Value = { Query };
+
+    ghost view = { λ r. record { bucket = r.bucket; name = r.name.items; width = r.width; height = r.height; start = r.start; goal = r.goal; listed = r.listed.n; decimals = r.listed.d } };
+
+    ghost invariant = { λ r. IsQuery (record { bucket = r.bucket; name = r.name.items; width = r.width; height = r.height; start = r.start; goal = r.goal; listed = r.listed.n; decimals = r.listed.d }) };
+}
+
+impl Row {
+    /// The row with these parts.
+    pub(crate) fn from_parts(
+        bucket: u32,
+        name: Vec<u8>,
+        size: (u32, u32),
+        start: Cell,
+        goal: Cell,
+        listed: Listed,
+    ) -> Row
+        requires { IsQuery (record { bucket = bucket; name = name.items; width = size.0; height = size.1; start = start; goal = goal; listed = listed.n; decimals = listed.d }) }
+        ensures { result ≡ record { bucket = bucket; name = name.items; width = size.0; height = size.1; start = start; goal = goal; listed = listed.n; decimals = listed.d } }
+    {
+        let (width, height) = size;
+        Row {
+            bucket,
+            name,
+            width,
+            height,
+            start,
+            goal,
+            listed,
+        }
+    }
+
+    /// The bucket of the benchmark that the row is in.
+    pub fn bucket(&self) -> u32
+        ensures { result ≡ self.now.bucket }
+    {
+        self.bucket
+    }
+
+    /// The name of the map, as it stands in the text.
+    pub fn name(&self) -> &[u8]
+        ensures { result.now ≡ self.now.name }
+    {
+        self.name.as_slice()
+    }
+
+    /// How many cells a row of the map has.
+    pub fn width(&self) -> u32
+        ensures { result ≡ self.now.width }
+    {
+        self.width
+    }
+
+    /// How many rows the map has.
+    pub fn height(&self) -> u32
+        ensures { result ≡ self.now.height }
+    {
+        self.height
+    }
+
+    pub fn start(&self) -> Cell
+        ensures { result ≡ self.now.start }
+    {
+        self.start
+    }
+
+    pub fn goal(&self) -> Cell
+        ensures { result ≡ self.now.goal }
+    {
+        self.goal
+    }
+
+    /// The length that the row lists for a shortest walk. It is read as it stands, right or wrong.
+    pub fn listed(&self) -> Listed
+        ensures number { result.n ≡ self.now.listed }
+        ensures decimals { result.d ≡ self.now.decimals }
+    {
+        self.listed
+    }
+}
+
+/// The rows of a scenario, in order.
+#[derive(Debug, Drop)]
+pub struct Scenario {
+    rows: Vec<Row>,
+}
+
+impl Model for Scenario {
+    ghost use Rattle.std.specs.Prelude.{List};
+    ghost use Rattle.scen.specs.Query.{Query};
+
+    ghost Value = { List Query };
+
+    ghost view = { λ s. s.rows.items };
+}
+
+impl Scenario {
+    pub fn rows(&self) -> &[Row]
+        ensures { result.now ≡ self.now }
+    {
+        self.rows.as_slice()
+    }
+
+    pub(crate) fn from_rows(rows: Vec<Row>) -> Scenario
+        ensures { result ≡ rows.items }
+    {
+        Scenario { rows }
+    }
+}
