@@ -1,7 +1,7 @@
 #!/usr/bin/env python3
 """Makes maps and scenarios of any size, the same for the same seed.
 
-Usage: generate.py KIND WIDTH HEIGHT [--seed N] [--rows N]      (KIND: open, random, rooms, terrain, scen)
+Usage: generate.py KIND WIDTH HEIGHT [--seed N] [--rows N]      (KIND: open, random, rooms, terrain, sparse, maze, mixed, scen)
 The text goes to standard output; `scen` makes a scenario of so many rows for a map of that size.
 """
 import argparse
@@ -9,6 +9,7 @@ import random
 import sys
 
 KINDS = ("open", "random", "rooms", "terrain")
+WALKED_KINDS = ("open", "sparse", "rooms", "maze", "mixed")
 
 
 def table(shares):
@@ -51,11 +52,72 @@ def room_rows(rng, width, height, side=16):
     return rows
 
 
+def cleared(rows, side=4):
+    """The same rows with floor in the upper left and the lower right corner."""
+    rows = list(rows)
+    for y in range(side):
+        rows[y] = "." * side + rows[y][side:]
+        rows[-1 - y] = rows[-1 - y][:-side] + "." * side
+    return rows
+
+
+def sparse_rows(rng, width, height):
+    """One cell of five is blocked."""
+    return cleared(cell_rows(rng, width, height, [("@", 51), (".", 205)]))
+
+
+def mixed_rows(rng, width, height):
+    return cleared(cell_rows(rng, width, height, [(".", 120), ("G", 48), ("S", 40), ("W", 16), ("T", 16), ("@", 16)]))
+
+
+def maze_rows(rng, width, height):
+    """Corridors one cell wide, with one walk from each of their cells to each other."""
+    columns, lines = (width + 1) // 2, (height + 1) // 2
+    rows = [bytearray(b"@" * width) for _ in range(height)]
+    rows[0][0] = ord(".")
+    path = [(0, 0)]
+    while path:
+        x, y = path[-1]
+        sides = [(x + 1, y), (x - 1, y), (x, y + 1), (x, y - 1)]
+        free = [(u, v) for u, v in sides if 0 <= u < columns and 0 <= v < lines and rows[2 * v][2 * u] != ord(".")]
+        if not free:
+            path.pop()
+            continue
+        u, v = rng.choice(free)
+        rows[y + v][x + u] = rows[2 * v][2 * u] = ord(".")
+        path.append((u, v))
+    return [row.decode() for row in rows]
+
+
 def map_text(kind, width, height, seed):
     """The text of a map."""
-    makers = {"open": open_rows, "random": random_rows, "rooms": room_rows, "terrain": terrain_rows}
+    makers = {
+        "open": open_rows,
+        "random": random_rows,
+        "rooms": room_rows,
+        "terrain": terrain_rows,
+        "sparse": sparse_rows,
+        "maze": maze_rows,
+        "mixed": mixed_rows,
+    }
     rows = makers[kind](random.Random(f"{kind} {width} {height} {seed}"), width, height)
     return "\n".join(["type octile", f"height {height}", f"width {width}", "map", *rows, ""])
+
+
+def walk_ends(kind, width, height):
+    """A cell in the upper left corner of a map of a kind that walks are sought on, and one in the lower right corner."""
+    if kind == "maze":
+        return (0, 0), ((width - 1) // 2 * 2, (height - 1) // 2 * 2)
+    start = (1, 1) if kind == "rooms" else (0, 0)
+    return start, (width - 1, height - 1)
+
+
+def row_text(kind, width, height, straight, diagonal):
+    """The text of a scenario with one row, from corner to corner of such a map, that lists a length."""
+    (start_x, start_y), (goal_x, goal_y) = walk_ends(kind, width, height)
+    length = straight + diagonal * 2**0.5
+    fields = (0, "maps/arena.map", width, height, start_x, start_y, goal_x, goal_y, f"{length:.8f}")
+    return "\n".join(["version 1", "\t".join(str(field) for field in fields), ""])
 
 
 def scen_text(width, height, seed, count):
@@ -74,7 +136,7 @@ def scen_text(width, height, seed, count):
 
 def main():
     parser = argparse.ArgumentParser()
-    parser.add_argument("kind", choices=(*KINDS, "scen"))
+    parser.add_argument("kind", choices=(*sorted({*KINDS, *WALKED_KINDS}), "scen"))
     parser.add_argument("width", type=int)
     parser.add_argument("height", type=int)
     parser.add_argument("--seed", type=int, default=1)

@@ -1,9 +1,10 @@
 #!/usr/bin/env python3
 """Measures `mapf` beside a plain Rust program that does the same work.
 
-Usage: run.py [--program PATH] [--rounds N] [--side N] [--rows N]
+Usage: run.py [--program PATH] [--rounds N] [--side N] [--rows N] [--only COMMAND]
 Both programs run in turn over the same texts, many rounds. A line for each text: the best time of each in milliseconds,
-their ratio, and the most memory that each held, in megabytes.
+their ratio, and the most memory that each held, in megabytes. For `row` our program finds the lengths and certifies them, and
+the other one only finds them.
 """
 import argparse
 import pathlib
@@ -22,20 +23,20 @@ def build_peer():
     return BENCH / "peer/target/release/peer"
 
 
-def run_once(program, command, path, output):
+def run_once(program, words, output):
     """The seconds of one run, whose text goes to a file."""
     with open(output, "wb") as out:
         start = time.perf_counter()
-        ended = subprocess.run([program, command, path], stdout=out, stderr=subprocess.DEVNULL)
+        ended = subprocess.run([program, *words], stdout=out, stderr=subprocess.DEVNULL)
         seconds = time.perf_counter() - start
     if ended.returncode != 0:
-        sys.exit(f"{program} {command} {path} ended with status {ended.returncode}")
+        sys.exit(f"{program} {' '.join(words)} ended with status {ended.returncode}")
     return seconds
 
 
-def peak_memory(program, command, path, size):
+def peak_memory(program, words, size):
     """The most kilobytes of memory up to the middle of the text that it writes: all that was read is held then."""
-    child = subprocess.Popen([program, command, path], stdout=subprocess.PIPE, stderr=subprocess.DEVNULL)
+    child = subprocess.Popen([program, *words], stdout=subprocess.PIPE, stderr=subprocess.DEVNULL)
     child.stdout.read(size // 2)
     status = pathlib.Path(f"/proc/{child.pid}/status").read_text()
     child.stdout.read()
@@ -43,17 +44,60 @@ def peak_memory(program, command, path, size):
     return next(int(line.split()[1]) for line in status.splitlines() if line.startswith("VmHWM"))
 
 
-def measure(programs, command, path, folder, rounds):
+def whole_peak_memory(program, words):
+    """The most kilobytes of memory, as it was last seen before the end."""
+    child = subprocess.Popen([program, *words], stdout=subprocess.DEVNULL, stderr=subprocess.DEVNULL)
+    most = 0
+    while child.poll() is None:
+        status = pathlib.Path(f"/proc/{child.pid}/status").read_text()
+        most = max([most, *(int(line.split()[1]) for line in status.splitlines() if line.startswith("VmHWM"))])
+    return most
+
+
+def measure(programs, words, folder, rounds):
     """The best time of each program in seconds, and the text that each wrote."""
     best = [float("inf")] * len(programs)
     texts = [None] * len(programs)
     for _ in range(rounds):
         for i, program in enumerate(programs):
             output = folder / f"out{i}"
-            best[i] = min(best[i], run_once(program, command, path, output))
+            best[i] = min(best[i], run_once(program, words, output))
             if texts[i] is None:
                 texts[i] = output.read_bytes()
     return best, texts
+
+
+def report(name, best, most):
+    ours, theirs = (1000 * seconds for seconds in best)
+    print(f"{name:16} {ours:8.2f} {theirs:8.2f} {ours / theirs:6.2f} {most[0] / 1024:8.1f} {most[1] / 1024:8.1f}", flush=True)
+
+
+def measure_text(programs, command, kind, text, folder, rounds):
+    """Measures programs that read a text and write it."""
+    path = folder / f"{kind}.{command}"
+    path.write_text(text)
+    words = [command, str(path)]
+    best, written = measure(programs, words, folder, rounds)
+    if written[0] != written[1] or written[0] != path.read_bytes():
+        sys.exit(f"the two programs wrote other texts for {command} {kind}")
+    report(f"{command} {kind}", best, [peak_memory(program, words, len(written[0])) for program in programs])
+
+
+def measure_row(programs, kind, side, folder, rounds):
+    """Measures programs that look for a shortest walk across a map."""
+    map_path, scen_path = folder / f"{kind}.map", folder / f"{kind}.scen"
+    map_path.write_text(generate.map_text(kind, side, side, 1))
+    scen_path.write_text(generate.row_text(kind, side, side, 0, 0))
+    words = ["row", str(map_path), str(scen_path), "0"]
+    # a first run finds the length that the row is then to list
+    found = subprocess.run([programs[1], *words], stdout=subprocess.PIPE, text=True).stdout.split()
+    if found[:1] != ["shortest"]:
+        sys.exit(f"no walk leads across the map {kind} {side}")
+    scen_path.write_text(generate.row_text(kind, side, side, int(found[1]), int(found[2])))
+    best, written = measure(programs, words, folder, rounds)
+    if written[0] != written[1]:
+        sys.exit(f"the two programs wrote other lines for row {kind}")
+    report(f"row {kind} {side}", best, [whole_peak_memory(program, words) for program in programs])
 
 
 def main():
@@ -62,23 +106,24 @@ def main():
     parser.add_argument("--rounds", type=int, default=60)
     parser.add_argument("--side", type=int, default=2048)
     parser.add_argument("--rows", type=int, default=100_000)
+    parser.add_argument("--only", choices=("map", "scen", "row"))
     given = parser.parse_args()
     programs = [str(pathlib.Path(given.program).resolve()), str(build_peer())]
-    texts = [("map", kind, generate.map_text(kind, given.side, given.side, 1)) for kind in generate.KINDS]
-    texts.append(("scen", "rows", generate.scen_text(given.side, given.side, 1, given.rows)))
     shared = pathlib.Path("/dev/shm")
     with tempfile.TemporaryDirectory(dir=shared if shared.is_dir() else None) as name:
         folder = pathlib.Path(name)
-        print(f"{'text':13} {'mapf ms':>8} {'peer ms':>8} {'ratio':>6} {'mapf MB':>8} {'peer MB':>8}")
-        for command, kind, text in texts:
-            path = folder / f"{kind}.{command}"
-            path.write_text(text)
-            best, written = measure(programs, command, str(path), folder, given.rounds)
-            if written[0] != written[1] or written[0] != path.read_bytes():
-                sys.exit(f"the two programs wrote other texts for {command} {kind}")
-            most = [peak_memory(program, command, str(path), len(written[0])) for program in programs]
-            ours, theirs = (1000 * seconds for seconds in best)
-            print(f"{command + ' ' + kind:13} {ours:8.2f} {theirs:8.2f} {ours / theirs:6.2f} {most[0] / 1024:8.1f} {most[1] / 1024:8.1f}")
+        print(f"{'text':16} {'mapf ms':>8} {'peer ms':>8} {'ratio':>6} {'mapf MB':>8} {'peer MB':>8}")
+        if given.only in (None, "map"):
+            for kind in generate.KINDS:
+                text = generate.map_text(kind, given.side, given.side, 1)
+                measure_text(programs, "map", kind, text, folder, given.rounds)
+        if given.only in (None, "scen"):
+            text = generate.scen_text(given.side, given.side, 1, given.rows)
+            measure_text(programs, "scen", "rows", text, folder, given.rounds)
+        if given.only in (None, "row"):
+            for side in (given.side, given.side // 2, given.side // 4):
+                for kind in generate.WALKED_KINDS:
+                    measure_row(programs, kind, side, folder, given.rounds)
 
 
 if __name__ == "__main__":

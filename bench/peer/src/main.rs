@@ -1,12 +1,14 @@
-//! A plain Rust program that does the work of `mapf map` and `mapf scen`, to measure it beside: it reads a text, checks it and writes it
-//! in canonical form, with the same faults.
+//! A plain Rust program that does the work of `mapf map`, `mapf scen` and `mapf row`, to measure it beside: it reads a text, checks it and
+//! writes it in canonical form, with the same faults, or solves a row of a scenario, with no certificate.
 mod map;
+mod row;
 mod scen;
+mod search;
 mod source;
 
 use source::Fault;
 use std::fs::File;
-use std::io;
+use std::io::{self, Write};
 use std::process::ExitCode;
 
 /// Standard output without the buffer of a line.
@@ -15,30 +17,43 @@ fn output() -> io::Result<File> {
     Ok(File::from(io::stdout().as_fd().try_clone_to_owned()?))
 }
 
-fn run(command: &str, path: &str) -> Result<(), Fault> {
-    let file = File::open(path).map_err(|_| Fault::Device("OpenFailed"))?;
+fn open(path: &str) -> Result<File, Fault> {
+    File::open(path).map_err(|_| Fault::Device("OpenFailed"))
+}
+
+/// Does the work of a command; the answer is whether its result is a good one. `None`: there is no such command.
+fn run(words: &[&str]) -> Result<Option<bool>, Fault> {
     let failed = |_| Fault::Device("WriteFailed");
-    if command == "map" {
-        let (width, height, cells) = map::read_map(file)?;
-        map::write_map(output().map_err(failed)?, width, height, &cells).map_err(failed)
-    } else {
-        let rows = scen::read_scen(file)?;
-        scen::write_scen(output().map_err(failed)?, &rows).map_err(failed)
+    match *words {
+        ["map", path] => {
+            let (width, height, cells) = map::read_map(open(path)?)?;
+            map::write_map(output().map_err(failed)?, width, height, &cells).map_err(failed)?;
+            Ok(Some(true))
+        }
+        ["scen", path] => {
+            let rows = scen::read_scen(open(path)?)?;
+            scen::write_scen(output().map_err(failed)?, &rows).map_err(failed)?;
+            Ok(Some(true))
+        }
+        ["row", map, scen, number] => {
+            let (line, good) = row::solve(open(map)?, open(scen)?, number)?;
+            writeln!(output().map_err(failed)?, "{line}").map_err(failed)?;
+            Ok(Some(good))
+        }
+        _ => Ok(None),
     }
 }
 
 fn main() -> ExitCode {
-    let words: Vec<String> = std::env::args().collect();
-    let [_, command, path] = words.as_slice() else {
-        eprintln!("usage: peer map FILE | peer scen FILE");
-        return ExitCode::from(2);
-    };
-    if command != "map" && command != "scen" {
-        eprintln!("usage: peer map FILE | peer scen FILE");
-        return ExitCode::from(2);
-    }
-    match run(command, path) {
-        Ok(()) => ExitCode::SUCCESS,
+    let words: Vec<String> = std::env::args().skip(1).collect();
+    let words: Vec<&str> = words.iter().map(String::as_str).collect();
+    match run(&words) {
+        Ok(Some(true)) => ExitCode::SUCCESS,
+        Ok(Some(false)) => ExitCode::from(1),
+        Ok(None) => {
+            eprintln!("usage: peer map FILE | peer scen FILE | peer row MAP SCEN N");
+            ExitCode::from(2)
+        }
         Err(Fault::Text(text)) => {
             eprintln!("mapf: {text}");
             ExitCode::from(1)

@@ -7,12 +7,12 @@ const LONGEST_LINE: usize = 4096;
 pub struct Row {
     bucket: u32,
     name: Box<[u8]>,
-    width: u32,
-    height: u32,
-    start: (u16, u16),
-    goal: (u16, u16),
-    listed: u64,
-    decimals: u8,
+    pub width: u32,
+    pub height: u32,
+    pub start: (u16, u16),
+    pub goal: (u16, u16),
+    pub listed: u64,
+    pub decimals: u8,
 }
 
 /// Where the first LF stands, by blocks that the compiler compares at once.
@@ -218,6 +218,13 @@ fn put_listed(piece: &mut Vec<u8>, listed: u64, decimals: u8) {
         put_number(piece, unit + listed % unit);
         piece[at] = b'.';
     }
+}
+
+/// The listed length of a row, as it is written.
+pub fn written_listed(row: &Row) -> String {
+    let mut text = Vec::new();
+    put_listed(&mut text, row.listed, row.decimals);
+    String::from_utf8_lossy(&text).into_owned()
 }
 
 pub fn write_scen<W: Write>(mut writer: W, rows: &[Row]) -> io::Result<()> {

@@ -1,5 +1,5 @@
 -- What a caller sees of a map, and the steps on it.
-use Rattle.std.specs.Prelude.{◌≡◌, ℕ, ◌+◌, ◌*◌, ◌<◌, ◌≤◌, ◌⊎◌, IsTrue, ◌&&◌, if◌then◌else◌, nat_lt, List, length, Option, Some, None, slice_get}
+use Rattle.std.specs.Prelude.{◌≡◌, ℕ, ◌+◌, ◌*◌, ◌<◌, ◌≤◌, ◌⊎◌, IsTrue, ◌&&◌, if◌then◌else◌, nat_lt, List, length, Option, None, MatchOption, slice_get}
 use Rattle.grid.specs.declared.cell.Cell.{Cell}
 use Rattle.grid.specs.declared.terrain.Terrain.{Terrain}
 use Rattle.grid.specs.Terrain.{class_of, joins}
@@ -35,15 +35,15 @@ AreNext a b = (a ≡ b + 1) ⊎ (b ≡ a + 1)
 abbrev pub ShareSide : Cell → Cell → Type 0
 ShareSide u v = ((u.x ≡ v.x) × AreNext u.y v.y) ⊎ ((u.y ≡ v.y) × AreNext u.x v.x)
 
--- A legal straight step: both cells are on the map and share a side, and their classes are land and land, land and swamp
--- in either order, swamp and swamp, or water and water.
+-- A straight step may lead from the one terrain to the other: their classes are land and land, land and swamp in either order,
+-- swamp and swamp, or water and water. Off the map there is no terrain, and none leads there.
+abbrev pub AreJoined : Option Terrain → Option Terrain → Type 0
+AreJoined from to = MatchOption from ⊥ (λ t. MatchOption to ⊥ (λ u. IsTrue (joins (class_of t) (class_of u))))
+
+-- A legal straight step: the cells share a side, and the terrain of the one joins that of the other.
 pub record IsStraightStep (m : Grid) (u v : Cell) : Type 0 where
   pub side : ShareSide u v
-  pub from : Terrain
-  pub to : Terrain
-  pub from_is : terrain_at m u ≡ Some from
-  pub to_is : terrain_at m v ≡ Some to
-  pub joined : IsTrue (joins (class_of from) (class_of to))
+  pub joined : AreJoined (terrain_at m u) (terrain_at m v)
 
 -- A legal diagonal step: the cells differ by one in x and by one in y, and round each of the two cells beside both, two legal
 -- straight steps lead from the one to the other.

@@ -1,5 +1,5 @@
 -- The text of a map of type `octile` (MovingAI, map format): which texts spell a map.
-use Rattle.std.specs.Prelude.{◌≡◌, ℕ, ◌<◌, ◌⊎◌, Bool, true, false, ◌&&◌, ◌||◌, ◌==◌, IsTrue, List, [], ◌∷◌, ◌++◌, length, map, take, drop, zero, suc, codes, decimal}
+use Rattle.std.specs.Prelude.{◌≡◌, ℕ, ◌⊎◌, Bool, true, false, ◌&&◌, ◌||◌, ◌==◌, IsTrue, List, [], ◌∷◌, ◌++◌, length, map, take, drop, zero, suc, codes, decimal}
 use Rattle.std.specs.List.{list_all, AllByRecursion}
 use Rattle.grid.specs.declared.terrain.Terrain.{Terrain}
 use Rattle.grid.specs.Text.{carriage_return, is_blank, lines_of, ended, IsGap, SpellsNumber}

@@ -12,6 +12,7 @@ mod map_reader;
 mod map_writer;
 mod sink;
 mod source;
+mod step;
 mod terrain;
 mod terrain_scan;
 
@@ -24,4 +25,5 @@ pub use map_reader::read_map;
 pub use map_writer::write_map;
 pub use sink::{Sink, WriteFault};
 pub use source::{Source, Stop};
+pub use step::{step4, step8};
 pub use terrain::Terrain;

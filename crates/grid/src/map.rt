@@ -71,7 +71,7 @@ impl Map {
     }
 
     /// The characters, row by row.
-    pub(crate) fn characters(&self) -> &[u8]
+    pub fn characters(&self) -> &[u8]
         ensures { result.now ≡ map character_of self.now.terrain }
     {
         self.characters.as_slice()

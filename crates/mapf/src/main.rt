@@ -2,7 +2,7 @@
 #![tactic(auto)]
 
 use grid::Counted;
-use mapf_cmd::{Line, LineFault, Status, line, map_cmd, report, scen_cmd};
+use mapf_cmd::{Line, LineFault, Status, line, map_cmd, report, row_cmd, scen_cmd};
 use std::fs::File;
 use std::io::ErrorKind;
 use std::process::ExitCode;
@@ -13,12 +13,14 @@ const HELP: &str = "Reads maps and scenarios, and answers what they hold.
 Usage: mapf COMMAND
 
 Commands:
-  map FILE     reads a map and writes it in canonical form
-  scen FILE    reads a scenario and writes it in canonical form
-  help         shows this text
+  map FILE          reads a map and writes it in canonical form
+  scen FILE         reads a scenario and writes it in canonical form
+  row MAP SCEN N    judges the length that the scenario lists for its row N, from 0 on
+  help              shows this text
 ";
 
-const USAGE: &str = "usage: mapf map FILE | mapf scen FILE (mapf help says more)";
+const USAGE: &str =
+    "usage: mapf map FILE | mapf scen FILE | mapf row MAP SCEN N (mapf help says more)";
 
 fn main(rt: HostRuntime) -> ExitCode {
     ExitCode::from(run(&rt))
@@ -56,6 +58,11 @@ fn perform(rt: &HostRuntime, line: Line) -> io::Result<u8> {
         Line::Scen { file } => {
             let mut scen = Counted::new(File::open(rt, &file)?);
             Ok(scen_cmd(rt.alloc(), &mut scen, &mut out, &mut err))
+        }
+        Line::Row { map, scen, row } => {
+            let mut map = Counted::new(File::open(rt, &map)?);
+            let mut scen = Counted::new(File::open(rt, &scen)?);
+            Ok(row_cmd(rt.alloc(), &mut map, &mut scen, row, &mut out, &mut err))
         }
     }
 }

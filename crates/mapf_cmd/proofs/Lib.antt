@@ -4,3 +4,5 @@ mod Filled
 mod Commands
 mod Taken
 mod Rewriting
+mod VerdictPuts
+mod RowAnswers

@@ -5,7 +5,7 @@ use Rattle.clap.specs.Simple.{App, argument_words, built, entered, is_simple, na
 use Rattle.clap.specs.Takes.{built_takes, entered_passes, level_passes, takes}
 use Rattle.clap.specs.Walk.{Row, Text, finished, nothing_held, walk, walk_from}
 use Rattle.clap.proofs.WalkLemmas.{both}
-use Rattle.mapf_cmd.specs.Words.{map_command, program_app, scen_command, HasWords}
+use Rattle.mapf_cmd.specs.Words.{map_command, program_app, row_command, scen_command, HasWords}
 use Rattle.mapf_cmd.proofs.Commands.{command_given, level_parts, valid_parts}
 use Rattle.mapf_cmd.proofs.Stops.{AreNamed, StopsAt, walk_stays}
 
@@ -21,7 +21,10 @@ abbrev Gives : Text → Type 0
 Gives name = (words : List Text) → entered_passes program (Some (name, words)) ≡ true → IsGiven (entered program (Some (name, words)))
 
 commands_give : AreNamed Gives (names_of program)
-commands_give = (λ other. command_given map_command, (λ other. command_given scen_command, (λ other. let bad : true ≡ false = other in cc, tt)))
+commands_give = (
+  λ other. command_given map_command,
+  (λ other. command_given scen_command, (λ other. command_given row_command, (λ other. let bad : true ≡ false = other in cc, tt))),
+)
 
 stop_gives : (stop : Option (Text × List Text)) → StopsAt Gives stop → entered_passes program stop ≡ true → is_some (entered program stop) ≡ true
     → IsGiven (entered program stop)

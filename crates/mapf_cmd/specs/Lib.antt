@@ -4,3 +4,4 @@ pub mod Status
 pub mod Rewriting
 pub mod MapCommand
 pub mod ScenCommand
+pub mod RowCommand

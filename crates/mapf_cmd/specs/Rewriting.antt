@@ -9,29 +9,40 @@ use Rattle.mapf_cmd.specs.declared.status.Status.{Status}
 use Rattle.mapf_cmd.specs.declared.status.Status.TheVariants.{Done, Fault, Failure}
 use Rattle.mapf_cmd.specs.Status.{code_of}
 
--- The exit status and what the output got, by what reading came to: the canonical text of the value that was read, or a beginning
--- of it where the output failed; nothing where there is no value.
+-- A text was read by the grammar of its format, of which `FaultAt` has the faults, with this outcome.
+abbrev pub Reads : {V F R : Type 0} → (V → List ℕ → Type 0) → (F → Place → List ℕ → Type 0) → (R → Option (List ℕ)) → Counted R → Counted R
+    → Outcome V F → Type 0
+Reads Spells FaultAt remaining old new =
+    ReadsText Spells FaultAt (remaining (counted_inner old)) (remaining (counted_inner new)) (failures_of old) (failures_of new)
+
+-- The exit status and what the output got where a text is written: all of it, and then the status is that of success, or a
+-- beginning of it where the output failed.
+abbrev pub EndsWriting : {W : Type 0} → (W → Option (List ℕ)) → Counted W → Counted W → ℕ → Status → List ℕ → Type 0
+EndsWriting contents old new status success text =
+    ((status ≡ code_of success) × WritesText true (contents (counted_inner old)) (contents (counted_inner new)) (failures_of old) (failures_of new) text)
+    ⊎ ((status ≡ code_of Failure) × WritesText false (contents (counted_inner old)) (contents (counted_inner new)) (failures_of old) (failures_of new) text)
+
+-- The exit status and what the output got, by what reading came to: the canonical text of the value that was read, and
+-- nothing where there is no value.
 abbrev pub EndsBy : {V F W : Type 0} → (V → List ℕ) → (W → Option (List ℕ)) → Counted W → Counted W → ℕ → Outcome V F → Type 0
-EndsBy canonical contents old new status (is_value v) =
-    ((status ≡ code_of Done) × WritesText true (contents (counted_inner old)) (contents (counted_inner new)) (failures_of old) (failures_of new) (canonical v))
-    ⊎ ((status ≡ code_of Failure) × WritesText false (contents (counted_inner old)) (contents (counted_inner new)) (failures_of old) (failures_of new) (canonical v))
+EndsBy canonical contents old new status (is_value v) = EndsWriting contents old new status Done (canonical v)
 EndsBy canonical contents old new status (is_fault f) = (status ≡ code_of Fault) × (new ≡ old)
 EndsBy canonical contents old new status is_failed = (status ≡ code_of Failure) × (new ≡ old)
 EndsBy canonical contents old new status is_refused = (status ≡ code_of Failure) × (new ≡ old)
 
--- The text was read by the grammar of its format, of which `FaultAt` has the faults, and the command ended by that.
+-- The text was read, and the command ended by that.
 pub record RewritesText
     {V F R W : Type 0} (Spells : V → List ℕ → Type 0) (FaultAt : F → Place → List ℕ → Type 0) (canonical : V → List ℕ)
     (remaining : R → Option (List ℕ)) (contents : W → Option (List ℕ)) (old_in new_in : Counted R) (old_out new_out : Counted W)
     (status : ℕ) : Type 0 where
   pub outcome : Outcome V F
-  pub reads : ReadsText Spells FaultAt (remaining (counted_inner old_in)) (remaining (counted_inner new_in))
-      (failures_of old_in) (failures_of new_in) outcome
+  pub reads : Reads Spells FaultAt remaining old_in new_in outcome
   pub ends : EndsBy canonical contents old_out new_out status outcome
 
 -- How a command ends after a write, by whether that passed: a flush leaves the bytes as they are, and a failed write is not flushed.
-abbrev pub Finishes : {W : Type 0} → (W → Option (List ℕ)) → Bool → Counted W → Counted W → Status → Type 0
-Finishes contents true old new status =
+-- Where neither failed, the status is that of success.
+abbrev pub Finishes : {W : Type 0} → (W → Option (List ℕ)) → Bool → Status → Counted W → Counted W → Status → Type 0
+Finishes contents true success old new status =
     Keeps (contents (counted_inner old)) (contents (counted_inner new))
-    × (((status ≡ Done) × (failures_of new ≡ failures_of old)) ⊎ ((status ≡ Failure) × Rises (failures_of old) (failures_of new)))
-Finishes contents false old new status = (status ≡ Failure) × (new ≡ old)
+    × (((status ≡ success) × (failures_of new ≡ failures_of old)) ⊎ ((status ≡ Failure) × Rises (failures_of old) (failures_of new)))
+Finishes contents false success old new status = (status ≡ Failure) × (new ≡ old)

@@ -1,12 +1,13 @@
 -- The command line of `mapf`, in the words of clap.
-use Rattle.std.specs.Prelude.{◌≡◌, true, IsTrue, MatchOption, List, [], ◌∷◌, map, fold, find, codes, Some, is_some, string_bytes}
+use Rattle.std.specs.Prelude.{◌≡◌, ℕ, ◌^◌, ◌<◌, true, IsTrue, MatchOption, List, [], ◌∷◌, map, fold, find, codes, Some, is_some, string_bytes}
 use Rattle.std.specs.List.{AllByRecursion}
 use Rattle.std.specs.Str.{bytes_eq}
+use Rattle.grid.specs.Text.{SpellsNumber}
 use Rattle.clap.specs.Words.{App, Row, Rule, Text, first_of, new_app, new_rule, subcommand_of, with_subcommand}
 use Rattle.clap.specs.declared.error.kind.ErrorKind.{ErrorKind}
 use Rattle.clap.specs.declared.error.kind.ErrorKind.TheVariants as kind
 use Rattle.mapf_cmd.specs.declared.command_line.Line.{Line}
-use Rattle.mapf_cmd.specs.declared.command_line.Line.TheVariants.{Map, Scen}
+use Rattle.mapf_cmd.specs.declared.command_line.Line.TheVariants.{Map, Scen, Row as row_line}
 use Rattle.mapf_cmd.specs.declared.command_line.LineFault.{LineFault}
 use Rattle.mapf_cmd.specs.declared.command_line.LineFault.TheVariants.{Help, BadCommand, OutOfMemory}
 
@@ -23,9 +24,12 @@ map_command = (codes "map", codes "file" ∷ [])
 abbrev pub scen_command : Text × List Text
 scen_command = (codes "scen", codes "file" ∷ [])
 
+abbrev pub row_command : Text × List Text
+row_command = (codes "row", codes "map" ∷ codes "scen" ∷ codes "row" ∷ [])
+
 -- all commands
 abbrev pub commands : List (Text × List Text)
-commands = map_command ∷ scen_command ∷ []
+commands = map_command ∷ scen_command ∷ row_command ∷ []
 
 -- one required word
 abbrev pub required_word : Text → Rule
@@ -48,10 +52,25 @@ abbrev pub HasWords : Text → List Row → Type 0
 HasWords name rows =
     MatchOption (find (λ c. bytes_eq c.0 name) commands) ⊥ (λ c. AllByRecursion (λ word. IsTrue (is_some (first_of word rows))) c.1)
 
+-- the rows have a value of this word, which is digits alone and spells the number
+abbrev pub GivesNumber : Text → List Row → ℕ → Type 0
+GivesNumber word rows n = (digits : Text) × (first_of word rows ≡ Some digits) × SpellsNumber n digits
+
+-- the number that the command with this name wants, if it wants one, is spelled, and below 2^32
+abbrev pub HasNumber : Text → List Row → Type 0
+HasNumber name rows = name ≡ codes "row" → (n : ℕ) × (n < 2 ^ 32) × GivesNumber (codes "row") rows n
+
+-- the same of the words of the command line
+abbrev pub GiveNumber : List Text → Type 0
+GiveNumber words = (name : Text) (rows : List Row) → subcommand_of program_app words ≡ Some (name, rows) → HasNumber name rows
+
 -- the line is the command with this name, and its words have the values that the rows give
 abbrev pub IsCommand : Text → List Row → Line → Type 0
 IsCommand name rows (Map file) = (name ≡ codes "map") × (first_of (codes "file") rows ≡ Some (string_bytes file))
 IsCommand name rows (Scen file) = (name ≡ codes "scen") × (first_of (codes "file") rows ≡ Some (string_bytes file))
+IsCommand name rows (row_line map_file scen_file row) =
+    (name ≡ codes "row") × (first_of (codes "map") rows ≡ Some (string_bytes map_file))
+    × (first_of (codes "scen") rows ≡ Some (string_bytes scen_file)) × GivesNumber (codes "row") rows row
 
 -- the line is the command that clap's definition of the program gives for the words
 abbrev pub IsLineOf : List Text → Line → Type 0

@@ -15,6 +15,8 @@ pub enum Line {
     Map { file: String },
     /// Reads a scenario and writes it in canonical form.
     Scen { file: String },
+    /// Judges the listed length of a scenario's row, counted from 0, on a map.
+    Row { map: String, scen: String, row: u32 },
 }
 
 /// Why the words are no command.

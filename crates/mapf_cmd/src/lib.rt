@@ -3,13 +3,17 @@
 
 mod command_line;
 mod map_command;
+mod row_command;
+mod row_fault;
 mod scen_command;
 mod status;
+mod verdict;
 mod words;
 mod writing;
 
 pub use command_line::{Line, LineFault};
 pub use map_command::map_cmd;
+pub use row_command::row_cmd;
 pub use scen_command::scen_cmd;
 pub use status::{Status, report};
 pub use words::line;

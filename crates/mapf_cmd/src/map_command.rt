@@ -22,7 +22,7 @@ pub fn map_cmd<R: Read, W: Write, E: Write>(
     match read_map(alloc, map) {
         Ok(map) => {
             let written = write_map(&map, out);
-            finish(written, out, err).code()
+            finish(written, Status::Done, out, err).code()
         }
         Err(fault) => {
             let _ = report(err, fault);
@@ -32,7 +32,7 @@ pub fn map_cmd<R: Read, W: Write, E: Write>(
 }
 
 /// The status that a map's fault ends with.
-fn map_fault_status(fault: MapFault) -> Status
+pub(crate) fn map_fault_status(fault: MapFault) -> Status
     ensures { result ≡ map_fault_status fault }
 {
     match fault {

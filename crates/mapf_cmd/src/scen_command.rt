@@ -23,7 +23,7 @@ pub fn scen_cmd<R: Read, W: Write, E: Write>(
     match read_scen(alloc, scen) {
         Ok(scenario) => {
             let written = write_scen(&scenario, out);
-            finish(written, out, err).code()
+            finish(written, Status::Done, out, err).code()
         }
         Err(fault) => {
             let _ = report(err, fault);
@@ -33,7 +33,7 @@ pub fn scen_cmd<R: Read, W: Write, E: Write>(
 }
 
 /// The status that a scenario's fault ends with.
-fn scen_fault_status(fault: ScenFault) -> Status
+pub(crate) fn scen_fault_status(fault: ScenFault) -> Status
     ensures { result ≡ scen_fault_status fault }
 {
     match fault {

@@ -1,7 +1,10 @@
 //! The words of the command line.
-ghost use Rattle.std.specs.Prelude.{◌≡◌, [], true, false, IfOk, IfErr, OnOk, IsTrue, Some, is_some, map, string_bytes};
-ghost use Rattle.clap.specs.Words.{app_of, first_of, found_of, rows_of, rule_of, takes, fault_of};
-ghost use Rattle.mapf_cmd.specs.Words.{program_app, required_word, HasWords, IsCommand, IsLineOf};
+ghost use Rattle.std.specs.Prelude.{◌≡◌, ℕ, ◌^◌, ◌<◌, [], ◌∷◌, codes, true, false, IfOk, IfErr, OnOk, OnErr, MatchOption, IsTrue, Some, is_some, map, string_bytes};
+ghost use Rattle.std.specs.Char.{is_ascii_digit};
+ghost use Rattle.std.specs.List.{list_all};
+ghost use Rattle.clap.specs.Words.{app_of, with_subcommand, first_of, found_of, rows_of, rule_of, takes, fault_of};
+ghost use Rattle.grid.specs.Text.{SpellsNumber};
+ghost use Rattle.mapf_cmd.specs.Words.{program_app, row_command, command_of, required_word, HasWords, HasNumber, GivesNumber, GiveNumber, IsCommand, IsLineOf};
 
 use crate::{Line, LineFault};
 use clap::{Arg, ArgMatches, Command};
@@ -11,7 +14,8 @@ use std::alloc::{AllocError, Global};
 pub fn line(alloc: Global, words: &[String]) -> Result<Line, LineFault>
     ensures command { IfOk result (IsLineOf (map string_bytes words.now)) }
     ensures taken { OnOk result (fault_of program_app (map string_bytes words.now) ≡ []) }
-    ensures refused { IfErr result (λ e. takes program_app (map string_bytes words.now) ≡ true → e ≡ LineFault.OutOfMemory) }
+    ensures refused { IfErr result (λ e. takes program_app (map string_bytes words.now) ≡ true
+        → GiveNumber (map string_bytes words.now) → e ≡ LineFault.OutOfMemory) }
 {
     let matches = program(alloc)?.try_get_matches_from(words)?;
     match matches.subcommand() {
@@ -24,12 +28,33 @@ pub fn line(alloc: Global, words: &[String]) -> Result<Line, LineFault>
 fn program<'a>(alloc: Global) -> Result<Command<'a>, AllocError>
     ensures { IfOk result (λ c. app_of c ≡ program_app) }
 {
-    let map = Command::new(alloc, "map").arg(required(alloc, "file"))?;
-    let scen = Command::new(alloc, "scen").arg(required(alloc, "file"))?;
-    Command::new(alloc, "mapf")
-        .subcommand_required(true)
-        .subcommand(map)?
-        .subcommand(scen)
+    let program = Command::new(alloc, "mapf").subcommand_required(true);
+    let program = with_file_command(alloc, program, "map")?;
+    let program = with_file_command(alloc, program, "scen")?;
+    with_row_command(alloc, program)
+}
+
+/// The program with one more command, of a file.
+fn with_file_command<'a>(
+    alloc: Global,
+    program: Command<'a>,
+    name: &'a str,
+) -> Result<Command<'a>, AllocError>
+    ensures { IfOk result (λ c. app_of c ≡ with_subcommand (app_of program.entry) (command_of (name.entry.now, codes "file" ∷ [])).top) }
+{
+    let command = Command::new(alloc, name).arg(required(alloc, "file"))?;
+    program.subcommand(command)
+}
+
+/// The program with the command that judges a row.
+fn with_row_command<'a>(alloc: Global, program: Command<'a>) -> Result<Command<'a>, AllocError>
+    ensures { IfOk result (λ c. app_of c ≡ with_subcommand (app_of program.entry) (command_of row_command).top) }
+{
+    let command = Command::new(alloc, "row")
+        .arg(required(alloc, "map"))?
+        .arg(required(alloc, "scen"))?
+        .arg(required(alloc, "row"))?;
+    program.subcommand(command)
 }
 
 /// A word that a command requires.
@@ -43,7 +68,8 @@ fn required<'a>(alloc: Global, name: &'a str) -> Arg<'a>
 /// Reads the command with this name, by the words that it was given.
 fn read_command(alloc: Global, name: &str, given: &ArgMatches<'_>) -> Result<Line, LineFault>
     ensures ok { IfOk result (IsCommand name.now (rows_of (found_of given.now))) }
-    ensures err { IfErr result (λ e. HasWords name.now (rows_of (found_of given.now)) → e ≡ LineFault.OutOfMemory) }
+    ensures err { IfErr result (λ e. HasWords name.now (rows_of (found_of given.now)) → HasNumber name.now (rows_of (found_of given.now))
+        → e ≡ LineFault.OutOfMemory) }
 {
     match name {
         "map" => Ok(Line::Map {
@@ -52,8 +78,41 @@ fn read_command(alloc: Global, name: &str, given: &ArgMatches<'_>) -> Result<Lin
         "scen" => Ok(Line::Scen {
             file: word(alloc, given, "file")?,
         }),
+        "row" => Ok(Line::Row {
+            map: word(alloc, given, "map")?,
+            scen: word(alloc, given, "scen")?,
+            row: number(given, "row")?,
+        }),
         _ => Err(LineFault::BadCommand),
     }
+}
+
+/// The number that an argument was given.
+fn number(given: &ArgMatches<'_>, name: &str) -> Result<u32, LineFault>
+    ensures ok { IfOk result (GivesNumber name.now (rows_of (found_of given.now))) }
+    ensures err { OnErr result ((n : ℕ) → n < 2 ^ 32 → GivesNumber name.now (rows_of (found_of given.now)) n → ⊥) }
+{
+    match given.get_str(name) {
+        Some(digits) => spelled(digits).ok_or(LineFault::BadCommand),
+        None => Err(LineFault::BadCommand),
+    }
+}
+
+/// The number that digits spell, if there is nothing but digits.
+fn spelled(digits: &str) -> Option<u32>
+    ensures { MatchOption result ((n : ℕ) → n < 2 ^ 32 → SpellsNumber n digits.now → ⊥) (λ n. SpellsNumber n digits.now) }
+{
+    if are_digits(digits) {
+        digits.parse().ok()
+    } else {
+        None
+    }
+}
+
+fn are_digits(text: &str) -> bool
+    ensures { result ≡ list_all is_ascii_digit text.now }
+{
+    text.bytes().all(|b| b.is_ascii_digit())
 }
 
 /// The word that an argument was given.

@@ -15,3 +15,6 @@ pub mod PutLemmas
 pub mod DigitLemmas
 pub mod LinePuts
 pub mod WrittenLemmas
+pub mod KeyLemmas
+pub mod TightTables
+pub mod WalkLemmas

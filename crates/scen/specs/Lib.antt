@@ -10,3 +10,8 @@ pub mod Query
 pub mod ScenText
 pub mod ScenFault
 pub mod Parsing
+pub mod Walk
+pub mod Certificate
+pub mod Tightness
+pub mod Search
+pub mod Round

@@ -1,10 +1,16 @@
-//! Lengths, and scenarios: lists of single queries on a map, each with the length that it should have.
+//! Lengths, scenarios (lists of single queries on a map, each with the length that it should have), and the search and the
+//! certificates that tell which length is right.
 #![tactic(auto)]
 
 mod agreement;
+mod certificate;
 mod fields;
+mod flood;
+mod keys;
 pub mod laws;
+mod layout;
 mod length;
+mod lengths_found;
 mod listed;
 mod numbers;
 mod order;
@@ -13,12 +19,20 @@ mod row_reader;
 mod scen_fault;
 mod scen_reader;
 mod scen_writer;
+mod search_fault;
+mod tightness;
 mod version;
+mod walk_back;
+mod walk_search;
+mod wave;
 
 pub use agreement::agrees;
+pub use certificate::{CertFault, Proposal, certify};
 pub use length::Length;
 pub use listed::Listed;
 pub use row::{Row, Scenario};
 pub use scen_fault::ScenFault;
 pub use scen_reader::read_scen;
-pub use scen_writer::write_scen;
+pub use scen_writer::{put_listed, write_scen};
+pub use search_fault::SearchFault;
+pub use walk_search::search;

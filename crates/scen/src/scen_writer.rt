@@ -87,7 +87,7 @@ fn put_field<W: Write>(sink: &mut Sink<'_, W>, field: &[u8]) -> Result<(), Write
 }
 
 /// Puts a listed length with as many decimals as it has.
-fn put_listed<W: Write>(sink: &mut Sink<'_, W>, listed: Listed) -> Result<(), WriteFault>
+pub fn put_listed<W: Write>(sink: &mut Sink<'_, W>, listed: Listed) -> Result<(), WriteFault>
     ensures ok { OnOk result (Puts W.contents sink.old sink.new (listed_text listed.n listed.d)) }
     ensures err { OnErr result (Breaks W.contents sink.old sink.new (listed_text listed.n listed.d)) }
 {

@@ -44,6 +44,51 @@ fn scen_lines(rt: HostRuntime) -> Result<(), Fail> {
 }
 
 #[test]
+fn row_lines(rt: HostRuntime) -> Result<(), Fail> {
+    for (text, want) in [
+        ("mapf row M S 0", 0),
+        ("mapf row M S 007", 7),
+        ("mapf row M S 4294967295", 4_294_967_295),
+        ("mapf row M S 000000004294967295", 4_294_967_295),
+        ("mapf row -- M S 12", 12),
+    ] {
+        let words = words(rt.alloc(), text)?;
+        let Line::Row { map, scen, row } = line(rt.alloc(), words.as_slice())? else {
+            assert!(rt; false, "another command at {text:?}");
+            return Ok(());
+        };
+        assert_eq!(rt; map.as_str(), "M", "at {text:?}");
+        assert_eq!(rt; scen.as_str(), "S", "at {text:?}");
+        assert_eq!(rt; row, want, "at {text:?}");
+    }
+    Ok(())
+}
+
+#[test]
+fn numbers_that_are_none(rt: HostRuntime) -> Result<(), Fail> {
+    for number in [
+        "4294967296",
+        "18446744073709551616",
+        "+1",
+        "-1",
+        "1x",
+        "x1",
+        "",
+        " 1",
+        "1 ",
+        "1.0",
+        "0x1",
+        "١",
+    ] {
+        let mut words = words(rt.alloc(), "mapf row M S")?;
+        words.push(String::from_str(rt.alloc(), number)?)?;
+        let got = line(rt.alloc(), words.as_slice());
+        assert_eq!(rt; got.err(), Some(LineFault::BadCommand), "at {number:?}");
+    }
+    Ok(())
+}
+
+#[test]
 fn refused_lines(rt: HostRuntime) -> Result<(), Fail> {
     for (text, want) in [
         ("mapf", LineFault::BadCommand),
@@ -52,6 +97,11 @@ fn refused_lines(rt: HostRuntime) -> Result<(), Fail> {
         ("mapf scen", LineFault::BadCommand),
         ("mapf scen a b", LineFault::BadCommand),
         ("mapf map scen F", LineFault::BadCommand),
+        ("mapf row", LineFault::BadCommand),
+        ("mapf row M", LineFault::BadCommand),
+        ("mapf row M S", LineFault::BadCommand),
+        ("mapf row M S 0 1", LineFault::BadCommand),
+        ("mapf row M 0 S", LineFault::BadCommand),
         ("mapf map -x", LineFault::BadCommand),
         ("mapf nosuch", LineFault::BadCommand),
         ("mapf -x", LineFault::BadCommand),
@@ -64,6 +114,8 @@ fn refused_lines(rt: HostRuntime) -> Result<(), Fail> {
         ("mapf map -h", LineFault::Help),
         ("mapf map --help", LineFault::Help),
         ("mapf map F --help", LineFault::Help),
+        ("mapf row --help", LineFault::Help),
+        ("mapf row M S x --help", LineFault::Help),
     ] {
         let words = words(rt.alloc(), text)?;
         let got = line(rt.alloc(), words.as_slice());

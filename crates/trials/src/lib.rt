@@ -4,6 +4,8 @@
 #[cfg(test)]
 mod answers;
 #[cfg(test)]
+mod certificates;
+#[cfg(test)]
 mod command_lines;
 #[cfg(test)]
 mod counting;
@@ -20,8 +22,14 @@ mod map_texts;
 #[cfg(test)]
 mod map_trouble;
 #[cfg(test)]
+mod row_command;
+#[cfg(test)]
 mod scen_command;
 #[cfg(test)]
 mod scen_texts;
 #[cfg(test)]
 mod scen_trouble;
+#[cfg(test)]
+mod searches;
+#[cfg(test)]
+mod steps;

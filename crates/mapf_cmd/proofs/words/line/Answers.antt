@@ -43,7 +43,7 @@ pub returns-in_err-matches-clause-refused : goal.returns-in_err-matches-clause-r
 returns-in_err-matches-clause-refused c =
     let e = c.in_ok-program.ensures in
     passed_up _ _ _ c.from_residual-in_err-matches.ensures.1
-    (λ t. ap fault_of_kind (c.in_err-matches.ensures.passes (ap (λ a. takes a (map string_bytes c.args.words.now)) e ∙ t)))
+    (λ t spelled. ap fault_of_kind (c.in_err-matches.ensures.passes (ap (λ a. takes a (map string_bytes c.args.words.now)) e ∙ t)))
 
 pub returns-in-Some-clause-command : goal.returns-in-Some-clause-command
 returns-in-Some-clause-command c =
@@ -60,4 +60,4 @@ returns-in-Some-clause-taken c =
 pub returns-in-Some-clause-refused : goal.returns-in-Some-clause-refused
 returns-in-Some-clause-refused c =
     let found = subcommand_found _ _ _ _ _ c.in_ok-program.ensures c.in_ok-matches.ensures.matches c.in-Some.ensures.name c.in-Some.ensures.rows in
-    IfErr-weaker c.read_command.result _ _ (λ fault only t. only (subst IsGiven found (taken_gives (map string_bytes c.args.words.now) t))) c.read_command.ensures.err
+    IfErr-weaker c.read_command.result _ _ (λ fault only t spelled. only (subst IsGiven found (taken_gives (map string_bytes c.args.words.now) t)) (spelled _ _ found)) c.read_command.ensures.err

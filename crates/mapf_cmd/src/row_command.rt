@@ -1,0 +1,75 @@
+//! `mapf row`: judges the listed length of a scenario's row on a map.
+ghost use Rattle.std.specs.Prelude.{MatchResult};
+ghost use Rattle.mapf_cmd.specs.RowCommand.{IsAsked, JudgesRow, ReadsAndJudges, AnswersRow};
+
+use crate::report;
+use crate::row_fault::RowFault;
+use crate::verdict::{Verdict, write_verdict};
+use crate::writing::finish;
+use grid::{Counted, Map, read_map};
+use scen::{Row, Scenario, certify, read_scen, search};
+use std::alloc::Global;
+use std::io::{Read, Write};
+
+/// Reads a map from `map` and a scenario from `scen`, and writes the shortest length for the scenario's row with this number,
+/// counted from 0, and whether the listed one agrees with it, to `out`, with a fault's line on `err`. The answer is the exit status,
+/// which stays where `err` fails.
+pub fn row_cmd<R: Read, S: Read, W: Write, E: Write>(
+    alloc: Global,
+    map: &mut Counted<R>,
+    scen: &mut Counted<S>,
+    row: u32,
+    out: &mut Counted<W>,
+    err: &mut Counted<E>,
+) -> u8
+    ensures { AnswersRow R.remaining S.remaining W.contents map.old map.new scen.old scen.new row out.old out.new result }
+{
+    match read_and_judge(alloc, map, scen, row) {
+        Ok(verdict) => {
+            let written = write_verdict(verdict, out);
+            finish(written, verdict.status(), out, err).code()
+        }
+        Err(fault) => {
+            let _ = report(err, fault);
+            fault.status().code()
+        }
+    }
+}
+
+/// Reads the map and then the scenario, and judges the row.
+fn read_and_judge<R: Read, S: Read>(
+    alloc: Global,
+    map: &mut Counted<R>,
+    scen: &mut Counted<S>,
+    number: u32,
+) -> Result<Verdict, RowFault>
+    ensures { ReadsAndJudges R.remaining S.remaining map.old map.new scen.old scen.new number result }
+{
+    let map = read_map(alloc, map)?;
+    let scenario = read_scen(alloc, scen)?;
+    judge(alloc, &map, &scenario, number)
+}
+
+/// Compares the listed length of the row with that of a certified shortest walk.
+fn judge(alloc: Global, map: &Map, scenario: &Scenario, number: u32) -> Result<Verdict, RowFault>
+    ensures { JudgesRow map.now scenario.now number result }
+{
+    let row = row_for(map, scenario, number)?;
+    let (start, goal) = (row.start(), row.goal());
+    let proposal = search(alloc, map, start, goal)?;
+    let shortest = certify(map, start, goal, &proposal)?;
+    Ok(Verdict::new(shortest, row.listed()))
+}
+
+/// The row with this number, if it is for a map of this size.
+fn row_for<'a>(map: &Map, scenario: &'a Scenario, number: u32) -> Result<&'a Row, RowFault>
+    ensures { MatchResult result
+        (λ row. IsAsked map.now scenario.now number row.now)
+        (λ fault. JudgesRow map.now scenario.now number (Err fault)) }
+{
+    match scenario.rows().get(number as usize) {
+        Some(row) if row.width() == map.width() && row.height() == map.height() => Ok(row),
+        Some(_) => Err(RowFault::SizeDiffers(number)),
+        None => Err(RowFault::NoSuchRow),
+    }
+}
