@@ -1,0 +1,9 @@
+-- Lemmas that several proofs share.
+pub mod Options
+pub mod TrackLemmas
+pub mod NeedLemmas
+pub mod Visited
+pub mod HistoryLemmas
+pub mod RunLemmas
+pub mod WalkedLemmas
+pub mod PlaceLemmas

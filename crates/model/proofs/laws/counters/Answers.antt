@@ -1,0 +1,17 @@
+use Rattle.std.proofs.Common.{ℕ, ◌≤◌, [], ◌∷◌, ◌++◌, arith}
+use Rattle.model.specs.History.{History, done}
+use Rattle.model.proofs.HistoryLemmas.{done-next, known-done}
+use Rattle.model.proofs.laws.counters.Goals as goal
+
+done-later : (later earlier : History) (i : ℕ) → done earlier i ≤ done (later ++ earlier) i
+done-later [] earlier i = omega arith
+done-later (now ∷ later) earlier i =
+    let first = done-later later earlier i in
+    let next = done-next now (later ++ earlier) i in
+    omega (arith, first, next)
+
+pub returns-clause-never_falls : goal.returns-clause-never_falls
+returns-clause-never_falls c = done-later
+
+pub returns-clause-known : goal.returns-clause-known
+returns-clause-known c = known-done

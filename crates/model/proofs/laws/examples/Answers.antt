@@ -1,0 +1,316 @@
+-- What computes needs no more; that there is no fault, and no rotation, goes by the agents and the times that there are.
+use Rattle.std.proofs.Common.{◌≡◌, ℕ, zero, suc, ◌+◌, List, [], ◌∷◌, length, Some, inl, inr, arith, refl, sym, ap, subst, ◌∙◌}
+use Rattle.std.specs.Prelude.{Option, slice_get, ◌⊎◌, nat_lt}
+use Rattle.std.proofs.lemmas.Bool.{cond-true, lt-ltb}
+use Rattle.std.proofs.lemmas.Option.{same_Some, none-some}
+use Rattle.grid.specs.declared.cell.Cell.{Cell}
+use Rattle.grid.specs.Map.{IsStraightStep}
+use Rattle.model.specs.declared.act.Act.{Act}
+use Rattle.model.specs.declared.act.Act.TheVariants.{N, E, S, W, Wait}
+use Rattle.model.specs.declared.plan_fault.PlanFault.{PlanFault}
+use Rattle.model.specs.declared.plan_fault.PlanFault.TheVariants.{BadStart, BadMove, Vertex, Swap, OutOfMemory}
+use Rattle.model.specs.Timetable.{Track, cell_at, track_of}
+use Rattle.model.specs.Plan.{Place, place_of, moved, place_at, HasFault, IsLegal, IsAt, IsTrackOf}
+use Rattle.model.specs.Dependency.{MovesInto, following, IsRotation}
+use Rattle.model.specs.Costs.{Task}
+use Rattle.model.specs.Examples.{cell, course, ground_of_row, swapping, following_plan, ground_of_square, turning_plan, row, square, turning, leader, follower}
+use Rattle.model.proofs.laws.examples.Goals as goal
+
+-- ---- faults
+
+across : {p q : Place} → p ≡ q → p.x ≡ q.x
+across e = ap (λ p. p.x) e
+
+no_meeting : (t : ℕ) (c : Cell) → HasFault ground_of_row swapping (Vertex 0 1 t c) → ⊥
+no_meeting zero c h = let apart = across (h.1 ∙ sym h.2) in cc
+no_meeting (suc zero) c h = let apart = across (h.1 ∙ sym h.2) in cc
+no_meeting (suc (suc t)) c h = let apart = across (h.1 ∙ sym h.2) in cc
+
+off_the_row : IsLegal ground_of_row (place_of (cell 0 0)) (moved W (place_of (cell 0 0))) → ⊥
+off_the_row h = let left = across h.is_to in cc
+
+to_the_east : (x : ℕ) → IsStraightStep ground_of_row (cell x 0) (cell (x + 1) 0) → IsLegal ground_of_row (place_of (cell x 0)) (place_of (cell (x + 1) 0))
+to_the_east x step = record { u = cell x 0; v = cell (x + 1) 0; is_from = refl; is_to = refl; step = step }
+
+follows : (f : PlanFault) → HasFault ground_of_row following_plan f → ⊥
+follows (BadStart zero) h = h (λ e. cc)
+follows (BadStart (suc zero)) h = h (λ e. cc)
+follows (BadStart (suc (suc i))) h = h
+follows (BadMove zero zero) h = h.1 (to_the_east 1 (record { side = inr (refl, inr refl); joined = refl }))
+follows (BadMove zero (suc zero)) h = h.0 refl
+follows (BadMove zero (suc (suc s))) h = h
+follows (BadMove (suc zero) zero) h = h.1 (to_the_east 0 (record { side = inr (refl, inr refl); joined = refl }))
+follows (BadMove (suc zero) (suc s)) h = h
+follows (BadMove (suc (suc i)) s) h = h
+follows (Vertex zero zero t c) h = omega (arith, h.0)
+follows (Vertex zero (suc zero) zero c) h = let apart = across (h.1 ∙ sym h.2) in cc
+follows (Vertex zero (suc zero) (suc zero) c) h = let apart = across (h.1 ∙ sym h.2) in cc
+follows (Vertex zero (suc zero) (suc (suc t)) c) h = let apart = across (h.1 ∙ sym h.2) in cc
+follows (Vertex zero (suc (suc j)) t c) h = h.2
+follows (Vertex (suc zero) zero t c) h = omega (arith, h.0)
+follows (Vertex (suc zero) (suc zero) t c) h = omega (arith, h.0)
+follows (Vertex (suc zero) (suc (suc j)) t c) h = h.2
+follows (Vertex (suc (suc i)) j t c) h = h.1
+follows (Swap zero zero s) h = omega (arith, h.0)
+follows (Swap zero (suc zero) zero) h = let apart = across (h.5 ∙ sym h.6) in cc
+follows (Swap zero (suc zero) (suc zero)) h = h.3 (sym h.4 ∙ h.5)
+follows (Swap zero (suc zero) (suc (suc s))) h =
+    let one : suc (suc s) + 1 ≡ suc (suc (suc s)) = omega arith in
+    h.3 (sym h.4 ∙ subst (λ n. IsAt following_plan 0 n h.2) one h.5)
+follows (Swap zero (suc (suc j)) s) h = h.6
+follows (Swap (suc zero) zero s) h = omega (arith, h.0)
+follows (Swap (suc zero) (suc zero) s) h = omega (arith, h.0)
+follows (Swap (suc zero) (suc (suc j)) s) h = h.6
+follows (Swap (suc (suc i)) j s) h = h.4
+follows OutOfMemory h = h
+
+down : {p q : Place} → p ≡ q → p.y ≡ q.y
+down e = ap (λ p. p.y) e
+
+next : (s : ℕ) → suc s + 1 ≡ suc (suc s)
+next s = omega arith
+
+-- four agents turn round in a square, and nobody is in another's way
+legal : (u v : Cell) → IsStraightStep ground_of_square u v → IsLegal ground_of_square (place_of u) (place_of v)
+legal u v step = record { u = u; v = v; is_from = refl; is_to = refl; step = step }
+
+turn_round : (f : PlanFault) → HasFault ground_of_square turning_plan f → ⊥
+turn_round (BadStart zero) h = h (λ e. cc)
+turn_round (BadStart (suc zero)) h = h (λ e. cc)
+turn_round (BadStart (suc (suc zero))) h = h (λ e. cc)
+turn_round (BadStart (suc (suc (suc zero)))) h = h (λ e. cc)
+turn_round (BadStart (suc (suc (suc (suc i))))) h = h
+turn_round (BadMove zero zero) h = h.1 (legal (cell 0 0) (cell 1 0) (record { side = inr (refl, inr refl); joined = refl }))
+turn_round (BadMove zero (suc s)) h = h
+turn_round (BadMove (suc zero) zero) h = h.1 (legal (cell 1 0) (cell 1 1) (record { side = inl (refl, inr refl); joined = refl }))
+turn_round (BadMove (suc zero) (suc s)) h = h
+turn_round (BadMove (suc (suc zero)) zero) h = h.1 (legal (cell 1 1) (cell 0 1) (record { side = inr (refl, inl refl); joined = refl }))
+turn_round (BadMove (suc (suc zero)) (suc s)) h = h
+turn_round (BadMove (suc (suc (suc zero))) zero) h = h.1 (legal (cell 0 1) (cell 0 0) (record { side = inl (refl, inl refl); joined = refl }))
+turn_round (BadMove (suc (suc (suc zero))) (suc s)) h = h
+turn_round (BadMove (suc (suc (suc (suc i)))) s) h = h
+turn_round (Vertex zero zero t c) h = omega (arith, h.0)
+turn_round (Vertex zero (suc zero) zero c) h = (let apart = across (h.1 ∙ sym h.2) in cc)
+turn_round (Vertex zero (suc zero) (suc t) c) h = (let apart = down (h.1 ∙ sym h.2) in cc)
+turn_round (Vertex zero (suc (suc zero)) zero c) h = (let apart = across (h.1 ∙ sym h.2) in cc)
+turn_round (Vertex zero (suc (suc zero)) (suc t) c) h = (let apart = across (h.1 ∙ sym h.2) in cc)
+turn_round (Vertex zero (suc (suc (suc zero))) zero c) h = (let apart = down (h.1 ∙ sym h.2) in cc)
+turn_round (Vertex zero (suc (suc (suc zero))) (suc t) c) h = (let apart = across (h.1 ∙ sym h.2) in cc)
+turn_round (Vertex zero (suc (suc (suc (suc j)))) t c) h = h.2
+turn_round (Vertex (suc zero) zero t c) h = omega (arith, h.0)
+turn_round (Vertex (suc zero) (suc zero) t c) h = omega (arith, h.0)
+turn_round (Vertex (suc zero) (suc (suc zero)) zero c) h = (let apart = down (h.1 ∙ sym h.2) in cc)
+turn_round (Vertex (suc zero) (suc (suc zero)) (suc t) c) h = (let apart = across (h.1 ∙ sym h.2) in cc)
+turn_round (Vertex (suc zero) (suc (suc (suc zero))) zero c) h = (let apart = across (h.1 ∙ sym h.2) in cc)
+turn_round (Vertex (suc zero) (suc (suc (suc zero))) (suc t) c) h = (let apart = across (h.1 ∙ sym h.2) in cc)
+turn_round (Vertex (suc zero) (suc (suc (suc (suc j)))) t c) h = h.2
+turn_round (Vertex (suc (suc zero)) zero t c) h = omega (arith, h.0)
+turn_round (Vertex (suc (suc zero)) (suc zero) t c) h = omega (arith, h.0)
+turn_round (Vertex (suc (suc zero)) (suc (suc zero)) t c) h = omega (arith, h.0)
+turn_round (Vertex (suc (suc zero)) (suc (suc (suc zero))) zero c) h = (let apart = across (h.1 ∙ sym h.2) in cc)
+turn_round (Vertex (suc (suc zero)) (suc (suc (suc zero))) (suc t) c) h = (let apart = down (h.1 ∙ sym h.2) in cc)
+turn_round (Vertex (suc (suc zero)) (suc (suc (suc (suc j)))) t c) h = h.2
+turn_round (Vertex (suc (suc (suc zero))) zero t c) h = omega (arith, h.0)
+turn_round (Vertex (suc (suc (suc zero))) (suc zero) t c) h = omega (arith, h.0)
+turn_round (Vertex (suc (suc (suc zero))) (suc (suc zero)) t c) h = omega (arith, h.0)
+turn_round (Vertex (suc (suc (suc zero))) (suc (suc (suc zero))) t c) h = omega (arith, h.0)
+turn_round (Vertex (suc (suc (suc zero))) (suc (suc (suc (suc j)))) t c) h = h.2
+turn_round (Vertex (suc (suc (suc (suc i)))) j t c) h = h.1
+turn_round (Swap zero zero s) h = omega (arith, h.0)
+turn_round (Swap zero (suc zero) zero) h = (let apart = across (h.7 ∙ sym h.4) in cc)
+turn_round (Swap zero (suc zero) (suc s)) h = h.3 (sym h.4 ∙ subst (λ n. IsAt turning_plan 0 n h.2) (next s) h.5)
+turn_round (Swap zero (suc (suc zero)) zero) h = (let apart = down (h.5 ∙ sym h.6) in cc)
+turn_round (Swap zero (suc (suc zero)) (suc s)) h = h.3 (sym h.4 ∙ subst (λ n. IsAt turning_plan 0 n h.2) (next s) h.5)
+turn_round (Swap zero (suc (suc (suc zero))) zero) h = (let apart = across (h.5 ∙ sym h.6) in cc)
+turn_round (Swap zero (suc (suc (suc zero))) (suc s)) h = h.3 (sym h.4 ∙ subst (λ n. IsAt turning_plan 0 n h.2) (next s) h.5)
+turn_round (Swap zero (suc (suc (suc (suc j)))) s) h = h.6
+turn_round (Swap (suc zero) zero s) h = omega (arith, h.0)
+turn_round (Swap (suc zero) (suc zero) s) h = omega (arith, h.0)
+turn_round (Swap (suc zero) (suc (suc zero)) zero) h = (let apart = across (h.7 ∙ sym h.4) in cc)
+turn_round (Swap (suc zero) (suc (suc zero)) (suc s)) h = h.3 (sym h.4 ∙ subst (λ n. IsAt turning_plan 1 n h.2) (next s) h.5)
+turn_round (Swap (suc zero) (suc (suc (suc zero))) zero) h = (let apart = across (h.5 ∙ sym h.6) in cc)
+turn_round (Swap (suc zero) (suc (suc (suc zero))) (suc s)) h = h.3 (sym h.4 ∙ subst (λ n. IsAt turning_plan 1 n h.2) (next s) h.5)
+turn_round (Swap (suc zero) (suc (suc (suc (suc j)))) s) h = h.6
+turn_round (Swap (suc (suc zero)) zero s) h = omega (arith, h.0)
+turn_round (Swap (suc (suc zero)) (suc zero) s) h = omega (arith, h.0)
+turn_round (Swap (suc (suc zero)) (suc (suc zero)) s) h = omega (arith, h.0)
+turn_round (Swap (suc (suc zero)) (suc (suc (suc zero))) zero) h = (let apart = across (h.7 ∙ sym h.4) in cc)
+turn_round (Swap (suc (suc zero)) (suc (suc (suc zero))) (suc s)) h = h.3 (sym h.4 ∙ subst (λ n. IsAt turning_plan 2 n h.2) (next s) h.5)
+turn_round (Swap (suc (suc zero)) (suc (suc (suc (suc j)))) s) h = h.6
+turn_round (Swap (suc (suc (suc zero))) zero s) h = omega (arith, h.0)
+turn_round (Swap (suc (suc (suc zero))) (suc zero) s) h = omega (arith, h.0)
+turn_round (Swap (suc (suc (suc zero))) (suc (suc zero)) s) h = omega (arith, h.0)
+turn_round (Swap (suc (suc (suc zero))) (suc (suc (suc zero))) s) h = omega (arith, h.0)
+turn_round (Swap (suc (suc (suc zero))) (suc (suc (suc (suc j)))) s) h = h.6
+turn_round (Swap (suc (suc (suc (suc i)))) j s) h = h.4
+turn_round OutOfMemory h = h
+
+turns_by : (from to : Cell) (act : Act) → moved act (place_of from) ≡ place_of to → IsTrackOf (record { start = from; acts = act ∷ [] }) (turning from to)
+turns_by from to act e = record { count = refl; places = each } where
+  each : (t : ℕ) → place_of (cell_at (turning from to) t) ≡ place_at (record { start = from; acts = act ∷ [] }) t
+  each zero = refl
+  each (suc t) = sym e
+
+leads : (t : ℕ) → place_of (cell_at leader t) ≡ place_at (course 1 (E ∷ Wait ∷ [])) t
+leads zero = refl
+leads (suc zero) = refl
+leads (suc (suc t)) = refl
+
+comes_behind : (t : ℕ) → place_of (cell_at follower t) ≡ place_at (course 0 (E ∷ [])) t
+comes_behind zero = refl
+comes_behind (suc t) = refl
+
+pub returns-clause-faults : goal.returns-clause-faults
+returns-clause-faults c = (
+  (omega arith, place_of (cell 0 0), place_of (cell 1 0), λ e. (let apart = across e in cc), refl, refl, refl, refl),
+  no_meeting,
+  (omega arith, refl, refl),
+  (omega arith, place_of (cell 0 0), place_of (cell 1 0), λ e. (let apart = across e in cc), refl, refl, refl, refl),
+  (omega arith, refl, refl),
+  inr (refl, inl (omega arith)),
+  (λ e. cc, off_the_row),
+  λ h. h,
+  follows,
+  record {
+    number = refl;
+    tracks = (
+      leader,
+      follower ∷ [],
+      refl,
+      record { count = refl; places = leads },
+      (follower, [], refl, record { count = refl; places = comes_behind }, refl),
+    );
+  },
+  turn_round,
+  record {
+    number = refl;
+    tracks = (
+      _,
+      _,
+      refl,
+      turns_by (cell 0 0) (cell 1 0) E refl,
+      (
+        _,
+        _,
+        refl,
+        turns_by (cell 1 0) (cell 1 1) S refl,
+        (_, _, refl, turns_by (cell 1 1) (cell 0 1) W refl, (_, _, refl, turns_by (cell 0 1) (cell 0 0) N refl, refl)),
+      ),
+    );
+  },
+)
+
+-- ---- rotations
+
+-- the agent at a place has the number of the place
+by_place : (n i : ℕ) → slice_get (0 ∷ 1 ∷ 2 ∷ 3 ∷ []) n ≡ Some i → n ≡ i
+by_place zero i e = same_Some 0 i e
+by_place (suc zero) i e = same_Some 1 i e
+by_place (suc (suc zero)) i e = same_Some 2 i e
+by_place (suc (suc (suc zero))) i e = same_Some 3 i e
+by_place (suc (suc (suc (suc n)))) i e = absurd (none-some i e)
+
+into : (i j : ℕ) (from to : Track) → track_of square i ≡ Some from → track_of square j ≡ Some to
+    → (cell_at from 0 ≡ cell_at from 1 → ⊥) → cell_at from 1 ≡ cell_at to 0 → MovesInto square 0 i j
+into i j from to p q r s = record { from = from; to = to; is_from = p; is_to = q; moves = r; into = s }
+
+column : {u v : Cell} → u ≡ v → u.x ≡ v.x
+column e = ap (λ c. c.x) e
+
+line : {u v : Cell} → u ≡ v → u.y ≡ v.y
+line e = ap (λ c. c.y) e
+
+turns : (n i j : ℕ) → slice_get (0 ∷ 1 ∷ 2 ∷ 3 ∷ []) n ≡ Some i → following (0 ∷ 1 ∷ 2 ∷ 3 ∷ []) n ≡ Some j → MovesInto square 0 i j
+turns zero i j e f =
+    subst (λ a. MovesInto square 0 a j) (same_Some 0 i e) (subst (λ a. MovesInto square 0 0 a) (same_Some 1 j f)
+    (into 0 1 (turning (cell 0 0) (cell 1 0)) (turning (cell 1 0) (cell 1 1)) refl refl (λ h. (let apart = column h in cc)) refl))
+turns (suc zero) i j e f =
+    subst (λ a. MovesInto square 0 a j) (same_Some 1 i e) (subst (λ a. MovesInto square 0 1 a) (same_Some 2 j f)
+    (into 1 2 (turning (cell 1 0) (cell 1 1)) (turning (cell 1 1) (cell 0 1)) refl refl (λ h. (let apart = line h in cc)) refl))
+turns (suc (suc zero)) i j e f =
+    subst (λ a. MovesInto square 0 a j) (same_Some 2 i e) (subst (λ a. MovesInto square 0 2 a) (same_Some 3 j f)
+    (into 2 3 (turning (cell 1 1) (cell 0 1)) (turning (cell 0 1) (cell 0 0)) refl refl (λ h. (let apart = column h in cc)) refl))
+turns (suc (suc (suc zero))) i j e f =
+    subst (λ a. MovesInto square 0 a j) (same_Some 3 i e) (subst (λ a. MovesInto square 0 3 a) (same_Some 0 j f)
+    (into 3 0 (turning (cell 0 1) (cell 0 0)) (turning (cell 0 0) (cell 1 0)) refl refl (λ h. (let apart = line h in cc)) refl))
+turns (suc (suc (suc (suc n)))) i j e f = absurd (none-some i e)
+
+-- the row has two agents, and a rotation three
+two_agents : (i : ℕ) (track : Track) → track_of row i ≡ Some track → (i ≡ 0) ⊎ (i ≡ 1)
+two_agents zero track e = inl refl
+two_agents (suc zero) track e = inr refl
+two_agents (suc (suc i)) track e = absurd (none-some track e)
+
+no_three : (step : ℕ) (agents : List ℕ) → IsRotation row step agents → ⊥
+no_three step [] round = (let h = round.three in omega (arith, h))
+no_three step (a ∷ []) round = (let h = round.three in omega (arith, h))
+no_three step (a ∷ b ∷ []) round = (let h = round.three in omega (arith, h))
+no_three step (a ∷ b ∷ c ∷ others) round =
+    let agents = a ∷ b ∷ c ∷ others in
+    let first = round.cycle 0 a b refl (cond-true (nat_lt (0 + 1) (length agents)) _ _ (lt-ltb 1 (length agents) (omega arith))) in
+    let second = round.cycle 1 b c refl (cond-true (nat_lt (1 + 1) (length agents)) _ _ (lt-ltb 2 (length agents) (omega arith))) in
+    let is_a = two_agents a first.from first.is_from in
+    let is_b = two_agents b second.from second.is_from in
+    let is_c = two_agents c second.to second.is_to in
+    let apart : a ≡ b → ⊥ = λ e. (let h = round.different 0 1 b (ap {A = ℕ} {B = Option ℕ} (λ n. Some n) e) refl in omega (arith, h)) in
+    let apart_on : b ≡ c → ⊥ = λ e. (let h = round.different 1 2 c (ap {A = ℕ} {B = Option ℕ} (λ n. Some n) e) refl in omega (arith, h)) in
+    let apart_round : a ≡ c → ⊥ = λ e. (let h = round.different 0 2 c (ap {A = ℕ} {B = Option ℕ} (λ n. Some n) e) refl in omega (arith, h)) in
+    elim is_a [
+      | inl a0 ↦ elim is_b [ inl b0 ↦ apart (a0 ∙ sym b0) | inr b1 ↦ elim is_c [ inl c0 ↦ apart_round (a0 ∙ sym c0) | inr c1 ↦ apart_on (b1 ∙ sym c1) ] ]
+      | inr a1 ↦ elim is_b [ inr b1 ↦ apart (a1 ∙ sym b1) | inl b0 ↦ elim is_c [ inl c0 ↦ apart_on (b0 ∙ sym c0) | inr c1 ↦ apart_round (a1 ∙ sym c1) ] ]
+    ]
+
+pub returns-clause-rotations : goal.returns-clause-rotations
+returns-clause-rotations c = (
+  record {
+    three = omega arith;
+    different = λ n m i e f. by_place n i e ∙ sym (by_place m i f);
+    least = λ n first i e f. (let zeroth = same_Some 0 first e in omega (arith, zeroth));
+    cycle = turns;
+  },
+  no_three,
+)
+
+-- ---- what computes
+
+pub returns-clause-costs : goal.returns-clause-costs
+returns-clause-costs c = (refl, refl, refl, refl, refl, refl, refl, refl)
+
+abbrev head_task : List Task → Task
+head_task [] = record { width = 0; height = 0; start = cell 0 0; goal = cell 0 0 }
+head_task (task ∷ tasks) = task
+
+pub returns-clause-tasks : goal.returns-clause-tasks
+returns-clause-tasks c = (
+  (
+    _,
+    _,
+    refl,
+    record { same_width = refl; same_height = refl; from_start = refl; to_goal = refl },
+    (_, _, refl, record { same_width = refl; same_height = refl; from_start = refl; to_goal = refl }, refl),
+  ),
+  λ h. (let apart = column (h.3.from_start ∙ sym (ap (λ l. (head_task l).start) h.2)) in cc),
+  λ h. (let one = ap length h.2 in let more = ap length h.4.2 in omega (arith, one, more)),
+  λ h. (let height : ◌≡◌ {A = ℕ} 1 2 = ap (λ l. (head_task l).height) h.2 ∙ h.3.same_height in omega (arith, height)),
+)
+
+pub returns-clause-visits : goal.returns-clause-visits
+returns-clause-visits c = (
+  record { track = leader; is_track = refl; is_index = refl; is_there = refl; comes = λ t e there. omega (arith, e) },
+  record { track = follower; is_track = refl; is_index = refl; is_there = refl; comes = λ t e there. from_west t e there },
+  record { track = follower; is_track = refl; is_index = refl; is_there = refl; comes = λ t e there. omega (arith, e) },
+  record { track = leader; is_track = refl; is_index = refl; is_there = refl; comes = λ t e there. from_middle t e there },
+) where
+  from_west : (t : ℕ) → 1 ≡ t + 1 → cell_at follower t ≡ cell 1 0 → ⊥
+  from_west zero e there = (let apart = column there in cc)
+  from_west (suc t) e there = omega (arith, e)
+
+  from_middle : (t : ℕ) → 1 ≡ t + 1 → cell_at leader t ≡ cell 2 0 → ⊥
+  from_middle zero e there = (let apart = column there in cc)
+  from_middle (suc t) e there = omega (arith, e)
+
+pub returns-clause-dependencies : goal.returns-clause-dependencies
+returns-clause-dependencies c = (refl, refl, refl, refl, refl, refl, refl, refl, refl, refl, refl)
+
+pub returns-clause-runs : goal.returns-clause-runs
+returns-clause-runs c = (refl, refl, refl, refl, refl, refl, refl, refl, refl, refl, refl, refl)

@@ -1,0 +1,204 @@
+-- Small plans and runs, and what the definitions say of them.
+use Rattle.std.specs.Prelude.{◌≡◌, ℕ, List, [], ◌∷◌, Option, None, Some}
+use Rattle.grid.specs.declared.cell.Cell.{Cell}
+use Rattle.model.specs.declared.event.Event.{Event}
+use Rattle.model.specs.declared.event.Event.TheVariants.{Start, Finish, Say, Deliver, Restart, Tear}
+use Rattle.model.specs.declared.why.Why.TheVariants.{NoSuchAgent, NoSuchMessage, BadTear, Broken, Waits, StoreFailed}
+use Rattle.grid.specs.declared.terrain.Terrain.TheVariants.{Floor}
+use Rattle.grid.specs.Map.{Grid}
+use Rattle.model.specs.declared.act.Act.{Act}
+use Rattle.model.specs.declared.act.Act.TheVariants.{N, E, S, W, Wait}
+use Rattle.model.specs.declared.plan_fault.PlanFault.TheVariants.{BadStart, BadMove, Vertex, Swap}
+use Rattle.model.specs.Timetable.{Track, Timetable, moves}
+use Rattle.model.specs.Plan.{Course, Plan, HasFault, IsValid, key_of, IsBefore, IsTimetableOf}
+use Rattle.model.specs.Costs.{sum_of_costs, makespan, Task, Fits}
+use Rattle.model.specs.Dependency.{Need, need, IsVisit, IsRotation}
+use Rattle.model.specs.History.{Answer, moving, arrived, said, heard, at, between, armed, refused, History}
+use Rattle.model.specs.Rules.{answer}
+
+abbrev pub cell : ℕ → ℕ → Cell
+cell x y = record { x = x; y = y }
+
+-- the answers to events, one after another, after what has happened
+abbrev answers_after : Timetable → History → List Event → List Answer
+answers_after tt h [] = []
+answers_after tt h (e ∷ events) = answer tt h e ∷ answers_after tt (record { event = e; answer = answer tt h e } ∷ h) events
+
+abbrev answers : Timetable → List Event → List Answer
+answers tt events = answers_after tt [] events
+
+-- ---- two agents in a row of three cells: the first goes from the middle to the east and stays, the second follows into the middle
+
+abbrev pub leader : Track
+leader = record { start = cell 1 0; later = cell 2 0 ∷ cell 2 0 ∷ [] }
+
+abbrev pub follower : Track
+follower = record { start = cell 0 0; later = cell 1 0 ∷ [] }
+
+abbrev pub row : Timetable
+row = record { number = 7; tracks = leader ∷ follower ∷ [] }
+
+-- the message of an agent of plan 7 after so many moves
+abbrev hello : ℕ → ℕ → List ℕ
+hello agent done = 0x46 ∷ 1 ∷ 0 ∷ agent ∷ 0 ∷ 0 ∷ 0 ∷ 7 ∷ 0 ∷ 0 ∷ 0 ∷ done ∷ []
+
+-- ---- one agent that goes east and back, and one that stands at the west
+
+abbrev walker : Track
+walker = record { start = cell 1 0; later = cell 2 0 ∷ cell 1 0 ∷ [] }
+
+abbrev back : Timetable
+back = record { number = 7; tracks = walker ∷ record { start = cell 0 0; later = [] } ∷ [] }
+
+-- ---- one agent leaves a corner of a square, one stands, and one comes into that corner
+
+abbrev corner : Timetable
+corner = record {
+  number = 7;
+  tracks = record { start = cell 1 0; later = cell 1 1 ∷ [] } ∷ record { start = cell 0 1; later = [] } ∷ record { start = cell 0 0; later = cell 1 0 ∷ [] } ∷ [];
+}
+
+-- ---- four agents that turn round in a square
+
+abbrev pub turning : Cell → Cell → Track
+turning from to = record { start = from; later = to ∷ [] }
+
+abbrev pub square : Timetable
+square = record {
+  number = 7;
+  tracks = turning (cell 0 0) (cell 1 0) ∷ turning (cell 1 0) (cell 1 1) ∷ turning (cell 1 1) (cell 0 1) ∷ turning (cell 0 1) (cell 0 0) ∷ [];
+}
+
+-- ---- plans on a row of three passable cells, and what is wrong with them
+
+abbrev pub ground_of_row : Grid
+ground_of_row = record { width = 3; height = 1; terrain = Floor ∷ Floor ∷ Floor ∷ [] }
+
+abbrev pub course : ℕ → List Act → Course
+course x acts = record { start = cell x 0; acts = acts }
+
+abbrev pub plan : List Course → Plan
+plan courses = record { number = 7; courses = courses }
+
+abbrev pub swapping : Plan
+swapping = plan (course 0 (E ∷ []) ∷ course 1 (W ∷ []) ∷ [])
+
+-- the first stays, and the second comes to it when the first has no act left
+abbrev pub bumping : Plan
+bumping = plan (course 0 [] ∷ course 2 (W ∷ W ∷ []) ∷ [])
+
+abbrev pub crowding : Plan
+crowding = plan (course 0 (E ∷ []) ∷ course 1 (W ∷ []) ∷ course 2 (W ∷ []) ∷ [])
+
+abbrev pub leaving : Plan
+leaving = plan (course 0 (W ∷ []) ∷ [])
+
+abbrev pub outside : Plan
+outside = plan (course 3 [] ∷ [])
+
+abbrev pub following_plan : Plan
+following_plan = plan (course 1 (E ∷ Wait ∷ []) ∷ course 0 (E ∷ []) ∷ [])
+
+abbrev pub ground_of_square : Grid
+ground_of_square = record { width = 2; height = 2; terrain = Floor ∷ Floor ∷ Floor ∷ Floor ∷ [] }
+
+abbrev pub turning_plan : Plan
+turning_plan = plan (record { start = cell 0 0; acts = E ∷ [] } ∷ record { start = cell 1 0; acts = S ∷ [] } ∷ record { start = cell 1 1; acts = W ∷ [] }
+    ∷ record { start = cell 0 1; acts = N ∷ [] } ∷ [])
+
+abbrev pub Faults : Type 0
+Faults =
+    -- each enters the cell that the other leaves, and they are never in one
+    HasFault ground_of_row swapping (Swap 0 1 0) × ((t : ℕ) (c : Cell) → HasFault ground_of_row swapping (Vertex 0 1 t c) → ⊥)
+    -- also past the end of the shorter course
+    × HasFault ground_of_row bumping (Vertex 0 1 2 (cell 0 0))
+    -- a swap and a vertex conflict of one time: the vertex conflict is before the swap, whatever agents they are of
+    × HasFault ground_of_row crowding (Swap 0 1 0) × HasFault ground_of_row crowding (Vertex 0 2 1 (cell 1 0))
+    × IsBefore (key_of (Vertex 0 2 1 (cell 1 0))) (key_of (Swap 0 1 0))
+    × HasFault ground_of_row leaving (BadMove 0 0) × HasFault ground_of_row outside (BadStart 0)
+    -- an agent may enter the cell that another leaves
+    × IsValid ground_of_row following_plan × IsTimetableOf following_plan row
+    -- and four may turn round
+    × IsValid ground_of_square turning_plan × IsTimetableOf turning_plan square
+
+-- four agents that turn round are a rotation, and one that follows another is none
+abbrev pub Rotations : Type 0
+Rotations =
+    IsRotation square 0 (0 ∷ 1 ∷ 2 ∷ 3 ∷ []) × ((step : ℕ) (agents : List ℕ) → IsRotation row step agents → ⊥)
+
+-- ---- what is said of timetables and runs
+
+abbrev nobody : Timetable
+nobody = record { number = 7; tracks = [] }
+
+abbrev pub Costs : Type 0
+Costs =
+    (sum_of_costs row ≡ 2) × (makespan row ≡ 1) × (sum_of_costs square ≡ 4) × (makespan square ≡ 1)
+    × (sum_of_costs back ≡ 2) × (makespan back ≡ 2) × (sum_of_costs nobody ≡ 0) × (makespan nobody ≡ 0)
+
+abbrev needs_nobody : Option Need
+needs_nobody = None
+
+abbrev needs : ℕ → ℕ → Option Need
+needs agent count = Some (record { agent = agent; count = count })
+
+abbrev task : Cell → Cell → Task
+task start goal = record { width = 3; height = 1; start = start; goal = goal }
+
+abbrev first_task : Task
+first_task = task (cell 1 0) (cell 2 0)
+
+abbrev second_task : Task
+second_task = task (cell 0 0) (cell 1 0)
+
+-- the leader and the follower solve their tasks, not each other's, and not one alone
+abbrev pub Tasks : Type 0
+Tasks =
+    Fits 3 1 row.tracks (first_task ∷ second_task ∷ []) × (Fits 3 1 row.tracks (second_task ∷ first_task ∷ []) → ⊥)
+    × (Fits 3 1 row.tracks (first_task ∷ []) → ⊥) × (Fits 3 2 row.tracks (first_task ∷ second_task ∷ []) → ⊥)
+
+-- who comes into the middle of the row, the leader at the start and the follower at time 1
+abbrev pub Visits : Type 0
+Visits = IsVisit row 0 0 0 (cell 1 0) × IsVisit row 1 1 1 (cell 1 0) × IsVisit row 1 0 0 (cell 0 0) × IsVisit row 0 1 1 (cell 2 0)
+
+abbrev pub Dependencies : Type 0
+Dependencies =
+    (moves leader ≡ 1) × (moves follower ≡ 1) × (moves walker ≡ 2) × (need row 0 leader 0 ≡ needs_nobody) × (need row 1 follower 0 ≡ needs 0 1)
+    × (need back 0 walker 0 ≡ needs_nobody) × (need back 0 walker 1 ≡ needs_nobody)
+    × (need square 0 (turning (cell 0 0) (cell 1 0)) 0 ≡ needs 1 1) × (need square 1 (turning (cell 1 0) (cell 1 1)) 0 ≡ needs 2 1)
+    × (need square 2 (turning (cell 1 1) (cell 0 1)) 0 ≡ needs 3 1) × (need square 3 (turning (cell 0 1) (cell 0 0)) 0 ≡ needs 0 1)
+
+abbrev pub Runs : Type 0
+Runs =
+    -- the follower waits until it has heard the leader, and also where the leader has finished and said nothing
+    (answers row (Start 1 ∷ Start 0 ∷ Finish 0 ∷ Start 1 ∷ Say 0 ∷ Deliver 1 0 ∷ Start 1 ∷ Restart 1 ∷ Finish 1 ∷ [])
+    ≡ refused (Waits 0 1) ∷ moving (cell 2 0) ∷ arrived (cell 2 0) ∷ refused (Waits 0 1) ∷ said 0 (hello 0 1) ∷ heard 0 1 ∷ moving (cell 1 0)
+    ∷ between (cell 0 0) (cell 1 0) 0 ∷ arrived (cell 1 0) ∷ [])
+    -- an older message takes nothing back
+    × (answers back (Start 0 ∷ Finish 0 ∷ Say 0 ∷ Start 0 ∷ Finish 0 ∷ Say 0 ∷ Deliver 1 1 ∷ Deliver 1 0 ∷ Deliver 1 0 ∷ [])
+    ≡ moving (cell 2 0) ∷ arrived (cell 2 0) ∷ said 0 (hello 0 1) ∷ moving (cell 1 0) ∷ arrived (cell 1 0) ∷ said 1 (hello 0 2) ∷ heard 0 2 ∷ heard 0 2
+    ∷ heard 0 2 ∷ [])
+    -- a record of nine bytes counts as nothing, and one of ten as stored
+    × (answers row (Tear 0 9 ∷ Start 0 ∷ Start 0 ∷ Restart 0 ∷ Start 0 ∷ [])
+    ≡ armed ∷ refused StoreFailed ∷ refused Broken ∷ at (cell 1 0) 0 ∷ moving (cell 2 0) ∷ [])
+    × (answers row (Tear 0 10 ∷ Start 0 ∷ Restart 0 ∷ []) ≡ armed ∷ refused StoreFailed ∷ between (cell 1 0) (cell 2 0) 0 ∷ [])
+    -- what was not stored is not said, and a restart forgets what was heard
+    × (answers row (Start 0 ∷ Tear 0 9 ∷ Finish 0 ∷ Say 0 ∷ Restart 0 ∷ Say 0 ∷ [])
+    ≡ moving (cell 2 0) ∷ armed ∷ refused StoreFailed ∷ refused Broken ∷ between (cell 1 0) (cell 2 0) 0 ∷ said 0 (hello 0 0) ∷ [])
+    × (answers row (Start 0 ∷ Tear 0 10 ∷ Finish 0 ∷ Say 0 ∷ Restart 0 ∷ Say 0 ∷ [])
+    ≡ moving (cell 2 0) ∷ armed ∷ refused StoreFailed ∷ refused Broken ∷ at (cell 2 0) 1 ∷ said 0 (hello 0 1) ∷ [])
+    × (answers row (Start 1 ∷ Start 0 ∷ Finish 0 ∷ Start 1 ∷ Say 0 ∷ Deliver 1 0 ∷ Tear 1 3 ∷ Start 1 ∷ Restart 1 ∷ Start 1 ∷ [])
+    ≡ refused (Waits 0 1) ∷ moving (cell 2 0) ∷ arrived (cell 2 0) ∷ refused (Waits 0 1) ∷ said 0 (hello 0 1) ∷ heard 0 1
+    ∷ armed ∷ refused StoreFailed ∷ at (cell 0 0) 0 ∷ refused (Waits 0 1) ∷ [])
+    -- a message tells of its sender alone
+    × (answers corner (Start 0 ∷ Finish 0 ∷ Say 0 ∷ Deliver 1 0 ∷ Say 1 ∷ Deliver 2 1 ∷ Start 2 ∷ [])
+    ≡ moving (cell 1 1) ∷ arrived (cell 1 1) ∷ said 0 (hello 0 1) ∷ heard 0 1 ∷ said 1 (hello 1 0) ∷ heard 1 0 ∷ refused (Waits 0 1) ∷ [])
+    × (answers row (Start 0 ∷ Finish 0 ∷ Say 0 ∷ Deliver 1 0 ∷ Start 1 ∷ Finish 1 ∷ Say 1 ∷ Restart 1 ∷ Say 1 ∷ [])
+    ≡ moving (cell 2 0) ∷ arrived (cell 2 0) ∷ said 0 (hello 0 1) ∷ heard 0 1 ∷ moving (cell 1 0) ∷ arrived (cell 1 0) ∷ said 1 (hello 1 1)
+    ∷ at (cell 1 0) 1 ∷ said 2 (hello 1 1) ∷ [])
+    -- nobody in a rotation ever begins
+    × (answers square (Start 0 ∷ Start 1 ∷ Start 2 ∷ Start 3 ∷ [])
+    ≡ refused (Waits 1 1) ∷ refused (Waits 2 1) ∷ refused (Waits 3 1) ∷ refused (Waits 0 1) ∷ [])
+    -- numbers that name nothing
+    × (answers nobody [] ≡ [])
+    × (answers row (Deliver 1 5 ∷ Tear 0 11 ∷ Start 9 ∷ []) ≡ refused NoSuchMessage ∷ refused BadTear ∷ refused NoSuchAgent ∷ [])

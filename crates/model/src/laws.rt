@@ -1,0 +1,82 @@
+//! What the definitions mean: laws, which hold of all timetables and all runs, and need no code.
+ghost use Rattle.std.specs.Prelude.{◌≡◌, ℕ, ◌+◌, ◌<◌, ◌≤◌, ◌++◌, List, Some, map, slice_get};
+ghost use Rattle.grid.specs.declared.cell.Cell.{Cell};
+ghost use Rattle.grid.specs.Map.{Grid};
+ghost use Rattle.model.specs.declared.event.Event.{Event};
+ghost use Rattle.model.specs.declared.plan_fault.PlanFault.{PlanFault};
+ghost use Rattle.model.specs.Timetable.{Track, Timetable, moves, moves_before, track_of, IsConflictFree};
+ghost use Rattle.model.specs.Plan.{Plan, HasFault, IsValid, key_of, IsLeastFault, longest_of, IsTimetableOf};
+ghost use Rattle.model.specs.Dependency.{last_stand, need, IsLastStand, IsNeed, IsVisit, HasEnded, IsRotation};
+ghost use Rattle.model.specs.History.{History, kept_starts, done, known};
+ghost use Rattle.model.specs.Rules.{IsRun};
+ghost use Rattle.model.specs.Safety.{IsSafe};
+ghost use Rattle.model.specs.Costs.{cost, IsCost};
+ghost use Rattle.model.specs.Examples.{Faults, Rotations, Costs, Tasks, Visits, Dependencies, Runs};
+
+/// A plan has one least fault at the most, and that is not past the end of the longest course.
+pub fn least_faults()
+    ensures one { (m : Grid) (p : Plan) (f g : PlanFault) → IsLeastFault m p f → IsLeastFault m p g → f ≡ g }
+    ensures in_time { (m : Grid) (p : Plan) (f : PlanFault) → IsLeastFault m p f → (key_of f).time ≤ longest_of p.courses }
+{}
+
+/// A valid plan has one timetable, and no two agents are ever in one cell of it.
+pub fn timetables()
+    ensures some { (m : Grid) (p : Plan) → IsValid m p → (tt : Timetable) × IsTimetableOf p tt }
+    ensures one { (p : Plan) (tt other : Timetable) → IsTimetableOf p tt → IsTimetableOf p other → tt ≡ other }
+    ensures conflict_free { (m : Grid) (p : Plan) (tt : Timetable) → IsValid m p → IsTimetableOf p tt → IsConflictFree tt }
+{}
+
+/// Each list of events, the newest first, has exactly one run.
+pub fn runs_of_events()
+    ensures some { (tt : Timetable) (events : List Event) → (h : History) × IsRun tt h × (map (λ now. now.event) h ≡ events) }
+    ensures one { (tt : Timetable) (h k : History) → IsRun tt h → IsRun tt k → map (λ now. now.event) h ≡ map (λ now. now.event) k → h ≡ k }
+{}
+
+/// In every run over a timetable without vertex conflicts, whatever the events are, each beginning is safe.
+pub fn every_run_is_safe()
+    ensures { (tt : Timetable) (later earlier : History) → IsConflictFree tt → IsRun tt (later ++ earlier) → IsSafe tt earlier }
+{}
+
+/// What an agent has finished stays finished, and no other knows more of it than it has finished.
+pub fn counters()
+    ensures never_falls { (later earlier : History) (i : ℕ) → done earlier i ≤ done (later ++ earlier) i }
+    ensures known { (h : History) (i j : ℕ) → known h i j ≤ done h j }
+{}
+
+/// A move of a rotation is never begun: its number is not among those of the begun moves.
+pub fn rotations_never_begin()
+    ensures { (tt : Timetable) (step : ℕ) (agents : List ℕ) (h : History) (place i : ℕ) (track : Track)
+        → IsConflictFree tt → IsRotation tt step agents → IsRun tt h → slice_get agents place ≡ Some i → track_of tt i ≡ Some track
+        → kept_starts h i ≤ moves_before track step }
+{}
+
+/// Along the visits of a cell times rise strictly, and when a visit begins each earlier one has ended.
+pub fn visits_in_order()
+    ensures one_at_a_time { (tt : Timetable) (i j n m t : ℕ) (c : Cell)
+        → IsConflictFree tt → IsVisit tt i n t c → IsVisit tt j m t c → (i ≡ j) × (n ≡ m) }
+    ensures ended { (tt : Timetable) (i j n m s t : ℕ) (c : Cell)
+        → IsConflictFree tt → IsVisit tt i n s c → IsVisit tt j m t c → s < t → HasEnded tt i n j m t c }
+{}
+
+/// `last_stand` is the last agent that stood in a cell up to a time, if any did, and `need` what it asks of the agent that enters.
+pub fn needs()
+    ensures last { (tt : Timetable) (c : Cell) (t : ℕ) → IsLastStand tt c t (last_stand tt c t) }
+    ensures need { (tt : Timetable) (i k : ℕ) (track : Track) → k < moves track → IsNeed tt i track k (need tt i track k) }
+{}
+
+/// `cost` is the least time from which the agent stays for ever.
+pub fn costs()
+    ensures cost { (track : Track) → IsCost track (cost track) }
+    ensures one { (track : Track) (s t : ℕ) → IsCost track s → IsCost track t → s ≡ t }
+{}
+
+/// The examples are what the definitions say.
+pub fn examples()
+    ensures faults { Faults }
+    ensures rotations { Rotations }
+    ensures costs { Costs }
+    ensures tasks { Tasks }
+    ensures visits { Visits }
+    ensures dependencies { Dependencies }
+    ensures runs { Runs }
+{}
