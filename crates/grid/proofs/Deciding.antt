@@ -18,19 +18,19 @@ use Rattle.grid.specs.Terrain.{is_terrain, kind_of}
 use Rattle.grid.specs.Map.{Grid, IsSize}
 use Rattle.grid.specs.MapText.{IsNumberLine, IsTypeLine, IsMapLine, IsRowOf, is_rest_byte, AreRows, MapText}
 use Rattle.grid.specs.Reading.{Place, at_line_feed, at_byte, at_end, IsOver, IsByte, Decides, IsFirstFault, line_number}
-use Rattle.grid.specs.MapFault.{Due, type_due, height_due, width_due, map_due, rows_due, IsHeight, IsRow, Follows, Leads, HasValue, HasNumber, HasOtherForm, HasFault, MapFaultAt}
-use Rattle.grid.specs.HeaderLine.{word_of, saying_of}
-use Rattle.grid.specs.Following.{IsOpen}
+use Rattle.grid.specs.MapFault.{MapDue, type_due, height_due, width_due, map_due, rows_due, IsHeight, IsRow, MapFollows, HasValue, HasPositive, HasOtherForm, HasMapFault, MapFaultAt}
+use Rattle.grid.specs.Code.HeaderLine.{word_of, saying_of}
+use Rattle.grid.specs.Code.Following.{IsOpen, MapLeads}
 use Rattle.grid.proofs.LineLemmas.{is_line_byte-from, lines_of-whole, lines_of-open, lines_of-all, ends_in_line_feed-whole, ends_in_line_feed-open, ended_push, AllByRecursion_push}
 use Rattle.grid.proofs.HeaderLemmas.{HasSize, height_has_size, width_has_size, Whole-from_type_line, type_line-from_Whole, Whole-from_map_line, map_line-from_Whole, Size-from_number_line, number_line-from_Size, HasValue-from_Size, HasValue-from_NoSize, says-from_HasValue}
 use Rattle.grid.proofs.Standing.{Standing, going, stopped, number_of, after_words, after_number, is_large_height, is_large_width, row_state, row_length, row_length-row, row_state-terrain, row_state-returned, after_line, on_byte, on_row_byte, pass, standing_of}
-use Rattle.grid.proofs.Judging.{Leads-append}
+use Rattle.grid.proofs.Judging.{MapLeads-append}
 use Rattle.grid.proofs.TerrainLemmas.{map-character_of-kind}
 
 -- ---- what a whole line decides
 
 -- what is known of a line that is due
-abbrev pub IsDue : Due → Type 0
+abbrev pub IsDue : MapDue → Type 0
 IsDue type_due = ⊤
 IsDue height_due = ⊤
 IsDue (width_due height) = IsHeight height
@@ -38,15 +38,15 @@ IsDue (map_due width height) = ⊤
 IsDue (rows_due width rows) = ⊤
 
 -- a whole line is right, or has a fault where it is over
-abbrev pub LineDecides : Due → ℕ → List ℕ → Type 0
+abbrev pub LineDecides : MapDue → ℕ → List ℕ → Type 0
 LineDecides due count line =
-    ((next : Due) × Follows due line next × IsDue next × (after_line due count line ≡ going next (suc count) []))
+    ((next : MapDue) × MapFollows due line next × IsDue next × (after_line due count line ≡ going next (suc count) []))
     ⊎ ((fault : MapFault) × (after_line due count line ≡ stopped fault)
-    × ((place : Place) → IsOver place → (place ≡ at_end → line ≢ []) → HasFault fault place due (number_of count) line))
+    × ((place : Place) → IsOver place → (place ≡ at_end → line ≢ []) → HasMapFault fault place due (number_of count) line))
 
 -- a line that is a word or two
-words_decide : (due next : Due) (count : ℕ) (line : List ℕ) (s : Saying) → after_line due count line ≡ after_words next count s
-    → IsDue next → (s ≡ Whole → Follows due line next) → ((s ≡ Whole → ⊥) → HasOtherForm due line) → LineDecides due count line
+words_decide : (due next : MapDue) (count : ℕ) (line : List ℕ) (s : Saying) → after_line due count line ≡ after_words next count s
+    → IsDue next → (s ≡ Whole → MapFollows due line next) → ((s ≡ Whole → ⊥) → HasOtherForm due line) → LineDecides due count line
 words_decide due next count line Whole is known right wrong = inl (next, right refl, known, is)
 words_decide due next count line (Size n) is known right wrong =
     inr (BadHeader (number_of count), is, λ place over some. (refl, over, wrong (λ e. cc)))
@@ -56,18 +56,18 @@ words_decide due next count line NoForm is known right wrong =
     inr (BadHeader (number_of count), is, λ place over some. (refl, over, wrong (λ e. cc)))
 
 -- what a line of a number says: another form, another value, a number that is too large, or one that is not
-abbrev pub NumberDecides : HeaderLine → (ℕ → Bool) → (ℕ → Due) → ℕ → List ℕ → Type 0
+abbrev pub NumberDecides : HeaderLine → (ℕ → Bool) → (ℕ → MapDue) → ℕ → List ℕ → Type 0
 NumberDecides kind is_large next count line =
     ((after_number is_large next count (saying_of kind line) ≡ stopped (BadHeader (number_of count))) × (HasValue (word_of kind) line → ⊥))
     ⊎ (((after_number is_large next count (saying_of kind line) ≡ stopped (BadNumber (number_of count)))
-    × HasValue (word_of kind) line × (HasNumber (word_of kind) line → ⊥))
+    × HasValue (word_of kind) line × (HasPositive (word_of kind) line → ⊥))
     ⊎ ((m : ℕ) × IsNumberLine (word_of kind) m line × (0 < m)
     × (((is_large (min m 65536) ≡ true) × (after_number is_large next count (saying_of kind line) ≡ stopped (TooLarge (number_of count))))
     ⊎ ((is_large (min m 65536) ≡ false)
     × (after_number is_large next count (saying_of kind line) ≡ going (next (min m 65536)) (suc count) [])))))
 
 -- a number line's size
-number_decides-size : (kind : HeaderLine) → HasSize kind → (is_large : ℕ → Bool) (next : ℕ → Due) (count : ℕ) (line : List ℕ) (n : ℕ)
+number_decides-size : (kind : HeaderLine) → HasSize kind → (is_large : ℕ → Bool) (next : ℕ → MapDue) (count : ℕ) (line : List ℕ) (n : ℕ)
     → saying_of kind line ≡ Size n → NumberDecides kind is_large next count line
 number_decides-size kind sized is_large next count line n says = go (cases_lt 0 number.0)
   where
@@ -77,7 +77,7 @@ number_decides-size kind sized is_large next count line n says = go (cases_lt 0 
     after : after_number is_large next count (saying_of kind line) ≡ after_number is_large next count (Size n)
     after = ap (after_number is_large next count) says
 
-    none : number.0 ≤ 0 → HasNumber (word_of kind) line → ⊥
+    none : number.0 ≤ 0 → HasPositive (word_of kind) line → ⊥
     none least (m, other, above) =
         let same : Size (min m 65536) ≡ Size n = sym (Size-from_number_line kind sized m line other) ∙ says in
         let sizes : min m 65536 ≡ n = cc in
@@ -111,7 +111,7 @@ number_decides-size kind sized is_large next count line n says = go (cases_lt 0 
         ))
 
 -- what a line of a number says
-number_decides : (kind : HeaderLine) → HasSize kind → (is_large : ℕ → Bool) (next : ℕ → Due) (count : ℕ) (line : List ℕ)
+number_decides : (kind : HeaderLine) → HasSize kind → (is_large : ℕ → Bool) (next : ℕ → MapDue) (count : ℕ) (line : List ℕ)
     → NumberDecides kind is_large next count line
 number_decides kind sized is_large next count line = go (saying_of kind line) refl
   where
@@ -150,7 +150,7 @@ small_width-parts height m h =
     (small, subst (λ n. n * height ≤ 4194304) same (ltb-false 4194304 (min m 65536 * height) parts.1))
 
 -- a whole line is right or has a fault
-pub line_decides : (due : Due) (count : ℕ) (line : List ℕ) → IsDue due → IsOpen due line → LineDecides due count line
+pub line_decides : (due : MapDue) (count : ℕ) (line : List ℕ) → IsDue due → IsOpen due line → LineDecides due count line
 line_decides type_due count line known is_open =
     words_decide type_due height_due count line (saying_of TypeLine line) refl tt
     (λ e. (type_line-from_Whole line e, refl)) (λ h is. h (Whole-from_type_line line is))
@@ -216,10 +216,10 @@ line_decides (rows_due width (suc rows)) count line known (row, within, terrain,
 -- ---- what a byte decides
 
 -- one more byte of a line leaves it open, or has a fault
-abbrev pub ByteDecides : Due → ℕ → List ℕ → ℕ → Type 0
+abbrev pub ByteDecides : MapDue → ℕ → List ℕ → ℕ → Type 0
 ByteDecides due count line b =
     (IsOpen due (line ++ b ∷ []) × (on_byte due count line b ≡ going due count (line ++ b ∷ [])))
-    ⊎ ((fault : MapFault) × (on_byte due count line b ≡ stopped fault) × HasFault fault at_byte due (number_of count) (line ++ b ∷ []))
+    ⊎ ((fault : MapFault) × (on_byte due count line b ≡ stopped fault) × HasMapFault fault at_byte due (number_of count) (line ++ b ∷ []))
 
 -- one more that passes a test
 list_all_push : (test : ℕ → Bool) (line : List ℕ) (b : ℕ) → IsTrue (list_all test line) → test b ≡ true
@@ -325,7 +325,7 @@ returned_decides width rows count row b within terrain false short =
     )
 
 -- one more byte of an open line
-pub byte_decides : (due : Due) (count : ℕ) (line : List ℕ) (b : ℕ) → IsOpen due line → IsTrue (is_line_byte b)
+pub byte_decides : (due : MapDue) (count : ℕ) (line : List ℕ) (b : ℕ) → IsOpen due line → IsTrue (is_line_byte b)
     → ByteDecides due count line b
 byte_decides type_due count line b h k = inl (list_all_push is_line_byte line b h k, refl)
 byte_decides height_due count line b h k = inl (list_all_push is_line_byte line b h k, refl)
@@ -343,13 +343,13 @@ byte_decides (rows_due width (suc rows)) count line b (row, within, terrain, inr
 -- ---- what the bytes of a text decide
 
 -- the lines before a line that is due are right, and it is open
-pub record HasCome (seen : List ℕ) (due : Due) (count : ℕ) (line : List ℕ) : Type 0 where
+pub record HasCome (seen : List ℕ) (due : MapDue) (count : ℕ) (line : List ℕ) : Type 0 where
   pub before : List (List ℕ)
   pub bytes : seen ≡ ended before ++ line
   pub are_lines : AllByRecursion IsLine before
   pub is_line : IsLine line
   pub number : count ≡ length before
-  pub right : Leads type_due before due
+  pub right : MapLeads type_due before due
   pub known : IsDue due
   pub is_open : IsOpen due line
 
@@ -364,12 +364,12 @@ Decides-here : (fault : MapFault) (place : Place) (text : List ℕ) → IsByte p
 Decides-here fault place text byte at = (text, [], place, sym (append-nil text), byte, at)
 
 -- one more right line
-Leads_push : (before : List (List ℕ)) (due : Due) (line : List ℕ) (next : Due) → Leads type_due before due → Follows due line next
-    → Leads type_due (before ++ line ∷ []) next
-Leads_push before due line next h k = Leads-append type_due before due (line ∷ []) next h (next, k, refl)
+Leads_push : (before : List (List ℕ)) (due : MapDue) (line : List ℕ) (next : MapDue) → MapLeads type_due before due → MapFollows due line next
+    → MapLeads type_due (before ++ line ∷ []) next
+Leads_push before due line next h k = MapLeads-append type_due before due (line ∷ []) next h (next, k, refl)
 
 -- the pass at the LF of a line
-Means-line_feed : (seen : List ℕ) (due : Due) (count : ℕ) (line : List ℕ) → HasCome seen due count line
+Means-line_feed : (seen : List ℕ) (due : MapDue) (count : ℕ) (line : List ℕ) → HasCome seen due count line
     → Means (seen ++ line_feed ∷ []) (after_line due count line)
 Means-line_feed seen due count line h = elim (line_decides due count line h.known h.is_open) [
   | inl (next, follows, known, is) ↦
@@ -386,8 +386,8 @@ Means-line_feed seen due count line h = elim (line_decides due count line h.know
       } in
       subst (Means (seen ++ line_feed ∷ [])) (sym is) last
   | inr (fault, is, faulty) ↦
-      let found : HasFault fault at_line_feed due (line_number h.before) line =
-      subst (λ n. HasFault fault at_line_feed due (number_of n) line) h.number (faulty at_line_feed tt (λ e. absurd (cc))) in
+      let found : HasMapFault fault at_line_feed due (line_number h.before) line =
+      subst (λ n. HasMapFault fault at_line_feed due (number_of n) line) h.number (faulty at_line_feed tt (λ e. absurd (cc))) in
       subst (Means (seen ++ line_feed ∷ [])) (sym is) (Decides-here fault at_line_feed (seen ++ line_feed ∷ []) tt (record {
         before = h.before;
         line = line;
@@ -408,7 +408,7 @@ Means-line_feed seen due count line h = elim (line_decides due count line h.know
     empty_row width zero = refl
     empty_row width (suc rows) = ([], omega arith, refl, inl refl)
 
-    open_line : (next : Due) → Follows due line next → IsOpen next []
+    open_line : (next : MapDue) → MapFollows due line next → IsOpen next []
     open_line type_due follows = refl
     open_line height_due follows = refl
     open_line (width_due height) follows = refl
@@ -416,7 +416,7 @@ Means-line_feed seen due count line h = elim (line_decides due count line h.know
     open_line (rows_due width rows) follows = empty_row width rows
 
 -- the pass at another byte
-Means-on_byte : (seen : List ℕ) (due : Due) (count : ℕ) (line : List ℕ) (b : ℕ) → HasCome seen due count line → IsTrue (is_line_byte b)
+Means-on_byte : (seen : List ℕ) (due : MapDue) (count : ℕ) (line : List ℕ) (b : ℕ) → HasCome seen due count line → IsTrue (is_line_byte b)
     → Means (seen ++ b ∷ []) (on_byte due count line b)
 Means-on_byte seen due count line b h k = elim (byte_decides due count line b h.is_open k) [
   | inl (is_open, is) ↦
@@ -432,8 +432,8 @@ Means-on_byte seen due count line b h k = elim (byte_decides due count line b h.
       } in
       subst (Means (seen ++ b ∷ [])) (sym is) last
   | inr (fault, is, faulty) ↦
-      let found : HasFault fault at_byte due (line_number h.before) (line ++ b ∷ []) =
-      subst (λ n. HasFault fault at_byte due (number_of n) (line ++ b ∷ [])) h.number faulty in
+      let found : HasMapFault fault at_byte due (line_number h.before) (line ++ b ∷ []) =
+      subst (λ n. HasMapFault fault at_byte due (number_of n) (line ++ b ∷ [])) h.number faulty in
       subst (Means (seen ++ b ∷ [])) (sym is) (Decides-here fault at_byte (seen ++ b ∷ []) tt (record {
         before = h.before;
         line = line ++ b ∷ [];
@@ -531,7 +531,7 @@ row_more width rows line lines row h =
     }
 
 -- right lines from the first row on, after which no row is due
-rows_from_Leads : (width rows : ℕ) (lines : List (List ℕ)) (last : ℕ) → Leads (rows_due width rows) lines (rows_due last zero)
+rows_from_Leads : (width rows : ℕ) (lines : List (List ℕ)) (last : ℕ) → MapLeads (rows_due width rows) lines (rows_due last zero)
     → HasRows width rows lines
 rows_from_Leads width zero [] last h = record {
   terrain = [];
@@ -545,7 +545,7 @@ rows_from_Leads width zero [] last h = record {
 }
 rows_from_Leads width (suc rows) [] last h = absurd (cc)
 rows_from_Leads width zero (line ∷ lines) last (next, follows, rest) =
-    let more = rows_from_Leads width zero lines last (subst (λ d. Leads d lines (rows_due last zero)) follows.1 rest) in
+    let more = rows_from_Leads width zero lines last (subst (λ d. MapLeads d lines (rows_due last zero)) follows.1 rest) in
     record {
       terrain = [];
       row_lines = [];
@@ -563,7 +563,7 @@ rows_from_Leads width zero (line ∷ lines) last (next, follows, rest) =
         (sym (more.are ∙ ap (λ ls. ls ++ more.rest) none)) more.are_blank
 rows_from_Leads width (suc rows) (line ∷ lines) last (next, follows, rest) =
     row_more width rows line lines follows.0
-    (rows_from_Leads width rows lines last (subst (λ d. Leads d lines (rows_due last zero)) follows.1 rest))
+    (rows_from_Leads width rows lines last (subst (λ d. MapLeads d lines (rows_due last zero)) follows.1 rest))
 
 -- right lines of a text after which no row is due, and the map that they spell
 map_from_rows : (text : List ℕ) (type_line height_line width_line map_line : List ℕ) (lines : List (List ℕ)) (width height : ℕ)
@@ -592,34 +592,34 @@ map_from_rows text type_line height_line width_line map_line lines width height 
 )
 
 -- the same from what leads to it, a line of the header after the other
-map_from_Leads : (text : List ℕ) (lines : List (List ℕ)) (last : ℕ) → lines_of text ≡ lines → Leads type_due lines (rows_due last zero)
+map_from_Leads : (text : List ℕ) (lines : List (List ℕ)) (last : ℕ) → lines_of text ≡ lines → MapLeads type_due lines (rows_due last zero)
     → (m : Grid) × MapText m text
 map_from_Leads text [] last is h = absurd (cc)
 map_from_Leads text (type_line ∷ lines) last is (next, follows, rest) =
-    on_height lines is (subst (λ d. Leads d lines (rows_due last zero)) follows.1 rest)
+    on_height lines is (subst (λ d. MapLeads d lines (rows_due last zero)) follows.1 rest)
   where
     on_map : (height_line width_line : List ℕ) (width height : ℕ) → IsNumberLine (codes "height") height height_line
         → IsNumberLine (codes "width") width width_line → IsSize width height → (lines : List (List ℕ))
-        → lines_of text ≡ type_line ∷ height_line ∷ width_line ∷ lines → Leads (map_due width height) lines (rows_due last zero)
+        → lines_of text ≡ type_line ∷ height_line ∷ width_line ∷ lines → MapLeads (map_due width height) lines (rows_due last zero)
         → (m : Grid) × MapText m text
     on_map height_line width_line width height is_height is_width size [] is h = absurd (cc)
     on_map height_line width_line width height is_height is_width size (map_line ∷ lines) is (next, is_map, rest) =
         map_from_rows text type_line height_line width_line map_line lines width height is follows.0 is_height is_width is_map.0 size
-        (rows_from_Leads width height lines last (subst (λ d. Leads d lines (rows_due last zero)) is_map.1 rest))
+        (rows_from_Leads width height lines last (subst (λ d. MapLeads d lines (rows_due last zero)) is_map.1 rest))
 
     on_width : (height_line : List ℕ) (height : ℕ) → IsNumberLine (codes "height") height height_line → (lines : List (List ℕ))
-        → lines_of text ≡ type_line ∷ height_line ∷ lines → Leads (width_due height) lines (rows_due last zero) → (m : Grid)
+        → lines_of text ≡ type_line ∷ height_line ∷ lines → MapLeads (width_due height) lines (rows_due last zero) → (m : Grid)
         × MapText m text
     on_width height_line height is_height [] is h = absurd (cc)
     on_width height_line height is_height (width_line ∷ lines) is (next, (width, is_width, size, due_is), rest) =
         on_map height_line width_line width height is_height is_width size lines is
-        (subst (λ d. Leads d lines (rows_due last zero)) due_is rest)
+        (subst (λ d. MapLeads d lines (rows_due last zero)) due_is rest)
 
-    on_height : (lines : List (List ℕ)) → lines_of text ≡ type_line ∷ lines → Leads height_due lines (rows_due last zero)
+    on_height : (lines : List (List ℕ)) → lines_of text ≡ type_line ∷ lines → MapLeads height_due lines (rows_due last zero)
         → (m : Grid) × MapText m text
     on_height [] is h = absurd (cc)
     on_height (height_line ∷ lines) is (next, (height, is_height, limits, due_is), rest) =
-        on_width height_line height is_height lines is (subst (λ d. Leads d lines (rows_due last zero)) due_is rest)
+        on_width height_line height is_height lines is (subst (λ d. MapLeads d lines (rows_due last zero)) due_is rest)
 
 -- ---- the end of a text
 
@@ -628,8 +628,8 @@ abbrev pub HasReading : List ℕ → Type 0
 HasReading text = ((m : Grid) × MapText m text) ⊎ ((f : MapFault) × IsFirstFault MapFaultAt f text)
 
 -- a fault at the end of a text whose lines are right
-end_fault : (fault : MapFault) (text : List ℕ) (lines : List (List ℕ)) (due : Due) → lines_of text ≡ lines → Leads type_due lines due
-    → HasFault fault at_end due (line_number lines) [] → HasReading text
+end_fault : (fault : MapFault) (text : List ℕ) (lines : List (List ℕ)) (due : MapDue) → lines_of text ≡ lines → MapLeads type_due lines due
+    → HasMapFault fault at_end due (line_number lines) [] → HasReading text
 end_fault fault text lines due is right faulty = inr (
   fault,
   inr (record {
@@ -643,7 +643,7 @@ end_fault fault text lines due is right faulty = inr (
 )
 
 -- a text whose lines are right has a reading
-right_lines : (due : Due) (text : List ℕ) (lines : List (List ℕ)) → lines_of text ≡ lines → Leads type_due lines due → HasReading text
+right_lines : (due : MapDue) (text : List ℕ) (lines : List (List ℕ)) → lines_of text ≡ lines → MapLeads type_due lines due → HasReading text
 right_lines type_due text lines is right =
     end_fault (BadHeader (line_number lines)) text lines type_due is right (refl, tt, λ h. let bytes = h.bytes in cc)
 right_lines height_due text lines is right =
@@ -657,7 +657,7 @@ right_lines (rows_due width (suc rows)) text lines is right =
     end_fault (MissingRows (line_number lines)) text lines (rows_due width (suc rows)) is right (refl, refl, width, (rows, refl), refl)
 
 -- a text that ends where a line is open has a reading
-open_line_reading : (text : List ℕ) (due : Due) (count : ℕ) (line : List ℕ) → HasCome text due count line → HasReading text
+open_line_reading : (text : List ℕ) (due : MapDue) (count : ℕ) (line : List ℕ) → HasCome text due count line → HasReading text
 open_line_reading text due count [] h =
     right_lines due text h.before
     (ap lines_of (h.bytes ∙ append-nil (ended h.before)) ∙ lines_of-all h.before h.are_lines) h.right
@@ -665,8 +665,8 @@ open_line_reading text due count (b ∷ line) h = elim (line_decides due count (
   | inl (next, follows, known, is) ↦
       right_lines next text (h.before ++ (b ∷ line) ∷ []) lines (Leads_push h.before due (b ∷ line) next h.right follows)
   | inr (fault, is, faulty) ↦
-      let found : HasFault fault at_end due (line_number h.before) (b ∷ line) =
-      subst (λ n. HasFault fault at_end due (number_of n) (b ∷ line)) h.number (faulty at_end tt (λ _ e. absurd (cc))) in
+      let found : HasMapFault fault at_end due (line_number h.before) (b ∷ line) =
+      subst (λ n. HasMapFault fault at_end due (number_of n) (b ∷ line)) h.number (faulty at_end tt (λ _ e. absurd (cc))) in
       inr (
         fault,
         inr (record {

@@ -10,9 +10,9 @@ use Rattle.grid.specs.declared.map_fault.MapFault.TheVariants.{BadHeader, BadNum
 use Rattle.grid.specs.Map.{IsSize}
 use Rattle.grid.specs.Reading.{Place, IsOver}
 use Rattle.grid.specs.MapText.{IsNumberLine}
-use Rattle.grid.specs.MapFault.{height_due, width_due, map_due, Follows, HasFault, HasValue, HasNumber}
-use Rattle.grid.specs.HeaderLine.{word_of, saying_of}
-use Rattle.grid.specs.Following.{SaysNoSize}
+use Rattle.grid.specs.MapFault.{height_due, width_due, map_due, MapFollows, HasMapFault, HasValue, HasPositive}
+use Rattle.grid.specs.Code.HeaderLine.{word_of, saying_of}
+use Rattle.grid.specs.Code.Following.{SaysNoSize}
 use Rattle.grid.proofs.HeaderLemmas.{HasSize, height_has_size, width_has_size, Size-from_number_line, number_line-from_Size, HasValue-from_Size, HasValue-from_NoSize, says-from_HasValue}
 
 -- an empty line says nothing
@@ -26,7 +26,7 @@ says_some kind (b ∷ line) h = omega arith
 -- a size of 0, or something that is no number, is no number above 0
 module _ (kind : HeaderLine) (sized : HasSize kind) (line : List ℕ) where
   other_value : (saying_of kind line ≡ Size 0) ⊎ (saying_of kind line ≡ NoSize)
-      → HasValue (word_of kind) line × (HasNumber (word_of kind) line → ⊥)
+      → HasValue (word_of kind) line × (HasPositive (word_of kind) line → ⊥)
   other_value (inl zero_size) = (
     HasValue-from_Size kind sized line 0 zero_size,
     λ number.
@@ -54,7 +54,7 @@ module _ (kind : HeaderLine) (sized : HasSize kind) (line : List ℕ) where
       subst (λ m. IsNumberLine (word_of kind) m line) same number.1
 
 -- a height within the limit is right
-pub height_follows : (line : List ℕ) (n : ℕ) → saying_of HeightLine line ≡ Size n → 0 < n → n ≤ 65535 → Follows height_due line (width_due n)
+pub height_follows : (line : List ℕ) (n : ℕ) → saying_of HeightLine line ≡ Size n → 0 < n → n ≤ 65535 → MapFollows height_due line (width_due n)
 height_follows line n says some small = (n, number_of_size HeightLine height_has_size line n says small, (some, omega arith), refl)
 
 -- a width up to the limit makes a size
@@ -70,12 +70,12 @@ width_size n height some small some_height height_limit =
     }
 
 -- a width is right where the cells are not too many
-pub width_follows : (line : List ℕ) (n height : ℕ) → saying_of WidthLine line ≡ Size n → IsSize n height → Follows (width_due height) line (map_due n height)
+pub width_follows : (line : List ℕ) (n height : ℕ) → saying_of WidthLine line ≡ Size n → IsSize n height → MapFollows (width_due height) line (map_due n height)
 width_follows line n height says size = (n, number_of_size WidthLine width_has_size line n says size.width_limit, size, refl)
 
 -- what is wrong with the line of the height
 pub height_fault : (line : List ℕ) (number : ℕ) (f : MapFault) (place : Place) → IsOver place → SaysNoSize HeightLine 65535 number line f
-    → HasFault f place height_due number line
+    → HasMapFault f place height_due number line
 height_fault line number (BadHeader at) place over p = (p.0, over, other_form HeightLine height_has_size line p.1 p.2)
 height_fault line number (BadNumber at) place over p = (p.0, over, other_value HeightLine height_has_size line p.1)
 height_fault line number (TooLarge at) place over p =
@@ -102,7 +102,7 @@ width_large m n height capped large some = elim (cases_lt 65535 m) [
 
 -- what is wrong with the line of the width
 pub width_fault : (line : List ℕ) (height number : ℕ) (f : MapFault) (place : Place) → IsOver place → 0 < height
-    → SaysNoSize WidthLine (min 65535 (4194304 / height)) number line f → HasFault f place (width_due height) number line
+    → SaysNoSize WidthLine (min 65535 (4194304 / height)) number line f → HasMapFault f place (width_due height) number line
 width_fault line height number (BadHeader at) place over some p = (p.0, over, other_form WidthLine width_has_size line p.1 p.2)
 width_fault line height number (BadNumber at) place over some p = (p.0, over, other_value WidthLine width_has_size line p.1)
 width_fault line height number (TooLarge at) place over some p =

@@ -16,7 +16,7 @@ use Rattle.grid.specs.Text.{carriage_return, is_blank, SpellsNumber, IsGap}
 use Rattle.grid.specs.MapText.{is_empty, is_tail, IsTypeLine, IsNumberLine, IsMapLine}
 use Rattle.grid.specs.MapFault.{HasValue}
 use Rattle.grid.proofs.LineLemmas.{differs}
-use Rattle.grid.specs.HeaderLine.{word_of, broken, tail_step, octile_step, with_digit, size_step, after_gap, after_word, header_step, tail_saying, word_saying, saying_at, saying_of}
+use Rattle.grid.specs.Code.HeaderLine.{word_of, broken, tail_step, octile_step, with_digit, size_step, after_gap, after_word, header_step, tail_saying, word_saying, saying_at, saying_of}
 
 -- ---- bytes
 

@@ -8,29 +8,29 @@ use Rattle.grid.specs.declared.header_line.Saying.TheVariants.{Whole}
 use Rattle.grid.specs.declared.map_fault.MapFault.{MapFault}
 use Rattle.grid.specs.declared.map_fault.MapFault.TheVariants.{BadHeader, BadNumber, TooLarge, BadTerrain, ShortRow, LongRow, MissingRows, TextAfter, ReadFailed, OutOfMemory}
 use Rattle.grid.specs.Reading.{Place, at_line_feed, at_end, IsOver}
-use Rattle.grid.specs.MapFault.{Due, type_due, height_due, map_due, rows_due, HasFault}
-use Rattle.grid.specs.HeaderLine.{saying_of}
+use Rattle.grid.specs.MapFault.{MapDue, type_due, height_due, map_due, rows_due, HasMapFault}
+use Rattle.grid.specs.Code.HeaderLine.{saying_of}
 use Rattle.grid.specs.Text.{IsLine}
-use Rattle.grid.specs.Following.{IsOpen, TakesLine, TakesRight, number_after, TakesFault, TakesFailure, StopsReading, FailsInLine, SaysNoWords, SaysNoSize}
+use Rattle.grid.specs.Code.Following.{IsOpen, TakesLine, TakesRight, number_after, TakesFault, TakesFailure, StopsReading, FailsInLine, SaysNoWords, SaysNoSize}
 use Rattle.grid.proofs.HeaderLemmas.{Whole-from_type_line, type_line-from_Whole, Whole-from_map_line, map_line-from_Whole}
 use Rattle.grid.proofs.HeaderJudged.{says_words}
 use Rattle.grid.proofs.TakenLines.{TakesFault-line, TakesRight-line}
 
 -- a line of the header is judged as a whole, so any beginning of it may go on
-abbrev pub MayGoOn : Due → Type 0
+abbrev pub MayGoOn : MapDue → Type 0
 MayGoOn due = (line : List ℕ) → IsLine line → IsOpen due line
 
 -- words that are missing are another form
-pub type_fault : (line : List ℕ) (number : ℕ) (place : Place) → IsOver place → SaysNoWords TypeLine line → HasFault (BadHeader number) place type_due number line
+pub type_fault : (line : List ℕ) (number : ℕ) (place : Place) → IsOver place → SaysNoWords TypeLine line → HasMapFault (BadHeader number) place type_due number line
 type_fault line number place over says = (refl, over, λ is_type. says (Whole-from_type_line line is_type))
 
 pub map_fault : (width height : ℕ) (line : List ℕ) (number : ℕ) (place : Place) → IsOver place → SaysNoWords MapLine line
-    → HasFault (BadHeader number) place (map_due width height) number line
+    → HasMapFault (BadHeader number) place (map_due width height) number line
 map_fault width height line number place over says = (refl, over, λ is_map. says (Whole-from_map_line line is_map))
 
 module _ {R : Type 0} (remaining : R → Option (List ℕ)) where
   -- the reader failed inside the line
-  failure_in_line : (old new : Source R) (due : Due) → MayGoOn due → FailsInLine remaining old new → TakesFailure remaining old new due
+  failure_in_line : (old new : Source R) (due : MapDue) → MayGoOn due → FailsInLine remaining old new → TakesFailure remaining old new due
   failure_in_line old new due goes_on p = record {
     before = [];
     line = p.0;
@@ -43,8 +43,8 @@ module _ {R : Type 0} (remaining : R → Option (List ℕ)) where
   }
 
   -- a line without its words stops the reader
-  pub words_stop : (old new : Source R) (due : Due) (kind : HeaderLine) (skipped number : ℕ) (fault : MapFault) → MayGoOn due
-      → ((line : List ℕ) (place : Place) → IsOver place → SaysNoWords kind line → HasFault (BadHeader number) place due number line)
+  pub words_stop : (old new : Source R) (due : MapDue) (kind : HeaderLine) (skipped number : ℕ) (fault : MapFault) → MayGoOn due
+      → ((line : List ℕ) (place : Place) → IsOver place → SaysNoWords kind line → HasMapFault (BadHeader number) place due number line)
       → number ≡ number_after skipped []
       → ((fault ≡ ReadFailed) × FailsInLine remaining old new) ⊎ ((fault ≡ BadHeader number) × (bytes : List ℕ) × TakesLine remaining old new bytes × SaysNoWords kind bytes)
       → StopsReading remaining old new due skipped fault
@@ -53,17 +53,17 @@ module _ {R : Type 0} (remaining : R → Option (List ℕ)) where
   words_stop old new due kind skipped number fault goes_on wrong e (inr p) =
       subst (StopsReading remaining old new due skipped) (sym p.0)
       (TakesFault-line remaining old new due skipped p.1 (BadHeader number) p.2
-      (subst (λ n. HasFault (BadHeader number) at_line_feed due n p.1) e (wrong p.1 at_line_feed tt p.3))
-      (subst (λ n. HasFault (BadHeader number) at_end due n p.1) e (wrong p.1 at_end tt p.3)))
+      (subst (λ n. HasMapFault (BadHeader number) at_line_feed due n p.1) e (wrong p.1 at_line_feed tt p.3))
+      (subst (λ n. HasMapFault (BadHeader number) at_end due n p.1) e (wrong p.1 at_end tt p.3)))
 
   -- a line without its size stops the reader
-  module _ (old new : Source R) (due : Due) (kind : HeaderLine) (most skipped number : ℕ) (goes_on : MayGoOn due)
-      (wrong : (line : List ℕ) (f : MapFault) (place : Place) → IsOver place → SaysNoSize kind most number line f → HasFault f place due number line)
+  module _ (old new : Source R) (due : MapDue) (kind : HeaderLine) (most skipped number : ℕ) (goes_on : MayGoOn due)
+      (wrong : (line : List ℕ) (f : MapFault) (place : Place) → IsOver place → SaysNoSize kind most number line f → HasMapFault f place due number line)
       (e : number ≡ number_after skipped []) where
     faulty_size : (fault : MapFault) (line : List ℕ) → TakesLine remaining old new line → SaysNoSize kind most number line fault → TakesFault remaining old new due skipped fault
     faulty_size fault line takes says = TakesFault-line remaining old new due skipped line fault takes
-        (subst (λ n. HasFault fault at_line_feed due n line) e (wrong line fault at_line_feed tt says))
-        (subst (λ n. HasFault fault at_end due n line) e (wrong line fault at_end tt says))
+        (subst (λ n. HasMapFault fault at_line_feed due n line) e (wrong line fault at_line_feed tt says))
+        (subst (λ n. HasMapFault fault at_end due n line) e (wrong line fault at_end tt says))
 
     size_fault : (fault : MapFault) (line : List ℕ) → TakesLine remaining old new line → SaysNoSize kind most number line fault
         → StopsReading remaining old new due skipped fault

@@ -12,15 +12,15 @@ use Rattle.grid.specs.Text.{line_feed, carriage_return, is_line_byte, lines_of, 
 use Rattle.grid.specs.Terrain.{is_terrain}
 use Rattle.grid.specs.MapText.{IsRowOf, is_rest_byte}
 use Rattle.grid.specs.Reading.{Place, at_line_feed, at_byte, at_end, IsOver, IsByte, Decides, IsFirstFault, line_number}
-use Rattle.grid.specs.MapFault.{Due, type_due, height_due, width_due, map_due, rows_due, Follows, Leads, HasOtherForm, HasOtherValue, HasLargeValue, IsBeginning, IsWhole, GoesOn, GoesWrong, HasFault, MapFaultAt}
-use Rattle.grid.specs.Following.{IsOpen, IsUndecided}
+use Rattle.grid.specs.MapFault.{MapDue, type_due, height_due, width_due, map_due, rows_due, MapFollows, HasOtherForm, HasOtherValue, HasLargeValue, IsBeginning, IsWhole, RunsOver, GoesWrong, HasMapFault, MapFaultAt}
+use Rattle.grid.specs.Code.Following.{IsOpen, IsUndecided, MapLeads}
 use Rattle.grid.proofs.LineLemmas.{is_line_byte-true, whole_parts, open_parts, lines_parts, AreLines}
 use Rattle.grid.proofs.Standing.{going, stopped, number_of, characters, returned, row_state, row_length, row_length-row, row_state-terrain, row_state-returned, after_line, on_byte, on_row_byte, pass, standing_of, stopped-stays, missing, fault_after, fault_of, after_line-form, after_line-value, after_line-large, after_line-next, pass-terrain, pass-returned, pass-open, open-from_Follows, pass-line_feed, standing_of-lines}
 
 -- ---- a fault of a whole line
 
 -- a line of another form, value or size is open at its end, as each line of the header is
-open-from_header : (due : Due) (line : List ℕ) → IsLine line
+open-from_header : (due : MapDue) (line : List ℕ) → IsLine line
     → HasOtherForm due line ⊎ (HasOtherValue due line ⊎ HasLargeValue due line) → IsOpen due line
 open-from_header type_due line is h = is
 open-from_header height_due line is h = is
@@ -29,7 +29,7 @@ open-from_header (map_due width height) line is h = is
 open-from_header (rows_due width rows) line is h = absurd (elim h [ inl e ↦ e | inr (inl e) ↦ e | inr (inr e) ↦ e ])
 
 -- the pass finds the fault where the line ends, and none before
-abbrev pub StopsAfter : MapFault → Due → ℕ → List ℕ → Type 0
+abbrev pub StopsAfter : MapFault → MapDue → ℕ → List ℕ → Type 0
 StopsAfter fault due count line = IsOpen due line × (after_line due count line ≡ stopped fault)
 
 -- a row that is too short
@@ -42,8 +42,8 @@ short_row width rows count row line h is =
     ((row, omega arith, h.terrain, is), cond-true _ _ _ (lt-ltb (row_length (row_state line)) width shorter))
 
 -- a fault that is judged where a line is over, but where the line is missing
-stops_after : (fault : MapFault) (place : Place) (due : Due) (count : ℕ) (line : List ℕ) → IsOver place → IsLine line
-    → (place ≡ at_end → line ≢ []) → HasFault fault place due (number_of count) line → StopsAfter fault due count line
+stops_after : (fault : MapFault) (place : Place) (due : MapDue) (count : ℕ) (line : List ℕ) → IsOver place → IsLine line
+    → (place ≡ at_end → line ≢ []) → HasMapFault fault place due (number_of count) line → StopsAfter fault due count line
 stops_after (BadHeader at) place due count line over is some h =
     (open-from_header due line is (inl h.2), after_line-form due count line h.2 ∙ ap (λ n. stopped (BadHeader n)) (sym h.0))
 stops_after (BadNumber at) place due count line over is some h =
@@ -70,7 +70,7 @@ last_is_line_byte front b h =
     is_line_byte-true b (and_parts (is_line_byte b) true parts.1).0
 
 -- the pass over the last byte of a line
-pass-last : (due : Due) (count : ℕ) (front : List ℕ) (b : ℕ) (fault : MapFault) → IsLine (front ++ b ∷ [])
+pass-last : (due : MapDue) (count : ℕ) (front : List ℕ) (b : ℕ) (fault : MapFault) → IsLine (front ++ b ∷ [])
     → fold pass (going due count []) front ≡ going due count front → on_byte due count front b ≡ stopped fault
     → fold pass (going due count []) (front ++ b ∷ []) ≡ stopped fault
 pass-last due count front b fault is goes found =
@@ -116,7 +116,7 @@ pass-bad_terrain width rows count row line is h (inr (b, e)) =
     (cond-true (nat_lt (length row) width) _ _ (lt-ltb (length row) width short))
 
 -- more than the width
-pass-long_row : (width rows count : ℕ) (row line : List ℕ) → IsLine line → IsWhole width row → GoesOn row line
+pass-long_row : (width rows count : ℕ) (row line : List ℕ) → IsLine line → IsWhole width row → RunsOver row line
     → fold pass (going (rows_due width (suc rows)) count []) line ≡ stopped (LongRow (number_of count))
 pass-long_row width rows count row line is h (inl (b, e, other)) =
     let whole = h.whole in
@@ -140,8 +140,8 @@ pass-text_after width count front b is rest other =
     (cond-false (is_rest_byte b) _ _ other)
 
 -- a fault that is judged at a byte of a line
-stops_at : (fault : MapFault) (due : Due) (count : ℕ) (line : List ℕ) → IsLine line
-    → HasFault fault at_byte due (number_of count) line → fold pass (going due count []) line ≡ stopped fault
+stops_at : (fault : MapFault) (due : MapDue) (count : ℕ) (line : List ℕ) → IsLine line
+    → HasMapFault fault at_byte due (number_of count) line → fold pass (going due count []) line ≡ stopped fault
 stops_at (BadHeader at) due count line is h = absurd h.1
 stops_at (BadNumber at) due count line is h = absurd h.1
 stops_at (TooLarge at) due count line is h = absurd h.1
@@ -205,41 +205,41 @@ undecided text h f k =
 -- ---- the end of a text
 
 -- the last of right lines
-pub Leads-last : (first : Due) (before : List (List ℕ)) (line : List ℕ) (last : Due) → Leads first (before ++ line ∷ []) last
-    → (due : Due) × Leads first before due × Follows due line last
-Leads-last first [] line last (next, follows, is) = (first, refl, subst (Follows first line) (sym is) follows)
-Leads-last first (line' ∷ before) line last (next, follows, rest) =
-    let found = Leads-last next before line last rest in
+pub MapLeads-last : (first : MapDue) (before : List (List ℕ)) (line : List ℕ) (last : MapDue) → MapLeads first (before ++ line ∷ []) last
+    → (due : MapDue) × MapLeads first before due × MapFollows due line last
+MapLeads-last first [] line last (next, follows, is) = (first, refl, subst (MapFollows first line) (sym is) follows)
+MapLeads-last first (line' ∷ before) line last (next, follows, rest) =
+    let found = MapLeads-last next before line last rest in
     (found.0, (next, follows, found.1), found.2)
 
 -- right lines, and more of them
-pub Leads-append : (first : Due) (before : List (List ℕ)) (due : Due) (lines : List (List ℕ)) (last : Due)
-    → Leads first before due → Leads due lines last → Leads first (before ++ lines) last
-Leads-append first [] due lines last is h = subst (λ d. Leads d lines last) is h
-Leads-append first (line ∷ before) due lines last (next, follows, rest) h =
-    (next, follows, Leads-append next before due lines last rest h)
+pub MapLeads-append : (first : MapDue) (before : List (List ℕ)) (due : MapDue) (lines : List (List ℕ)) (last : MapDue)
+    → MapLeads first before due → MapLeads due lines last → MapLeads first (before ++ lines) last
+MapLeads-append first [] due lines last is h = subst (λ d. MapLeads d lines last) is h
+MapLeads-append first (line ∷ before) due lines last (next, follows, rest) h =
+    (next, follows, MapLeads-append next before due lines last rest h)
 
 -- the end of the text after some bytes of a line
-fault_of-line : (due : Due) (count : ℕ) (line : List ℕ) → 0 < length line
+fault_of-line : (due : MapDue) (count : ℕ) (line : List ℕ) → 0 < length line
     → fault_of (going due count line) ≡ fault_after (after_line due count line)
 fault_of-line due count [] some = absurd (omega arith)
 fault_of-line due count (b ∷ line) some = refl
 
 -- at the end of a text whose lines are right, the line that is due is missing
-pub fault_of-lines : (text : List ℕ) (lines : List (List ℕ)) (last : Due) → lines_of text ≡ lines → Leads type_due lines last
+pub fault_of-lines : (text : List ℕ) (lines : List (List ℕ)) (last : MapDue) → lines_of text ≡ lines → MapLeads type_due lines last
     → fault_of (standing_of text) ≡ missing last (length lines)
 fault_of-lines text lines last e right = on (lines_parts text lines e)
   where
     on : AreLines text lines → fault_of (standing_of text) ≡ missing last (length lines)
     on parts = elim parts.last [
       | inl h ↦
-          let leads = subst (λ ls. Leads type_due ls last) h.1 right in
+          let leads = subst (λ ls. MapLeads type_due ls last) h.1 right in
           ap (λ t. fault_of (standing_of t)) parts.bytes
           ∙ (ap fault_of (standing_of-lines parts.before last parts.line parts.are_lines leads)
           ∙ (ap (λ l. fault_of (fold pass (going last (length parts.before) []) l)) h.0
           ∙ ap (λ ls. missing last (length ls)) (sym h.1)))
       | inr h ↦
-          let found = Leads-last type_due parts.before parts.line last (subst (λ ls. Leads type_due ls last) h.1 right) in
+          let found = MapLeads-last type_due parts.before parts.line last (subst (λ ls. MapLeads type_due ls last) h.1 right) in
           let line_open = open-from_Follows found.0 parts.line last parts.is_line found.2 in
           let longer : suc (length parts.before) ≡ length lines =
           omega (arith, ap length h.1, length-append parts.before (parts.line ∷ [])) in
@@ -252,7 +252,7 @@ fault_of-lines text lines last e right = on (lines_parts text lines e)
     ]
 
 -- the empty line has no value
-no_value : (due : Due) → HasOtherValue due [] → ⊥
+no_value : (due : MapDue) → HasOtherValue due [] → ⊥
 no_value type_due h = h
 no_value height_due h = let bytes = h.0.bytes in cc
 no_value (width_due height) h = let bytes = h.0.bytes in cc
@@ -260,7 +260,7 @@ no_value (map_due width height) h = h
 no_value (rows_due width rows) h = h
 
 -- the empty line has no number
-no_number : (due : Due) → HasLargeValue due [] → ⊥
+no_number : (due : MapDue) → HasLargeValue due [] → ⊥
 no_number type_due h = h
 no_number height_due h = let bytes = h.1.bytes in cc
 no_number (width_due height) h = let bytes = h.1.bytes in cc
@@ -268,7 +268,7 @@ no_number (map_due width height) h = h
 no_number (rows_due width rows) h = h
 
 -- the header lines that are missing have another form
-missing-form : (due : Due) (count : ℕ) → HasOtherForm due [] → missing due count ≡ Some (BadHeader (number_of count))
+missing-form : (due : MapDue) (count : ℕ) → HasOtherForm due [] → missing due count ≡ Some (BadHeader (number_of count))
 missing-form type_due count h = refl
 missing-form height_due count h = refl
 missing-form (width_due height) count h = refl
@@ -276,7 +276,7 @@ missing-form (map_due width height) count h = refl
 missing-form (rows_due width rows) count h = absurd h
 
 -- the fault of a line that is missing
-pub missing-from_fault : (fault : MapFault) (due : Due) (count : ℕ) → HasFault fault at_end due (number_of count) []
+pub missing-from_fault : (fault : MapFault) (due : MapDue) (count : ℕ) → HasMapFault fault at_end due (number_of count) []
     → missing due count ≡ Some fault
 missing-from_fault (BadHeader at) due count h = missing-form due count h.2 ∙ ap (λ n. Some (BadHeader n)) (sym h.0)
 missing-from_fault (BadNumber at) due count h = absurd (no_value due h.2)
@@ -301,7 +301,7 @@ fault_of-end fault text h = elim h.judged [
       ∙ (ap fault_of (standing_of-lines h.before h.due h.line parts.1 h.right ∙ pass-open h.due (length h.before) h.line found.0)
       ∙ (fault_of-line h.due (length h.before) h.line parts.3 ∙ ap fault_after found.1))
   | inr judged ↦
-      let faulty = subst (HasFault fault at_end h.due (line_number h.before)) judged.1 h.faulty in
+      let faulty = subst (HasMapFault fault at_end h.due (line_number h.before)) judged.1 h.faulty in
       fault_of-lines text h.before h.due judged.0 h.right ∙ missing-from_fault fault h.due (length h.before) faulty
 ]
 

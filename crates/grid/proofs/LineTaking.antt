@@ -17,7 +17,7 @@ use Rattle.grid.specs.declared.source.Stop.TheVariants.{End, Failure}
 use Rattle.grid.specs.Counted.{counted_inner, failures_of, Rises}
 use Rattle.grid.specs.Text.{line_feed, is_line_byte, IsLine, lines_of, ended}
 use Rattle.grid.specs.Source.{at_hand, source_reader, has_ended, has_failed, GoesOn, Takes, StopsBy}
-use Rattle.grid.specs.Reading.{at_end, JudgedAt}
+use Rattle.grid.specs.Reading.{LineEnds, by_input, by_line_feed, at_end, JudgedAt}
 use Rattle.grid.specs.Lines.{HasTaken, HasCome, LineEnded, InputEnded, LineTooLong, ReaderFailed}
 use Rattle.grid.proofs.LineLemmas.{lines_of-whole, lines_of-open, lines_of-all, ends_in_line_feed-whole, ends_in_line_feed-open, ended_push, AllByRecursion_push}
 use Rattle.grid.proofs.SourceLemmas.{Takes-trans, Takes-then_none, spent, same_failures, more_failures, not_ended}
@@ -55,9 +55,11 @@ pub record HasPart {R : Type 0} (remaining : R → Option (List ℕ)) (old new :
   pub taken : Takes remaining old new (take count room)
 
 -- where no more came after lines and the beginning of one
-judged_at_end : (before : List (List ℕ)) (line : List ℕ) → AllByRecursion IsLine before → IsLine line → JudgedAt at_end before line (ended before ++ line)
-judged_at_end before [] all is = inr (ap lines_of (append-nil (ended before)) ∙ lines_of-all before all, refl)
-judged_at_end before (b ∷ line) all is =
+judged_at_end : (before : List (List ℕ)) (line : List ℕ) → AllByRecursion IsLine before → IsLine line
+    → (ends : LineEnds) → JudgedAt ends at_end before line (ended before ++ line)
+judged_at_end before line all is by_line_feed = (refl, all, is)
+judged_at_end before [] all is by_input = inr (ap lines_of (append-nil (ended before)) ∙ lines_of-all before all, refl)
+judged_at_end before (b ∷ line) all is by_input =
     inl (lines_of-open before (b ∷ line) all is (omega arith), ends_in_line_feed-open (ended before) (b ∷ line) is (omega arith))
 
 module _ {R : Type 0} (remaining : R → Option (List ℕ)) where
@@ -144,7 +146,7 @@ module _ {R : Type 0} (remaining : R → Option (List ℕ)) where
           front = ended before ++ (line ++ line_feed ∷ []);
           rest = at_hand new;
           bytes = since.2;
-          judged = (lines_of-whole before line h.are_lines p.is_line, ends_in_line_feed-whole (ended before) line);
+          judged = λ ends. (lines_of-whole before line h.are_lines p.is_line, ends_in_line_feed-whole (ended before) line);
           whole = λ e. absurd (cc);
         };
         failures = failures;
@@ -201,7 +203,7 @@ module _ {R : Type 0} (remaining : R → Option (List ℕ)) where
           front = ended before ++ line;
           rest = at_hand new;
           bytes = since.2;
-          judged = (lines_of-open before line h.are_lines is_line some, ends_in_line_feed-open (ended before) line is_line some);
+          judged = λ ends. (lines_of-open before line h.are_lines is_line some, ends_in_line_feed-open (ended before) line is_line some);
           whole = λ e. absurd (cc);
         };
         failures = failures_stay first old new before line h taken (has_failed-goes_on remaining new goes_on);

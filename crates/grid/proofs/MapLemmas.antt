@@ -16,13 +16,14 @@ use Rattle.grid.specs.declared.terrain.Terrain.TheVariants.{Floor, Grass, Void, 
 use Rattle.grid.specs.Text.{line_feed, carriage_return, is_line_byte, IsLine}
 use Rattle.grid.specs.Terrain.{character_of, is_terrain, kind_of}
 use Rattle.grid.specs.Map.{Grid, IsMap}
-use Rattle.grid.specs.MapText.{IsNumberLine, IsRowOf, is_rest_byte, AreRows, MapText, rows_of, header_lines, canonical_text}
+use Rattle.grid.specs.MapText.{IsNumberLine, IsRowOf, is_rest_byte, AreRows, MapText, rows_of, header_lines, canonical_map_text}
 use Rattle.grid.specs.Reading.{IsFirstFault}
-use Rattle.grid.specs.MapFault.{type_due, height_due, width_due, map_due, rows_due, Leads, MapFaultAt}
-use Rattle.grid.specs.HeaderLine.{word_of, saying_of}
+use Rattle.grid.specs.MapFault.{type_due, height_due, width_due, map_due, rows_due, MapFaultAt}
+use Rattle.grid.specs.Code.Following.{MapLeads}
+use Rattle.grid.specs.Code.HeaderLine.{word_of, saying_of}
 use Rattle.grid.proofs.LineLemmas.{differs, is_line_byte-from, lines_of-all}
 use Rattle.grid.proofs.HeaderLemmas.{HasSize, height_has_size, width_has_size, Size-from_number_line}
-use Rattle.grid.proofs.Judging.{Leads-append, fault_of-lines, fault_of-first}
+use Rattle.grid.proofs.Judging.{MapLeads-append, fault_of-lines, fault_of-first}
 
 -- ---- characters
 
@@ -68,7 +69,7 @@ map-kind_of-character_of (t ∷ terrain) =
 
 -- rows of a width are right where so many are due
 rows-lead : (width : ℕ) (terrain : List Terrain) (rows : List (List ℕ)) → AreRows width terrain rows
-    → Leads (rows_due width (length rows)) rows (rows_due width zero)
+    → MapLeads (rows_due width (length rows)) rows (rows_due width zero)
 rows-lead width terrain [] h = refl
 rows-lead width terrain (line ∷ rows) (row, rest, is, count, bytes, others) =
     let same = length-map row character_of in (
@@ -87,14 +88,14 @@ rows-lead width terrain (line ∷ rows) (row, rest, is, count, bytes, others) =
 
 -- blank lines are right after the last row
 blank-lead : (width : ℕ) (rest : List (List ℕ)) → AllByRecursion (λ line. IsTrue (list_all is_rest_byte line)) rest
-    → Leads (rows_due width zero) rest (rows_due width zero)
+    → MapLeads (rows_due width zero) rest (rows_due width zero)
 blank-lead width [] h = refl
 blank-lead width (line ∷ rest) h = (rows_due width zero, (h.0, refl), blank-lead width rest h.1)
 
 -- all lines of a map text are right, and no row is due after them
-pub Leads-from_MapText : (m : Grid) (text : List ℕ) (h : MapText m text)
-    → Leads type_due (h.type_line ∷ h.height_line ∷ h.width_line ∷ h.map_line ∷ (h.rows ++ h.rest)) (rows_due m.width zero)
-Leads-from_MapText m text h =
+pub MapLeads-from_MapText : (m : Grid) (text : List ℕ) (h : MapText m text)
+    → MapLeads type_due (h.type_line ∷ h.height_line ∷ h.width_line ∷ h.map_line ∷ (h.rows ++ h.rest)) (rows_due m.width zero)
+MapLeads-from_MapText m text h =
     let size = h.within.size in
     let limit = size.height_limit in (
       height_due,
@@ -108,8 +109,8 @@ Leads-from_MapText m text h =
           (
             rows_due m.width m.height,
             (h.is_map, refl),
-            Leads-append (rows_due m.width m.height) h.rows (rows_due m.width zero) h.rest (rows_due m.width zero)
-                (subst (λ n. Leads (rows_due m.width n) h.rows (rows_due m.width zero)) h.count
+            MapLeads-append (rows_due m.width m.height) h.rows (rows_due m.width zero) h.rest (rows_due m.width zero)
+                (subst (λ n. MapLeads (rows_due m.width n) h.rows (rows_due m.width zero)) h.count
                 (rows-lead m.width m.terrain h.rows h.are_rows))
                 (blank-lead m.width h.rest h.are_blank),
           ),
@@ -120,7 +121,7 @@ Leads-from_MapText m text h =
 -- A text that spells a map has no fault.
 pub never_both : (text : List ℕ) (m : Grid) (f : MapFault) → MapText m text → IsFirstFault MapFaultAt f text → ⊥
 never_both text m f h k =
-    let none = fault_of-lines text _ (rows_due m.width zero) h.lines (Leads-from_MapText m text h) in
+    let none = fault_of-lines text _ (rows_due m.width zero) h.lines (MapLeads-from_MapText m text h) in
     let some = fault_of-first f text k in
     cc
 
@@ -285,7 +286,7 @@ are_lines-rows width terrain (line ∷ rows) (row, rest, is, count, bytes, other
         ∙ and_from (list_all is_line_byte (map character_of row)) _ characters_are refl)
 
 -- The text that is written for a map spells it.
-pub spells : (m : Grid) → IsMap m → MapText m (canonical_text m)
+pub spells : (m : Grid) → IsMap m → MapText m (canonical_map_text m)
 spells m h =
     let size = h.size in
     let limit = size.width_limit in
@@ -318,5 +319,5 @@ spells m h =
     }
 
 -- The text that is written for a map spells no other.
-pub only : (m n : Grid) → IsMap m → MapText n (canonical_text m) → n ≡ m
-only m n h k = one_map (canonical_text m) n m k (spells m h)
+pub only : (m n : Grid) → IsMap m → MapText n (canonical_map_text m) → n ≡ m
+only m n h k = one_map (canonical_map_text m) n m k (spells m h)

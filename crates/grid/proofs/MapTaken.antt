@@ -14,16 +14,16 @@ use Rattle.grid.specs.Text.{lines_of, ended, IsLine}
 use Rattle.grid.specs.Terrain.{kind_of, is_terrain}
 use Rattle.grid.specs.Map.{Grid, IsSize}
 use Rattle.grid.specs.Source.{at_hand, source_reader, has_ended, has_failed, is_stopped, GoesOn, Takes, IsAtEnd}
-use Rattle.grid.specs.Reading.{Place, at_line_feed, at_byte, at_end, JudgedAt, ReadsText, is_value, is_fault, is_failed, is_refused, line_number}
+use Rattle.grid.specs.Reading.{by_input, Place, at_line_feed, at_byte, at_end, JudgedAt, ReadsText, is_value, is_fault, is_failed, is_refused, line_number}
 use Rattle.grid.specs.MapText.{MapText, IsTypeLine, IsNumberLine, IsMapLine, IsRowOf, AreRows, is_rest_byte}
-use Rattle.grid.specs.MapFault.{Due, type_due, height_due, width_due, map_due, rows_due, Leads, HasFault, MapFaultAt, map_outcome}
-use Rattle.grid.specs.Following.{TakesLines, TakesRight, TakesUpTo, number_after, TakesFault, TakesFailure, TakesRefusal, StopsReading, TakesRows, HaveRows}
+use Rattle.grid.specs.MapFault.{MapDue, type_due, height_due, width_due, map_due, rows_due, HasMapFault, MapFaultAt, map_outcome}
+use Rattle.grid.specs.Code.Following.{TakesLines, TakesRight, TakesUpTo, number_after, TakesFault, TakesFailure, TakesRefusal, StopsReading, TakesRows, HaveRows, MapLeads}
 use Rattle.grid.proofs.LineLemmas.{lines_of-whole, lines_of-open, lines_of-all, ends_in_line_feed-whole, ends_in_line_feed-open, AllByRecursion-append}
 use Rattle.grid.proofs.Judging.{undecided}
 use Rattle.grid.proofs.TerrainLemmas.{map-character_of-kind}
 use Rattle.grid.proofs.SourceLemmas.{slice_range-empty, spent, same_failures, more_failures, not_ended, failed_is_stopped}
 use Rattle.grid.proofs.FollowLemmas.{has_failed-goes_on}
-use Rattle.grid.proofs.RowsTaken.{Leads-rows}
+use Rattle.grid.proofs.RowsTaken.{MapLeads-rows}
 
 -- ---- the lines of a map
 
@@ -40,11 +40,11 @@ pub record HeaderOf (lines : List (List ℕ)) (width height : ℕ) : Type 0 wher
   pub is_map : IsMapLine map_line
 
 -- four right lines from the first on are a header
-pub header_from_Leads : (lines : List (List ℕ)) (width height : ℕ) → length lines ≡ 4 → Leads type_due lines (rows_due width height) → HeaderOf lines width height
+pub header_from_Leads : (lines : List (List ℕ)) (width height : ℕ) → length lines ≡ 4 → MapLeads type_due lines (rows_due width height) → HeaderOf lines width height
 header_from_Leads (a ∷ b ∷ c ∷ d ∷ []) width height four (n, (is_type, type_next), type_rest) =
-    on_height (subst (λ due. Leads due (b ∷ c ∷ d ∷ []) (rows_due width height)) type_next type_rest)
+    on_height (subst (λ due. MapLeads due (b ∷ c ∷ d ∷ []) (rows_due width height)) type_next type_rest)
   where
-    on_map : (h w : ℕ) → IsNumberLine (codes "height") h b → IsNumberLine (codes "width") w c → Leads (map_due w h) (d ∷ []) (rows_due width height)
+    on_map : (h w : ℕ) → IsNumberLine (codes "height") h b → IsNumberLine (codes "width") w c → MapLeads (map_due w h) (d ∷ []) (rows_due width height)
         → HeaderOf (a ∷ b ∷ c ∷ d ∷ []) width height
     on_map h w is_height is_width (n, (is_map, map_next), last) =
         let same : rows_due width height ≡ rows_due w h = last ∙ map_next in
@@ -62,13 +62,13 @@ header_from_Leads (a ∷ b ∷ c ∷ d ∷ []) width height four (n, (is_type, t
           is_map = is_map;
         }
 
-    on_width : (h : ℕ) → IsNumberLine (codes "height") h b → Leads (width_due h) (c ∷ d ∷ []) (rows_due width height) → HeaderOf (a ∷ b ∷ c ∷ d ∷ []) width height
+    on_width : (h : ℕ) → IsNumberLine (codes "height") h b → MapLeads (width_due h) (c ∷ d ∷ []) (rows_due width height) → HeaderOf (a ∷ b ∷ c ∷ d ∷ []) width height
     on_width h is_height (n, (w, is_width, size, width_next), rest) =
-        on_map h w is_height is_width (subst (λ due. Leads due (d ∷ []) (rows_due width height)) width_next rest)
+        on_map h w is_height is_width (subst (λ due. MapLeads due (d ∷ []) (rows_due width height)) width_next rest)
 
-    on_height : Leads height_due (b ∷ c ∷ d ∷ []) (rows_due width height) → HeaderOf (a ∷ b ∷ c ∷ d ∷ []) width height
+    on_height : MapLeads height_due (b ∷ c ∷ d ∷ []) (rows_due width height) → HeaderOf (a ∷ b ∷ c ∷ d ∷ []) width height
     on_height (n, (h, is_height, limits, height_next), rest) =
-        on_width h is_height (subst (λ due. Leads due (c ∷ d ∷ []) (rows_due width height)) height_next rest)
+        on_width h is_height (subst (λ due. MapLeads due (c ∷ d ∷ []) (rows_due width height)) height_next rest)
 header_from_Leads [] width height four h = absurd (omega (arith, four))
 header_from_Leads (a ∷ []) width height four h = absurd (omega (arith, four))
 header_from_Leads (a ∷ b ∷ []) width height four h = absurd (omega (arith, four))
@@ -100,11 +100,11 @@ terrain_of_rows width characters (line ∷ lines) (row, rest, is, count, terrain
     ap (list_all is_terrain) is ∙ list_all-append is_terrain row rest ∙ ap (λ t. t && list_all is_terrain rest) terrain ∙ terrain_of_rows width rest lines others
 
 -- right lines after the last row are blank
-pub blank_from_Leads : (width last : ℕ) (lines : List (List ℕ)) → Leads (rows_due width zero) lines (rows_due last zero)
+pub blank_from_Leads : (width last : ℕ) (lines : List (List ℕ)) → MapLeads (rows_due width zero) lines (rows_due last zero)
     → AllByRecursion (λ line. IsTrue (list_all is_rest_byte line)) lines
 blank_from_Leads width last [] h = tt
 blank_from_Leads width last (line ∷ lines) (next, (blank, e), rest) =
-    (blank, blank_from_Leads width last lines (subst (λ due. Leads due lines (rows_due last zero)) e rest))
+    (blank, blank_from_Leads width last lines (subst (λ due. MapLeads due lines (rows_due last zero)) e rest))
 
 -- the lines of a header, of rows and of blank rest spell the map
 pub map_of_lines : (text : List ℕ) (header rows rest : List (List ℕ)) (width height : ℕ) (characters : List ℕ) → lines_of text ≡ (header ++ rows) ++ rest
@@ -149,15 +149,15 @@ module _ {R : Type 0} (remaining : R → Option (List ℕ)) (old new : Source R)
   no_failure taken p well = same_failures (has_failed old) (has_failed new) _ _ (has_failed-goes_on remaining old goes_on) well p.fails
 
   -- a fault at a byte
-  fault_at_byte : (f : MapFault) (before : List (List ℕ)) (line : List ℕ) (due : Due) (place : Place) (taken : List ℕ) → JudgedAt place before line taken
-      → Leads type_due before due → HasFault f place due (number_after 0 before) line → MapFaultAt f place taken
+  fault_at_byte : (f : MapFault) (before : List (List ℕ)) (line : List ℕ) (due : MapDue) (place : Place) (taken : List ℕ) → JudgedAt by_input place before line taken
+      → MapLeads type_due before due → HasMapFault f place due (number_after 0 before) line → MapFaultAt f place taken
   fault_at_byte f before line due place taken judged right faulty = record {
     before = before;
     line = line;
     due = due;
     judged = judged;
     right = right;
-    faulty = subst (λ n. HasFault f place due n line) (number_of_line before) faulty;
+    faulty = subst (λ n. HasMapFault f place due n line) (number_of_line before) faulty;
   }
 
   -- the answer of a fault
@@ -165,7 +165,7 @@ module _ {R : Type 0} (remaining : R → Option (List ℕ)) (old new : Source R)
       → ReadsText MapText MapFaultAt (remaining (source_reader old).inner) (remaining (source_reader new).inner) (source_reader old).failures (source_reader new).failures (is_fault f)
   reads_fault f q = on q.place q.taken q.faulty
     where
-      on : (place : Place) → TakesUpTo remaining old new place q.before q.line → HasFault f place q.due (number_after 0 q.before) q.line
+      on : (place : Place) → TakesUpTo remaining old new place q.before q.line → HasMapFault f place q.due (number_after 0 q.before) q.line
           → ReadsText MapText MapFaultAt (remaining (source_reader old).inner) (remaining (source_reader new).inner) (source_reader old).failures (source_reader new).failures (is_fault f)
       on at_line_feed p faulty = record {
         delivered = p.read;
@@ -299,7 +299,7 @@ module _ {R : Type 0} (remaining : R → Option (List ℕ)) (old new : Source R)
   same_reader_up_to at_end before line (end, inl p) = p.0.same_reader
   same_reader_up_to at_end before line (end, inr p) = same_reader_of_lines before p.0
 
-  pub same_reader_of_stop : (due : Due) (skipped : ℕ) (f : MapFault) → StopsReading remaining old new due skipped f → new.reader.ghost_name ≡ old.reader.ghost_name
+  pub same_reader_of_stop : (due : MapDue) (skipped : ℕ) (f : MapFault) → StopsReading remaining old new due skipped f → new.reader.ghost_name ≡ old.reader.ghost_name
   same_reader_of_stop due skipped (BadHeader at) q = same_reader_up_to q.place q.before q.line q.taken
   same_reader_of_stop due skipped (BadNumber at) q = same_reader_up_to q.place q.before q.line q.taken
   same_reader_of_stop due skipped (TooLarge at) q = same_reader_up_to q.place q.before q.line q.taken
@@ -318,7 +318,7 @@ pub rows_right : {R : Type 0} (remaining : R → Option (List ℕ)) (old new : S
     → (p : TakesRows remaining old new width height characters) → TakesRight remaining old new (rows_due width height) (rows_due width zero) p.lines
 rows_right remaining old new width height characters p = record {
   are_lines = p.are_lines;
-  right = Leads-rows width characters p.lines height zero p.rows (let count = p.length_is in omega (arith, count));
+  right = MapLeads-rows width characters p.lines height zero p.rows (let count = p.length_is in omega (arith, count));
   taken = p.taken;
   well = p.well;
 }

@@ -11,8 +11,8 @@ use Rattle.grid.specs.Text.{line_feed, is_line_byte, ended, IsLine}
 use Rattle.grid.specs.Source.{has_failed, GoesOn, Takes, IsAtEnd}
 use Rattle.grid.specs.Reading.{at_byte}
 use Rattle.grid.specs.MapText.{is_rest_byte}
-use Rattle.grid.specs.MapFault.{rows_due, Leads}
-use Rattle.grid.specs.Following.{TakesRight, number_after, TakesFault, TakesFailure}
+use Rattle.grid.specs.MapFault.{rows_due}
+use Rattle.grid.specs.Code.Following.{TakesRight, number_after, TakesFault, TakesFailure, MapLeads}
 use Rattle.grid.proofs.LineLemmas.{is_line_byte-from, differs, ended_push}
 use Rattle.grid.proofs.SourceLemmas.{Takes-trans, Takes-then_none}
 use Rattle.grid.proofs.FollowLemmas.{has_failed-goes_on, has_failed-at_end, is_line_byte-other}
@@ -33,9 +33,9 @@ blank_are_lines [] h = tt
 blank_are_lines (line ∷ lines) h = (blank_is_line line h.0, blank_are_lines lines h.1)
 
 -- blank lines are right after the last row
-Leads-blank : (width : ℕ) (lines : List (List ℕ)) → AllByRecursion IsBlankLine lines → Leads (rows_due width zero) lines (rows_due width zero)
-Leads-blank width [] h = refl
-Leads-blank width (line ∷ lines) h = (rows_due width zero, (h.0, refl), Leads-blank width lines h.1)
+MapLeads-blank : (width : ℕ) (lines : List (List ℕ)) → AllByRecursion IsBlankLine lines → MapLeads (rows_due width zero) lines (rows_due width zero)
+MapLeads-blank width [] h = refl
+MapLeads-blank width (line ∷ lines) h = (rows_due width zero, (h.0, refl), MapLeads-blank width lines h.1)
 
 pub blank_push : (line : List ℕ) (b : ℕ) → IsBlankLine line → is_rest_byte b ≡ true → IsBlankLine (line ++ b ∷ [])
 blank_push line b h e = list_all-append is_rest_byte line (b ∷ []) ∙ ap (λ t. t && (is_rest_byte b && true)) h ∙ ap (λ t. t && true) e
@@ -71,7 +71,7 @@ module _ {R : Type 0} (remaining : R → Option (List ℕ)) (old mid new : Sourc
     place = at_byte;
     are_lines = blank_are_lines before blanks;
     is_line = list_all-append is_line_byte line (b ∷ []) ∙ ap (λ t. t && (is_line_byte b && true)) (blank_is_line line blank) ∙ ap (λ t. t && true) (is_line_byte-other b no_feed);
-    right = Leads-blank width before blanks;
+    right = MapLeads-blank width before blanks;
     faulty = (e, refl, width, refl, line, b, refl, blank, other);
     taken = (rest_byte b p, omega (arith, length-append line (b ∷ [])));
     well = has_failed-goes_on remaining new goes_on;
@@ -83,7 +83,7 @@ module _ {R : Type 0} (remaining : R → Option (List ℕ)) (old mid new : Sourc
     line = line;
     due = rows_due width zero;
     are_lines = blank_are_lines before blanks;
-    right = Leads-blank width before blanks;
+    right = MapLeads-blank width before blanks;
     is_open = blank;
     taken = Takes-then_none remaining old mid new _ taken p;
     failed = failed;
@@ -97,7 +97,7 @@ rest_right remaining old mid new before [] blanks blank taken width p end = (
   before,
   record {
     are_lines = blank_are_lines before blanks;
-    right = Leads-blank width before blanks;
+    right = MapLeads-blank width before blanks;
     taken = inl (subst (Takes remaining old new) (append-nil (ended before)) (Takes-then_none remaining old mid new _ taken p));
     well = has_failed-at_end remaining new end;
   },
@@ -106,7 +106,7 @@ rest_right remaining old mid new before (b ∷ line) blanks blank taken width p 
   before ++ (b ∷ line) ∷ [],
   record {
     are_lines = blank_are_lines _ (blanks_push before (b ∷ line) blanks blank);
-    right = Leads-blank width _ (blanks_push before (b ∷ line) blanks blank);
+    right = MapLeads-blank width _ (blanks_push before (b ∷ line) blanks blank);
     taken = inr (before, b ∷ line, refl, omega arith, Takes-then_none remaining old mid new _ taken p, end);
     well = has_failed-at_end remaining new end;
   },

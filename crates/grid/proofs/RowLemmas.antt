@@ -5,7 +5,7 @@ use Rattle.std.proofs.lemmas.Grind.{flat_map-append}
 use Rattle.grid.specs.Text.{line_feed, ended}
 use Rattle.grid.specs.Terrain.{character_of}
 use Rattle.grid.specs.Map.{Grid}
-use Rattle.grid.specs.MapText.{rows_of, header_lines, canonical_text}
+use Rattle.grid.specs.MapText.{rows_of, header_lines, canonical_map_text}
 
 -- the first of the rows that are left, and the others
 pub rows_of-next : (count width i : ℕ) (characters : List ℕ) → i < count
@@ -24,9 +24,9 @@ pub length-drop_row : (count width i : ℕ) (characters : List ℕ) → i < coun
 length-drop_row count width i characters h e = omega (arith, length-drop width characters, cells_next count width i h, e)
 
 -- the text of a map is its header and its rows
-pub canonical_text-parts : (m : Grid) (w h v k : ℕ) (characters : List ℕ) → w ≡ m.width → h ≡ m.height → v ≡ m.width → k ≡ m.height
-    → characters ≡ map character_of m.terrain → ended (header_lines w h) ++ ended (rows_of k v characters) ≡ canonical_text m
-canonical_text-parts m w h v k characters ew eh ev ek ec =
+pub canonical_map_text-parts : (m : Grid) (w h v k : ℕ) (characters : List ℕ) → w ≡ m.width → h ≡ m.height → v ≡ m.width → k ≡ m.height
+    → characters ≡ map character_of m.terrain → ended (header_lines w h) ++ ended (rows_of k v characters) ≡ canonical_map_text m
+canonical_map_text-parts m w h v k characters ew eh ev ek ec =
     ap (λ x. ended (header_lines x h) ++ ended (rows_of k v characters)) ew
     ∙ ap (λ x. ended (header_lines m.width x) ++ ended (rows_of k v characters)) eh
     ∙ ap (λ x. ended (header_lines m.width m.height) ++ ended (rows_of k x characters)) ev

@@ -15,7 +15,7 @@ use Rattle.grid.specs.Source.{at_hand, is_stopped, GoesOn, Takes}
 use Rattle.grid.specs.Reading.{at_line_feed, at_byte, at_end}
 use Rattle.grid.specs.MapText.{IsRowOf}
 use Rattle.grid.specs.MapFault.{rows_due}
-use Rattle.grid.specs.Following.{number_after, TakesFault, TakesFailure, StopsReading, HasNoTerrain, IsRowEnd, TakesOther, EndsRow, StopsRow, TakesRow}
+use Rattle.grid.specs.Code.Following.{number_after, TakesFault, TakesFailure, StopsReading, HasNoTerrain, IsRowEnd, TakesOther, EndsRow, StopsRow, TakesRow}
 use Rattle.grid.proofs.LineLemmas.{is_line_byte-from, differs}
 use Rattle.grid.proofs.SourceLemmas.{Takes-trans, Takes-then_none, slice_range-empty}
 use Rattle.grid.proofs.FollowLemmas.{has_failed-goes_on, has_failed-at_end}

@@ -7,9 +7,9 @@ use Rattle.grid.specs.declared.map_fault.MapFault.{MapFault}
 use Rattle.grid.specs.Terrain.{is_terrain}
 use Rattle.grid.specs.Source.{has_failed}
 use Rattle.grid.specs.MapText.{IsRowOf}
-use Rattle.grid.specs.MapFault.{rows_due, Leads}
+use Rattle.grid.specs.MapFault.{rows_due}
 use Rattle.grid.specs.Text.{IsLine}
-use Rattle.grid.specs.Following.{TakesLines, StopsReading, TakesRow, HaveRows}
+use Rattle.grid.specs.Code.Following.{TakesLines, StopsReading, TakesRow, HaveRows, MapLeads}
 use Rattle.grid.proofs.TakenLines.{TakesLines-append, StopsReading-after, all-append}
 
 -- one row more
@@ -21,12 +21,12 @@ HaveRows-push width characters (first ∷ lines) row line (front, rest, e, p, q,
     (front, rest ++ row, ap (λ l. l ++ row) e ∙ append_assoc front rest row, p, q, r, HaveRows-push width rest lines row line others count terrain bytes)
 
 -- rows that were taken are those that were due
-pub Leads-rows : (width : ℕ) (characters : List ℕ) (lines : List (List ℕ)) (count left : ℕ) → HaveRows width characters lines → count ≡ length lines + left
-    → Leads (rows_due width count) lines (rows_due width left)
-Leads-rows width characters [] count left none e = let same : left ≡ count = omega (arith, e) in ap (rows_due width) same
-Leads-rows width characters (line ∷ lines) zero left rows e = absurd (omega (arith, e))
-Leads-rows width characters (line ∷ lines) (suc count) left (row, rest, is, p, q, r, others) e =
-    (rows_due width count, (record { characters = row; bytes = r; count = p; terrain = q }, refl), Leads-rows width rest lines count left others (omega (arith, e)))
+pub MapLeads-rows : (width : ℕ) (characters : List ℕ) (lines : List (List ℕ)) (count left : ℕ) → HaveRows width characters lines → count ≡ length lines + left
+    → MapLeads (rows_due width count) lines (rows_due width left)
+MapLeads-rows width characters [] count left none e = let same : left ≡ count = omega (arith, e) in ap (rows_due width) same
+MapLeads-rows width characters (line ∷ lines) zero left rows e = absurd (omega (arith, e))
+MapLeads-rows width characters (line ∷ lines) (suc count) left (row, rest, is, p, q, r, others) e =
+    (rows_due width count, (record { characters = row; bytes = r; count = p; terrain = q }, refl), MapLeads-rows width rest lines count left others (omega (arith, e)))
 
 module _ {R : Type 0} (remaining : R → Option (List ℕ)) where
   -- rows and then one row more
@@ -50,5 +50,5 @@ module _ {R : Type 0} (remaining : R → Option (List ℕ)) where
       let left = height - suc i in
       let whole : height ≡ length lines + suc left = omega (arith, count, more) in
       StopsReading-after remaining old mid new (rows_due width height) (rows_due width (suc left)) lines skipped passed fault (omega (arith, e, count))
-      (record { are_lines = are_lines; right = Leads-rows width characters lines height (suc left) rows whole; taken = taken; well = well })
+      (record { are_lines = are_lines; right = MapLeads-rows width characters lines height (suc left) rows whole; taken = taken; well = well })
       (stop left)

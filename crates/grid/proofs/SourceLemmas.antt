@@ -102,7 +102,7 @@ module _ {R : Type 0} (remaining : R → Option (List ℕ)) where
         (subst (λ r. EndsAt (has_ended old) (has_ended old) (remaining old.reader.now.inner) (remaining r.now.inner)) (sym reader) (EndsAt-same (has_ended old) _));
     fails = subst (λ s. FailsOnce (has_failed old) (is_failure s) old.reader.now.failures new.reader.now.failures) (sym stop)
         (subst (λ r. FailsOnce (has_failed old) (has_failed old) old.reader.now.failures r.now.failures) (sym reader) (FailsOnce-same (has_failed old) _));
-    stays = λ _. (refl, stop);
+    stays = λ _. (refl, stop, ap (λ r. r.now) reader);
     less_left =
         let calls : new.reader.now.calls ≡ old.reader.now.calls = ap (λ r. r.now.calls) reader in
         let len : length (at_hand old) ≡ length taken + length (at_hand new) = ap length bytes ∙ length-append taken (at_hand new) in
@@ -127,7 +127,7 @@ module _ {R : Type 0} (remaining : R → Option (List ℕ)) where
     stays = λ h.
         let a = p.stays h in
         let b = q.stays (ap is_some a.1 ∙ h) in
-        (ap (λ l. l ++ q.read) a.0 ∙ b.0, b.1 ∙ a.1);
+        (ap (λ l. l ++ q.read) a.0 ∙ b.0, b.1 ∙ a.1, b.2 ∙ a.2);
     less_left = omega (arith, length-append first second, p.less_left, q.less_left);
   }
 

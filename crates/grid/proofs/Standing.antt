@@ -15,15 +15,15 @@ use Rattle.grid.specs.Text.{line_feed, carriage_return, is_line_byte, ended, IsL
 use Rattle.grid.specs.Terrain.{is_terrain}
 use Rattle.grid.specs.Map.{IsSize}
 use Rattle.grid.specs.MapText.{IsNumberLine, IsRowOf, is_rest_byte}
-use Rattle.grid.specs.MapFault.{Due, type_due, height_due, width_due, map_due, rows_due, Follows, Leads, HasValue, HasNumber, HasOtherForm, HasOtherValue, HasLargeValue}
-use Rattle.grid.specs.HeaderLine.{word_of, saying_of}
-use Rattle.grid.specs.Following.{IsOpen}
+use Rattle.grid.specs.MapFault.{MapDue, type_due, height_due, width_due, map_due, rows_due, MapFollows, HasValue, HasPositive, HasOtherForm, HasOtherValue, HasLargeValue}
+use Rattle.grid.specs.Code.HeaderLine.{word_of, saying_of}
+use Rattle.grid.specs.Code.Following.{IsOpen, MapLeads}
 use Rattle.grid.proofs.LineLemmas.{is_line_byte-true, differs, ended-line}
 use Rattle.grid.proofs.HeaderLemmas.{HasSize, height_has_size, width_has_size, Whole-from_type_line, type_line-from_Whole, Whole-from_map_line, map_line-from_Whole, Size-from_number_line, number_line-from_Size, HasValue-from_Size, HasValue-from_NoSize, says-from_HasValue}
 
 -- Where the pass stands: at a line that is due, after so many lines, with the bytes of the line so far, or at a fault.
 pub data Standing : Type 0 where
-  going : (due : Due) (count : ℕ) (line : List ℕ) → Standing
+  going : (due : MapDue) (count : ℕ) (line : List ℕ) → Standing
   stopped : (fault : MapFault) → Standing
 
 -- the number of the line after so many
@@ -33,14 +33,14 @@ number_of count = min (count + 1) greatest
 -- ---- the pass
 
 -- after a line that is a word or two
-abbrev pub after_words : Due → ℕ → Saying → Standing
+abbrev pub after_words : MapDue → ℕ → Saying → Standing
 after_words next count Whole = going next (suc count) []
 after_words next count (Size n) = stopped (BadHeader (number_of count))
 after_words next count NoSize = stopped (BadHeader (number_of count))
 after_words next count NoForm = stopped (BadHeader (number_of count))
 
 -- after a line that is a word and a number
-abbrev pub after_number : (ℕ → Bool) → (ℕ → Due) → ℕ → Saying → Standing
+abbrev pub after_number : (ℕ → Bool) → (ℕ → MapDue) → ℕ → Saying → Standing
 after_number is_large next count Whole = stopped (BadHeader (number_of count))
 after_number is_large next count (Size n) =
     if n == 0 then stopped (BadNumber (number_of count))
@@ -75,7 +75,7 @@ row_length (characters n) = n
 row_length (returned n) = n
 
 -- after a whole line
-abbrev pub after_line : Due → ℕ → List ℕ → Standing
+abbrev pub after_line : MapDue → ℕ → List ℕ → Standing
 after_line type_due count line = after_words height_due count (saying_of TypeLine line)
 after_line height_due count line = after_number is_large_height width_due count (saying_of HeightLine line)
 after_line (width_due height) count line =
@@ -96,7 +96,7 @@ on_row_byte width rows count line b (returned n) =
     if nat_lt n width then stopped (BadTerrain (number_of count) (n + 1)) else stopped (LongRow (number_of count))
 
 -- one more byte of a line
-abbrev pub on_byte : Due → ℕ → List ℕ → ℕ → Standing
+abbrev pub on_byte : MapDue → ℕ → List ℕ → ℕ → Standing
 on_byte type_due count line b = going type_due count (line ++ b ∷ [])
 on_byte height_due count line b = going height_due count (line ++ b ∷ [])
 on_byte (width_due height) count line b = going (width_due height) count (line ++ b ∷ [])
@@ -120,7 +120,7 @@ stopped-stays fault [] = refl
 stopped-stays fault (b ∷ bytes) = stopped-stays fault bytes
 
 -- the fault at the end of the text, where a line is due that does not come
-abbrev pub missing : Due → ℕ → Option MapFault
+abbrev pub missing : MapDue → ℕ → Option MapFault
 missing type_due count = Some (BadHeader (number_of count))
 missing height_due count = Some (BadHeader (number_of count))
 missing (width_due height) count = Some (BadHeader (number_of count))
@@ -142,7 +142,7 @@ fault_of (stopped fault) = Some fault
 -- ---- the lines of the header
 
 -- a line whose words are others
-after_words-other : (next : Due) (count : ℕ) (s : Saying) → (s ≡ Whole → ⊥)
+after_words-other : (next : MapDue) (count : ℕ) (s : Saying) → (s ≡ Whole → ⊥)
     → after_words next count s ≡ stopped (BadHeader (number_of count))
 after_words-other next count Whole h = absurd (h refl)
 after_words-other next count (Size n) h = refl
@@ -150,7 +150,7 @@ after_words-other next count NoSize h = refl
 after_words-other next count NoForm h = refl
 
 -- a line that has no value
-after_number-form : (is_large : ℕ → Bool) (next : ℕ → Due) (count : ℕ) (s : Saying)
+after_number-form : (is_large : ℕ → Bool) (next : ℕ → MapDue) (count : ℕ) (s : Saying)
     → (s ≡ NoSize → ⊥) → ((n : ℕ) → s ≡ Size n → ⊥) → after_number is_large next count s ≡ stopped (BadHeader (number_of count))
 after_number-form is_large next count Whole h k = refl
 after_number-form is_large next count (Size n) h k = absurd (k n refl)
@@ -158,8 +158,8 @@ after_number-form is_large next count NoSize h k = absurd (h refl)
 after_number-form is_large next count NoForm h k = refl
 
 -- a line whose value is no number above 0
-after_number-value : (kind : HeaderLine) → HasSize kind → (is_large : ℕ → Bool) (next : ℕ → Due) (count : ℕ) (line : List ℕ)
-    → HasValue (word_of kind) line → (HasNumber (word_of kind) line → ⊥)
+after_number-value : (kind : HeaderLine) → HasSize kind → (is_large : ℕ → Bool) (next : ℕ → MapDue) (count : ℕ) (line : List ℕ)
+    → HasValue (word_of kind) line → (HasPositive (word_of kind) line → ⊥)
     → after_number is_large next count (saying_of kind line) ≡ stopped (BadNumber (number_of count))
 after_number-value kind sized is_large next count line value other = elim (says-from_HasValue kind sized line value) [
   | inl none ↦ ap (after_number is_large next count) none
@@ -174,7 +174,7 @@ after_number-value kind sized is_large next count line value other = elim (says-
 ]
 
 -- a line whose number is too large
-after_number-large : (kind : HeaderLine) → HasSize kind → (is_large : ℕ → Bool) (next : ℕ → Due) (count : ℕ) (line : List ℕ) (m : ℕ)
+after_number-large : (kind : HeaderLine) → HasSize kind → (is_large : ℕ → Bool) (next : ℕ → MapDue) (count : ℕ) (line : List ℕ) (m : ℕ)
     → IsNumberLine (word_of kind) m line → 0 < m → is_large (min m 65536) ≡ true
     → after_number is_large next count (saying_of kind line) ≡ stopped (TooLarge (number_of count))
 after_number-large kind sized is_large next count line m number above large =
@@ -182,7 +182,7 @@ after_number-large kind sized is_large next count line m number above large =
     ∙ (cond-false (min m 65536 == 0) _ _ (ne_eqb (min m 65536) 0 (λ e. omega arith)) ∙ cond-true (is_large (min m 65536)) _ _ large)
 
 -- a line whose number is right
-after_number-next : (kind : HeaderLine) → HasSize kind → (is_large : ℕ → Bool) (next : ℕ → Due) (count : ℕ) (line : List ℕ) (m : ℕ)
+after_number-next : (kind : HeaderLine) → HasSize kind → (is_large : ℕ → Bool) (next : ℕ → MapDue) (count : ℕ) (line : List ℕ) (m : ℕ)
     → IsNumberLine (word_of kind) m line → 0 < m → m < 65536 → is_large m ≡ false
     → after_number is_large next count (saying_of kind line) ≡ going (next m) (suc count) []
 after_number-next kind sized is_large next count line m number above below small =
@@ -191,7 +191,7 @@ after_number-next kind sized is_large next count line m number above below small
     ∙ (cond-false (m == 0) _ _ (ne_eqb m 0 (λ e. omega arith)) ∙ cond-false (is_large m) _ _ small)
 
 -- a line of another form
-pub after_line-form : (due : Due) (count : ℕ) (line : List ℕ) → HasOtherForm due line
+pub after_line-form : (due : MapDue) (count : ℕ) (line : List ℕ) → HasOtherForm due line
     → after_line due count line ≡ stopped (BadHeader (number_of count))
 after_line-form type_due count line h =
     after_words-other height_due count (saying_of TypeLine line) (λ e. h (type_line-from_Whole line e))
@@ -206,7 +206,7 @@ after_line-form (map_due width height) count line h =
 after_line-form (rows_due width rows) count line h = absurd h
 
 -- a line of another value
-pub after_line-value : (due : Due) (count : ℕ) (line : List ℕ) → HasOtherValue due line
+pub after_line-value : (due : MapDue) (count : ℕ) (line : List ℕ) → HasOtherValue due line
     → after_line due count line ≡ stopped (BadNumber (number_of count))
 after_line-value type_due count line h = absurd h
 after_line-value height_due count line h =
@@ -235,7 +235,7 @@ is_large_width-true n height h = elim (cases_lt 65535 n) [
 ]
 
 -- a line of a large value
-pub after_line-large : (due : Due) (count : ℕ) (line : List ℕ) → HasLargeValue due line
+pub after_line-large : (due : MapDue) (count : ℕ) (line : List ℕ) → HasLargeValue due line
     → after_line due count line ≡ stopped (TooLarge (number_of count))
 after_line-large type_due count line h = absurd h
 after_line-large height_due count line h =
@@ -282,7 +282,7 @@ row_length-row row line (inl e) h = ap (λ l. row_length (row_state l)) e ∙ ap
 row_length-row row line (inr e) h = ap (λ l. row_length (row_state l)) e ∙ ap row_length (row_state-returned row h)
 
 -- a right line leads to the next
-pub after_line-next : (due : Due) (count : ℕ) (line : List ℕ) (next : Due) → Follows due line next
+pub after_line-next : (due : MapDue) (count : ℕ) (line : List ℕ) (next : MapDue) → MapFollows due line next
     → after_line due count line ≡ going next (suc count) []
 after_line-next type_due count line next h =
     ap (after_words height_due count) (Whole-from_type_line line h.0) ∙ ap (λ d. going d (suc count) []) (sym h.1)
@@ -305,17 +305,17 @@ after_line-next (rows_due width (suc rows)) count line next h =
 -- ---- the pass over the beginning of a line
 
 -- a byte of a line that is no LF
-pass-byte : (due : Due) (count : ℕ) (seen : List ℕ) (b : ℕ) → (b == line_feed) ≡ false
+pass-byte : (due : MapDue) (count : ℕ) (seen : List ℕ) (b : ℕ) → (b == line_feed) ≡ false
     → pass (going due count seen) b ≡ on_byte due count seen b
 pass-byte due count seen b h = cond-false (b == line_feed) (after_line due count seen) (on_byte due count seen b) h
 
 -- one more byte before the others
-seen-byte : (due : Due) (count : ℕ) (seen : List ℕ) (b : ℕ) (line : List ℕ)
+seen-byte : (due : MapDue) (count : ℕ) (seen : List ℕ) (b : ℕ) (line : List ℕ)
     → going due count ((seen ++ b ∷ []) ++ line) ≡ going due count (seen ++ b ∷ line)
 seen-byte due count seen b line = ap (going due count) (append_assoc seen (b ∷ []) line)
 
 -- a line of the header
-pass-header : (due : Due) → ((count : ℕ) (seen : List ℕ) (b : ℕ) → on_byte due count seen b ≡ going due count (seen ++ b ∷ []))
+pass-header : (due : MapDue) → ((count : ℕ) (seen : List ℕ) (b : ℕ) → on_byte due count seen b ≡ going due count (seen ++ b ∷ []))
     → (count : ℕ) (seen line : List ℕ) → IsLine line → fold pass (going due count seen) line ≡ going due count (seen ++ line)
 pass-header due holds count seen [] h = ap (going due count) (sym (append-nil seen))
 pass-header due holds count seen (b ∷ line) h =
@@ -367,7 +367,7 @@ pass-returned width rows count row h within =
     ∙ ap (on_row_byte width rows count row carriage_return) (row_state-terrain row h))
 
 -- the beginning of a line in which no fault is judged
-pub pass-open : (due : Due) (count : ℕ) (line : List ℕ) → IsOpen due line → fold pass (going due count []) line ≡ going due count line
+pub pass-open : (due : MapDue) (count : ℕ) (line : List ℕ) → IsOpen due line → fold pass (going due count []) line ≡ going due count line
 pass-open type_due count line h = pass-header type_due (λ count seen b. refl) count [] line h
 pass-open height_due count line h = pass-header height_due (λ count seen b. refl) count [] line h
 pass-open (width_due height) count line h = pass-header (width_due height) (λ count seen b. refl) count [] line h
@@ -381,7 +381,7 @@ pass-open (rows_due width (suc rows)) count line (row, within, terrain, inr is) 
     (pass-returned width rows count row terrain within)
 
 -- a right line is open at its end
-pub open-from_Follows : (due : Due) (line : List ℕ) (next : Due) → IsLine line → Follows due line next → IsOpen due line
+pub open-from_Follows : (due : MapDue) (line : List ℕ) (next : MapDue) → IsLine line → MapFollows due line next → IsOpen due line
 open-from_Follows type_due line next is h = is
 open-from_Follows height_due line next is h = is
 open-from_Follows (width_due height) line next is h = is
@@ -391,14 +391,14 @@ open-from_Follows (rows_due width (suc rows)) line next is h =
     (h.0.characters, omega (arith, h.0.count), h.0.terrain, h.0.bytes)
 
 -- the LF of an open line
-pub pass-line_feed : (due : Due) (count : ℕ) (line : List ℕ) → IsOpen due line
+pub pass-line_feed : (due : MapDue) (count : ℕ) (line : List ℕ) → IsOpen due line
     → fold pass (going due count []) (line ++ line_feed ∷ []) ≡ after_line due count line
 pass-line_feed due count line h =
     fold-append pass (going due count []) line (line_feed ∷ []) ∙ ap (λ s. pass s line_feed) (pass-open due count line h)
 
 -- right lines, and more of the text
-pub pass-lines : (due : Due) (count : ℕ) (lines : List (List ℕ)) (last : Due) (rest : List ℕ)
-    → AllByRecursion IsLine lines → Leads due lines last
+pub pass-lines : (due : MapDue) (count : ℕ) (lines : List (List ℕ)) (last : MapDue) (rest : List ℕ)
+    → AllByRecursion IsLine lines → MapLeads due lines last
     → fold pass (going due count []) (ended lines ++ rest) ≡ fold pass (going last (count + length lines) []) rest
 pass-lines due count [] last rest are h =
     let same : count ≡ count + length {A = List ℕ} [] = omega arith in
@@ -413,7 +413,7 @@ pass-lines due count (line ∷ lines) last rest are h =
     ∙ (pass-lines h.0 (suc count) lines last rest are.1 h.2 ∙ ap (λ n. fold pass (going last n []) rest) more)))
 
 -- right lines from the beginning of the text on, and more of it
-pub standing_of-lines : (lines : List (List ℕ)) (last : Due) (rest : List ℕ) → AllByRecursion IsLine lines → Leads type_due lines last
+pub standing_of-lines : (lines : List (List ℕ)) (last : MapDue) (rest : List ℕ) → AllByRecursion IsLine lines → MapLeads type_due lines last
     → standing_of (ended lines ++ rest) ≡ fold pass (going last (length lines) []) rest
 standing_of-lines lines last rest are h =
     let same : 0 + length lines ≡ length lines = omega arith in

@@ -12,11 +12,11 @@ use Rattle.grid.specs.Counted.{greatest}
 use Rattle.grid.specs.Text.{line_feed, ended, IsLine}
 use Rattle.grid.specs.Source.{at_hand, is_end, Takes, IsAtEnd}
 use Rattle.grid.specs.Reading.{Place, at_line_feed, at_byte, at_end}
-use Rattle.grid.specs.MapFault.{Due, Follows, HasFault}
-use Rattle.grid.specs.Following.{TakesLine, TakesLines, TakesRight, TakesUpTo, number_after, TakesFault, TakesFailure, TakesRefusal, StopsReading}
+use Rattle.grid.specs.MapFault.{MapDue, MapFollows, HasMapFault}
+use Rattle.grid.specs.Code.Following.{TakesLine, TakesLines, TakesRight, TakesUpTo, number_after, TakesFault, TakesFailure, TakesRefusal, StopsReading}
 use Rattle.grid.proofs.SourceLemmas.{Takes-trans, Takes-then_none}
 use Rattle.grid.proofs.FollowLemmas.{has_failed-goes_on, has_failed-at_end}
-use Rattle.grid.proofs.Judging.{Leads-append}
+use Rattle.grid.proofs.Judging.{MapLeads-append}
 
 -- two lists that make none are none
 append_empty : (xs ys : List ℕ) → xs ++ ys ≡ [] → (xs ≡ []) × (ys ≡ [])
@@ -120,17 +120,17 @@ module _ {R : Type 0} (remaining : R → Option (List ℕ)) where
   )
 
   -- right lines, and then more of them
-  pub TakesRight-append : (old mid new : Source R) (first middle last : Due) (lines more : List (List ℕ)) → TakesRight remaining old mid first middle lines
+  pub TakesRight-append : (old mid new : Source R) (first middle last : MapDue) (lines more : List (List ℕ)) → TakesRight remaining old mid first middle lines
       → TakesRight remaining mid new middle last more → TakesRight remaining old new first last (lines ++ more)
   TakesRight-append old mid new first middle last lines more p q = record {
     are_lines = all-append IsLine lines more p.are_lines q.are_lines;
-    right = Leads-append first lines middle more last p.right q.right;
+    right = MapLeads-append first lines middle more last p.right q.right;
     taken = TakesLines-append old mid new lines more p.taken q.taken;
     well = q.well;
   }
 
   -- right lines, and then a fault
-  TakesFault-after : (old mid new : Source R) (first middle : Due) (lines : List (List ℕ)) (skipped passed : ℕ) (f : MapFault)
+  TakesFault-after : (old mid new : Source R) (first middle : MapDue) (lines : List (List ℕ)) (skipped passed : ℕ) (f : MapFault)
       → passed ≡ skipped + length lines → TakesRight remaining old mid first middle lines → TakesFault remaining mid new middle passed f
       → TakesFault remaining old new first skipped f
   TakesFault-after old mid new first middle lines skipped passed f e p q = record {
@@ -140,22 +140,22 @@ module _ {R : Type 0} (remaining : R → Option (List ℕ)) where
     place = q.place;
     are_lines = all-append IsLine lines q.before p.are_lines q.are_lines;
     is_line = q.is_line;
-    right = Leads-append first lines middle q.before q.due p.right q.right;
+    right = MapLeads-append first lines middle q.before q.due p.right q.right;
     faulty =
         let number : passed + length q.before + 1 ≡ skipped + length (lines ++ q.before) + 1 = omega (arith, e, length-append lines q.before) in
-        subst (λ n. HasFault f q.place q.due n q.line) (ap (λ n. min n greatest) number) q.faulty;
+        subst (λ n. HasMapFault f q.place q.due n q.line) (ap (λ n. min n greatest) number) q.faulty;
     taken = TakesUpTo-after old mid new lines q.place q.before q.line p.taken q.taken;
     well = q.well;
   }
 
-  TakesFailure-after : (old mid new : Source R) (first middle : Due) (lines : List (List ℕ)) → TakesRight remaining old mid first middle lines
+  TakesFailure-after : (old mid new : Source R) (first middle : MapDue) (lines : List (List ℕ)) → TakesRight remaining old mid first middle lines
       → TakesFailure remaining mid new middle → TakesFailure remaining old new first
   TakesFailure-after old mid new first middle lines p q = record {
     before = lines ++ q.before;
     line = q.line;
     due = q.due;
     are_lines = all-append IsLine lines q.before p.are_lines q.are_lines;
-    right = Leads-append first lines middle q.before q.due p.right q.right;
+    right = MapLeads-append first lines middle q.before q.due p.right q.right;
     is_open = q.is_open;
     taken = elim p.taken [
       | inl a ↦ subst (Takes remaining old new) (ended-before lines q.before q.line) (Takes-trans remaining old mid new _ _ a q.taken)
@@ -174,7 +174,7 @@ module _ {R : Type 0} (remaining : R → Option (List ℕ)) where
   ]
 
   -- right lines, and then a stop
-  pub StopsReading-after : (old mid new : Source R) (first middle : Due) (lines : List (List ℕ)) (skipped passed : ℕ) (f : MapFault)
+  pub StopsReading-after : (old mid new : Source R) (first middle : MapDue) (lines : List (List ℕ)) (skipped passed : ℕ) (f : MapFault)
       → passed ≡ skipped + length lines → TakesRight remaining old mid first middle lines → StopsReading remaining mid new middle passed f
       → StopsReading remaining old new first skipped f
   StopsReading-after old mid new first middle lines skipped passed (BadHeader at) e p q = TakesFault-after old mid new first middle lines skipped passed _ e p q
@@ -189,7 +189,7 @@ module _ {R : Type 0} (remaining : R → Option (List ℕ)) where
   StopsReading-after old mid new first middle lines skipped passed OutOfMemory e p q = TakesRefusal-after old mid new lines p.taken q
 
   -- a right line
-  pub TakesRight-line : (old new : Source R) (due next : Due) (line : List ℕ) → TakesLine remaining old new line → Follows due line next → 0 < length line
+  pub TakesRight-line : (old new : Source R) (due next : MapDue) (line : List ℕ) → TakesLine remaining old new line → MapFollows due line next → 0 < length line
       → TakesRight remaining old new due next (line ∷ [])
   TakesRight-line old new due next line p follows some = record {
     are_lines = (p.0, tt);
@@ -202,8 +202,8 @@ module _ {R : Type 0} (remaining : R → Option (List ℕ)) where
   }
 
   -- a line that is judged as a whole
-  pub TakesFault-line : (old new : Source R) (due : Due) (skipped : ℕ) (line : List ℕ) (f : MapFault) → TakesLine remaining old new line
-      → HasFault f at_line_feed due (number_after skipped []) line → HasFault f at_end due (number_after skipped []) line → TakesFault remaining old new due skipped f
+  pub TakesFault-line : (old new : Source R) (due : MapDue) (skipped : ℕ) (line : List ℕ) (f : MapFault) → TakesLine remaining old new line
+      → HasMapFault f at_line_feed due (number_after skipped []) line → HasMapFault f at_end due (number_after skipped []) line → TakesFault remaining old new due skipped f
   TakesFault-line old new due skipped [] f p at_feed at_last = elim p.1 [
     | inl a ↦ record {
       before = [];

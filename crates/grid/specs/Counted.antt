@@ -1,5 +1,5 @@
 -- What a clause reads of a counted reader or writer, and what a call leaves.
-use Rattle.std.specs.Prelude.{◌≡◌, ℕ, ◌+◌, ◌-◌, ◌^◌, ◌<◌, ◌⊎◌, min, Bool, true, ◌==◌, ◌&&◌, nat_lt, List, length, Result, Ok, Err}
+use Rattle.std.specs.Prelude.{◌≡◌, ℕ, ◌+◌, ◌-◌, ◌^◌, min, Bool, true, ◌==◌, ◌&&◌, nat_lt, List, length, Result, Ok, Err}
 use Rattle.grid.specs.declared.counted.Counted.{Counted}
 
 -- the greatest value of a counter, at which it stays
@@ -27,6 +27,6 @@ calls_of c = c.calls
 abbrev pub failures_of : {T : Type 0} → Counted T → ℕ
 failures_of c = c.failures
 
--- the failures rose, or could rise no more
+-- the failures rose by one, or could rise no more
 abbrev pub Rises : ℕ → ℕ → Type 0
-Rises old new = (old < new) ⊎ (old ≡ greatest)
+Rises old new = new ≡ one_more old

@@ -9,7 +9,7 @@ use Rattle.grid.specs.declared.lines.TakenLine.TheVariants.{WithLineFeed, AtEnd,
 use Rattle.grid.specs.Counted.{counted_inner, failures_of, Rises}
 use Rattle.grid.specs.Text.{IsLine, ended}
 use Rattle.grid.specs.Source.{at_hand, source_reader, GoesOn}
-use Rattle.grid.specs.Reading.{Place, at_line_feed, at_byte, at_end, JudgedAt}
+use Rattle.grid.specs.Reading.{LineEnds, Place, at_line_feed, at_byte, at_end, JudgedAt}
 
 -- These lines were taken, each with its LF, and nothing else. More bytes may come.
 pub record HasTaken {R : Type 0} (remaining : R → Option (List ℕ)) (first : Counted R) (now : Source R) (lines : List (List ℕ)) : Type 0 where
@@ -20,7 +20,8 @@ pub record HasTaken {R : Type 0} (remaining : R → Option (List ℕ)) (first : 
   pub failures : failures_of (source_reader now) ≡ failures_of first
   pub goes_on : GoesOn now
 
--- A line came up to a place where it is judged, after the lines before it. More bytes may have come only behind a place that is a byte.
+-- A line came up to a place where it is judged, after the lines before it, whatever ends the lines of a format. More bytes may have
+-- come only behind a place that is a byte.
 pub record HasCome
     {R : Type 0} (remaining : R → Option (List ℕ)) (first : Counted R) (now : Source R) (place : Place) (before : List (List ℕ))
     (line : List ℕ) : Type 0 where
@@ -29,7 +30,7 @@ pub record HasCome
   pub front : List ℕ
   pub rest : List ℕ
   pub bytes : delivered ≡ front ++ rest
-  pub judged : JudgedAt place before line front
+  pub judged : (ends : LineEnds) → JudgedAt ends place before line front
   pub whole : place ≡ at_end → rest ≡ []
 
 -- The next line was taken, and its LF.

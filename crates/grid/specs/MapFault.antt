@@ -7,14 +7,14 @@ use Rattle.grid.specs.Text.{carriage_return, is_blank}
 use Rattle.grid.specs.Terrain.{is_terrain}
 use Rattle.grid.specs.Map.{Grid, IsSize}
 use Rattle.grid.specs.MapText.{is_tail, IsTypeLine, IsNumberLine, IsMapLine, IsRowOf, is_rest_byte}
-use Rattle.grid.specs.Reading.{Place, at_byte, at_end, IsOver, LeadsBy, FaultAt, Outcome, is_value, is_fault, is_failed, is_refused}
+use Rattle.grid.specs.Reading.{by_input, Place, at_byte, at_end, IsOver, FaultAt, Outcome, is_value, is_fault, is_failed, is_refused}
 
 -- The line that is due, by what the lines before it said: one of the header, or a row of a width where so many rows are due. No row
 -- is due in the blank lines after the last.
-pub data Due : Type 0 where
-  type_due height_due : Due
-  width_due : (height : ℕ) → Due
-  map_due rows_due : (width count : ℕ) → Due
+pub data MapDue : Type 0 where
+  type_due height_due : MapDue
+  width_due : (height : ℕ) → MapDue
+  map_due rows_due : (width count : ℕ) → MapDue
 
 -- a height that a map may have
 abbrev pub IsHeight : ℕ → Type 0
@@ -28,19 +28,15 @@ pub record IsRow (width : ℕ) (line : List ℕ) : Type 0 where
   pub terrain : IsTrue (list_all is_terrain characters)
 
 -- the line is right where it is due, and what is due next
-abbrev pub Follows : Due → List ℕ → Due → Type 0
-Follows type_due line next = IsTypeLine line × (next ≡ height_due)
-Follows height_due line next =
+abbrev pub MapFollows : MapDue → List ℕ → MapDue → Type 0
+MapFollows type_due line next = IsTypeLine line × (next ≡ height_due)
+MapFollows height_due line next =
     (height : ℕ) × IsNumberLine (codes "height") height line × IsHeight height × (next ≡ width_due height)
-Follows (width_due height) line next =
+MapFollows (width_due height) line next =
     (width : ℕ) × IsNumberLine (codes "width") width line × IsSize width height × (next ≡ map_due width height)
-Follows (map_due width height) line next = IsMapLine line × (next ≡ rows_due width height)
-Follows (rows_due width zero) line next = IsTrue (list_all is_rest_byte line) × (next ≡ rows_due width zero)
-Follows (rows_due width (suc count)) line next = IsRow width line × (next ≡ rows_due width count)
-
--- the lines are right, one after another
-abbrev pub Leads : Due → List (List ℕ) → Due → Type 0
-Leads = LeadsBy Follows
+MapFollows (map_due width height) line next = IsMapLine line × (next ≡ rows_due width height)
+MapFollows (rows_due width zero) line next = IsTrue (list_all is_rest_byte line) × (next ≡ rows_due width zero)
+MapFollows (rows_due width (suc count)) line next = IsRow width line × (next ≡ rows_due width count)
 
 -- the word, a blank, and something more before the end of the line and the blanks there
 pub record HasValue (word line : List ℕ) : Type 0 where
@@ -51,8 +47,8 @@ pub record HasValue (word line : List ℕ) : Type 0 where
   pub some : is_tail more ≡ false
 
 -- the word and a number above 0
-abbrev pub HasNumber : List ℕ → List ℕ → Type 0
-HasNumber word line = (n : ℕ) × IsNumberLine word n line × (0 < n)
+abbrev pub HasPositive : List ℕ → List ℕ → Type 0
+HasPositive word line = (n : ℕ) × IsNumberLine word n line × (0 < n)
 
 -- characters that are terrain, and fewer than the width
 pub record IsBeginning (width : ℕ) (characters : List ℕ) : Type 0 where
@@ -65,8 +61,8 @@ pub record IsWhole (width : ℕ) (characters : List ℕ) : Type 0 where
   pub terrain : IsTrue (list_all is_terrain characters)
 
 -- after the characters comes a byte that is no line end, or a CR and then a byte that makes it none
-abbrev pub GoesOn : List ℕ → List ℕ → Type 0
-GoesOn characters line =
+abbrev pub RunsOver : List ℕ → List ℕ → Type 0
+RunsOver characters line =
     ((b : ℕ) × (line ≡ characters ++ b ∷ []) × (b ≢ carriage_return))
     ⊎ ((b : ℕ) × (line ≡ characters ++ carriage_return ∷ b ∷ []))
 
@@ -77,7 +73,7 @@ GoesWrong characters line =
     ⊎ ((b : ℕ) × (line ≡ characters ++ carriage_return ∷ b ∷ []))
 
 -- The line is not what a header has there at all: another form, or for a number no word, blank and something more.
-abbrev pub HasOtherForm : Due → List ℕ → Type 0
+abbrev pub HasOtherForm : MapDue → List ℕ → Type 0
 HasOtherForm type_due line = IsTypeLine line → ⊥
 HasOtherForm height_due line = HasValue (codes "height") line → ⊥
 HasOtherForm (width_due height) line = HasValue (codes "width") line → ⊥
@@ -85,15 +81,15 @@ HasOtherForm (map_due width height) line = IsMapLine line → ⊥
 HasOtherForm (rows_due width count) line = ⊥
 
 -- the word, a blank and something more, which is no number above 0
-abbrev pub HasOtherValue : Due → List ℕ → Type 0
+abbrev pub HasOtherValue : MapDue → List ℕ → Type 0
 HasOtherValue type_due line = ⊥
-HasOtherValue height_due line = HasValue (codes "height") line × (HasNumber (codes "height") line → ⊥)
-HasOtherValue (width_due height) line = HasValue (codes "width") line × (HasNumber (codes "width") line → ⊥)
+HasOtherValue height_due line = HasValue (codes "height") line × (HasPositive (codes "height") line → ⊥)
+HasOtherValue (width_due height) line = HasValue (codes "width") line × (HasPositive (codes "width") line → ⊥)
 HasOtherValue (map_due width height) line = ⊥
 HasOtherValue (rows_due width count) line = ⊥
 
 -- a number past the limits
-abbrev pub HasLargeValue : Due → List ℕ → Type 0
+abbrev pub HasLargeValue : MapDue → List ℕ → Type 0
 HasLargeValue type_due line = ⊥
 HasLargeValue height_due line = (n : ℕ) × IsNumberLine (codes "height") n line × (65535 < n)
 HasLargeValue (width_due height) line =
@@ -102,37 +98,37 @@ HasLargeValue (map_due width height) line = ⊥
 HasLargeValue (rows_due width count) line = ⊥
 
 -- A row of the width is due.
-abbrev pub IsRowDue : Due → ℕ → Type 0
+abbrev pub IsRowDue : MapDue → ℕ → Type 0
 IsRowDue due width = (count : ℕ) × (due ≡ rows_due width (suc count))
 
 -- The fault of a line at a place, by what was due there; the row of the fault table that each fault has.
-abbrev pub HasFault : MapFault → Place → Due → ℕ → List ℕ → Type 0
-HasFault (BadHeader at) place due number line = (at ≡ number) × IsOver place × HasOtherForm due line
-HasFault (BadNumber at) place due number line = (at ≡ number) × IsOver place × HasOtherValue due line
-HasFault (TooLarge at) place due number line = (at ≡ number) × IsOver place × HasLargeValue due line
-HasFault (BadTerrain at column) place due number line =
+abbrev pub HasMapFault : MapFault → Place → MapDue → ℕ → List ℕ → Type 0
+HasMapFault (BadHeader at) place due number line = (at ≡ number) × IsOver place × HasOtherForm due line
+HasMapFault (BadNumber at) place due number line = (at ≡ number) × IsOver place × HasOtherValue due line
+HasMapFault (TooLarge at) place due number line = (at ≡ number) × IsOver place × HasLargeValue due line
+HasMapFault (BadTerrain at column) place due number line =
     (at ≡ number) × (place ≡ at_byte)
     × (width : ℕ) × IsRowDue due width
     × (characters : List ℕ) × IsBeginning width characters × GoesWrong characters line × (column ≡ length characters + 1)
-HasFault (ShortRow at) place due number line =
+HasMapFault (ShortRow at) place due number line =
     (at ≡ number) × IsOver place
     × (width : ℕ) × IsRowDue due width
     × (characters : List ℕ) × IsBeginning width characters × IsRowOf characters line × (place ≡ at_end → line ≢ [])
-HasFault (LongRow at) place due number line =
+HasMapFault (LongRow at) place due number line =
     (at ≡ number) × (place ≡ at_byte)
     × (width : ℕ) × IsRowDue due width
-    × (characters : List ℕ) × IsWhole width characters × GoesOn characters line
-HasFault (MissingRows at) place due number line = (at ≡ number) × (place ≡ at_end) × (width : ℕ) × IsRowDue due width × (line ≡ [])
-HasFault (TextAfter at) place due number line =
+    × (characters : List ℕ) × IsWhole width characters × RunsOver characters line
+HasMapFault (MissingRows at) place due number line = (at ≡ number) × (place ≡ at_end) × (width : ℕ) × IsRowDue due width × (line ≡ [])
+HasMapFault (TextAfter at) place due number line =
     (at ≡ number) × (place ≡ at_byte)
     × (width : ℕ) × (due ≡ rows_due width zero)
     × (front : List ℕ) × (b : ℕ) × (line ≡ front ++ b ∷ []) × IsTrue (list_all is_rest_byte front) × (is_rest_byte b ≡ false)
-HasFault ReadFailed place due number line = ⊥
-HasFault OutOfMemory place due number line = ⊥
+HasMapFault ReadFailed place due number line = ⊥
+HasMapFault OutOfMemory place due number line = ⊥
 
 -- the fault stands at the place where the text ends, and the lines before are right
 abbrev pub MapFaultAt : MapFault → Place → List ℕ → Type 0
-MapFaultAt = FaultAt Follows HasFault type_due
+MapFaultAt = FaultAt by_input MapFollows HasMapFault type_due
 
 -- what `read_map` answered, as a reader's outcome
 abbrev pub map_outcome : Result Grid MapFault → Outcome Grid MapFault

@@ -82,5 +82,5 @@ abbrev pub header_lines : ℕ → ℕ → List (List ℕ)
 header_lines width height = codes "type octile" ∷ (codes "height " ++ decimal height) ∷ (codes "width " ++ decimal width) ∷ codes "map" ∷ []
 
 -- the one text that is written for a map
-abbrev pub canonical_text : Grid → List ℕ
-canonical_text m = ended (header_lines m.width m.height ++ rows_of m.height m.width (map character_of m.terrain))
+abbrev pub canonical_map_text : Grid → List ℕ
+canonical_map_text m = ended (header_lines m.width m.height ++ rows_of m.height m.width (map character_of m.terrain))

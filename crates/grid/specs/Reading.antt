@@ -1,27 +1,38 @@
 -- What a reader of any text format answers, by the format's grammar and its faults.
 use Rattle.std.specs.Prelude.{◌≡◌, ℕ, ◌+◌, min, length, ◌<◌, ◌⊎◌, List, [], ◌∷◌, ◌++◌, length, Option, true, false, ⊤}
+use Rattle.std.specs.List.{AllByRecursion}
 use Rattle.std.specs.Io.KnownBytes.{Consumes, IsAtEnd}
 use Rattle.grid.specs.Counted.{greatest, Rises}
-use Rattle.grid.specs.Text.{lines_of, ends_in_line_feed}
+use Rattle.grid.specs.Text.{IsLine, lines_of, ended, ends_in_line_feed}
 
 -- Where a fault is judged: at the LF of a line, at another byte of it, or at the end of the input.
 pub data Place : Type 0 where
   at_line_feed at_byte at_end : Place
 
--- text goes up to a place where line is judged, after the lines before it. Where the input ended before that line, the line is empty.
-abbrev pub JudgedAt : Place → List (List ℕ) → List ℕ → List ℕ → Type 0
-JudgedAt at_line_feed before line text = (lines_of text ≡ before ++ line ∷ []) × (ends_in_line_feed text ≡ true)
-JudgedAt at_byte before line text = (lines_of text ≡ before ++ line ∷ []) × (ends_in_line_feed text ≡ false)
-JudgedAt at_end before line text =
+-- What ends a line in the texts of a format: an LF or the end of the input, or an LF alone, so that a line without one is never right.
+pub data LineEnds : Type 0 where
+  by_input by_line_feed : LineEnds
+
+-- The text ends in the line, after the lines before it. Where it ended before anything of that line came, the line is empty; the
+-- last of the lines before may lack its LF then, if the end of the input ends a line.
+abbrev pub StopsIn : LineEnds → List (List ℕ) → List ℕ → List ℕ → Type 0
+StopsIn by_input before line text =
     ((lines_of text ≡ before ++ line ∷ []) × (ends_in_line_feed text ≡ false)) ⊎ ((lines_of text ≡ before) × (line ≡ []))
+StopsIn by_line_feed before line text = (text ≡ ended before ++ line) × AllByRecursion IsLine before × IsLine line
+
+-- text goes up to a place where line is judged, after the lines before it
+abbrev pub JudgedAt : LineEnds → Place → List (List ℕ) → List ℕ → List ℕ → Type 0
+JudgedAt ends at_line_feed before line text = (lines_of text ≡ before ++ line ∷ []) × (ends_in_line_feed text ≡ true)
+JudgedAt ends at_byte before line text = (lines_of text ≡ before ++ line ∷ []) × (ends_in_line_feed text ≡ false)
+JudgedAt ends at_end before line text = StopsIn ends before line text
 
 -- Where the line stands among the lines of a text: with its LF, as the beginning of a line, or as what the end of the text ends.
-abbrev pub StandsIn : Place → List (List ℕ) → List ℕ → List ℕ → Type 0
-StandsIn at_line_feed before line text =
+abbrev pub StandsIn : LineEnds → Place → List (List ℕ) → List ℕ → List ℕ → Type 0
+StandsIn ends at_line_feed before line text =
     (after : List (List ℕ)) × (lines_of text ≡ before ++ line ∷ after) × (after ≡ [] → ends_in_line_feed text ≡ true)
-StandsIn at_byte before line text =
+StandsIn ends at_byte before line text =
     (0 < length line) × (more : List ℕ) × (after : List (List ℕ)) × (lines_of text ≡ before ++ (line ++ more) ∷ after)
-StandsIn at_end before line text = JudgedAt at_end before line text
+StandsIn ends at_end before line text = StopsIn ends before line text
 
 -- the line is judged as a whole: its LF came, or the end of the input
 abbrev pub IsOver : Place → Type 0
@@ -45,15 +56,15 @@ LeadsBy {D} Follows first (line ∷ lines) last = (next : D) × Follows first li
 abbrev pub line_number : List (List ℕ) → ℕ
 line_number before = min (length before + 1) greatest
 
--- The fault stands at the place where the text ends, and the lines before are right. `HasFault fault place due number line` says of
--- a format that the line, with its number, has the fault there where it is due.
+-- The fault stands at the place where the text ends, and the lines before are right. A format says what ends its lines, and by
+-- `HasFault fault place due number line` that the line, with its number, has the fault there where it is due.
 pub record FaultAt
-    {F D : Type 0} (Follows : D → List ℕ → D → Type 0) (HasFault : F → Place → D → ℕ → List ℕ → Type 0) (first : D)
+    {F D : Type 0} (ends : LineEnds) (Follows : D → List ℕ → D → Type 0) (HasFault : F → Place → D → ℕ → List ℕ → Type 0) (first : D)
     (fault : F) (place : Place) (text : List ℕ) : Type 0 where
   pub before : List (List ℕ)
   pub line : List ℕ
   pub due : D
-  pub judged : JudgedAt place before line text
+  pub judged : JudgedAt ends place before line text
   pub right : LeadsBy Follows first before due
   pub faulty : HasFault fault place due (line_number before) line
 

@@ -61,7 +61,8 @@ pub record Takes {R : Type 0} (remaining : R → Option (List ℕ)) (old new : S
   pub delivered : Consumes (remaining (source_reader old).inner) (remaining (source_reader new).inner) read
   pub ends : EndsAt (has_ended old) (has_ended new) (remaining (source_reader old).inner) (remaining (source_reader new).inner)
   pub fails : FailsOnce (has_failed old) (has_failed new) (source_reader old).failures (source_reader new).failures
-  pub stays : is_stopped old ≡ true → (read ≡ []) × (new.stop ≡ old.stop)
+  -- a reader whose end came, or that failed, is not called again
+  pub stays : is_stopped old ≡ true → (read ≡ []) × (new.stop ≡ old.stop) × (source_reader new ≡ source_reader old)
   pub less_left : most_left new + length taken ≤ most_left old
 
 -- the reader's end came, and all its bytes were taken

@@ -2,7 +2,7 @@
 ghost use Rattle.std.specs.Prelude.{◌≡◌, ◌+◌, ◌<◌, is_err, if◌then◌else◌, OnOk, OnErr, true};
 ghost use Rattle.std.specs.Io.{ReadsAtMost, WritesAtMost};
 ghost use Rattle.std.specs.Io.KnownBytes.{ReadConsumes, WriteAppends, Keeps};
-ghost use Rattle.grid.specs.Counted.{greatest, one_more, writes_none, counted_inner, calls_of, failures_of, Rises};
+ghost use Rattle.grid.specs.Counted.{greatest, one_more, writes_none, counted_inner, calls_of, failures_of};
 
 use std::io;
 use std::io::{ErrorKind, Read, Write};
@@ -42,8 +42,8 @@ impl<T> Counted<T> {
         ensures inner { counted_inner self.new ≡ counted_inner self.old }
         ensures calls { calls_of self.new ≡ one_more (calls_of self.old) }
         ensures failures { failures_of self.new ≡ (if is_err result then one_more (failures_of self.old) else failures_of self.old) }
-        ensures rises { OnErr result (Rises (failures_of self.old) (failures_of self.new)) }
         ensures past { OnOk result (calls_of self.old < greatest) }
+        ensures refused { OnErr result (calls_of self.old ≡ greatest) }
     {
         if self.calls == u64::MAX {
             self.count_failure();
@@ -54,8 +54,7 @@ impl<T> Counted<T> {
     }
 
     fn count_failure(&mut self)
-        ensures failures { self.new ≡ record self.old { failures = one_more (failures_of self.old) } }
-        ensures rises { Rises (failures_of self.old) (failures_of self.new) }
+        ensures { self.new ≡ record self.old { failures = one_more (failures_of self.old) } }
     {
         self.failures = self.failures.saturating_add(1);
     }
@@ -69,7 +68,6 @@ impl<R: Read> Read for Counted<R> {
         ensures bytes { ReadConsumes (R.remaining (counted_inner self.old)) (R.remaining (counted_inner self.new)) result buf.new }
         ensures calls { calls_of self.new ≡ one_more (calls_of self.old) }
         ensures failures { failures_of self.new ≡ (if is_err result then one_more (failures_of self.old) else failures_of self.old) }
-        ensures rises { OnErr result (Rises (failures_of self.old) (failures_of self.new)) }
         ensures past { OnOk result (calls_of self.old < greatest) }
     {
         self.count_call()?;
@@ -89,7 +87,6 @@ impl<W: Write> Write for Counted<W> {
         ensures bytes { WriteAppends (W.contents (counted_inner self.old)) (W.contents (counted_inner self.new)) result buf.now }
         ensures calls { calls_of self.new ≡ one_more (calls_of self.old) }
         ensures failures { failures_of self.new ≡ (if writes_none result buf.now then one_more (failures_of self.old) else failures_of self.old) }
-        ensures rises { writes_none result buf.now ≡ true → Rises (failures_of self.old) (failures_of self.new) }
         ensures past { OnOk result (calls_of self.old < greatest) }
     {
         self.count_call()?;
@@ -108,7 +105,6 @@ impl<W: Write> Write for Counted<W> {
         ensures bytes { Keeps (W.contents (counted_inner self.old)) (W.contents (counted_inner self.new)) }
         ensures calls { calls_of self.new ≡ one_more (calls_of self.old) }
         ensures failures { failures_of self.new ≡ (if is_err result then one_more (failures_of self.old) else failures_of self.old) }
-        ensures rises { OnErr result (Rises (failures_of self.old) (failures_of self.new)) }
         ensures past { OnOk result (calls_of self.old < greatest) }
     {
         self.count_call()?;

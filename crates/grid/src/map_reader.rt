@@ -8,8 +8,8 @@ ghost use Rattle.grid.specs.MapText.{MapText, is_rest_byte};
 ghost use Rattle.grid.specs.MapFault.{MapFaultAt, type_due, rows_due, map_outcome};
 ghost use Rattle.grid.specs.Map.{IsSize};
 ghost use Rattle.grid.specs.Source.{Takes, GoesOn, IsAtEnd, has_failed, at_hand, source_reader};
-ghost use Rattle.grid.specs.HeaderLine.{saying_of};
-ghost use Rattle.grid.specs.Following.{TakesLine, TakesRight, StopsReading, FailsInLine, SaysNoWords, SaysNoSize, HasNoTerrain, EndsRow, StopsRow, TakesRow, TakesRows};
+ghost use Rattle.grid.specs.Code.HeaderLine.{saying_of};
+ghost use Rattle.grid.specs.Code.Following.{TakesLine, TakesRight, StopsReading, FailsInLine, SaysNoWords, SaysNoSize, HasNoTerrain, EndsRow, StopsRow, TakesRow, TakesRows};
 
 use crate::header_line::{HeaderLine, Progress, Saying};
 use crate::terrain_scan::terrain_run;

@@ -4,7 +4,7 @@ ghost use Rattle.grid.specs.Counted.{counted_inner, failures_of};
 ghost use Rattle.grid.specs.Text.{line_feed, ended};
 ghost use Rattle.grid.specs.Sink.{held_back, Puts, Breaks};
 ghost use Rattle.grid.specs.Writing.{WritesText};
-ghost use Rattle.grid.specs.MapText.{rows_of, header_lines, canonical_text};
+ghost use Rattle.grid.specs.MapText.{rows_of, header_lines, canonical_map_text};
 
 use crate::{Counted, Map, Sink, WriteFault};
 use itoa::Buffer;
@@ -13,7 +13,7 @@ use std::io::Write;
 /// Writes a map in canonical form: one space between words, no leading zero, an LF after each line, nothing after the last.
 /// The writer is not flushed.
 pub fn write_map<W: Write>(map: &Map, writer: &mut Counted<W>) -> Result<(), WriteFault>
-    ensures { WritesText (is_ok result) (W.contents (counted_inner writer.old)) (W.contents (counted_inner writer.new)) (failures_of writer.old) (failures_of writer.new) (canonical_text map.now) }
+    ensures { WritesText (is_ok result) (W.contents (counted_inner writer.old)) (W.contents (counted_inner writer.new)) (failures_of writer.old) (failures_of writer.new) (canonical_map_text map.now) }
 {
     let mut sink = Sink::new(writer);
     put_map(&mut sink, map)
@@ -21,9 +21,9 @@ pub fn write_map<W: Write>(map: &Map, writer: &mut Counted<W>) -> Result<(), Wri
 
 /// Puts the whole text, and hands it on.
 fn put_map<W: Write>(sink: &mut Sink<'_, W>, map: &Map) -> Result<(), WriteFault>
-    ensures ok { OnOk result (Puts W.contents sink.old sink.new (canonical_text map.now)) }
+    ensures ok { OnOk result (Puts W.contents sink.old sink.new (canonical_map_text map.now)) }
     ensures none_held { OnOk result (held_back sink.new ≡ []) }
-    ensures err { OnErr result (Breaks W.contents sink.old sink.new (canonical_text map.now)) }
+    ensures err { OnErr result (Breaks W.contents sink.old sink.new (canonical_map_text map.now)) }
 {
     put_header(sink, map.width(), map.height())?;
     put_rows(sink, map.width(), map.height(), map.characters())?;

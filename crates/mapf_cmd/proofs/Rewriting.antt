@@ -8,7 +8,8 @@ use Rattle.grid.specs.Reading.{Place, is_value, ReadsText}
 use Rattle.grid.specs.Writing.{WritesText}
 use Rattle.mapf_cmd.specs.declared.status.Status.{Status}
 use Rattle.mapf_cmd.specs.declared.status.Status.TheVariants.{Done}
-use Rattle.mapf_cmd.specs.Rewriting.{EndsBy, EndsWriting, Finishes, RewritesText}
+use Rattle.mapf_cmd.specs.Rewriting.{EndsBy, EndsWriting, RewritesText}
+use Rattle.mapf_cmd.specs.Code.Parts.{Finishes}
 use Rattle.mapf_cmd.specs.Status.{code_of}
 
 keeps_appended : (old mid new : Option (List ℕ)) (text : List ℕ) → Appends old mid text → Keeps mid new → Appends old new text
@@ -23,7 +24,7 @@ pub ends_writing : {W : Type 0} (contents : W → Option (List ℕ)) (old mid ne
     → Finishes contents written success mid new status → EndsWriting contents old new (code_of status) success text
 ends_writing contents old mid new text true success status wrote finished =
     let appended = keeps_appended (contents (counted_inner old)) (contents (counted_inner mid)) (contents (counted_inner new)) text wrote.0 finished.0 in
-    elim finished.1 [
+    elim finished.2 [
       | inl passed ↦ inl (ap code_of passed.0, (appended, passed.1 ∙ wrote.1))
       | inr failed ↦ inr (
         ap code_of failed.0,

@@ -14,8 +14,9 @@ use Rattle.mapf_cmd.specs.declared.row_fault.RowFault.{RowFault}
 use Rattle.mapf_cmd.specs.declared.row_fault.RowFault.TheVariants.{Certificate}
 use Rattle.mapf_cmd.specs.declared.status.Status.{Status}
 use Rattle.mapf_cmd.specs.declared.verdict.Verdict.{Verdict}
-use Rattle.mapf_cmd.specs.RowCommand.{EndsRow, IsAsked, JudgesRow, verdict_text}
-use Rattle.mapf_cmd.specs.Rewriting.{EndsWriting, Finishes}
+use Rattle.mapf_cmd.specs.RowCommand.{EndsByVerdict, IsAsked, JudgesRow, verdict_text}
+use Rattle.mapf_cmd.specs.Rewriting.{EndsWriting}
+use Rattle.mapf_cmd.specs.Code.Parts.{Finishes}
 use Rattle.mapf_cmd.specs.Status.{code_of, verdict_status}
 use Rattle.mapf_cmd.proofs.Rewriting.{ends_writing}
 use Rattle.scen.specs.declared.certificate.Proposal.{Proposal}
@@ -49,7 +50,7 @@ same_writer contents first last text (Err e) puts breaks = breaks.same_writer
 pub verdict_ends : {W : Type 0} (contents : W → Option (List ℕ)) (old mid new : Counted W) (verdict : Verdict) (written : Bool) (success status : Status) (code : ℕ)
     → success ≡ verdict_status verdict
     → WritesText written (contents (counted_inner old)) (contents (counted_inner mid)) (failures_of old) (failures_of mid) (verdict_text verdict)
-    → Finishes contents written success mid new status → code ≡ code_of status → EndsRow contents old new code (Ok verdict)
+    → Finishes contents written success mid new status → code ≡ code_of status → EndsByVerdict contents old new code (Ok verdict)
 verdict_ends contents old mid new verdict written success status code is wrote finished named =
     let Ends : ℕ → Type 0 = λ n. EndsWriting contents old new n (verdict_status verdict) (verdict_text verdict) in
     let Finished : Status → Type 0 = λ s. Finishes contents written s mid new status in

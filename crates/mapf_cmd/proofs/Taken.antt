@@ -5,7 +5,8 @@ use Rattle.clap.specs.Simple.{App, argument_words, built, entered, is_simple, na
 use Rattle.clap.specs.Takes.{built_takes, entered_passes, level_passes, takes}
 use Rattle.clap.specs.Walk.{Row, Text, finished, nothing_held, walk, walk_from}
 use Rattle.clap.proofs.WalkLemmas.{both}
-use Rattle.mapf_cmd.specs.Words.{map_command, program_app, row_command, scen_command, HasWords}
+use Rattle.mapf_cmd.specs.Words.{map_command, program_app, row_command, scen_command}
+use Rattle.mapf_cmd.specs.Code.Parts.{HasWords}
 use Rattle.mapf_cmd.proofs.Commands.{command_given, level_parts, valid_parts}
 use Rattle.mapf_cmd.proofs.Stops.{AreNamed, StopsAt, walk_stays}
 

@@ -1,8 +1,7 @@
 -- What a command that reads a text and writes it in canonical form does and answers.
-use Rattle.std.specs.Prelude.{◌≡◌, ℕ, ◌⊎◌, Bool, true, false, List, Option}
-use Rattle.std.specs.Io.KnownBytes.{Keeps}
+use Rattle.std.specs.Prelude.{◌≡◌, ℕ, ◌⊎◌, true, false, List, Option}
 use Rattle.grid.specs.declared.counted.Counted.{Counted}
-use Rattle.grid.specs.Counted.{counted_inner, failures_of, Rises}
+use Rattle.grid.specs.Counted.{counted_inner, failures_of}
 use Rattle.grid.specs.Reading.{Outcome, Place, is_value, is_fault, is_failed, is_refused, ReadsText}
 use Rattle.grid.specs.Writing.{WritesText}
 use Rattle.mapf_cmd.specs.declared.status.Status.{Status}
@@ -38,11 +37,3 @@ pub record RewritesText
   pub outcome : Outcome V F
   pub reads : Reads Spells FaultAt remaining old_in new_in outcome
   pub ends : EndsBy canonical contents old_out new_out status outcome
-
--- How a command ends after a write, by whether that passed: a flush leaves the bytes as they are, and a failed write is not flushed.
--- Where neither failed, the status is that of success.
-abbrev pub Finishes : {W : Type 0} → (W → Option (List ℕ)) → Bool → Status → Counted W → Counted W → Status → Type 0
-Finishes contents true success old new status =
-    Keeps (contents (counted_inner old)) (contents (counted_inner new))
-    × (((status ≡ success) × (failures_of new ≡ failures_of old)) ⊎ ((status ≡ Failure) × Rises (failures_of old) (failures_of new)))
-Finishes contents false success old new status = (status ≡ Failure) × (new ≡ old)

@@ -16,9 +16,8 @@ use Rattle.scen.specs.declared.certificate.Proposal.{Proposal}
 use Rattle.scen.specs.declared.length.Length.{Length}
 use Rattle.scen.specs.declared.listed.Listed.{Listed}
 use Rattle.scen.specs.declared.scen_fault.ScenFault.{ScenFault}
-use Rattle.scen.specs.declared.search_fault.SearchFault.TheVariants.{OutOfRange, OutOfMemory}
 use Rattle.mapf_cmd.specs.declared.row_fault.RowFault.{RowFault}
-use Rattle.mapf_cmd.specs.declared.row_fault.RowFault.TheVariants.{Map, Scen, NoSuchRow, SizeDiffers, Search, Certificate}
+use Rattle.mapf_cmd.specs.declared.row_fault.RowFault.TheVariants.{Map, Scen, NoSuchRow, SizeDiffers, OutOfMemory, Certificate}
 use Rattle.mapf_cmd.specs.declared.verdict.Verdict.{Verdict}
 use Rattle.mapf_cmd.specs.declared.verdict.Verdict.TheVariants.{Shortest, Unreachable}
 use Rattle.mapf_cmd.specs.Rewriting.{Reads, EndsWriting}
@@ -55,21 +54,21 @@ pub record IsCertified (m : Grid) (q : Query) (shortest : Option Length) : Type 
 abbrev pub HasSizeOf : Grid → Query → Type 0
 HasSizeOf m q = (q.width ≡ m.width) × (q.height ≡ m.height)
 
--- the row with this number, counted from 0, is the query, which is for a map of this size
+-- The row with this number, counted from 0, is the query, which is for a map of this size. So its start and goal are on the map.
 pub record IsAsked (m : Grid) (rows : List Query) (number : ℕ) (q : Query) : Type 0 where
   pub is_row : slice_get rows number ≡ Some q
   pub has_size : HasSizeOf m q
+  pub on_map : AreOn m q.start q.goal
 
--- What a row comes to: its verdict; or there is no such row; else its size is another one; else nothing was proposed, or what was
--- proposed was refused.
+-- What a row comes to: its verdict; or there is no such row; else its size is another one; else the search was refused memory, or
+-- what it proposed proves nothing.
 abbrev pub JudgesRow : Grid → List Query → ℕ → Result Verdict RowFault → Type 0
 JudgesRow m rows number (Ok verdict) =
     (q : Query) × IsAsked m rows number q × (shortest : Option Length) × IsCertified m q shortest × IsVerdictOn q.listed q.decimals shortest verdict
 JudgesRow m rows number (Err NoSuchRow) = length rows ≤ number
 JudgesRow m rows number (Err (SizeDiffers at)) =
     (at ≡ number) × (q : Query) × (slice_get rows number ≡ Some q) × (HasSizeOf m q → ⊥)
-JudgesRow m rows number (Err (Search OutOfRange)) = (q : Query) × IsAsked m rows number q × (AreOn m q.start q.goal → ⊥)
-JudgesRow m rows number (Err (Search OutOfMemory)) = (q : Query) × IsAsked m rows number q
+JudgesRow m rows number (Err OutOfMemory) = (q : Query) × IsAsked m rows number q
 JudgesRow m rows number (Err (Certificate fault)) =
     (q : Query) × IsAsked m rows number q × (proposal : Proposal) × Certifies m q.start q.goal proposal (Err fault)
 JudgesRow m rows number (Err (Map fault)) = ⊥
@@ -97,9 +96,9 @@ ReadsAndJudges map_left scen_left old_map new_map old_scen new_scen number answe
 
 -- The exit status and what the output got: the line of the verdict, or a beginning of it where the output failed; nothing where
 -- there is no verdict.
-abbrev pub EndsRow : {W : Type 0} → (W → Option (List ℕ)) → Counted W → Counted W → ℕ → Result Verdict RowFault → Type 0
-EndsRow contents old new status (Ok verdict) = EndsWriting contents old new status (verdict_status verdict) (verdict_text verdict)
-EndsRow contents old new status (Err fault) = (status ≡ code_of (row_fault_status fault)) × (new ≡ old)
+abbrev pub EndsByVerdict : {W : Type 0} → (W → Option (List ℕ)) → Counted W → Counted W → ℕ → Result Verdict RowFault → Type 0
+EndsByVerdict contents old new status (Ok verdict) = EndsWriting contents old new status (verdict_status verdict) (verdict_text verdict)
+EndsByVerdict contents old new status (Err fault) = (status ≡ code_of (row_fault_status fault)) × (new ≡ old)
 
 -- The texts were read and the row was judged, and the command ended by that.
 pub record AnswersRow
@@ -107,4 +106,4 @@ pub record AnswersRow
     (old_map new_map : Counted R) (old_scen new_scen : Counted S) (number : ℕ) (old_out new_out : Counted W) (status : ℕ) : Type 0 where
   pub answer : Result Verdict RowFault
   pub judges : ReadsAndJudges map_left scen_left old_map new_map old_scen new_scen number answer
-  pub ends : EndsRow contents old_out new_out status answer
+  pub ends : EndsByVerdict contents old_out new_out status answer

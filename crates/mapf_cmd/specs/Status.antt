@@ -4,8 +4,6 @@ use Rattle.grid.specs.declared.map_fault.MapFault.{MapFault}
 use Rattle.grid.specs.declared.map_fault.MapFault.TheVariants as map_fault
 use Rattle.scen.specs.declared.scen_fault.ScenFault.{ScenFault}
 use Rattle.scen.specs.declared.scen_fault.ScenFault.TheVariants as scen_fault
-use Rattle.scen.specs.declared.search_fault.SearchFault.{SearchFault}
-use Rattle.scen.specs.declared.search_fault.SearchFault.TheVariants as search_fault
 use Rattle.mapf_cmd.specs.declared.row_fault.RowFault.{RowFault}
 use Rattle.mapf_cmd.specs.declared.row_fault.RowFault.TheVariants as row_fault
 use Rattle.mapf_cmd.specs.declared.verdict.Verdict.{Verdict}
@@ -31,17 +29,12 @@ scen_fault_status scen_fault.ReadFailed = Failure
 scen_fault_status scen_fault.OutOfMemory = Failure
 scen_fault_status _ = Fault
 
--- a search that was refused memory, or a cell off the map
-abbrev pub search_fault_status : SearchFault → Status
-search_fault_status search_fault.OutOfMemory = Failure
-search_fault_status search_fault.OutOfRange = Fault
-
 abbrev pub row_fault_status : RowFault → Status
 row_fault_status (row_fault.Map f) = map_fault_status f
 row_fault_status (row_fault.Scen f) = scen_fault_status f
 row_fault_status row_fault.NoSuchRow = Fault
 row_fault_status (row_fault.SizeDiffers number) = Fault
-row_fault_status (row_fault.Search f) = search_fault_status f
+row_fault_status row_fault.OutOfMemory = Failure
 row_fault_status (row_fault.Certificate f) = Fault
 
 -- well only where the listed length agrees

@@ -1,9 +1,8 @@
 -- The command line of `mapf`, in the words of clap.
-use Rattle.std.specs.Prelude.{◌≡◌, ℕ, ◌^◌, ◌<◌, true, IsTrue, MatchOption, List, [], ◌∷◌, map, fold, find, codes, Some, is_some, string_bytes}
-use Rattle.std.specs.List.{AllByRecursion}
-use Rattle.std.specs.Str.{bytes_eq}
+use Rattle.std.specs.Prelude.{◌≡◌, ℕ, ◌^◌, ◌<◌, ◌⊎◌, true, List, [], ◌∷◌, map, fold, codes, Some, string_bytes}
 use Rattle.grid.specs.Text.{SpellsNumber}
-use Rattle.clap.specs.Words.{App, Row, Rule, Text, first_of, new_app, new_rule, subcommand_of, with_subcommand}
+use Rattle.clap.specs.Kinds.{IsAmong}
+use Rattle.clap.specs.Words.{App, fault_of, Row, Rule, Text, first_of, new_app, new_rule, subcommand_of, with_subcommand}
 use Rattle.clap.specs.declared.error.kind.ErrorKind.{ErrorKind}
 use Rattle.clap.specs.declared.error.kind.ErrorKind.TheVariants as kind
 use Rattle.mapf_cmd.specs.declared.command_line.Line.{Line}
@@ -47,22 +46,17 @@ bare_program = record (new_app (codes "mapf")) { top = record (new_app (codes "m
 abbrev pub program_app : App
 program_app = fold (λ app c. with_subcommand app (command_of c).top) bare_program commands
 
--- the rows have a value of each word that the command with this name requires
-abbrev pub HasWords : Text → List Row → Type 0
-HasWords name rows =
-    MatchOption (find (λ c. bytes_eq c.0 name) commands) ⊥ (λ c. AllByRecursion (λ word. IsTrue (is_some (first_of word rows))) c.1)
-
 -- the rows have a value of this word, which is digits alone and spells the number
 abbrev pub GivesNumber : Text → List Row → ℕ → Type 0
 GivesNumber word rows n = (digits : Text) × (first_of word rows ≡ Some digits) × SpellsNumber n digits
 
 -- the number that the command with this name wants, if it wants one, is spelled, and below 2^32
-abbrev pub HasNumber : Text → List Row → Type 0
-HasNumber name rows = name ≡ codes "row" → (n : ℕ) × (n < 2 ^ 32) × GivesNumber (codes "row") rows n
+abbrev pub HasRowNumber : Text → List Row → Type 0
+HasRowNumber name rows = name ≡ codes "row" → (n : ℕ) × (n < 2 ^ 32) × GivesNumber (codes "row") rows n
 
 -- the same of the words of the command line
 abbrev pub GiveNumber : List Text → Type 0
-GiveNumber words = (name : Text) (rows : List Row) → subcommand_of program_app words ≡ Some (name, rows) → HasNumber name rows
+GiveNumber words = (name : Text) (rows : List Row) → subcommand_of program_app words ≡ Some (name, rows) → HasRowNumber name rows
 
 -- the line is the command with this name, and its words have the values that the rows give
 abbrev pub IsCommand : Text → List Row → Line → Type 0
@@ -75,3 +69,11 @@ IsCommand name rows (row_line map_file scen_file row) =
 -- the line is the command that clap's definition of the program gives for the words
 abbrev pub IsLineOf : List Text → Line → Type 0
 IsLineOf words line = (name : Text) × (rows : List Row) × (subcommand_of program_app words ≡ Some (name, rows)) × IsCommand name rows line
+
+-- Why the words are no command: memory was refused; or clap refuses them, and this is what its kind of refusal comes to; or it takes
+-- them, and a number is none.
+abbrev pub IsFaultOf : List Text → LineFault → Type 0
+IsFaultOf words fault =
+    (fault ≡ OutOfMemory)
+    ⊎ (((refusal : ErrorKind) × IsAmong refusal (fault_of program_app words) × (fault ≡ fault_of_kind refusal))
+    ⊎ ((fault_of program_app words ≡ []) × (fault ≡ BadCommand)))

@@ -3,6 +3,7 @@
 
 mod command_line;
 mod map_command;
+mod program;
 mod row_command;
 mod row_fault;
 mod scen_command;
@@ -13,6 +14,7 @@ mod writing;
 
 pub use command_line::{Line, LineFault};
 pub use map_command::map_cmd;
+pub use program::{refuse, run};
 pub use row_command::row_cmd;
 pub use scen_command::scen_cmd;
 pub use status::{Status, report};

@@ -17,7 +17,8 @@ pub fn map_cmd<R: Read, W: Write, E: Write>(
     out: &mut Counted<W>,
     err: &mut Counted<E>,
 ) -> u8
-    ensures { RewritesMap R.remaining W.contents map.old map.new out.old out.new result }
+    ensures rewrites { RewritesMap R.remaining W.contents map.old map.new out.old out.new result }
+    ensures quiet { result ≡ 0 → err.new ≡ err.old }
 {
     match read_map(alloc, map) {
         Ok(map) => {

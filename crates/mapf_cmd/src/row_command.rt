@@ -1,13 +1,14 @@
 //! `mapf row`: judges the listed length of a scenario's row on a map.
-ghost use Rattle.std.specs.Prelude.{MatchResult};
-ghost use Rattle.mapf_cmd.specs.RowCommand.{IsAsked, JudgesRow, ReadsAndJudges, AnswersRow};
+ghost use Rattle.std.specs.Prelude.{◌≡◌, ◌↔◌, IsTrue, IfErr, MatchResult};
+ghost use Rattle.scen.specs.Certificate.{AreOn};
+ghost use Rattle.mapf_cmd.specs.RowCommand.{HasSizeOf, IsAsked, JudgesRow, ReadsAndJudges, AnswersRow};
 
 use crate::report;
 use crate::row_fault::RowFault;
 use crate::verdict::{Verdict, write_verdict};
 use crate::writing::finish;
-use grid::{Counted, Map, read_map};
-use scen::{Row, Scenario, certify, read_scen, search};
+use grid::{Cell, Counted, Map, read_map};
+use scen::{Proposal, Row, Scenario, SearchFault, certify, read_scen, search};
 use std::alloc::Global;
 use std::io::{Read, Write};
 
@@ -22,7 +23,8 @@ pub fn row_cmd<R: Read, S: Read, W: Write, E: Write>(
     out: &mut Counted<W>,
     err: &mut Counted<E>,
 ) -> u8
-    ensures { AnswersRow R.remaining S.remaining W.contents map.old map.new scen.old scen.new row out.old out.new result }
+    ensures answers { AnswersRow R.remaining S.remaining W.contents map.old map.new scen.old scen.new row out.old out.new result }
+    ensures quiet { result ≡ 0 → err.new ≡ err.old }
 {
     match read_and_judge(alloc, map, scen, row) {
         Ok(verdict) => {
@@ -56,9 +58,21 @@ fn judge(alloc: Global, map: &Map, scenario: &Scenario, number: u32) -> Result<V
 {
     let row = row_for(map, scenario, number)?;
     let (start, goal) = (row.start(), row.goal());
-    let proposal = search(alloc, map, start, goal)?;
+    let proposal = propose(alloc, map, start, goal)?;
     let shortest = certify(map, start, goal, &proposal)?;
     Ok(Verdict::new(shortest, row.listed()))
+}
+
+/// Searches for a shortest walk between two cells of the map.
+fn propose(alloc: Global, map: &Map, start: Cell, goal: Cell) -> Result<Proposal, RowFault>
+    requires { AreOn map.now start goal }
+    ensures { IfErr result (λ fault. fault ≡ RowFault.OutOfMemory) }
+{
+    match search(alloc, map, start, goal) {
+        Ok(proposal) => Ok(proposal),
+        Err(SearchFault::OutOfMemory) => Err(RowFault::OutOfMemory),
+        Err(SearchFault::OutOfRange) => unreachable!(),
+    }
 }
 
 /// The row with this number, if it is for a map of this size.
@@ -68,8 +82,16 @@ fn row_for<'a>(map: &Map, scenario: &'a Scenario, number: u32) -> Result<&'a Row
         (λ fault. JudgesRow map.now scenario.now number (Err fault)) }
 {
     match scenario.rows().get(number as usize) {
-        Some(row) if row.width() == map.width() && row.height() == map.height() => Ok(row),
+        Some(row) if is_for(row, map) => Ok(row),
         Some(_) => Err(RowFault::SizeDiffers(number)),
         None => Err(RowFault::NoSuchRow),
     }
+}
+
+/// Whether the row is for a map of this size. Then its start and goal, which are in its own grid, are on the map.
+fn is_for(row: &Row, map: &Map) -> bool
+    ensures size { IsTrue result ↔ HasSizeOf map.now row.now }
+    ensures on_map { IsTrue result → AreOn map.now row.now.start row.now.goal }
+{
+    row.width() == map.width() && row.height() == map.height()
 }

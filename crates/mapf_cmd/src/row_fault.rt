@@ -7,7 +7,7 @@ use crate::Status;
 use crate::map_command::map_fault_status;
 use crate::scen_command::scen_fault_status;
 use grid::MapFault;
-use scen::{CertFault, ScenFault, SearchFault};
+use scen::{CertFault, ScenFault};
 use thiserror::Error;
 
 /// Why a row has no answer.
@@ -25,9 +25,9 @@ pub(crate) enum RowFault {
     /// The row with this number is for a map of another size.
     #[error("SizeDiffers {0}")]
     SizeDiffers(u32),
-    /// The search proposed nothing.
-    #[error("{0}")]
-    Search(SearchFault),
+    /// The search was refused memory.
+    #[error("OutOfMemory")]
+    OutOfMemory,
     /// What the search proposed proves nothing.
     #[error("{0}")]
     Certificate(CertFault),
@@ -41,7 +41,7 @@ impl RowFault {
         match self {
             RowFault::Map(fault) => map_fault_status(fault),
             RowFault::Scen(fault) => scen_fault_status(fault),
-            RowFault::Search(SearchFault::OutOfMemory) => Status::Failure,
+            RowFault::OutOfMemory => Status::Failure,
             _ => Status::Fault,
         }
     }
@@ -60,14 +60,6 @@ impl From<ScenFault> for RowFault {
 
     fn from(e: ScenFault) -> RowFault {
         RowFault::Scen(e)
-    }
-}
-
-impl From<SearchFault> for RowFault {
-    ghost from_gives = { λ e f. f ≡ row_fault.Search e };
-
-    fn from(e: SearchFault) -> RowFault {
-        RowFault::Search(e)
     }
 }
 

@@ -18,7 +18,8 @@ pub fn scen_cmd<R: Read, W: Write, E: Write>(
     out: &mut Counted<W>,
     err: &mut Counted<E>,
 ) -> u8
-    ensures { RewritesScen R.remaining W.contents scen.old scen.new out.old out.new result }
+    ensures rewrites { RewritesScen R.remaining W.contents scen.old scen.new out.old out.new result }
+    ensures quiet { result ≡ 0 → err.new ≡ err.old }
 {
     match read_scen(alloc, scen) {
         Ok(scenario) => {

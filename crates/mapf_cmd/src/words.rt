@@ -4,7 +4,8 @@ ghost use Rattle.std.specs.Char.{is_ascii_digit};
 ghost use Rattle.std.specs.List.{list_all};
 ghost use Rattle.clap.specs.Words.{app_of, with_subcommand, first_of, found_of, rows_of, rule_of, takes, fault_of};
 ghost use Rattle.grid.specs.Text.{SpellsNumber};
-ghost use Rattle.mapf_cmd.specs.Words.{program_app, row_command, command_of, required_word, HasWords, HasNumber, GivesNumber, GiveNumber, IsCommand, IsLineOf};
+ghost use Rattle.mapf_cmd.specs.Words.{program_app, row_command, command_of, required_word, HasRowNumber, GivesNumber, GiveNumber, IsCommand, IsLineOf, IsFaultOf};
+ghost use Rattle.mapf_cmd.specs.Code.Parts.{HasWords, IsRefusal};
 
 use crate::{Line, LineFault};
 use clap::{Arg, ArgMatches, Command};
@@ -16,6 +17,7 @@ pub fn line(alloc: Global, words: &[String]) -> Result<Line, LineFault>
     ensures taken { OnOk result (fault_of program_app (map string_bytes words.now) ≡ []) }
     ensures refused { IfErr result (λ e. takes program_app (map string_bytes words.now) ≡ true
         → GiveNumber (map string_bytes words.now) → e ≡ LineFault.OutOfMemory) }
+    ensures fault { IfErr result (IsFaultOf (map string_bytes words.now)) }
 {
     let matches = program(alloc)?.try_get_matches_from(words)?;
     match matches.subcommand() {
@@ -68,8 +70,9 @@ fn required<'a>(alloc: Global, name: &'a str) -> Arg<'a>
 /// Reads the command with this name, by the words that it was given.
 fn read_command(alloc: Global, name: &str, given: &ArgMatches<'_>) -> Result<Line, LineFault>
     ensures ok { IfOk result (IsCommand name.now (rows_of (found_of given.now))) }
-    ensures err { IfErr result (λ e. HasWords name.now (rows_of (found_of given.now)) → HasNumber name.now (rows_of (found_of given.now))
+    ensures err { IfErr result (λ e. HasWords name.now (rows_of (found_of given.now)) → HasRowNumber name.now (rows_of (found_of given.now))
         → e ≡ LineFault.OutOfMemory) }
+    ensures refusal { IfErr result IsRefusal }
 {
     match name {
         "map" => Ok(Line::Map {
@@ -90,7 +93,8 @@ fn read_command(alloc: Global, name: &str, given: &ArgMatches<'_>) -> Result<Lin
 /// The number that an argument was given.
 fn number(given: &ArgMatches<'_>, name: &str) -> Result<u32, LineFault>
     ensures ok { IfOk result (GivesNumber name.now (rows_of (found_of given.now))) }
-    ensures err { OnErr result ((n : ℕ) → n < 2 ^ 32 → GivesNumber name.now (rows_of (found_of given.now)) n → ⊥) }
+    ensures none { OnErr result ((n : ℕ) → n < 2 ^ 32 → GivesNumber name.now (rows_of (found_of given.now)) n → ⊥) }
+    ensures err { IfErr result (λ e. e ≡ LineFault.BadCommand) }
 {
     match given.get_str(name) {
         Some(digits) => spelled(digits).ok_or(LineFault::BadCommand),
@@ -119,6 +123,7 @@ fn are_digits(text: &str) -> bool
 fn word(alloc: Global, given: &ArgMatches<'_>, name: &str) -> Result<String, LineFault>
     ensures ok { IfOk result (λ s. first_of name.now (rows_of (found_of given.now)) ≡ Some (string_bytes s)) }
     ensures err { IfErr result (λ e. IsTrue (is_some (first_of name.now (rows_of (found_of given.now)))) → e ≡ LineFault.OutOfMemory) }
+    ensures refusal { IfErr result IsRefusal }
 {
     match given.get_str(name) {
         Some(text) => Ok(String::from_str(alloc, text)?),

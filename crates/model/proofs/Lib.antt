@@ -1,6 +1,7 @@
 -- Lemmas that several proofs share.
 pub mod Options
 pub mod TrackLemmas
+pub mod CostLemmas
 pub mod NeedLemmas
 pub mod Visited
 pub mod HistoryLemmas

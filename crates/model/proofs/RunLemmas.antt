@@ -89,11 +89,9 @@ carry_same tab h i track now es ef was =
     carry tab h i track now 0 0 es ef was (omega (arith, low)) (omega (arith, high)) (omega (arith, limit)) (λ k least less. absurd (omega (arith, least, less)))
 
 -- an agent that isn't moving has finished all that it has begun
-pub level : (tab : Timetable) (h : History) (i : ℕ) (track : Track) → Progress tab h i track → is_moving h i ≡ false → kept_starts h i ≡ done h i
-level tab h i track was still =
+pub level : (h : History) (i : ℕ) → done h i ≤ kept_starts h i → kept_starts h i ≤ done h i + 1 → is_moving h i ≡ false → kept_starts h i ≡ done h i
+level h i low high still =
     let stands = eqb-false (kept_starts h i) (done h i + 1) still in
-    let low = was.low in
-    let high = was.high in
     elim (cases_lt (done h i) (kept_starts h i)) [
       | inl less ↦ absurd (stands (omega (arith, less, high)))
       | inr most ↦ omega (arith, most, low)
@@ -103,7 +101,7 @@ level tab h i track was still =
 pub room_left : (tab : Timetable) (h : History) (i : ℕ) (track : Track) → Progress tab h i track → is_moving h i ≡ false → eqb (done h i) (moves track) ≡ false
     → kept_starts h i + 1 ≤ moves track
 room_left tab h i track was still left =
-    let same = level tab h i track was still in
+    let same = level h i was.low was.high still in
     let limit = was.limit in
     elim (cases_lt (kept_starts h i) (moves track)) [
       | inl less ↦ omega (arith, less)
@@ -146,7 +144,7 @@ progress_next tab h i track there was (Start j) r by_rules =
       | inl none ↦ carry_same tab h i track now none refl was
       | inr begun ↦
           let low = was.low in
-          let even = level tab h i track was begun.2 in
+          let even = level h i was.low was.high begun.2 in
           carry tab h i track now 1 0 begun.0 refl was (omega (arith, low)) (omega (arith, even)) (room_left tab h i track was begun.2 begun.3)
           (λ k least less.
           let k_is : done h i ≡ k = omega (arith, least, less, even) in
@@ -176,3 +174,47 @@ progress_next tab h i track there was (Tear j n) r by_rules = carry_same tab h i
 pub progress : (tab : Timetable) (h : History) (i : ℕ) (track : Track) → track_of tab i ≡ Some track → IsRun tab h → Progress tab h i track
 progress tab [] i track there run = record { low = omega arith; high = omega arith; limit = omega arith; met = λ k less. absurd (omega (arith, less)) }
 progress tab (now ∷ h) i track there run = progress_next tab h i track there (progress tab h i track there run.1) now.event now.answer run.0
+
+-- ---- a number that names no agent
+
+none_now : (tab : Timetable) (h : History) (i : ℕ) → track_of tab i ≡ None → (e : Event) (r : Answer) → r ≡ answer tab h e
+    → (starts_of e r i (armed_of h i) ≡ 0) × (finishes_of e r i (armed_of h i) ≡ 0)
+none_now tab h i none (Start j) r by_rules = (
+  elim (cases_Bool (eqb j i && is_begun r (armed_of h i))) [
+    | inr unkept ↦ cond-false _ 1 0 unkept
+    | inl kept ↦ (
+        let both = and_parts (eqb j i) (is_begun r (armed_of h i)) kept in
+        let refusal = by_rules ∙ ap (answer_by tab h (Start j)) (ap (track_of tab) (eqb-true j i both.0) ∙ none) in
+        absurd (false≢true (ap (λ x. is_begun x (armed_of h i)) (sym refusal) ∙ both.1)))
+  ],
+  refl,
+)
+none_now tab h i none (Finish j) r by_rules = (
+  refl,
+  elim (cases_Bool (eqb j i && is_ended r (armed_of h i))) [
+    | inr unkept ↦ cond-false _ 1 0 unkept
+    | inl kept ↦ (
+        let both = and_parts (eqb j i) (is_ended r (armed_of h i)) kept in
+        let refusal = by_rules ∙ ap (answer_by tab h (Finish j)) (ap (track_of tab) (eqb-true j i both.0) ∙ none) in
+        absurd (false≢true (ap (λ x. is_ended x (armed_of h i)) (sym refusal) ∙ both.1)))
+  ],
+)
+none_now tab h i none (Say j) r by_rules = (refl, refl)
+none_now tab h i none (Deliver j m) r by_rules = (refl, refl)
+none_now tab h i none (Restart j) r by_rules = (refl, refl)
+none_now tab h i none (Tear j n) r by_rules = (refl, refl)
+
+-- nothing is begun or finished under it
+none_ever : (tab : Timetable) (h : History) (i : ℕ) → track_of tab i ≡ None → IsRun tab h → (kept_starts h i ≡ 0) × (done h i ≡ 0)
+none_ever tab [] i none run = (refl, refl)
+none_ever tab (now ∷ h) i none run =
+    let before = none_ever tab h i none run.1 in
+    let here = none_now tab h i none now.event now.answer run.0 in
+    (omega (arith, before.0, here.0), omega (arith, before.1, here.1))
+
+-- under every number what is finished was begun, and at most one move more
+pub in_step : (tab : Timetable) (h : History) (i : ℕ) → IsRun tab h → (done h i ≤ kept_starts h i) × (kept_starts h i ≤ done h i + 1)
+in_step tab h i run = by_track (track_of tab i) refl where
+  by_track : (o : Option Track) → track_of tab i ≡ o → (done h i ≤ kept_starts h i) × (kept_starts h i ≤ done h i + 1)
+  by_track (Some track) there = let went = progress tab h i track there run in (went.low, went.high)
+  by_track None none = let never = none_ever tab h i none run in (omega (arith, never.0, never.1), omega (arith, never.0, never.1))

@@ -119,7 +119,7 @@ walked_start : (tab : Timetable) (h : History) (i : ℕ) (track : Track) → Pro
     → (r : Answer) → r ≡ start_answer tab h i track → Walked tab (record { event = Start j; answer = r } ∷ h) i track
 walked_start tab h i track went was j own (moving c) by_rules =
     let facts = start-begun tab h i track (armed_of h i) (ap (λ x. is_begun x (armed_of h i)) (sym by_rules)) in
-    let even = level tab h i track went facts.1 in
+    let even = level h i went.low went.high facts.1 in
     let room = room_left tab h i track went facts.1 facts.2 in
     let whole = was.whole facts.0 in
     let next = path_cell track (done h i + 1) in
@@ -190,7 +190,7 @@ walked_restart tab h i track went was j own r by_rules =
                 (omega (arith, some)) (λ sound. whole_by n k (kept_starts h i) some most kept place)
           ])
       | inr still ↦
-          let even = level tab h i track went still in
+          let even = level h i went.low went.high still in
           subst (λ x. Walked tab (record { event = Restart j; answer = x } ∷ h) i track) (sym (by_rules ∙ cond-false (is_moving h i) _ _ still))
           (stays tab h i track (record { event = Restart j; answer = at (path_cell track k) k }) was refl (omega (arith, some)) (λ sound. omega (arith, some, most, even)))
     ] where

@@ -1,5 +1,5 @@
--- What a plan costs (Stern et al. 2019, "Objective functions"), and when it solves given tasks.
-use Rattle.std.specs.Prelude.{◌≡◌, ℕ, ◌+◌, ◌<◌, ◌≤◌, ◌==◌, ◌&&◌, if◌then◌else◌, List, [], ◌∷◌, max}
+-- What a plan costs (Stern et al. 2019, "Objective functions"), when its tracks end at rest, and when it solves given tasks.
+use Rattle.std.specs.Prelude.{◌≡◌, ℕ, ◌+◌, ◌<◌, ◌≤◌, ◌==◌, ◌&&◌, if◌then◌else◌, List, [], ◌∷◌, length, take, max, All, Some, slice_get}
 use Rattle.grid.specs.declared.cell.Cell.{Cell}
 use Rattle.model.specs.Timetable.{Track, Timetable, same_cell, cell_at}
 
@@ -19,6 +19,13 @@ cost_after c (d ∷ cells) = if (cost_after d cells == 0) && same_cell c d then 
 
 abbrev pub cost : Track → ℕ
 cost track = cost_after track.start track.later
+
+-- the track goes just to the time from which the agent stays for ever
+abbrev pub EndsAtRest : Track → Type 0
+EndsAtRest track = length track.later ≡ cost track
+
+abbrev pub AllEndAtRest : Timetable → Type 0
+AllEndAtRest tt = All EndsAtRest tt.tracks
 
 abbrev pub sum_of : List Track → ℕ
 sum_of [] = 0
@@ -54,3 +61,14 @@ abbrev pub Fits : (width height : ℕ) → List Track → List Task → Type 0
 Fits width height [] tasks = tasks ≡ []
 Fits width height (track ∷ tracks) tasks =
     (task : Task) × (others : List Task) × (tasks ≡ task ∷ others) × Solves width height track task × Fits width height tracks others
+
+-- there are k agents, and each solves the task of its number; tasks after the first k are nobody's
+pub record FitsFirst (width height : ℕ) (tracks : List Track) (tasks : List Task) (k : ℕ) : Type 0 where
+  pub agents : length tracks ≡ k
+  pub enough : k ≤ length tasks
+  pub fits : Fits width height tracks (take k tasks)
+
+-- there are an agent and a task with the number, and the agent solves the task
+abbrev pub SolvesAt : (width height : ℕ) → List Track → List Task → ℕ → Type 0
+SolvesAt width height tracks tasks i =
+    (track : Track) × (task : Task) × (slice_get tracks i ≡ Some track) × (slice_get tasks i ≡ Some task) × Solves width height track task

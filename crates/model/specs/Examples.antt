@@ -9,9 +9,9 @@ use Rattle.grid.specs.Map.{Grid}
 use Rattle.model.specs.declared.act.Act.{Act}
 use Rattle.model.specs.declared.act.Act.TheVariants.{N, E, S, W, Wait}
 use Rattle.model.specs.declared.plan_fault.PlanFault.TheVariants.{BadStart, BadMove, Vertex, Swap}
-use Rattle.model.specs.Timetable.{Track, Timetable, moves}
-use Rattle.model.specs.Plan.{Course, Plan, HasFault, IsValid, key_of, IsBefore, IsTimetableOf}
-use Rattle.model.specs.Costs.{sum_of_costs, makespan, Task, Fits}
+use Rattle.model.specs.Timetable.{Track, Timetable, moves, IsConflictFree, IsSwapFree}
+use Rattle.model.specs.Plan.{Course, Plan, HasPlanFault, IsValid, key_of, IsBefore, IsTrackOf, IsTimetableOf}
+use Rattle.model.specs.Costs.{sum_of_costs, makespan, Task, Fits, FitsFirst}
 use Rattle.model.specs.Dependency.{Need, need, IsVisit, IsRotation}
 use Rattle.model.specs.History.{Answer, moving, arrived, said, heard, at, between, armed, refused, History}
 use Rattle.model.specs.Rules.{answer}
@@ -30,7 +30,7 @@ answers tt events = answers_after tt [] events
 -- ---- two agents in a row of three cells: the first goes from the middle to the east and stays, the second follows into the middle
 
 abbrev pub leader : Track
-leader = record { start = cell 1 0; later = cell 2 0 ∷ cell 2 0 ∷ [] }
+leader = record { start = cell 1 0; later = cell 2 0 ∷ [] }
 
 abbrev pub follower : Track
 follower = record { start = cell 0 0; later = cell 1 0 ∷ [] }
@@ -96,6 +96,7 @@ leaving = plan (course 0 (W ∷ []) ∷ [])
 abbrev pub outside : Plan
 outside = plan (course 3 [] ∷ [])
 
+-- the first waits at its end, and the second begins at once
 abbrev pub following_plan : Plan
 following_plan = plan (course 1 (E ∷ Wait ∷ []) ∷ course 0 (E ∷ []) ∷ [])
 
@@ -109,17 +110,37 @@ turning_plan = plan (record { start = cell 0 0; acts = E ∷ [] } ∷ record { s
 abbrev pub Faults : Type 0
 Faults =
     -- each enters the cell that the other leaves, and they are never in one
-    HasFault ground_of_row swapping (Swap 0 1 0) × ((t : ℕ) (c : Cell) → HasFault ground_of_row swapping (Vertex 0 1 t c) → ⊥)
+    HasPlanFault ground_of_row swapping (Swap 0 1 0) × ((t : ℕ) (c : Cell) → HasPlanFault ground_of_row swapping (Vertex 0 1 t c) → ⊥)
     -- also past the end of the shorter course
-    × HasFault ground_of_row bumping (Vertex 0 1 2 (cell 0 0))
+    × HasPlanFault ground_of_row bumping (Vertex 0 1 2 (cell 0 0))
     -- a swap and a vertex conflict of one time: the vertex conflict is before the swap, whatever agents they are of
-    × HasFault ground_of_row crowding (Swap 0 1 0) × HasFault ground_of_row crowding (Vertex 0 2 1 (cell 1 0))
+    × HasPlanFault ground_of_row crowding (Swap 0 1 0) × HasPlanFault ground_of_row crowding (Vertex 0 2 1 (cell 1 0))
     × IsBefore (key_of (Vertex 0 2 1 (cell 1 0))) (key_of (Swap 0 1 0))
-    × HasFault ground_of_row leaving (BadMove 0 0) × HasFault ground_of_row outside (BadStart 0)
+    × HasPlanFault ground_of_row leaving (BadMove 0 0) × HasPlanFault ground_of_row outside (BadStart 0)
     -- an agent may enter the cell that another leaves
     × IsValid ground_of_row following_plan × IsTimetableOf following_plan row
     -- and four may turn round
     × IsValid ground_of_square turning_plan × IsTimetableOf turning_plan square
+
+-- the leader's track with the wait at its end
+abbrev pub resting_leader : Track
+resting_leader = record { start = cell 1 0; later = cell 2 0 ∷ cell 2 0 ∷ [] }
+
+-- a follower that waits first
+abbrev pub late_follower : Track
+late_follower = record { start = cell 0 0; later = cell 0 0 ∷ cell 1 0 ∷ [] }
+
+-- two that exchange cells
+abbrev pub exchange : Timetable
+exchange = record { number = 7; tracks = turning (cell 0 0) (cell 1 0) ∷ turning (cell 1 0) (cell 0 0) ∷ [] }
+
+abbrev pub Timetables : Type 0
+Timetables =
+    -- a wait at the end is left out, and one before a move isn't
+    IsTrackOf (course 1 (E ∷ Wait ∷ [])) leader × (IsTrackOf (course 1 (E ∷ Wait ∷ [])) resting_leader → ⊥)
+    × IsTrackOf (course 0 (Wait ∷ E ∷ [])) late_follower
+    -- two that exchange cells are never in one
+    × IsTimetableOf swapping exchange × IsConflictFree exchange × (IsSwapFree exchange → ⊥)
 
 -- four agents that turn round are a rotation, and one that follows another is none
 abbrev pub Rotations : Type 0
@@ -145,17 +166,27 @@ needs agent count = Some (record { agent = agent; count = count })
 abbrev task : Cell → Cell → Task
 task start goal = record { width = 3; height = 1; start = start; goal = goal }
 
-abbrev first_task : Task
+abbrev pub first_task : Task
 first_task = task (cell 1 0) (cell 2 0)
 
-abbrev second_task : Task
+abbrev pub second_task : Task
 second_task = task (cell 0 0) (cell 1 0)
+
+-- nobody in the row solves it
+abbrev third_task : Task
+third_task = task (cell 2 0) (cell 2 0)
 
 -- the leader and the follower solve their tasks, not each other's, and not one alone
 abbrev pub Tasks : Type 0
 Tasks =
     Fits 3 1 row.tracks (first_task ∷ second_task ∷ []) × (Fits 3 1 row.tracks (second_task ∷ first_task ∷ []) → ⊥)
     × (Fits 3 1 row.tracks (first_task ∷ []) → ⊥) × (Fits 3 2 row.tracks (first_task ∷ second_task ∷ []) → ⊥)
+    -- of more tasks they solve the first two, and are neither one agent nor three
+    × FitsFirst 3 1 row.tracks (first_task ∷ second_task ∷ third_task ∷ []) 2
+    × (FitsFirst 3 1 row.tracks (first_task ∷ second_task ∷ third_task ∷ []) 1 → ⊥)
+    × (FitsFirst 3 1 row.tracks (first_task ∷ second_task ∷ third_task ∷ []) 3 → ⊥)
+    -- one task is not two
+    × (FitsFirst 3 1 row.tracks (first_task ∷ []) 2 → ⊥)
 
 -- who comes into the middle of the row, the leader at the start and the follower at time 1
 abbrev pub Visits : Type 0

@@ -1,11 +1,23 @@
--- The definitions that the contracts cite.
+-- What has to be believed, in the order in which to read it: each law of the crate, and each promise of the crates above that
+-- speaks of plans and runs, is made in these words.
+
+-- who stands where and when: tracks, paths, moves and their steps
 pub mod Timetable
-pub mod Plan
+-- what a plan costs, when its tracks end at rest, and when it solves given tasks
 pub mod Costs
+-- what a plan is, which faults it has, and when it is valid
+pub mod Plan
+-- which move waits for which: needs, visits and rotations
 pub mod Dependency
+-- what a message tells, and its bytes
 pub mod Messages
+-- what has happened in a run, and what follows from it
 pub mod History
+-- a reply as the answer that it gives
 pub mod Replies
+-- what each event is answered with, and what a run is
 pub mod Rules
+-- what an agent holds and where it walked, and when a run is safe
 pub mod Safety
+-- small plans and runs, and what has to come out
 pub mod Examples

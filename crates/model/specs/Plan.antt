@@ -8,14 +8,15 @@ use Rattle.model.specs.declared.act.Act.TheVariants.{N, E, S, W, Wait}
 use Rattle.model.specs.declared.plan_fault.PlanFault.{PlanFault}
 use Rattle.model.specs.declared.plan_fault.PlanFault.TheVariants.{BadStart, BadMove, Vertex, Swap, OutOfMemory}
 use Rattle.model.specs.Timetable.{Track, Timetable, cell_at}
+use Rattle.model.specs.Costs.{EndsAtRest}
 
 -- a cell, or a place off the map
-pub record Place : Type 0 where
+pub record Position : Type 0 where
   pub x : ℤ
   pub y : ℤ
 
-abbrev pub place_of : Cell → Place
-place_of c = record { x = pos c.x; y = pos c.y }
+abbrev pub position_of : Cell → Position
+position_of c = record { x = pos c.x; y = pos c.y }
 
 -- an agent's start and its acts
 pub record Course : Type 0 where
@@ -27,7 +28,7 @@ pub record Plan : Type 0 where
   pub courses : List Course
 
 -- x grows to the east, y to the south
-abbrev pub moved : Act → Place → Place
+abbrev pub moved : Act → Position → Position
 moved N p = record { x = p.x; y = p.y -ℤ pos 1 }
 moved E p = record { x = p.x +ℤ pos 1; y = p.y }
 moved S p = record { x = p.x; y = p.y +ℤ pos 1 }
@@ -35,52 +36,52 @@ moved W p = record { x = p.x -ℤ pos 1; y = p.y }
 moved Wait p = p
 
 -- where the first so many acts lead; after the last the agent stays
-abbrev pub place_after : Place → List Act → ℕ → Place
-place_after p [] t = p
-place_after p (a ∷ acts) zero = p
-place_after p (a ∷ acts) (suc t) = place_after (moved a p) acts t
+abbrev pub position_after : Position → List Act → ℕ → Position
+position_after p [] t = p
+position_after p (a ∷ acts) zero = p
+position_after p (a ∷ acts) (suc t) = position_after (moved a p) acts t
 
-abbrev pub place_at : Course → ℕ → Place
-place_at course t = place_after (place_of course.start) course.acts t
+abbrev pub position_at : Course → ℕ → Position
+position_at course t = position_after (position_of course.start) course.acts t
 
 abbrev pub course_of : Plan → ℕ → Option Course
 course_of p i = slice_get p.courses i
 
 -- where an agent that there is stands at a time
-abbrev pub IsAt : Plan → ℕ → ℕ → Place → Type 0
-IsAt p i t place = MatchOption (course_of p i) ⊥ (λ course. place_at course t ≡ place)
+abbrev pub IsAt : Plan → ℕ → ℕ → Position → Type 0
+IsAt p i t place = MatchOption (course_of p i) ⊥ (λ course. position_at course t ≡ place)
 
 -- ---- faults
 
 -- the cell is on the map and isn't blocked
-abbrev pub IsOpen : Grid → Cell → Type 0
-IsOpen m c = MatchOption (terrain_at m c) ⊥ (λ terrain. class_of terrain ≢ blocked)
+abbrev pub IsPassable : Grid → Cell → Type 0
+IsPassable m c = MatchOption (terrain_at m c) ⊥ (λ terrain. class_of terrain ≢ blocked)
 
 -- a legal straight step leads from the one place to the other
-pub record IsLegal (m : Grid) (from to : Place) : Type 0 where
+pub record IsLegal (m : Grid) (from to : Position) : Type 0 where
   pub u : Cell
   pub v : Cell
-  pub is_from : place_of u ≡ from
-  pub is_to : place_of v ≡ to
+  pub is_from : position_of u ≡ from
+  pub is_to : position_of v ≡ to
   pub step : IsStraightStep m u v
 
 -- the act of the step is no wait, and leads by no legal step
 abbrev pub IsBadMove : Grid → Course → ℕ → Type 0
 IsBadMove m course step =
-    MatchOption (slice_get course.acts step) ⊥ (λ act. (act ≢ Wait) × (IsLegal m (place_at course step) (place_at course (step + 1)) → ⊥))
+    MatchOption (slice_get course.acts step) ⊥ (λ act. (act ≢ Wait) × (IsLegal m (position_at course step) (position_at course (step + 1)) → ⊥))
 
 -- the fault is one of the plan
-abbrev pub HasFault : Grid → Plan → PlanFault → Type 0
-HasFault m p (BadStart i) = MatchOption (course_of p i) ⊥ (λ course. IsOpen m course.start → ⊥)
-HasFault m p (BadMove i step) = MatchOption (course_of p i) ⊥ (λ course. IsBadMove m course step)
-HasFault m p (Vertex i j time cell) = (i < j) × IsAt p i time (place_of cell) × IsAt p j time (place_of cell)
-HasFault m p (Swap i j step) =
-    (i < j) × (u : Place) × (v : Place) × (u ≢ v) × IsAt p i step u × IsAt p i (step + 1) v × IsAt p j step v × IsAt p j (step + 1) u
-HasFault m p OutOfMemory = ⊥
+abbrev pub HasPlanFault : Grid → Plan → PlanFault → Type 0
+HasPlanFault m p (BadStart i) = MatchOption (course_of p i) ⊥ (λ course. IsPassable m course.start → ⊥)
+HasPlanFault m p (BadMove i step) = MatchOption (course_of p i) ⊥ (λ course. IsBadMove m course step)
+HasPlanFault m p (Vertex i j time cell) = (i < j) × IsAt p i time (position_of cell) × IsAt p j time (position_of cell)
+HasPlanFault m p (Swap i j step) =
+    (i < j) × (u : Position) × (v : Position) × (u ≢ v) × IsAt p i step u × IsAt p i (step + 1) v × IsAt p j step v × IsAt p j (step + 1) u
+HasPlanFault m p OutOfMemory = ⊥
 
 -- no agent and no pair of agents has a fault at any time
 abbrev pub IsValid : Grid → Plan → Type 0
-IsValid m p = (fault : PlanFault) → HasFault m p fault → ⊥
+IsValid m p = (fault : PlanFault) → HasPlanFault m p fault → ⊥
 
 -- ---- the least fault
 
@@ -108,8 +109,8 @@ IsBefore a b =
 
 -- the plan has the fault, and none before it
 pub record IsLeastFault (m : Grid) (p : Plan) (fault : PlanFault) : Type 0 where
-  pub has : HasFault m p fault
-  pub first : (other : PlanFault) → HasFault m p other → IsBefore (key_of other) (key_of fault) → ⊥
+  pub has : HasPlanFault m p fault
+  pub first : (other : PlanFault) → HasPlanFault m p other → IsBefore (key_of other) (key_of fault) → ⊥
 
 -- the greatest number of acts
 abbrev pub longest_of : List Course → ℕ
@@ -118,10 +119,10 @@ longest_of (course ∷ courses) = max (length course.acts) (longest_of courses)
 
 -- ---- the timetable of a plan that stays on its map
 
--- the track has the course's places, one for each act and the start
+-- the track has the course's places, and leaves out what the agent waits after it has come to rest
 pub record IsTrackOf (course : Course) (track : Track) : Type 0 where
-  pub count : length track.later ≡ length course.acts
-  pub places : (t : ℕ) → place_of (cell_at track t) ≡ place_at course t
+  pub at_rest : EndsAtRest track
+  pub places : (t : ℕ) → position_of (cell_at track t) ≡ position_at course t
 
 abbrev pub AreTracksOf : List Course → List Track → Type 0
 AreTracksOf [] tracks = tracks ≡ []

@@ -1,6 +1,6 @@
 -- Who stands where and when, by a plan that stays on its map (Stern et al. 2019, "Problem definition": a single-agent plan, and
 -- an agent that stays at its target).
-use Rattle.std.specs.Prelude.{◌≡◌, ℕ, ◌+◌, ◌-◌, ◌&&◌, ◌==◌, zero, suc, Bool, if◌then◌else◌, List, [], ◌∷◌, length, Option, MatchOption, slice_get}
+use Rattle.std.specs.Prelude.{◌≡◌, ◌≢◌, ℕ, ◌+◌, ◌-◌, ◌&&◌, ◌==◌, zero, suc, Bool, if◌then◌else◌, List, [], ◌∷◌, length, Option, MatchOption, slice_get}
 use Rattle.grid.specs.declared.cell.Cell.{Cell}
 
 -- an agent's cell at time 0, and at each time after that
@@ -69,3 +69,8 @@ Stands tt i t c = MatchOption (track_of tt i) ⊥ (λ track. cell_at track t ≡
 -- no two agents are ever in one cell (Stern et al. 2019, "Vertex conflict")
 abbrev pub IsConflictFree : Timetable → Type 0
 IsConflictFree tt = (i j t : ℕ) (c : Cell) → Stands tt i t c → Stands tt j t c → i ≡ j
+
+-- no two agents ever exchange cells in a step (Stern et al. 2019, "Swapping conflict")
+abbrev pub IsSwapFree : Timetable → Type 0
+IsSwapFree tt =
+    (i j t : ℕ) (u v : Cell) → u ≢ v → Stands tt i t u → Stands tt i (t + 1) v → Stands tt j t v → Stands tt j (t + 1) u → ⊥

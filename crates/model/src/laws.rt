@@ -1,17 +1,17 @@
 //! What the definitions mean: laws, which hold of all timetables and all runs, and need no code.
-ghost use Rattle.std.specs.Prelude.{◌≡◌, ℕ, ◌+◌, ◌<◌, ◌≤◌, ◌++◌, List, Some, map, slice_get};
+ghost use Rattle.std.specs.Prelude.{◌≡◌, ℕ, ◌+◌, ◌<◌, ◌≤◌, ◌↔◌, ◌++◌, false, List, length, Some, map, slice_get};
 ghost use Rattle.grid.specs.declared.cell.Cell.{Cell};
 ghost use Rattle.grid.specs.Map.{Grid};
 ghost use Rattle.model.specs.declared.event.Event.{Event};
 ghost use Rattle.model.specs.declared.plan_fault.PlanFault.{PlanFault};
-ghost use Rattle.model.specs.Timetable.{Track, Timetable, moves, moves_before, track_of, IsConflictFree};
-ghost use Rattle.model.specs.Plan.{Plan, HasFault, IsValid, key_of, IsLeastFault, longest_of, IsTimetableOf};
+ghost use Rattle.model.specs.Timetable.{Track, Timetable, moves, moves_before, track_of, Stands, IsConflictFree, IsSwapFree};
+ghost use Rattle.model.specs.Plan.{Course, Plan, HasPlanFault, IsValid, key_of, IsLeastFault, longest_of, IsTrackOf, IsTimetableOf};
 ghost use Rattle.model.specs.Dependency.{last_stand, need, IsLastStand, IsNeed, IsVisit, HasEnded, IsRotation};
-ghost use Rattle.model.specs.History.{History, kept_starts, done, known};
+ghost use Rattle.model.specs.History.{History, kept_starts, done, is_moving, known};
 ghost use Rattle.model.specs.Rules.{IsRun};
 ghost use Rattle.model.specs.Safety.{IsSafe};
-ghost use Rattle.model.specs.Costs.{cost, IsCost};
-ghost use Rattle.model.specs.Examples.{Faults, Rotations, Costs, Tasks, Visits, Dependencies, Runs};
+ghost use Rattle.model.specs.Costs.{cost, IsCost, AllEndAtRest, Task, FitsFirst, SolvesAt};
+ghost use Rattle.model.specs.Examples.{Faults, Timetables, Rotations, Costs, Tasks, Visits, Dependencies, Runs};
 
 /// A plan has one least fault at the most, and that is not past the end of the longest course.
 pub fn least_faults()
@@ -19,11 +19,17 @@ pub fn least_faults()
     ensures in_time { (m : Grid) (p : Plan) (f : PlanFault) → IsLeastFault m p f → (key_of f).time ≤ longest_of p.courses }
 {}
 
-/// A valid plan has one timetable, and no two agents are ever in one cell of it.
+/// A valid plan has one timetable, in which no two agents are ever in one cell or exchange cells. Its tracks end where the agents
+/// come to rest, no later than the acts do, so that it is known by its number and by who stands where and when.
 pub fn timetables()
     ensures some { (m : Grid) (p : Plan) → IsValid m p → (tt : Timetable) × IsTimetableOf p tt }
     ensures one { (p : Plan) (tt other : Timetable) → IsTimetableOf p tt → IsTimetableOf p other → tt ≡ other }
     ensures conflict_free { (m : Grid) (p : Plan) (tt : Timetable) → IsValid m p → IsTimetableOf p tt → IsConflictFree tt }
+    ensures swap_free { (m : Grid) (p : Plan) (tt : Timetable) → IsValid m p → IsTimetableOf p tt → IsSwapFree tt }
+    ensures at_rest { (p : Plan) (tt : Timetable) → IsTimetableOf p tt → AllEndAtRest tt }
+    ensures no_longer { (course : Course) (track : Track) → IsTrackOf course track → length track.later ≤ length course.acts }
+    ensures same_positions { (tt other : Timetable) → AllEndAtRest tt → AllEndAtRest other → tt.number ≡ other.number
+        → length tt.tracks ≡ length other.tracks → ((i t : ℕ) (c : Cell) → Stands tt i t c → Stands other i t c) → tt ≡ other }
 {}
 
 /// Each list of events, the newest first, has exactly one run.
@@ -37,10 +43,13 @@ pub fn every_run_is_safe()
     ensures { (tt : Timetable) (later earlier : History) → IsConflictFree tt → IsRun tt (later ++ earlier) → IsSafe tt earlier }
 {}
 
-/// What an agent has finished stays finished, and no other knows more of it than it has finished.
+/// What an agent has finished stays finished, and no other knows more of it than it has finished. In a run it has begun what it has
+/// finished and at most one move more, and no more where it isn't moving.
 pub fn counters()
     ensures never_falls { (later earlier : History) (i : ℕ) → done earlier i ≤ done (later ++ earlier) i }
     ensures known { (h : History) (i j : ℕ) → known h i j ≤ done h j }
+    ensures in_step { (tt : Timetable) (h : History) (i : ℕ) → IsRun tt h → (done h i ≤ kept_starts h i) × (kept_starts h i ≤ done h i + 1) }
+    ensures still { (tt : Timetable) (h : History) (i : ℕ) → IsRun tt h → is_moving h i ≡ false → kept_starts h i ≡ done h i }
 {}
 
 /// A move of a rotation is never begun: its number is not among those of the begun moves.
@@ -64,15 +73,24 @@ pub fn needs()
     ensures need { (tt : Timetable) (i k : ℕ) (track : Track) → k < moves track → IsNeed tt i track k (need tt i track k) }
 {}
 
-/// `cost` is the least time from which the agent stays for ever.
+/// `cost` is the least time from which the agent stays for ever, and the agent makes no more moves than that.
 pub fn costs()
     ensures cost { (track : Track) → IsCost track (cost track) }
     ensures one { (track : Track) (s t : ℕ) → IsCost track s → IsCost track t → s ≡ t }
+    ensures moves { (track : Track) → moves track ≤ cost track }
+{}
+
+/// The first k tasks are fitted exactly where there are k agents and at least k tasks, and each agent solves the task of its number.
+pub fn tasks()
+    ensures { (width height : ℕ) (tracks : List Track) (tasks : List Task) (k : ℕ)
+        → FitsFirst width height tracks tasks k
+        ↔ ((length tracks ≡ k) × (k ≤ length tasks) × ((i : ℕ) → i < k → SolvesAt width height tracks tasks i)) }
 {}
 
 /// The examples are what the definitions say.
 pub fn examples()
     ensures faults { Faults }
+    ensures timetables { Timetables }
     ensures rotations { Rotations }
     ensures costs { Costs }
     ensures tasks { Tasks }

@@ -8,8 +8,8 @@ use Rattle.scen.specs.declared.scen_fault.ScenFault.TheVariants.{NoVersion, Fiel
 use Rattle.scen.specs.Fields.{content_of, fields_in_content, fields_of, has_bytes}
 use Rattle.scen.specs.Query.{Query}
 use Rattle.scen.specs.ScenText.{IsShort, IsSkipped, IsVersion, SpellsRow}
-use Rattle.scen.specs.ScenFault.{Due, version_due, rows_due, Follows, Fields, all_fields, HasFields, wrong_number, is_in_grid, HasFault}
-use Rattle.scen.specs.Parsing.{is_listed, is_version, query_of}
+use Rattle.scen.specs.ScenFault.{ScenDue, version_due, row_due, ScenFollows, Fields, all_fields, HasFields, wrong_number, is_in_grid, HasScenFault}
+use Rattle.scen.specs.Code.Parsing.{is_listed, is_version, query_of}
 use Rattle.scen.proofs.ListedLemmas.{spells-from_test, test-from_spells}
 use Rattle.scen.proofs.RowLemmas.{SpellsRow-from_fields, fields_read, fields-from_row}
 use Rattle.scen.proofs.VersionLemmas.{IsVersion-from_test, test-from_IsVersion}
@@ -57,14 +57,14 @@ fault_of_fields number None = Some (FieldCount number)
 fault_of_fields number (Some f) = fault_after number f (wrong_number f)
 
 -- the fault of a line that is not too long, where it is over, if it has one
-abbrev pub line_fault : Due → ℕ → List ℕ → Option ScenFault
+abbrev pub line_fault : ScenDue → ℕ → List ℕ → Option ScenFault
 line_fault version_due number line = cond (has_bytes (content_of line)) (cond (is_version (content_of line)) None (Some NoVersion)) None
-line_fault rows_due number line = cond (has_bytes (content_of line)) (fault_of_fields number (nine (fields_of line))) None
+line_fault row_due number line = cond (has_bytes (content_of line)) (fault_of_fields number (nine (fields_of line))) None
 
 -- what is due after a right line
-abbrev pub line_next : Due → List ℕ → Due
-line_next version_due line = cond (has_bytes (content_of line)) rows_due version_due
-line_next rows_due line = rows_due
+abbrev pub line_next : ScenDue → List ℕ → ScenDue
+line_next version_due line = cond (has_bytes (content_of line)) row_due version_due
+line_next row_due line = row_due
 
 -- the row of nine fields
 abbrev pub rows_of_fields : Option Fields → List Query
@@ -72,9 +72,9 @@ rows_of_fields None = []
 rows_of_fields (Some f) = query_of f ∷ []
 
 -- the row of a line, or none
-abbrev pub line_rows : Due → List ℕ → List Query
+abbrev pub line_rows : ScenDue → List ℕ → List Query
 line_rows version_due line = []
-line_rows rows_due line = cond (has_bytes (content_of line)) (rows_of_fields (nine (fields_of line))) []
+line_rows row_due line = cond (has_bytes (content_of line)) (rows_of_fields (nine (fields_of line))) []
 
 -- ---- contents
 
@@ -111,24 +111,24 @@ row_some q line h =
 -- ---- right lines
 
 -- What a right line says: it is not too long, has no fault, and leads to the next line.
-pub record IsRight (due : Due) (number : ℕ) (line : List ℕ) (next : Due) : Type 0 where
+pub record IsRight (due : ScenDue) (number : ℕ) (line : List ℕ) (next : ScenDue) : Type 0 where
   pub short : IsShort line
   pub none : line_fault due number line ≡ None
   pub next_is : next ≡ line_next due line
 
-pub skipped_right : (due : Due) (number : ℕ) (line : List ℕ) → IsSkipped line → (line_fault due number line ≡ None) × (due ≡ line_next due line)
+pub skipped_right : (due : ScenDue) (number : ℕ) (line : List ℕ) → IsSkipped line → (line_fault due number line ≡ None) × (due ≡ line_next due line)
 skipped_right version_due number line h =
     let empty = empty-test line h.1 in
     (cond-false _ _ _ empty, sym (cond-false _ _ _ empty))
-skipped_right rows_due number line h = (cond-false _ _ _ (empty-test line h.1), refl)
+skipped_right row_due number line h = (cond-false _ _ _ (empty-test line h.1), refl)
 
 -- a skipped line has no row
-pub skipped_rows : (line : List ℕ) → IsSkipped line → line_rows rows_due line ≡ []
+pub skipped_rows : (line : List ℕ) → IsSkipped line → line_rows row_due line ≡ []
 skipped_rows line h = cond-false _ _ _ (empty-test line h.1)
 
 -- a row has no fault
 pub row_right : (number : ℕ) (q : Query) (line : List ℕ) → SpellsRow q line
-    → (line_fault rows_due number line ≡ None) × (line_rows rows_due line ≡ q ∷ [])
+    → (line_fault row_due number line ≡ None) × (line_rows row_due line ≡ q ∷ [])
 row_right number q line h =
     let read = fields-from_row q line h in
     let some = row_some q line h in
@@ -139,7 +139,7 @@ row_right number q line h =
       cond-true _ _ _ some ∙ (ap rows_of_fields nine_is ∙ ap (λ x. x ∷ []) (sym read.row)),
     )
 
-pub right-from_Follows : (due : Due) (number : ℕ) (line : List ℕ) (next : Due) → Follows due line next → IsRight due number line next
+pub right-from_Follows : (due : ScenDue) (number : ℕ) (line : List ℕ) (next : ScenDue) → ScenFollows due line next → IsRight due number line next
 right-from_Follows version_due number line next (inl h) =
     let right = skipped_right version_due number line h.0 in
     record { short = h.0.0; none = right.0; next_is = h.1 ∙ right.1 }
@@ -150,12 +150,12 @@ right-from_Follows version_due number line next (inr h) =
       none = cond-true _ _ _ some ∙ cond-true _ _ _ (test-from_IsVersion line h.0);
       next_is = h.1 ∙ sym (cond-true _ _ _ some);
     }
-right-from_Follows rows_due number line next (inl skipped, e) = record {
+right-from_Follows row_due number line next (inl skipped, e) = record {
   short = skipped.0;
-  none = (skipped_right rows_due number line skipped).0;
+  none = (skipped_right row_due number line skipped).0;
   next_is = e;
 }
-right-from_Follows rows_due number line next (inr row, e) = record {
+right-from_Follows row_due number line next (inr row, e) = record {
   short = row.1.short;
   none = (row_right number row.0 line row.1).0;
   next_is = e;
@@ -201,29 +201,29 @@ fields_right number line is short (Some f) e none = elim (nine_cases (fields_of 
             )
 
 -- what a line without a fault is where rows are due
-pub row_line-cases : (number : ℕ) (line : List ℕ) → IsLine line → IsShort line → line_fault rows_due number line ≡ None
-    → (IsSkipped line × (line_rows rows_due line ≡ [])) ⊎ ((q : Query) × SpellsRow q line × (line_rows rows_due line ≡ q ∷ []))
+pub row_line-cases : (number : ℕ) (line : List ℕ) → IsLine line → IsShort line → line_fault row_due number line ≡ None
+    → (IsSkipped line × (line_rows row_due line ≡ [])) ⊎ ((q : Query) × SpellsRow q line × (line_rows row_due line ≡ q ∷ []))
 row_line-cases number line is short none = go (has_bytes (content_of line)) refl
   where
     go : (t : Bool) → has_bytes (content_of line) ≡ t
-        → (IsSkipped line × (line_rows rows_due line ≡ [])) ⊎ ((q : Query) × SpellsRow q line × (line_rows rows_due line ≡ q ∷ []))
+        → (IsSkipped line × (line_rows row_due line ≡ [])) ⊎ ((q : Query) × SpellsRow q line × (line_rows row_due line ≡ q ∷ []))
     go false e = inl ((short, empty-from_test line e), cond-false _ _ _ e)
     go true e =
         let right = fields_right number line is short (nine (fields_of line)) refl (sym (cond-true _ _ _ e) ∙ none) in
         inr (query_of right.0, right.2, cond-true _ _ _ e ∙ ap rows_of_fields right.1)
 
-pub Follows-from_none : (due : Due) (number : ℕ) (line : List ℕ) → IsLine line → IsShort line → line_fault due number line ≡ None
-    → Follows due line (line_next due line)
-Follows-from_none version_due number line is short none = go (has_bytes (content_of line)) refl
+pub ScenFollows-from_none : (due : ScenDue) (number : ℕ) (line : List ℕ) → IsLine line → IsShort line → line_fault due number line ≡ None
+    → ScenFollows due line (line_next due line)
+ScenFollows-from_none version_due number line is short none = go (has_bytes (content_of line)) refl
   where
-    go : (t : Bool) → has_bytes (content_of line) ≡ t → Follows version_due line (line_next version_due line)
+    go : (t : Bool) → has_bytes (content_of line) ≡ t → ScenFollows version_due line (line_next version_due line)
     go false e = inl ((short, empty-from_test line e), cond-false _ _ _ e)
     go true e = version (is_version (content_of line)) refl
       where
-        version : (t : Bool) → is_version (content_of line) ≡ t → Follows version_due line (line_next version_due line)
+        version : (t : Bool) → is_version (content_of line) ≡ t → ScenFollows version_due line (line_next version_due line)
         version true v = inr (IsVersion-from_test line short v, cond-true _ _ _ e)
         version false v = absurd (let bad = sym (cond-false _ _ _ v) ∙ (sym (cond-true _ _ _ e) ∙ none) in cc)
-Follows-from_none rows_due number line is short none = elim (row_line-cases number line is short none) [
+ScenFollows-from_none row_due number line is short none = elim (row_line-cases number line is short none) [
   | inl skipped ↦ (inl skipped.0, refl)
   | inr row ↦ (inr (row.0, row.1), refl)
 ]
@@ -231,8 +231,8 @@ Follows-from_none rows_due number line is short none = elim (row_line-cases numb
 -- ---- faults
 
 -- what a fault says of a line that is over: it is found in the line, or no version came up to the end
-pub fault-from_HasFault : (fault : ScenFault) (place : Place) (due : Due) (number : ℕ) (line : List ℕ) → IsOver place
-    → HasFault fault place due number line
+pub fault-from_HasFault : (fault : ScenFault) (place : Place) (due : ScenDue) (number : ℕ) (line : List ℕ) → IsOver place
+    → HasScenFault fault place due number line
     → IsShort line
     × ((line_fault due number line ≡ Some fault) ⊎ ((place ≡ at_end) × (fault ≡ NoVersion) × (due ≡ version_due) × (content_of line ≡ [])))
 fault-from_HasFault NoVersion place due number line over (is_due, short, inl h) = (
@@ -281,23 +281,23 @@ fault-from_HasFault ReadFailed place due number line over h = absurd h
 fault-from_HasFault OutOfMemory place due number line over h = absurd h
 
 -- a fault that is found in a line stands wherever the line is over
-pub HasFault-from_found : (due : Due) (number : ℕ) (line : List ℕ) (fault : ScenFault) (place : Place) → IsShort line → IsOver place
-    → line_fault due number line ≡ Some fault → HasFault fault place due number line
-HasFault-from_found version_due number line fault place short over found = go (has_bytes (content_of line)) refl
+pub HasScenFault-from_found : (due : ScenDue) (number : ℕ) (line : List ℕ) (fault : ScenFault) (place : Place) → IsShort line → IsOver place
+    → line_fault due number line ≡ Some fault → HasScenFault fault place due number line
+HasScenFault-from_found version_due number line fault place short over found = go (has_bytes (content_of line)) refl
   where
-    go : (t : Bool) → has_bytes (content_of line) ≡ t → HasFault fault place version_due number line
+    go : (t : Bool) → has_bytes (content_of line) ≡ t → HasScenFault fault place version_due number line
     go false e = absurd (let bad = sym (cond-false _ _ _ e) ∙ found in cc)
     go true e = version (is_version (content_of line)) refl
       where
-        version : (t : Bool) → is_version (content_of line) ≡ t → HasFault fault place version_due number line
+        version : (t : Bool) → is_version (content_of line) ≡ t → HasScenFault fault place version_due number line
         version true v = absurd (let bad = sym (cond-true _ _ _ v) ∙ (sym (cond-true _ _ _ e) ∙ found) in cc)
         version false v =
             let same : NoVersion ≡ fault = let both = sym (cond-false _ _ _ v) ∙ (sym (cond-true _ _ _ e) ∙ found) in cc in
-            subst (λ f. HasFault f place version_due number line) same
+            subst (λ f. HasScenFault f place version_due number line) same
             (refl, short, inl (over, some-from_test line e, λ h. both_ways (is_version (content_of line)) v (test-from_IsVersion line h)))
-HasFault-from_found rows_due number line fault place short over found = go (has_bytes (content_of line)) refl
+HasScenFault-from_found row_due number line fault place short over found = go (has_bytes (content_of line)) refl
   where
-    go : (t : Bool) → has_bytes (content_of line) ≡ t → HasFault fault place rows_due number line
+    go : (t : Bool) → has_bytes (content_of line) ≡ t → HasScenFault fault place row_due number line
     go false e = absurd (let bad = sym (cond-false _ _ _ e) ∙ found in cc)
     go true e = fields (nine_cases (fields_of line)) (sym (cond-true _ _ _ e) ∙ found)
       where
@@ -305,33 +305,33 @@ HasFault-from_found rows_due number line fault place short over found = go (has_
         some = some-from_test line e
 
         fields : ((f : Fields) × (fields_of line ≡ all_fields f) × (nine (fields_of line) ≡ Some f)) ⊎ ((length (fields_of line) ≢ 9) × (nine (fields_of line) ≡ None))
-            → fault_of_fields number (nine (fields_of line)) ≡ Some fault → HasFault fault place rows_due number line
+            → fault_of_fields number (nine (fields_of line)) ≡ Some fault → HasScenFault fault place row_due number line
         fields (inr other) h =
             let same : FieldCount number ≡ fault = let both = sym (ap (fault_of_fields number) other.1) ∙ h in cc in
-            subst (λ f. HasFault f place rows_due number line) same (refl, (over, refl, short, some), other.0)
+            subst (λ f. HasScenFault f place row_due number line) same (refl, (over, refl, short, some), other.0)
         fields (inl known) h = numbers (wrong_number known.0) refl (sym (ap (fault_of_fields number) known.2) ∙ h)
           where
             numbers : (wrong : Option ℕ) → wrong_number known.0 ≡ wrong → fault_after number known.0 (wrong_number known.0) ≡ Some fault
-                → HasFault fault place rows_due number line
+                → HasScenFault fault place row_due number line
             numbers (Some field) w k =
                 let same : BadNumber number field ≡ fault = let both = sym (ap (fault_after number known.0) w) ∙ k in cc in
-                subst (λ f. HasFault f place rows_due number line) same (refl, (over, refl, short, some), known.0, known.1, w)
+                subst (λ f. HasScenFault f place row_due number line) same (refl, (over, refl, short, some), known.0, known.1, w)
             numbers None w k = grid (is_in_grid known.0) refl (sym (ap (fault_after number known.0) w) ∙ k)
               where
                 grid : (t : Bool) → is_in_grid known.0 ≡ t
                     → cond (is_in_grid known.0) (cond (is_listed known.0.listed) None (Some (BadLength number))) (Some (OutOfGrid number)) ≡ Some fault
-                    → HasFault fault place rows_due number line
+                    → HasScenFault fault place row_due number line
                 grid false inside m =
                     let same : OutOfGrid number ≡ fault = let both = sym (cond-false _ _ _ inside) ∙ m in cc in
-                    subst (λ f. HasFault f place rows_due number line) same (refl, (over, refl, short, some), known.0, known.1, w, inside)
+                    subst (λ f. HasScenFault f place row_due number line) same (refl, (over, refl, short, some), known.0, known.1, w, inside)
                 grid true inside m = listed (is_listed known.0.listed) refl (sym (cond-true _ _ _ inside) ∙ m)
                   where
                     listed : (t : Bool) → is_listed known.0.listed ≡ t
-                        → cond (is_listed known.0.listed) None (Some (BadLength number)) ≡ Some fault → HasFault fault place rows_due number line
+                        → cond (is_listed known.0.listed) None (Some (BadLength number)) ≡ Some fault → HasScenFault fault place row_due number line
                     listed true l o = absurd (let bad = sym (cond-true _ _ _ l) ∙ o in cc)
                     listed false l o =
                         let same : BadLength number ≡ fault = let both = sym (cond-false _ _ _ l) ∙ o in cc in
-                        subst (λ f. HasFault f place rows_due number line) same (
+                        subst (λ f. HasScenFault f place row_due number line) same (
                           refl,
                           (over, refl, short, some),
                           known.0,

@@ -8,13 +8,13 @@ use Rattle.grid.specs.Counted.{counted_inner, failures_of}
 use Rattle.grid.specs.Source.{source_reader}
 use Rattle.grid.specs.Text.{IsLine, lines_of}
 use Rattle.grid.specs.Lines.{HasCome, LineEnded, InputEnded, LineTooLong as LongLineTaken, ReaderFailed}
-use Rattle.grid.specs.Reading.{Place, at_line_feed, at_byte, at_end, JudgedAt, line_number, ReadsText, is_fault}
+use Rattle.grid.specs.Reading.{by_input, Place, at_line_feed, at_byte, at_end, JudgedAt, line_number, ReadsText, is_fault}
 use Rattle.scen.specs.declared.scen_fault.ScenFault.{ScenFault}
 use Rattle.scen.specs.declared.scen_fault.ScenFault.TheVariants.{NoVersion, FieldCount, BadNumber, OutOfGrid, BadLength, ReadFailed, OutOfMemory, LineTooLong}
-use Rattle.scen.specs.Query.{Query, longest_line}
-use Rattle.scen.specs.ScenText.{ScenText}
-use Rattle.scen.specs.ScenFault.{Due, version_due, rows_due, Follows, Leads, HasFault, ScenFaultAt, scen_outcome}
-use Rattle.scen.specs.Parsing.{due_after, Adds, Refuses}
+use Rattle.scen.specs.Query.{Query, IsQuery, longest_line}
+use Rattle.scen.specs.ScenText.{AreQueries, ScenText}
+use Rattle.scen.specs.ScenFault.{ScenDue, version_due, row_due, ScenFollows, HasScenFault, ScenFaultAt, scen_outcome}
+use Rattle.scen.specs.Code.Parsing.{due_after, Adds, Refuses, ScenLeads}
 use Rattle.scen.proofs.JudgedLines.{line_next, line_rows, right-from_Follows, row_right, skipped_rows}
 use Rattle.scen.proofs.TextScanned.{rows_in, first_fault, first_fault-leads, Leads_push, rows_in_push, ScenText-from_none}
 use Rattle.scen.proofs.TextFaults.{Stands, none_decided}
@@ -23,18 +23,18 @@ abbrev pub AreLines : Type 0
 AreLines = (text : List ℕ) → AllByRecursion IsLine (lines_of text)
 
 abbrev pub Last : Type 0
-Last = (text : List ℕ) (before : List (List ℕ)) (line : List ℕ) → JudgedAt at_end before line text
+Last = (text : List ℕ) (before : List (List ℕ)) (line : List ℕ) → JudgedAt by_input at_end before line text
     → ((line ≡ []) × (lines_of text ≡ before)) ⊎ ((0 < length line) × (lines_of text ≡ before ++ line ∷ []))
 
 -- ---- one more line
 
 -- what is due after lines, and their rows
 abbrev pub ReadsUpTo : List (List ℕ) → Bool → List Query → Type 0
-ReadsUpTo lines has rows = Leads version_due lines (due_after has) × (rows ≡ rows_in version_due lines)
+ReadsUpTo lines has rows = ScenLeads version_due lines (due_after has) × (rows ≡ rows_in version_due lines)
 
 -- a line that was added follows
 follows : (has now : Bool) (old new : List Query) (line : List ℕ) → Adds has now old new line
-    → Follows (due_after has) line (due_after now) × (new ≡ old ++ line_rows (due_after has) line)
+    → ScenFollows (due_after has) line (due_after now) × (new ≡ old ++ line_rows (due_after has) line)
 follows false now old new line (inl (skipped, e), same) = (inl (skipped, ap due_after e), same ∙ sym (append-nil old))
 follows false now old new line (inr (version, e), same) = (inr (version, ap due_after e), same ∙ sym (append-nil old))
 follows true now old new line (e, inl (skipped, same)) =
@@ -52,13 +52,13 @@ reads_push before line has now old new h added =
     )
 
 -- an empty line changes nothing
-empty_next : (due : Due) → line_next due [] ≡ due
+empty_next : (due : ScenDue) → line_next due [] ≡ due
 empty_next version_due = refl
-empty_next rows_due = refl
+empty_next row_due = refl
 
-empty_rows : (due : Due) → line_rows due [] ≡ []
+empty_rows : (due : ScenDue) → line_rows due [] ≡ []
 empty_rows version_due = refl
-empty_rows rows_due = refl
+empty_rows row_due = refl
 
 -- all the lines of a text that ended
 pub reads_all : (text : List ℕ) (before : List (List ℕ)) (line : List ℕ) (has now : Bool) (old new : List Query)
@@ -68,7 +68,7 @@ reads_all text before line has now old new (inl (empty, lines)) h added =
     let more = follows has now old new line added in
     let right = right-from_Follows (due_after has) 0 line (due_after now) more.0 in
     let same : due_after now ≡ due_after has = right.next_is ∙ (ap (line_next (due_after has)) empty ∙ empty_next (due_after has)) in (
-      subst (λ xs. Leads version_due xs (due_after now)) (sym lines) (subst (Leads version_due before) (sym same) h.0),
+      subst (λ xs. ScenLeads version_due xs (due_after now)) (sym lines) (subst (ScenLeads version_due before) (sym same) h.0),
       more.1
           ∙ (ap (λ l. old ++ line_rows (due_after has) l) empty
           ∙ (ap (λ xs. old ++ xs) (empty_rows (due_after has)) ∙ (append-nil old ∙ (h.1 ∙ ap (rows_in version_due) (sym lines))))),
@@ -80,7 +80,7 @@ reads_all text before line has now old new (inr (some, lines)) h added =
 pub spelled : AreLines → (text : List ℕ) (rows : List Query) → ReadsUpTo (lines_of text) true rows → ScenText rows text
 spelled are text rows h =
     let none : first_fault version_due 0 (lines_of text) ≡ None =
-    ap (first_fault version_due 0) (sym (append-nil (lines_of text))) ∙ first_fault-leads version_due 0 (lines_of text) rows_due [] h.0 in
+    ap (first_fault version_due 0) (sym (append-nil (lines_of text))) ∙ first_fault-leads version_due 0 (lines_of text) row_due [] h.0 in
     subst (λ qs. ScenText qs text) (sym h.1) (ScenText-from_none text (are text) none)
 
 -- the fault of a text whose lines are right and end with the version due
@@ -100,12 +100,19 @@ last_line [] line h = h.0
 last_line (l ∷ before) line h = last_line before line h.1
 
 -- a line at the end of a text has no LF
-pub end_line : AreLines → (text : List ℕ) (before : List (List ℕ)) (line : List ℕ) → JudgedAt at_end before line text → IsLine line
+pub end_line : AreLines → (text : List ℕ) (before : List (List ℕ)) (line : List ℕ) → JudgedAt by_input at_end before line text → IsLine line
 end_line are text before line (inl (lines, unended)) = last_line before line (subst (AllByRecursion IsLine) lines (are text))
 end_line are text before line (inr (lines, empty)) = subst IsLine (sym empty) refl
 
+-- rows that lines spell keep their limits
+rows_within : (queries : List Query) (lines : List (List ℕ)) → AreQueries queries lines → AllByRecursion IsQuery queries
+rows_within queries [] is = subst (AllByRecursion IsQuery) (sym is) tt
+rows_within queries (line ∷ lines) (inl h) = rows_within queries lines h.1
+rows_within queries (line ∷ lines) (inr (q, others, is, row, rest)) =
+    subst (AllByRecursion IsQuery) (sym is) (row.within, rows_within others lines rest)
+
 -- a fault of a line is a fault of the text
-outcome-from_fault : (fault : ScenFault) (place : Place) (due : Due) (number : ℕ) (line : List ℕ) → HasFault fault place due number line
+outcome-from_fault : (fault : ScenFault) (place : Place) (due : ScenDue) (number : ℕ) (line : List ℕ) → HasScenFault fault place due number line
     → scen_outcome (Err fault) ≡ is_fault fault
 outcome-from_fault NoVersion place due number line h = refl
 outcome-from_fault (FieldCount at) place due number line h = refl
@@ -144,7 +151,7 @@ module _ {R : Type 0} (remaining : R → Option (List ℕ)) (first : Counted R) 
             before = before;
             line = take count room;
             due = due_after has;
-            judged = t.come.judged;
+            judged = t.come.judged by_input;
             right = h.0;
             faulty = faulty at_line_feed tt;
           },
@@ -178,7 +185,7 @@ module _ {R : Type 0} (remaining : R → Option (List ℕ)) (first : Counted R) 
             before = before;
             line = take count room;
             due = due_after has;
-            judged = subst (JudgedAt at_end before (take count room)) (sym (all_come before (take count room) t.come)) t.come.judged;
+            judged = subst (JudgedAt by_input at_end before (take count room)) (sym (all_come before (take count room) t.come)) (t.come.judged by_input);
             right = h.0;
             faulty = faulty at_end tt;
           },
@@ -194,7 +201,23 @@ module _ {R : Type 0} (remaining : R → Option (List ℕ)) (first : Counted R) 
   ended_all last before room count has after old new t h added =
       reads_all t.come.delivered before (take count room) has after old new
       (last t.come.delivered before (take count room)
-      (subst (JudgedAt at_end before (take count room)) (sym (all_come before (take count room) t.come)) t.come.judged)) h added
+      (subst (JudgedAt by_input at_end before (take count room)) (sym (all_come before (take count room) t.come)) (t.come.judged by_input))) h added
+
+  -- they spell the rows
+  ended_spelled : AreLines → Last → (before : List (List ℕ)) (room : List ℕ) (count : ℕ) (has after : Bool) (old new : List Query) → after ≡ true
+      → (t : InputEnded remaining first now before room count) → ReadsUpTo before has old → Adds has after old new (take count room)
+      → ScenText new t.come.delivered
+  ended_spelled are last before room count has after old new is t h added =
+      let reads = ended_all last before room count has after old new t h added in
+      spelled are t.come.delivered new (subst (λ b. ReadsUpTo (lines_of t.come.delivered) b new) is reads)
+
+  -- and each row keeps its limits
+  pub ended_within : AreLines → Last → (before : List (List ℕ)) (room : List ℕ) (count : ℕ) (has after : Bool) (old new : List Query) → after ≡ true
+      → InputEnded remaining first now before room count → ReadsUpTo before has old → Adds has after old new (take count room)
+      → AllByRecursion IsQuery new
+  ended_within are last before room count has after old new is t h added =
+      let spells = ended_spelled are last before room count has after old new is t h added in
+      rows_within new spells.rest spells.are_rows
 
   pub ended_value : AreLines → Last → (before : List (List ℕ)) (room : List ℕ) (count : ℕ) (has after : Bool) (old new : List Query) → after ≡ true
       → InputEnded remaining first now before room count → ReadsUpTo before has old → Adds has after old new (take count room)
@@ -203,9 +226,7 @@ module _ {R : Type 0} (remaining : R → Option (List ℕ)) (first : Counted R) 
   ended_value are last before room count has after old new is t h added = record {
     delivered = t.come.delivered;
     consumed = t.come.consumed;
-    answer =
-        let reads = ended_all last before room count has after old new t h added in
-        (spelled are t.come.delivered new (subst (λ b. ReadsUpTo (lines_of t.come.delivered) b new) is reads), t.spent);
+    answer = (ended_spelled are last before room count has after old new is t h added, t.spent);
     failures = t.failures;
   }
 
@@ -240,7 +261,7 @@ module _ {R : Type 0} (remaining : R → Option (List ℕ)) (first : Counted R) 
         before = before;
         line = t.line;
         due = due_after has;
-        judged = t.come.judged;
+        judged = t.come.judged by_input;
         right = h.0;
         faulty = (is, refl, omega (arith, t.length_is, size));
       },
@@ -258,7 +279,7 @@ module _ {R : Type 0} (remaining : R → Option (List ℕ)) (first : Counted R) 
     consumed = t.come.consumed;
     answer =
         none_decided stands t.come.delivered before t.line (due_after has)
-        (subst (JudgedAt at_end before t.line) (sym (all_come before t.line t.come)) t.come.judged) (omega (arith, t.in_room, size)) h.0;
+        (subst (JudgedAt by_input at_end before t.line) (sym (all_come before t.line t.come)) (t.come.judged by_input)) (omega (arith, t.in_room, size)) h.0;
     failures = t.failures;
   }
 

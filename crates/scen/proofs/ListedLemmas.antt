@@ -9,7 +9,7 @@ use Rattle.std.proofs.lemmas.List.{length-append}
 use Rattle.std.proofs.lemmas.List.Folds.{list_all-append}
 use Rattle.std.proofs.lemmas.Str.{digit_value_digit}
 use Rattle.std.proofs.Math.Nat.{pow-succ'}
-use Rattle.scen.specs.Parsing.{most_told, spelled_after, point_at, whole_of, after_of, is_listed_form, is_listed, listed_value}
+use Rattle.scen.specs.Code.Parsing.{most_told, spelled_after, point_at, whole_of, after_of, is_listed_form, is_listed, listed_value}
 use Rattle.scen.specs.Query.{point}
 use Rattle.scen.specs.ScenText.{SpellsListed}
 use Rattle.scen.proofs.NumberLemmas.{some_from_test}

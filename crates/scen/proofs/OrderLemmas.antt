@@ -1,7 +1,7 @@
 -- More on the order of lengths.
 use Rattle.std.proofs.Common.{ℕ, ◌+◌, inl, inr, arith, ap}
 use Rattle.scen.specs.Length.{IsLess, IsAtMost}
-use Rattle.scen.specs.OrderLaws.{IsMoreBy, IsMoreBy-from_IsLess, IsLess-from_IsMoreBy, total}
+use Rattle.scen.specs.Code.OrderLaws.{IsMoreBy, IsMoreBy-from_IsLess, IsLess-from_IsMoreBy, total}
 
 -- the same added to both sides
 step_by : (a b c d s t : ℕ) → IsMoreBy a b c d → IsMoreBy (a + s) (b + t) (c + s) (d + t)

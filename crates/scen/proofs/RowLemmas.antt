@@ -15,7 +15,7 @@ use Rattle.scen.specs.Fields.{without_return, without_leading, content_of, separ
 use Rattle.scen.specs.Query.{Query, IsQuery, IsName, is_name_byte, point, decimals_text, listed_text, row_line, longest_line}
 use Rattle.scen.specs.ScenText.{IsShort, SpellsListed, SpellsRow}
 use Rattle.scen.specs.ScenFault.{Fields, all_fields, HasFields, value_of, is_number, is_bucket, is_size, first_failing, wrong_number, is_in_grid}
-use Rattle.scen.specs.Parsing.{is_listed, listed_value, after_of, query_of}
+use Rattle.scen.specs.Code.Parsing.{is_listed, listed_value, after_of, query_of}
 use Rattle.scen.proofs.NumberLemmas.{no_wrong_number}
 use Rattle.scen.proofs.TrimLemmas.{length-without_leading, length-without_trailing, length-without_return, all-without_leading, all-without_trailing, all-without_return}
 use Rattle.scen.proofs.FieldLemmas.{IsField, fields_between-are, room_of, room_of-between}

@@ -9,9 +9,10 @@ use Rattle.scen.specs.declared.scen_fault.ScenFault.{ScenFault}
 use Rattle.scen.specs.declared.scen_fault.ScenFault.TheVariants.{NoVersion, LineTooLong}
 use Rattle.scen.specs.Fields.{content_of, has_bytes}
 use Rattle.scen.specs.Query.{Query, longest_line}
-use Rattle.scen.specs.ScenText.{IsShort, IsSkipped, IsVersion, AreRows, ScenText}
-use Rattle.scen.specs.ScenFault.{Due, version_due, rows_due, Follows, Leads}
-use Rattle.scen.proofs.JudgedLines.{line_fault, line_next, line_rows, IsRight, right-from_Follows, skipped_right, row_right, row_line-cases, Follows-from_none}
+use Rattle.scen.specs.ScenText.{IsShort, IsSkipped, IsVersion, AreQueries, ScenText}
+use Rattle.scen.specs.ScenFault.{ScenDue, version_due, row_due, ScenFollows}
+use Rattle.scen.specs.Code.Parsing.{ScenLeads}
+use Rattle.scen.proofs.JudgedLines.{line_fault, line_next, line_rows, IsRight, right-from_Follows, skipped_right, row_right, row_line-cases, ScenFollows-from_none}
 
 -- the number of the line after so many others
 abbrev pub number_of : ℕ → ℕ
@@ -23,19 +24,19 @@ or_later (Some fault) later = Some fault
 or_later None later = later
 
 -- the fault at the end of lines
-abbrev pub fault_at_end : Due → Option ScenFault
+abbrev pub fault_at_end : ScenDue → Option ScenFault
 fault_at_end version_due = Some NoVersion
-fault_at_end rows_due = None
+fault_at_end row_due = None
 
 -- the first fault of lines, where so many stand before them
-abbrev pub first_fault : Due → ℕ → List (List ℕ) → Option ScenFault
+abbrev pub first_fault : ScenDue → ℕ → List (List ℕ) → Option ScenFault
 first_fault due count [] = fault_at_end due
 first_fault due count (line ∷ lines) =
     cond (nat_lt longest_line (length line)) (Some (LineTooLong (number_of count)))
     (or_later (line_fault due (number_of count) line) (first_fault (line_next due line) (suc count) lines))
 
 -- the rows of lines
-abbrev pub rows_in : Due → List (List ℕ) → List Query
+abbrev pub rows_in : ScenDue → List (List ℕ) → List Query
 rows_in due [] = []
 rows_in due (line ∷ lines) = line_rows due line ++ rows_in (line_next due line) lines
 
@@ -45,7 +46,7 @@ short_test : (line : List ℕ) → IsShort line → nat_lt longest_line (length 
 short_test line h = le-ltb longest_line (length line) h
 
 -- a line without a fault passes the search on
-pub first_fault-right : (due : Due) (count : ℕ) (line : List ℕ) (lines : List (List ℕ)) (next : Due) → IsRight due (number_of count) line next
+pub first_fault-right : (due : ScenDue) (count : ℕ) (line : List ℕ) (lines : List (List ℕ)) (next : ScenDue) → IsRight due (number_of count) line next
     → first_fault due count (line ∷ lines) ≡ first_fault next (suc count) lines
 first_fault-right due count line lines next h =
     cond-false _ _ _ (short_test line h.short)
@@ -53,7 +54,7 @@ first_fault-right due count line lines next h =
     ∙ ap (λ d. first_fault d (suc count) lines) (sym h.next_is))
 
 -- right lines pass it on
-pub first_fault-leads : (first : Due) (count : ℕ) (before : List (List ℕ)) (due : Due) (rest : List (List ℕ)) → Leads first before due
+pub first_fault-leads : (first : ScenDue) (count : ℕ) (before : List (List ℕ)) (due : ScenDue) (rest : List (List ℕ)) → ScenLeads first before due
     → first_fault first count (before ++ rest) ≡ first_fault due (count + length before) rest
 first_fault-leads first count [] due rest h =
     let same : count ≡ count + length {A = List ℕ} [] = omega arith in
@@ -64,13 +65,13 @@ first_fault-leads first count (line ∷ before) due rest h =
     ∙ (first_fault-leads h.0 (suc count) before due rest h.2 ∙ ap (λ n. first_fault due n rest) more)
 
 -- right lines, and one more
-pub Leads_push : (first : Due) (before : List (List ℕ)) (due : Due) (line : List ℕ) (next : Due) → Leads first before due → Follows due line next
-    → Leads first (before ++ line ∷ []) next
-Leads_push first [] due line next is h = (next, subst (λ d. Follows d line next) is h, refl)
+pub Leads_push : (first : ScenDue) (before : List (List ℕ)) (due : ScenDue) (line : List ℕ) (next : ScenDue) → ScenLeads first before due → ScenFollows due line next
+    → ScenLeads first (before ++ line ∷ []) next
+Leads_push first [] due line next is h = (next, subst (λ d. ScenFollows d line next) is h, refl)
 Leads_push first (l ∷ before) due line next h k = (h.0, h.1, Leads_push h.0 before due line next h.2 k)
 
 -- the rows of right lines, and those of one more
-pub rows_in_push : (first : Due) (before : List (List ℕ)) (due : Due) (line : List ℕ) → Leads first before due
+pub rows_in_push : (first : ScenDue) (before : List (List ℕ)) (due : ScenDue) (line : List ℕ) → ScenLeads first before due
     → rows_in first (before ++ line ∷ []) ≡ rows_in first before ++ line_rows due line
 rows_in_push first [] due line is = append-nil (line_rows first line) ∙ ap (λ d. line_rows d line) (sym is)
 rows_in_push first (l ∷ before) due line h =
@@ -83,24 +84,24 @@ rows_in_push first (l ∷ before) due line h =
 -- ---- texts that are spelled
 
 -- lines that are rows
-rows_spelled : (queries : List Query) (count : ℕ) (lines : List (List ℕ)) → AreRows queries lines
-    → (first_fault rows_due count lines ≡ None) × (queries ≡ rows_in rows_due lines)
+rows_spelled : (queries : List Query) (count : ℕ) (lines : List (List ℕ)) → AreQueries queries lines
+    → (first_fault row_due count lines ≡ None) × (queries ≡ rows_in row_due lines)
 rows_spelled queries count [] h = (refl, h)
 rows_spelled queries count (line ∷ lines) (inl h) =
     let rest = rows_spelled queries (suc count) lines h.1 in
-    let right = skipped_right rows_due (number_of count) line h.0 in (
-      first_fault-right rows_due count line lines rows_due (record { short = h.0.0; none = right.0; next_is = refl }) ∙ rest.0,
-      rest.1 ∙ ap (λ xs. xs ++ rows_in rows_due lines) (sym (no_rows (has_bytes (content_of line)) refl)),
+    let right = skipped_right row_due (number_of count) line h.0 in (
+      first_fault-right row_due count line lines row_due (record { short = h.0.0; none = right.0; next_is = refl }) ∙ rest.0,
+      rest.1 ∙ ap (λ xs. xs ++ rows_in row_due lines) (sym (no_rows (has_bytes (content_of line)) refl)),
     )
   where
-    no_rows : (t : Bool) → has_bytes (content_of line) ≡ t → line_rows rows_due line ≡ []
+    no_rows : (t : Bool) → has_bytes (content_of line) ≡ t → line_rows row_due line ≡ []
     no_rows false e = cond-false _ _ _ e
     no_rows true e = absurd (both_ways (has_bytes (content_of line)) (ap has_bytes h.0.1) e)
 rows_spelled queries count (line ∷ lines) (inr h) =
     let rest = rows_spelled h.1 (suc count) lines h.4 in
     let right = row_right (number_of count) h.0 line h.3 in (
-      first_fault-right rows_due count line lines rows_due (record { short = h.3.short; none = right.0; next_is = refl }) ∙ rest.0,
-      h.2 ∙ (ap (λ xs. h.0 ∷ xs) rest.1 ∙ ap (λ xs. xs ++ rows_in rows_due lines) (sym right.1)),
+      first_fault-right row_due count line lines row_due (record { short = h.3.short; none = right.0; next_is = refl }) ∙ rest.0,
+      h.2 ∙ (ap (λ xs. h.0 ∷ xs) rest.1 ∙ ap (λ xs. xs ++ rows_in row_due lines) (sym right.1)),
     )
 
 -- skipped lines, and then others
@@ -124,22 +125,22 @@ pub scanned-from_ScenText : (queries : List Query) (text : List ℕ) → ScenTex
     → (first_fault version_due 0 (lines_of text) ≡ None) × (queries ≡ rows_in version_due (lines_of text))
 scanned-from_ScenText queries text h =
     let skipped = skipped_spelled 0 h.before (h.version ∷ h.rest) h.are_skipped in
-    let right = right-from_Follows version_due (number_of (0 + length h.before)) h.version rows_due (inr (h.is_version, refl)) in
+    let right = right-from_Follows version_due (number_of (0 + length h.before)) h.version row_due (inr (h.is_version, refl)) in
     let rows = rows_spelled queries (suc (0 + length h.before)) h.rest h.are_rows in (
       ap (first_fault version_due 0) h.lines
-          ∙ (skipped.0 ∙ (first_fault-right version_due (0 + length h.before) h.version h.rest rows_due right ∙ rows.0)),
+          ∙ (skipped.0 ∙ (first_fault-right version_due (0 + length h.before) h.version h.rest row_due right ∙ rows.0)),
       rows.1 ∙ (ap (λ d. rows_in d h.rest) right.next_is ∙ (sym skipped.1 ∙ ap (rows_in version_due) (sym h.lines))),
     )
 
 -- ---- texts without a fault
 
 -- what the first of lines without a fault says
-pub record FirstRight (due : Due) (count : ℕ) (line : List ℕ) (lines : List (List ℕ)) : Type 0 where
+pub record FirstRight (due : ScenDue) (count : ℕ) (line : List ℕ) (lines : List (List ℕ)) : Type 0 where
   pub short : IsShort line
   pub none : line_fault due (number_of count) line ≡ None
   pub rest : first_fault (line_next due line) (suc count) lines ≡ None
 
-first_right : (due : Due) (count : ℕ) (line : List ℕ) (lines : List (List ℕ)) → first_fault due count (line ∷ lines) ≡ None
+first_right : (due : ScenDue) (count : ℕ) (line : List ℕ) (lines : List (List ℕ)) → first_fault due count (line ∷ lines) ≡ None
     → FirstRight due count line lines
 first_right due count line lines h = go (nat_lt longest_line (length line)) refl
   where
@@ -158,15 +159,15 @@ first_right due count line lines h = go (nat_lt longest_line (length line)) refl
         }
 
 -- lines without a fault are rows
-rows-from_none : (count : ℕ) (lines : List (List ℕ)) → AllByRecursion IsLine lines → first_fault rows_due count lines ≡ None
-    → AreRows (rows_in rows_due lines) lines
+rows-from_none : (count : ℕ) (lines : List (List ℕ)) → AllByRecursion IsLine lines → first_fault row_due count lines ≡ None
+    → AreQueries (rows_in row_due lines) lines
 rows-from_none count [] are none = refl
 rows-from_none count (line ∷ lines) are none =
-    let right = first_right rows_due count line lines none in
+    let right = first_right row_due count line lines none in
     let rest = rows-from_none (suc count) lines are.1 right.rest in
     elim (row_line-cases (number_of count) line are.0 right.short right.none) [
-      | inl skipped ↦ inl (skipped.0, subst (λ xs. AreRows (xs ++ rows_in rows_due lines) lines) (sym skipped.1) rest)
-      | inr row ↦ inr (row.0, rows_in rows_due lines, ap (λ xs. xs ++ rows_in rows_due lines) row.2, row.1, rest)
+      | inl skipped ↦ inl (skipped.0, subst (λ xs. AreQueries (xs ++ rows_in row_due lines) lines) (sym skipped.1) rest)
+      | inr row ↦ inr (row.0, rows_in row_due lines, ap (λ xs. xs ++ rows_in row_due lines) row.2, row.1, rest)
     ]
 
 -- The lines of a scenario without its text.
@@ -177,7 +178,7 @@ pub record AreScenLines (queries : List Query) (lines : List (List ℕ)) : Type 
   pub parts : lines ≡ before ++ version ∷ rest
   pub are_skipped : AllByRecursion IsSkipped before
   pub is_version : IsVersion version
-  pub are_rows : AreRows queries rest
+  pub are_rows : AreQueries queries rest
 
 lines-from_none : (count : ℕ) (lines : List (List ℕ)) → AllByRecursion IsLine lines → first_fault version_due count lines ≡ None
     → AreScenLines (rows_in version_due lines) lines
@@ -187,7 +188,7 @@ lines-from_none count (line ∷ lines) are none =
   where
     go : FirstRight version_due count line lines → (first_fault version_due (suc count) lines ≡ None → AreScenLines (rows_in version_due lines) lines)
         → AreScenLines (rows_in version_due (line ∷ lines)) (line ∷ lines)
-    go right rest = elim (Follows-from_none version_due (number_of count) line are.0 right.short right.none) [
+    go right rest = elim (ScenFollows-from_none version_due (number_of count) line are.0 right.short right.none) [
       | inl skipped ↦
           let later = rest (ap (λ d. first_fault d (suc count) lines) (sym skipped.1) ∙ right.rest) in
           let found : AreScenLines (rows_in version_due lines) (line ∷ lines) = record {
@@ -202,7 +203,7 @@ lines-from_none count (line ∷ lines) are none =
           subst (λ d. AreScenLines (rows_in d lines) (line ∷ lines)) (sym skipped.1) found
       | inr version ↦
           let rows = rows-from_none (suc count) lines are.1 (ap (λ d. first_fault d (suc count) lines) (sym version.1) ∙ right.rest) in
-          let found : AreScenLines (rows_in rows_due lines) (line ∷ lines) = record {
+          let found : AreScenLines (rows_in row_due lines) (line ∷ lines) = record {
             before = [];
             version = line;
             rest = lines;

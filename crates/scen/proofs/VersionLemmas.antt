@@ -11,7 +11,7 @@ use Rattle.scen.specs.Fields.{without_leading, content_of}
 use Rattle.scen.specs.ScenText.{IsShort, IsVersion}
 use Rattle.scen.specs.declared.scen_fault.ScenFault.TheVariants.{NoVersion}
 use Rattle.scen.specs.ScenFault.{version_due}
-use Rattle.scen.specs.Parsing.{is_one, is_version, Refuses}
+use Rattle.scen.specs.Code.Parsing.{is_one, is_version, Refuses}
 
 -- blanks in front of a byte that is none are taken off
 without_leading-gap : (gap : List ℕ) (b : ℕ) (bytes : List ℕ) → IsTrue (list_all is_blank gap) → is_blank b ≡ false

@@ -6,7 +6,7 @@ use Rattle.grid.specs.declared.terrain.Terrain.{Terrain}
 use Rattle.grid.specs.Map.{Grid, terrain_at, ShareSide, AreNext, AreJoined, IsStraightStep, IsDiagonalStep}
 use Rattle.scen.specs.declared.length.Length.{Length}
 use Rattle.scen.specs.Length.{IsLess, IsAtMost}
-use Rattle.scen.specs.OrderLaws.{transitive}
+use Rattle.scen.specs.Code.OrderLaws.{transitive}
 use Rattle.scen.specs.Walk.{IsOn, IsWalk}
 use Rattle.scen.specs.Certificate.{entry_of, IsTable, Bounds, IsTight, IsProof, IsLeast}
 use Rattle.scen.proofs.OrderLemmas.{step_at_most}

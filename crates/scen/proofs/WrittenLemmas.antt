@@ -16,7 +16,7 @@ use Rattle.grid.specs.Text.{IsLine}
 use Rattle.grid.specs.Text.{SpellsNumber}
 use Rattle.scen.specs.Fields.{without_return, without_leading, before_trailing, without_trailing, trimmed, content_of, has_bytes, fields_between, fields_in_content, fields_of}
 use Rattle.scen.specs.Query.{Query, IsName, is_name_byte, IsQuery, point, last_digits, decimals_text, listed_text, row_line}
-use Rattle.scen.specs.ScenText.{IsVersion, SpellsListed, SpellsRow, AreRows}
+use Rattle.scen.specs.ScenText.{IsVersion, SpellsListed, SpellsRow, AreQueries}
 use Rattle.scen.proofs.TrimLemmas.{without_return-last, without_trailing-other}
 use Rattle.scen.proofs.FieldLemmas.{IsField, fields_in}
 use Rattle.scen.proofs.ListedLemmas.{ten_pow-mono}
@@ -344,7 +344,7 @@ row_line-spells q h = record {
 }
 
 -- The written lines spell the rows.
-pub written-rows : (queries : List Query) → AllByRecursion IsQuery queries → AreRows queries (map row_line queries)
+pub written-rows : (queries : List Query) → AllByRecursion IsQuery queries → AreQueries queries (map row_line queries)
 written-rows [] h = refl
 written-rows (q ∷ queries) h = inr (q, queries, refl, row_line-spells q h.0, written-rows queries h.1)
 

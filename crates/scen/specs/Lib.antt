@@ -1,17 +1,20 @@
--- The definitions that the contracts cite. Squares, OrderLaws and ComparisonLaws are the proofs of the laws of `Ord` and
--- `PartialOrd`: an `impl` names them, and may name nothing of proofs/.
+-- What has to be believed, in the order in which to read it: each promise of the crate is made in these words.
+
+-- the order of lengths, and when a listed one agrees
 pub mod Length
-pub mod Comparison
-pub mod Squares
-pub mod OrderLaws
-pub mod ComparisonLaws
+-- the content of a line, and its fields
 pub mod Fields
+-- a row as its nine parts, its limits, and the text that is written
 pub mod Query
+-- the grammar of a scenario's text
 pub mod ScenText
+-- the faults of a scenario's text, and where each stands
 pub mod ScenFault
-pub mod Parsing
+-- walks on a map, and which are shortest
 pub mod Walk
+-- which certificates are accepted, and what an accepted one proves
 pub mod Certificate
-pub mod Tightness
+-- when a search refuses its cells
 pub mod Search
-pub mod Round
+-- The code's own words, of which no promise speaks.
+pub mod Code

@@ -71,5 +71,5 @@ pub record IsQuery (q : Query) : Type 0 where
   pub line_limit : length (row_line q) ≤ longest_line
 
 -- the one text that is written for a scenario
-abbrev pub canonical_text : List Query → List ℕ
-canonical_text queries = ended (codes "version 1" ∷ map row_line queries)
+abbrev pub canonical_scen_text : List Query → List ℕ
+canonical_scen_text queries = ended (codes "version 1" ∷ map row_line queries)

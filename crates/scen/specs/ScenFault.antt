@@ -3,7 +3,7 @@ use Rattle.std.specs.Prelude.{◌≡◌, ◌≢◌, ℕ, ◌+◌, ◌⊎◌, Boo
 use Rattle.std.specs.List.{list_all}
 use Rattle.std.specs.Char.{is_ascii_digit}
 use Rattle.std.specs.Str.Parse.{digits_value}
-use Rattle.grid.specs.Reading.{Place, at_byte, at_end, IsOver, LeadsBy, FaultAt, Outcome, is_value, is_fault, is_failed, is_refused}
+use Rattle.grid.specs.Reading.{by_input, Place, at_byte, at_end, IsOver, FaultAt, Outcome, is_value, is_fault, is_failed, is_refused}
 use Rattle.scen.specs.declared.scen_fault.ScenFault.{ScenFault}
 use Rattle.scen.specs.declared.scen_fault.ScenFault.TheVariants.{NoVersion, FieldCount, BadNumber, OutOfGrid, BadLength, ReadFailed, OutOfMemory, LineTooLong}
 use Rattle.scen.specs.Fields.{content_of, fields_of}
@@ -11,17 +11,13 @@ use Rattle.scen.specs.Query.{Query, longest_line}
 use Rattle.scen.specs.ScenText.{IsShort, IsSkipped, IsVersion, SpellsListed, SpellsRow}
 
 -- the line that is due: the version, or after it a row
-pub data Due : Type 0 where
-  version_due rows_due : Due
+pub data ScenDue : Type 0 where
+  version_due row_due : ScenDue
 
 -- the line is right where it is due, and what is due next
-abbrev pub Follows : Due → List ℕ → Due → Type 0
-Follows version_due line next = (IsSkipped line × (next ≡ version_due)) ⊎ (IsVersion line × (next ≡ rows_due))
-Follows rows_due line next = (IsSkipped line ⊎ ((q : Query) × SpellsRow q line)) × (next ≡ rows_due)
-
--- the lines are right, one after another
-abbrev pub Leads : Due → List (List ℕ) → Due → Type 0
-Leads = LeadsBy Follows
+abbrev pub ScenFollows : ScenDue → List ℕ → ScenDue → Type 0
+ScenFollows version_due line next = (IsSkipped line × (next ≡ version_due)) ⊎ (IsVersion line × (next ≡ row_due))
+ScenFollows row_due line next = (IsSkipped line ⊎ ((q : Query) × SpellsRow q line)) × (next ≡ row_due)
 
 -- the nine fields of a line
 pub record Fields : Type 0 where
@@ -77,29 +73,29 @@ abbrev pub IsListed : List ℕ → Type 0
 IsListed bytes = (n decimals : ℕ) × SpellsListed n decimals bytes
 
 -- A line that is judged as a row has a fault: it is over, not too long, and not skipped.
-abbrev pub IsJudged : Place → Due → List ℕ → Type 0
-IsJudged place due line = IsOver place × (due ≡ rows_due) × IsShort line × (content_of line ≢ [])
+abbrev pub IsJudged : Place → ScenDue → List ℕ → Type 0
+IsJudged place due line = IsOver place × (due ≡ row_due) × IsShort line × (content_of line ≢ [])
 
 -- The fault of a line at a place, by what was due there; the row of the fault table that each fault has.
-abbrev pub HasFault : ScenFault → Place → Due → ℕ → List ℕ → Type 0
-HasFault NoVersion place due number line =
+abbrev pub HasScenFault : ScenFault → Place → ScenDue → ℕ → List ℕ → Type 0
+HasScenFault NoVersion place due number line =
     (due ≡ version_due) × IsShort line
     × ((IsOver place × (content_of line ≢ []) × (IsVersion line → ⊥)) ⊎ ((place ≡ at_end) × (content_of line ≡ [])))
-HasFault (FieldCount at) place due number line = (at ≡ number) × IsJudged place due line × (length (fields_of line) ≢ 9)
-HasFault (BadNumber at field) place due number line =
+HasScenFault (FieldCount at) place due number line = (at ≡ number) × IsJudged place due line × (length (fields_of line) ≢ 9)
+HasScenFault (BadNumber at field) place due number line =
     (at ≡ number) × IsJudged place due line × (f : Fields) × HasFields line f × (wrong_number f ≡ Some field)
-HasFault (OutOfGrid at) place due number line =
+HasScenFault (OutOfGrid at) place due number line =
     (at ≡ number) × IsJudged place due line × (f : Fields) × HasFields line f × (wrong_number f ≡ None) × (is_in_grid f ≡ false)
-HasFault (BadLength at) place due number line =
+HasScenFault (BadLength at) place due number line =
     (at ≡ number) × IsJudged place due line
     × (f : Fields) × HasFields line f × (wrong_number f ≡ None) × (is_in_grid f ≡ true) × (IsListed f.listed → ⊥)
-HasFault (LineTooLong at) place due number line = (at ≡ number) × (place ≡ at_byte) × (length line ≡ longest_line + 1)
-HasFault ReadFailed place due number line = ⊥
-HasFault OutOfMemory place due number line = ⊥
+HasScenFault (LineTooLong at) place due number line = (at ≡ number) × (place ≡ at_byte) × (length line ≡ longest_line + 1)
+HasScenFault ReadFailed place due number line = ⊥
+HasScenFault OutOfMemory place due number line = ⊥
 
 -- the fault stands at the place where the text ends, and the lines before are right
 abbrev pub ScenFaultAt : ScenFault → Place → List ℕ → Type 0
-ScenFaultAt = FaultAt Follows HasFault version_due
+ScenFaultAt = FaultAt by_input ScenFollows HasScenFault version_due
 
 -- what `read_scen` answered, as a reader's outcome
 abbrev pub scen_outcome : Result (List Query) ScenFault → Outcome (List Query) ScenFault

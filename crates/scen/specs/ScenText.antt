@@ -56,11 +56,11 @@ pub record SpellsRow (q : Query) (line : List ℕ) : Type 0 where
   pub within : IsQuery q
 
 -- each line is a row, in order, or is skipped
-abbrev pub AreRows : List Query → List (List ℕ) → Type 0
-AreRows queries [] = queries ≡ []
-AreRows queries (line ∷ lines) =
-    (IsSkipped line × AreRows queries lines)
-    ⊎ ((q : Query) × (others : List Query) × (queries ≡ q ∷ others) × SpellsRow q line × AreRows others lines)
+abbrev pub AreQueries : List Query → List (List ℕ) → Type 0
+AreQueries queries [] = queries ≡ []
+AreQueries queries (line ∷ lines) =
+    (IsSkipped line × AreQueries queries lines)
+    ⊎ ((q : Query) × (others : List Query) × (queries ≡ q ∷ others) × SpellsRow q line × AreQueries others lines)
 
 -- The text spells the rows: its lines are skipped ones, the version, and then the rows among skipped ones.
 pub record ScenText (queries : List Query) (text : List ℕ) : Type 0 where
@@ -70,4 +70,4 @@ pub record ScenText (queries : List Query) (text : List ℕ) : Type 0 where
   pub lines : lines_of text ≡ before ++ version ∷ rest
   pub are_skipped : AllByRecursion IsSkipped before
   pub is_version : IsVersion version
-  pub are_rows : AreRows queries rest
+  pub are_rows : AreQueries queries rest

@@ -3,11 +3,11 @@ ghost use Rattle.std.specs.Prelude.{◌≡◌, ℕ, ◌+◌, ◌*◌, ◌⊎◌,
 ghost use Rattle.std.specs.List.{AllByRecursion};
 ghost use Rattle.grid.specs.Reading.{IsFirstFault};
 ghost use Rattle.scen.specs.declared.scen_fault.ScenFault.{ScenFault};
-ghost use Rattle.scen.specs.Query.{Query, IsQuery, canonical_text};
+ghost use Rattle.scen.specs.Query.{Query, IsQuery, canonical_scen_text};
 ghost use Rattle.scen.specs.ScenText.{ScenText};
 ghost use Rattle.scen.specs.ScenFault.{ScenFaultAt};
 ghost use Rattle.std.specs.declared.cmp.Ordering.TheVariants.{Equal, Greater, Less};
-ghost use Rattle.scen.specs.Comparison.{parts_cmp};
+ghost use Rattle.scen.specs.Code.Comparison.{parts_cmp};
 ghost use Rattle.scen.specs.Length.{IsAtMost, IsLess};
 
 /// The order of lengths is that of numbers: it is total and transitive, and adding the same to both sides keeps it.
@@ -40,8 +40,8 @@ pub fn one_reading()
 
 /// The text that is written for rows within their limits spells those rows, and no others.
 pub fn written_text()
-    ensures spells { (rows : List Query) → AllByRecursion IsQuery rows → ScenText rows (canonical_text rows) }
-    ensures only { (rows others : List Query) → AllByRecursion IsQuery rows → ScenText others (canonical_text rows) → others ≡ rows }
+    ensures spells { (rows : List Query) → AllByRecursion IsQuery rows → ScenText rows (canonical_scen_text rows) }
+    ensures only { (rows others : List Query) → AllByRecursion IsQuery rows → ScenText others (canonical_scen_text rows) → others ≡ rows }
 {
     grid::laws::places();
 }

@@ -22,7 +22,7 @@ pub(crate) struct Sides {
 
 impl Layout {
     ghost use Rattle.std.specs.Prelude.{IfSome};
-    ghost use Rattle.scen.specs.Round.{AreRound};
+    ghost use Rattle.scen.specs.Code.Round.{AreRound};
 
     pub(crate) fn of(map: &Map) -> Layout {
         Layout {

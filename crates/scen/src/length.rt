@@ -2,8 +2,8 @@
 ghost use Rattle.std.specs.Prelude.{◌≡◌, ◌<◌, ◌≤◌, ◌⊎◌, ◌↔◌, MatchOption, Some, refl};
 ghost use Rattle.std.specs.Cmp.{partial_order_from_agreeing_total};
 ghost use Rattle.scen.specs.Length.{IsLess};
-ghost use Rattle.scen.specs.Comparison.{parts_cmp};
-ghost use Rattle.scen.specs.ComparisonLaws.{parts_cmp-ties, parts_cmp-total};
+ghost use Rattle.scen.specs.Code.Comparison.{parts_cmp};
+ghost use Rattle.scen.specs.Code.ComparisonLaws.{parts_cmp-ties, parts_cmp-total};
 
 use crate::order::is_at_most;
 use std::cmp::Ordering;

@@ -1,7 +1,7 @@
 //! The whole numbers of a row.
 ghost use Rattle.std.specs.Prelude.{◌≡◌, ◌^◌, ◌<◌, true, false, length, Some, None, MatchOption, MatchResult, if◌then◌else◌};
 ghost use Rattle.scen.specs.ScenFault.{value_of, is_bucket, is_size, wrong_number, is_in_grid};
-ghost use Rattle.scen.specs.Parsing.{fields_seen, spelled, spelled_after, HasNumbers, are_in_grid, whole_of, after_of, is_listed_form, is_listed, listed_value};
+ghost use Rattle.scen.specs.Code.Parsing.{fields_seen, spelled, spelled_after, HasNumbers, are_in_grid, whole_of, after_of, is_listed_form, is_listed, listed_value};
 
 use crate::Listed;
 use crate::fields::FieldBytes;

@@ -67,14 +67,16 @@ impl Row {
 
     /// How many cells a row of the map has.
     pub fn width(&self) -> u32
-        ensures { result ≡ self.now.width }
+        ensures width { result ≡ self.now.width }
+        ensures within { IsQuery self.now }
     {
         self.width
     }
 
     /// How many rows the map has.
     pub fn height(&self) -> u32
-        ensures { result ≡ self.now.height }
+        ensures height { result ≡ self.now.height }
+        ensures within { IsQuery self.now }
     {
         self.height
     }
@@ -108,21 +110,28 @@ pub struct Scenario {
 
 impl Model for Scenario {
     ghost use Rattle.std.specs.Prelude.{List};
-    ghost use Rattle.scen.specs.Query.{Query};
+    ghost use Rattle.std.specs.List.{AllByRecursion};
+    ghost use Rattle.scen.specs.Query.{Query, IsQuery};
 
     ghost Value = { List Query };
 
     ghost view = { λ s. s.rows.items };
+
+    ghost invariant = { λ s. AllByRecursion IsQuery s.rows.items };
 }
 
 impl Scenario {
+    ghost use Rattle.std.specs.List.{AllByRecursion};
+
     pub fn rows(&self) -> &[Row]
-        ensures { result.now ≡ self.now }
+        ensures rows { result.now ≡ self.now }
+        ensures within { AllByRecursion IsQuery self.now }
     {
         self.rows.as_slice()
     }
 
     pub(crate) fn from_rows(rows: Vec<Row>) -> Scenario
+        requires { AllByRecursion IsQuery rows.items }
         ensures { result ≡ rows.items }
     {
         Scenario { rows }

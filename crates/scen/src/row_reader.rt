@@ -3,8 +3,8 @@ ghost use Rattle.std.specs.Prelude.{◌≡◌, ◌≤◌, length, IfOk, MatchOpt
 ghost use Rattle.grid.specs.Text.{IsLine};
 ghost use Rattle.scen.specs.Query.{longest_line};
 ghost use Rattle.scen.specs.ScenText.{IsSkipped, SpellsRow};
-ghost use Rattle.scen.specs.ScenFault.{rows_due};
-ghost use Rattle.scen.specs.Parsing.{fields_seen, HasNumbers, Refuses};
+ghost use Rattle.scen.specs.ScenFault.{row_due};
+ghost use Rattle.scen.specs.Code.Parsing.{fields_seen, HasNumbers, Refuses};
 
 use crate::fields::{FieldBytes, content_of, nine_fields};
 use crate::numbers::{Numbers, listed_of};
@@ -16,7 +16,7 @@ use std::alloc::{AllocError, Global};
 pub(crate) fn read_row(alloc: Global, line: &[u8], number: u64) -> Result<Option<Row>, ScenFault>
     requires line { IsLine line.now }
     requires short { length line.now ≤ longest_line }
-    ensures { MatchResult result (λ row. MatchOption row (IsSkipped line.now) (λ q. SpellsRow q line.now)) (Refuses rows_due number line.now) }
+    ensures { MatchResult result (λ row. MatchOption row (IsSkipped line.now) (λ q. SpellsRow q line.now)) (Refuses row_due number line.now) }
 {
     let content = content_of(line);
     if content.is_empty() {

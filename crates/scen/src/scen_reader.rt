@@ -1,14 +1,15 @@
 //! Reading the text of a scenario.
 ghost use Rattle.std.specs.Prelude.{◌≡◌, ◌≤◌, true, false, [], length, MatchResult};
+ghost use Rattle.std.specs.List.{AllByRecursion};
 ghost use Rattle.grid.specs.Counted.{counted_inner, failures_of};
 ghost use Rattle.grid.specs.Source.{source_reader};
 ghost use Rattle.grid.specs.Text.{IsLine};
 ghost use Rattle.grid.specs.Lines.{HasTaken};
 ghost use Rattle.grid.specs.Reading.{ReadsText};
-ghost use Rattle.scen.specs.Query.{longest_line};
+ghost use Rattle.scen.specs.Query.{IsQuery, longest_line};
 ghost use Rattle.scen.specs.ScenText.{ScenText};
 ghost use Rattle.scen.specs.ScenFault.{ScenFaultAt, scen_outcome};
-ghost use Rattle.scen.specs.Parsing.{due_after, Adds, Refuses};
+ghost use Rattle.scen.specs.Code.Parsing.{due_after, Adds, Refuses};
 
 use crate::fields::content_of;
 use crate::row_reader::read_row;
@@ -101,6 +102,7 @@ impl Progress {
 
     /// The scenario that the lines are, if there was a version.
     fn scenario(self) -> Result<Scenario, ScenFault>
+        requires { self.has_version ≡ true → AllByRecursion IsQuery self.rows.items }
         ensures { MatchResult result (λ s. (self.has_version ≡ true) × (s ≡ self.rows.items)) (λ fault. (self.has_version ≡ false) × (fault ≡ ScenFault.NoVersion)) }
     {
         if self.has_version {

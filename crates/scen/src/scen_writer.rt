@@ -5,7 +5,7 @@ ghost use Rattle.grid.specs.Counted.{counted_inner, failures_of};
 ghost use Rattle.grid.specs.Text.{tab, line_feed, ended};
 ghost use Rattle.grid.specs.Sink.{held_back, Puts, Breaks};
 ghost use Rattle.grid.specs.Writing.{WritesText};
-ghost use Rattle.scen.specs.Query.{listed_text, row_line, canonical_text};
+ghost use Rattle.scen.specs.Query.{listed_text, row_line, canonical_scen_text};
 
 use crate::{Listed, Row, Scenario};
 use grid::{Counted, Sink, WriteFault};
@@ -15,7 +15,7 @@ use std::io::Write;
 /// Writes a scenario in canonical form: `version 1`, and for each row its nine fields with one tab
 /// between each two, no leading zeros, an LF after each line. The writer is not flushed.
 pub fn write_scen<W: Write>(scenario: &Scenario, writer: &mut Counted<W>) -> Result<(), WriteFault>
-    ensures { WritesText (is_ok result) (W.contents (counted_inner writer.old)) (W.contents (counted_inner writer.new)) (failures_of writer.old) (failures_of writer.new) (canonical_text scenario.now) }
+    ensures { WritesText (is_ok result) (W.contents (counted_inner writer.old)) (W.contents (counted_inner writer.new)) (failures_of writer.old) (failures_of writer.new) (canonical_scen_text scenario.now) }
 {
     let mut sink = Sink::new(writer);
     put_scenario(&mut sink, scenario)
@@ -23,9 +23,9 @@ pub fn write_scen<W: Write>(scenario: &Scenario, writer: &mut Counted<W>) -> Res
 
 /// Puts the whole text, and hands it on.
 fn put_scenario<W: Write>(sink: &mut Sink<'_, W>, scenario: &Scenario) -> Result<(), WriteFault>
-    ensures ok { OnOk result (Puts W.contents sink.old sink.new (canonical_text scenario.now)) }
+    ensures ok { OnOk result (Puts W.contents sink.old sink.new (canonical_scen_text scenario.now)) }
     ensures none_held { OnOk result (held_back sink.new ≡ []) }
-    ensures err { OnErr result (Breaks W.contents sink.old sink.new (canonical_text scenario.now)) }
+    ensures err { OnErr result (Breaks W.contents sink.old sink.new (canonical_scen_text scenario.now)) }
 {
     sink.put(b"version 1\n")?;
     put_rows(sink, scenario.rows())?;

@@ -1,25 +1,20 @@
 //! Whether a table of lengths is tight: no legal step improves it.
 ghost use Rattle.std.specs.Prelude.{◌≡◌, ◌*◌, ◌<◌, ◌≤◌, ◌↔◌, IsTrue, length};
+ghost use Rattle.grid.specs.Map.{terrain_at};
+ghost use Rattle.grid.specs.Terrain.{terrain_of};
 ghost use Rattle.scen.specs.Certificate.{IsTight};
-ghost use Rattle.scen.specs.Tightness.{ground_of, key_of, corner_at, AreSame, AreWithin, KeepsSide, KeepsDiagonals, KeepsBlock, KeepsRow};
+ghost use Rattle.scen.specs.Code.Tightness.{ground_of, is_land, is_water, key_of_entry, corner_at, AreSame, AreWithin, KeepsSide, KeepsDiagonals, KeepsBlock, KeepsRow};
 
 use crate::Length;
 use crate::certificate::entry;
 use crate::keys::{DIAGONAL, STRAIGHT};
-use grid::{Cell, Map, Terrain};
+use grid::{Cell, Map};
 
-/// What decides whether a straight step may lead from one cell to another: it may between two of the same ground.
-#[derive(Clone, Copy, Debug, PartialEq, Eq)]
-pub(crate) enum Ground {
-    Blocked,
-    Land,
-    Water,
-}
-
-/// What the map and the table say of a cell.
+/// What the map and the table say of a cell. Two bools tell its ground, since a branch on it could not be foreseen.
 #[derive(Clone, Copy, Debug)]
 pub(crate) struct Corner {
-    kind: Ground,
+    is_land: bool,
+    is_water: bool,
     key: u64,
 }
 
@@ -68,26 +63,42 @@ fn corner_of(map: &Map, table: &[Option<Length>], x: u32, y: u32) -> Corner
         x: x as u16,
         y: y as u16,
     };
+    let character = character_at(map, cell);
     Corner {
-        kind: ground_of(map.terrain(cell)),
-        key: key_of(entry(map, table, cell)),
+        is_land: is_land(character),
+        is_water: is_water(character),
+        key: key_of_entry(entry(map, table, cell)),
     }
 }
 
-/// The ground of a cell by its terrain; `None` stands for a cell off the map.
-fn ground_of(terrain: Option<Terrain>) -> Ground
-    ensures { result ≡ ground_of terrain }
+/// The character of a cell; off the map that of a blocked one.
+fn character_at(map: &Map, cell: Cell) -> u8
+    ensures { ground_of (terrain_of result) ≡ ground_of (terrain_at map.now cell) }
 {
-    match terrain {
-        Some(Terrain::Floor | Terrain::Grass | Terrain::Swamp) => Ground::Land,
-        Some(Terrain::Water) => Ground::Water,
-        _ => Ground::Blocked,
+    let (width, height) = (map.width(), map.height());
+    let (x, y) = (u32::from(cell.x), u32::from(cell.y));
+    if x < width && y < height {
+        map.characters()[y as usize * width as usize + x as usize]
+    } else {
+        b'@'
     }
+}
+
+fn is_land(character: u8) -> bool
+    ensures { result ≡ is_land (ground_of (terrain_of character)) }
+{
+    (character == b'.') | (character == b'G') | (character == b'S')
+}
+
+fn is_water(character: u8) -> bool
+    ensures { result ≡ is_water (ground_of (terrain_of character)) }
+{
+    character == b'W'
 }
 
 /// An entry as a number. The keys of lengths are ordered as the lengths are.
-fn key_of(entry: Option<Length>) -> u64
-    ensures { result ≡ key_of entry }
+fn key_of_entry(entry: Option<Length>) -> u64
+    ensures { result ≡ key_of_entry entry }
 {
     match entry {
         Some(length) => {
@@ -124,7 +135,7 @@ fn keeps_diagonals(a: Corner, b: Corner, c: Corner, d: Corner) -> bool
 fn are_same(p: Corner, q: Corner) -> bool
     ensures { IsTrue result ↔ AreSame p q }
 {
-    (p.kind != Ground::Blocked) & (p.kind == q.kind)
+    (p.is_land & q.is_land) | (p.is_water & q.is_water)
 }
 
 /// Whether neither of two keys is more than the other and a step.

@@ -1,6 +1,6 @@
 //! The version line of a scenario.
 ghost use Rattle.std.specs.Prelude.{◌≡◌};
-ghost use Rattle.scen.specs.Parsing.{is_version};
+ghost use Rattle.scen.specs.Code.Parsing.{is_version};
 
 use crate::fields::trim_start;
 

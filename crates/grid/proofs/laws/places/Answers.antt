@@ -1,6 +1,6 @@
 use Rattle.grid.proofs.laws.places.Goals as goal
 use Rattle.grid.proofs.LineLemmas.{lines_of-all, ends_in_line_feed-ended}
-use Rattle.grid.proofs.PlaceLemmas.{stands, found, last, are_lines}
+use Rattle.grid.proofs.PlaceLemmas.{stands, found, last, cut, one_cut, are_lines}
 
 pub returns-clause-stands : goal.returns-clause-stands
 returns-clause-stands c = stands
@@ -10,6 +10,12 @@ returns-clause-found c = found
 
 pub returns-clause-last : goal.returns-clause-last
 returns-clause-last c = last
+
+pub returns-clause-cut : goal.returns-clause-cut
+returns-clause-cut c = cut
+
+pub returns-clause-one_cut : goal.returns-clause-one_cut
+returns-clause-one_cut c = one_cut
 
 pub returns-clause-are_lines : goal.returns-clause-are_lines
 returns-clause-are_lines c = are_lines

@@ -3,7 +3,7 @@ use Rattle.std.proofs.Common.{◌≤◌, [], ◌∷◌, refl, subst}
 use Rattle.std.proofs.lemmas.Result.{err_from_is_err_and}
 use Rattle.grid.specs.declared.header_line.HeaderLine.TheVariants.{TypeLine, HeightLine, WidthLine, MapLine}
 use Rattle.grid.specs.MapFault.{type_due, height_due, width_due, map_due, rows_due}
-use Rattle.grid.specs.Following.{SaysNoSize}
+use Rattle.grid.specs.Code.Following.{SaysNoSize}
 use Rattle.grid.proofs.TakenLines.{StopsReading-after, TakesRight-line, TakesRight-append}
 use Rattle.grid.proofs.HeaderJudged.{height_fault, width_fault, says_size, height_follows, width_size, width_follows}
 use Rattle.grid.proofs.HeaderTaken.{type_fault, map_fault, words_stop, size_stop, type_right, map_right}

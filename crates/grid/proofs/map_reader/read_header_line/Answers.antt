@@ -3,7 +3,7 @@ use Rattle.std.proofs.Common.{[], ◌∷◌, ◌++◌, refl, sym, ap, ◌∙◌,
 use Rattle.std.proofs.lemmas.Grind.{fold-append}
 use Rattle.grid.specs.declared.header_line.Progress.TheVariants.{Word}
 use Rattle.grid.specs.Text.{line_feed}
-use Rattle.grid.specs.HeaderLine.{header_step, saying_at}
+use Rattle.grid.specs.Code.HeaderLine.{header_step, saying_at}
 use Rattle.grid.proofs.SourceLemmas.{Takes-same, Takes-trans, Takes-then_none}
 use Rattle.grid.proofs.FollowLemmas.{IsLine-push, IsAtEnd-from, has_failed-from, Takes-byte}
 use Rattle.grid.proofs.map_reader.read_header_line.Goals as goal

@@ -4,7 +4,7 @@ use Rattle.std.specs.List.{AllByRecursion}
 use Rattle.grid.specs.Counted.{greatest}
 use Rattle.grid.specs.Text.{ended}
 use Rattle.grid.specs.Source.{Takes, most_left}
-use Rattle.grid.specs.Following.{number_after}
+use Rattle.grid.specs.Code.Following.{number_after}
 use Rattle.grid.proofs.RestTaken.{IsBlankLine}
 use Rattle.grid.proofs.map_reader.read_rest.Given as goal
 

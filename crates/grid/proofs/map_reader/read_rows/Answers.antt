@@ -2,7 +2,7 @@
 use Rattle.std.proofs.Common.{◌≡◌, ◌+◌, [], ◌∷◌, ◌++◌, min, refl, sym, ap, subst, ◌∙◌, inl, arith, length-append}
 use Rattle.std.proofs.lemmas.Result.{err_from_is_err_and}
 use Rattle.grid.specs.Counted.{greatest}
-use Rattle.grid.specs.Following.{HaveRows}
+use Rattle.grid.specs.Code.Following.{HaveRows}
 use Rattle.grid.proofs.SourceLemmas.{Takes-same}
 use Rattle.grid.proofs.RowsTaken.{rows_stop, TakesRows-push}
 use Rattle.grid.proofs.map_reader.read_rows.Goals as goal

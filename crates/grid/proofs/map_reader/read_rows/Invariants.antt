@@ -3,7 +3,7 @@ use Rattle.std.proofs.Common.{◌≡◌, ℕ, List, length, false}
 use Rattle.std.specs.List.{AllByRecursion}
 use Rattle.grid.specs.Source.{has_failed}
 use Rattle.grid.specs.Text.{IsLine}
-use Rattle.grid.specs.Following.{TakesLines, HaveRows}
+use Rattle.grid.specs.Code.Following.{TakesLines, HaveRows}
 use Rattle.grid.proofs.map_reader.read_rows.Given as goal
 
 abbrev pub invariant-loop-row : goal.invariant-loop-row

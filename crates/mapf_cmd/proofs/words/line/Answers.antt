@@ -1,12 +1,16 @@
-use Rattle.std.proofs.Common.{◌≡◌, ◌∙◌, ap, ap₂, sym, refl, subst, true, map, string_bytes, List, Option, Some, None, option_map, unwrap_or}
+use Rattle.std.proofs.Common.{◌≡◌, ◌∙◌, ap, ap₂, sym, refl, subst, true, map, string_bytes, List, [], inl, inr, Option, Some, None, option_map, unwrap_or}
 use Rattle.std.proofs.lemmas.Result.{IfErr-weaker, IfOk-weaker}
 use Rattle.clap.specs.Matches.{subcommand_name_of}
-use Rattle.clap.specs.Words.{App, HasMatchesOf, Row, Text, takes, fault_of, is_simple, is_simple_and_free, subcommand_of, subcommand_rows_of}
+use Rattle.clap.specs.Kinds.{HasKind, IsAmong, Kinds}
+use Rattle.clap.specs.Words.{App, kind_of, HasMatchesOf, Row, Text, takes, fault_of, is_simple, is_simple_and_free, subcommand_of, subcommand_rows_of}
 use Rattle.clap.specs.declared.parser.matches.ArgMatches.{ArgMatches}
 use Rattle.clap.specs.declared.parser.matches.ArgMatches.TheViews.{out-ArgMatches}
 use Rattle.clap.proofs.OnLiterals.{clap_on_literals}
 use Rattle.clap.proofs.TakesLemmas.{passed_up}
-use Rattle.mapf_cmd.specs.Words.{program_app, fault_of_kind}
+use Rattle.clap.specs.declared.error.Error.{Error as ClapError}
+use Rattle.mapf_cmd.specs.declared.command_line.LineFault.{LineFault}
+use Rattle.mapf_cmd.specs.Words.{program_app, fault_of_kind, IsFaultOf}
+use Rattle.mapf_cmd.specs.Code.Parts.{IsRefusal}
 use Rattle.mapf_cmd.proofs.Taken.{taken_gives, IsGiven}
 use Rattle.mapf_cmd.proofs.words.line.Goals as goal
 
@@ -39,6 +43,23 @@ subcommand_found app words m name rows e matches n r =
     let named = option_map-twice (λ (p : Text × List Row). p.0) _ (out-ArgMatches m).subcommand in
     sym same ∙ name_and_rows (subcommand_rows_of m) name rows (n ∙ sym named) r
 
+-- what an error of clap comes to
+fault-from_kind : (words : List Text) (kinds : Kinds) (e : ClapError) → kinds ≡ fault_of program_app words → HasKind kinds e → IsFaultOf words (fault_of_kind (kind_of e))
+fault-from_kind words kinds e is (inl memory) = inl (ap fault_of_kind memory)
+fault-from_kind words kinds e is (inr among) = inr (inl (kind_of e, subst (IsAmong (kind_of e)) is among, refl))
+
+-- words that clap takes are refused for memory or a number
+fault-from_refusal : (words : List Text) (fault : LineFault) → fault_of program_app words ≡ [] → IsRefusal fault → IsFaultOf words fault
+fault-from_refusal words fault taken (inl memory) = inl memory
+fault-from_refusal words fault taken (inr number) = inr (inr (taken, number))
+
+pub returns-in_err-matches-clause-fault : goal.returns-in_err-matches-clause-fault
+returns-in_err-matches-clause-fault c =
+    let e = c.in_ok-program.ensures in
+    passed_up _ _ _ c.from_residual-in_err-matches.ensures.1
+    (fault-from_kind (map string_bytes c.args.words.now) _ c.in_err-matches.field-0.0 (ap (λ a. fault_of a (map string_bytes c.args.words.now)) e)
+    (c.in_err-matches.ensures.kinds (ap is_simple_and_free e ∙ is_free_program)))
+
 pub returns-in_err-matches-clause-refused : goal.returns-in_err-matches-clause-refused
 returns-in_err-matches-clause-refused c =
     let e = c.in_ok-program.ensures in
@@ -56,6 +77,13 @@ returns-in-Some-clause-taken c =
     let taken = sym (ap (λ a. fault_of a (map string_bytes c.args.words.now)) e)
     ∙ c.in_ok-matches.ensures.kinds (ap is_simple_and_free e ∙ is_free_program) in
     IfOk-weaker c.read_command.result _ _ (λ line is. taken) c.read_command.ensures.ok
+
+pub returns-in-Some-clause-fault : goal.returns-in-Some-clause-fault
+returns-in-Some-clause-fault c =
+    let e = c.in_ok-program.ensures in
+    let taken = sym (ap (λ a. fault_of a (map string_bytes c.args.words.now)) e)
+    ∙ c.in_ok-matches.ensures.kinds (ap is_simple_and_free e ∙ is_free_program) in
+    IfErr-weaker c.read_command.result _ _ (λ fault refusal. fault-from_refusal (map string_bytes c.args.words.now) fault taken refusal) c.read_command.ensures.refusal
 
 pub returns-in-Some-clause-refused : goal.returns-in-Some-clause-refused
 returns-in-Some-clause-refused c =

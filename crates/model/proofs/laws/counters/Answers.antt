@@ -1,6 +1,7 @@
 use Rattle.std.proofs.Common.{ℕ, ◌≤◌, [], ◌∷◌, ◌++◌, arith}
 use Rattle.model.specs.History.{History, done}
 use Rattle.model.proofs.HistoryLemmas.{done-next, known-done}
+use Rattle.model.proofs.RunLemmas.{level, in_step}
 use Rattle.model.proofs.laws.counters.Goals as goal
 
 done-later : (later earlier : History) (i : ℕ) → done earlier i ≤ done (later ++ earlier) i
@@ -15,3 +16,9 @@ returns-clause-never_falls c = done-later
 
 pub returns-clause-known : goal.returns-clause-known
 returns-clause-known c = known-done
+
+pub returns-clause-in_step : goal.returns-clause-in_step
+returns-clause-in_step c = in_step
+
+pub returns-clause-still : goal.returns-clause-still
+returns-clause-still c = λ tab h i run rests. let bounds = in_step tab h i run in level h i bounds.0 bounds.1 rests

@@ -9,30 +9,30 @@ use Rattle.model.specs.declared.act.Act.{Act}
 use Rattle.model.specs.declared.act.Act.TheVariants.{N, E, S, W, Wait}
 use Rattle.model.specs.declared.plan_fault.PlanFault.{PlanFault}
 use Rattle.model.specs.declared.plan_fault.PlanFault.TheVariants.{BadStart, BadMove, Vertex, Swap, OutOfMemory}
-use Rattle.model.specs.Timetable.{Track, cell_at, track_of}
-use Rattle.model.specs.Plan.{Place, place_of, moved, place_at, HasFault, IsLegal, IsAt, IsTrackOf}
+use Rattle.model.specs.Timetable.{Track, cell_at, track_of, Stands}
+use Rattle.model.specs.Plan.{Position, position_of, moved, position_at, HasPlanFault, IsLegal, IsAt, IsTrackOf}
 use Rattle.model.specs.Dependency.{MovesInto, following, IsRotation}
-use Rattle.model.specs.Costs.{Task}
-use Rattle.model.specs.Examples.{cell, course, ground_of_row, swapping, following_plan, ground_of_square, turning_plan, row, square, turning, leader, follower}
+use Rattle.model.specs.Costs.{EndsAtRest, Task, Fits}
+use Rattle.model.specs.Examples.{cell, course, ground_of_row, swapping, following_plan, ground_of_square, turning_plan, row, square, turning, leader, follower, late_follower, exchange, first_task, second_task}
 use Rattle.model.proofs.laws.examples.Goals as goal
 
 -- ---- faults
 
-across : {p q : Place} → p ≡ q → p.x ≡ q.x
+across : {p q : Position} → p ≡ q → p.x ≡ q.x
 across e = ap (λ p. p.x) e
 
-no_meeting : (t : ℕ) (c : Cell) → HasFault ground_of_row swapping (Vertex 0 1 t c) → ⊥
+no_meeting : (t : ℕ) (c : Cell) → HasPlanFault ground_of_row swapping (Vertex 0 1 t c) → ⊥
 no_meeting zero c h = let apart = across (h.1 ∙ sym h.2) in cc
 no_meeting (suc zero) c h = let apart = across (h.1 ∙ sym h.2) in cc
 no_meeting (suc (suc t)) c h = let apart = across (h.1 ∙ sym h.2) in cc
 
-off_the_row : IsLegal ground_of_row (place_of (cell 0 0)) (moved W (place_of (cell 0 0))) → ⊥
+off_the_row : IsLegal ground_of_row (position_of (cell 0 0)) (moved W (position_of (cell 0 0))) → ⊥
 off_the_row h = let left = across h.is_to in cc
 
-to_the_east : (x : ℕ) → IsStraightStep ground_of_row (cell x 0) (cell (x + 1) 0) → IsLegal ground_of_row (place_of (cell x 0)) (place_of (cell (x + 1) 0))
+to_the_east : (x : ℕ) → IsStraightStep ground_of_row (cell x 0) (cell (x + 1) 0) → IsLegal ground_of_row (position_of (cell x 0)) (position_of (cell (x + 1) 0))
 to_the_east x step = record { u = cell x 0; v = cell (x + 1) 0; is_from = refl; is_to = refl; step = step }
 
-follows : (f : PlanFault) → HasFault ground_of_row following_plan f → ⊥
+follows : (f : PlanFault) → HasPlanFault ground_of_row following_plan f → ⊥
 follows (BadStart zero) h = h (λ e. cc)
 follows (BadStart (suc zero)) h = h (λ e. cc)
 follows (BadStart (suc (suc i))) h = h
@@ -64,17 +64,17 @@ follows (Swap (suc zero) (suc (suc j)) s) h = h.6
 follows (Swap (suc (suc i)) j s) h = h.4
 follows OutOfMemory h = h
 
-down : {p q : Place} → p ≡ q → p.y ≡ q.y
+down : {p q : Position} → p ≡ q → p.y ≡ q.y
 down e = ap (λ p. p.y) e
 
 next : (s : ℕ) → suc s + 1 ≡ suc (suc s)
 next s = omega arith
 
 -- four agents turn round in a square, and nobody is in another's way
-legal : (u v : Cell) → IsStraightStep ground_of_square u v → IsLegal ground_of_square (place_of u) (place_of v)
+legal : (u v : Cell) → IsStraightStep ground_of_square u v → IsLegal ground_of_square (position_of u) (position_of v)
 legal u v step = record { u = u; v = v; is_from = refl; is_to = refl; step = step }
 
-turn_round : (f : PlanFault) → HasFault ground_of_square turning_plan f → ⊥
+turn_round : (f : PlanFault) → HasPlanFault ground_of_square turning_plan f → ⊥
 turn_round (BadStart zero) h = h (λ e. cc)
 turn_round (BadStart (suc zero)) h = h (λ e. cc)
 turn_round (BadStart (suc (suc zero))) h = h (λ e. cc)
@@ -145,27 +145,27 @@ turn_round (Swap (suc (suc (suc zero))) (suc (suc (suc (suc j)))) s) h = h.6
 turn_round (Swap (suc (suc (suc (suc i)))) j s) h = h.4
 turn_round OutOfMemory h = h
 
-turns_by : (from to : Cell) (act : Act) → moved act (place_of from) ≡ place_of to → IsTrackOf (record { start = from; acts = act ∷ [] }) (turning from to)
-turns_by from to act e = record { count = refl; places = each } where
-  each : (t : ℕ) → place_of (cell_at (turning from to) t) ≡ place_at (record { start = from; acts = act ∷ [] }) t
+turns_by : (from to : Cell) (act : Act) → EndsAtRest (turning from to) → moved act (position_of from) ≡ position_of to → IsTrackOf (record { start = from; acts = act ∷ [] }) (turning from to)
+turns_by from to act at_rest e = record { at_rest = at_rest; places = each } where
+  each : (t : ℕ) → position_of (cell_at (turning from to) t) ≡ position_at (record { start = from; acts = act ∷ [] }) t
   each zero = refl
   each (suc t) = sym e
 
-leads : (t : ℕ) → place_of (cell_at leader t) ≡ place_at (course 1 (E ∷ Wait ∷ [])) t
+leads : (t : ℕ) → position_of (cell_at leader t) ≡ position_at (course 1 (E ∷ Wait ∷ [])) t
 leads zero = refl
 leads (suc zero) = refl
 leads (suc (suc t)) = refl
 
-comes_behind : (t : ℕ) → place_of (cell_at follower t) ≡ place_at (course 0 (E ∷ [])) t
+comes_behind : (t : ℕ) → position_of (cell_at follower t) ≡ position_at (course 0 (E ∷ [])) t
 comes_behind zero = refl
 comes_behind (suc t) = refl
 
 pub returns-clause-faults : goal.returns-clause-faults
 returns-clause-faults c = (
-  (omega arith, place_of (cell 0 0), place_of (cell 1 0), λ e. (let apart = across e in cc), refl, refl, refl, refl),
+  (omega arith, position_of (cell 0 0), position_of (cell 1 0), λ e. (let apart = across e in cc), refl, refl, refl, refl),
   no_meeting,
   (omega arith, refl, refl),
-  (omega arith, place_of (cell 0 0), place_of (cell 1 0), λ e. (let apart = across e in cc), refl, refl, refl, refl),
+  (omega arith, position_of (cell 0 0), position_of (cell 1 0), λ e. (let apart = across e in cc), refl, refl, refl, refl),
   (omega arith, refl, refl),
   inr (refl, inl (omega arith)),
   (λ e. cc, off_the_row),
@@ -177,8 +177,8 @@ returns-clause-faults c = (
       leader,
       follower ∷ [],
       refl,
-      record { count = refl; places = leads },
-      (follower, [], refl, record { count = refl; places = comes_behind }, refl),
+      record { at_rest = refl; places = leads },
+      (follower, [], refl, record { at_rest = refl; places = comes_behind }, refl),
     );
   },
   turn_round,
@@ -188,16 +188,53 @@ returns-clause-faults c = (
       _,
       _,
       refl,
-      turns_by (cell 0 0) (cell 1 0) E refl,
+      turns_by (cell 0 0) (cell 1 0) E refl refl,
       (
         _,
         _,
         refl,
-        turns_by (cell 1 0) (cell 1 1) S refl,
-        (_, _, refl, turns_by (cell 1 1) (cell 0 1) W refl, (_, _, refl, turns_by (cell 0 1) (cell 0 0) N refl, refl)),
+        turns_by (cell 1 0) (cell 1 1) S refl refl,
+        (_, _, refl, turns_by (cell 1 1) (cell 0 1) W refl refl, (_, _, refl, turns_by (cell 0 1) (cell 0 0) N refl refl, refl)),
       ),
     );
   },
+)
+
+-- ---- timetables
+
+column : {u v : Cell} → u ≡ v → u.x ≡ v.x
+column e = ap (λ c. c.x) e
+
+line : {u v : Cell} → u ≡ v → u.y ≡ v.y
+line e = ap (λ c. c.y) e
+
+comes_late : (t : ℕ) → position_of (cell_at late_follower t) ≡ position_at (course 0 (Wait ∷ E ∷ [])) t
+comes_late zero = refl
+comes_late (suc zero) = refl
+comes_late (suc (suc t)) = refl
+
+-- the two are in different cells at each time
+never_one : (t : ℕ) (c : Cell) → Stands exchange 0 t c → Stands exchange 1 t c → ⊥
+never_one zero c h k = (let apart = column (h ∙ sym k) in cc)
+never_one (suc t) c h k = (let apart = column (h ∙ sym k) in cc)
+
+in_turn : (i j t : ℕ) (c : Cell) → Stands exchange i t c → Stands exchange j t c → i ≡ j
+in_turn zero zero t c h k = refl
+in_turn zero (suc zero) t c h k = absurd (never_one t c h k)
+in_turn (suc zero) zero t c h k = absurd (never_one t c k h)
+in_turn (suc zero) (suc zero) t c h k = refl
+in_turn zero (suc (suc j)) t c h k = absurd k
+in_turn (suc zero) (suc (suc j)) t c h k = absurd k
+in_turn (suc (suc i)) j t c h k = absurd h
+
+pub returns-clause-timetables : goal.returns-clause-timetables
+returns-clause-timetables c = (
+  record { at_rest = refl; places = leads },
+  λ h. (let longer = h.at_rest in omega (arith, longer)),
+  record { at_rest = refl; places = comes_late },
+  record { number = refl; tracks = (_, _, refl, turns_by (cell 0 0) (cell 1 0) E refl refl, (_, _, refl, turns_by (cell 1 0) (cell 0 0) W refl refl, refl)) },
+  in_turn,
+  λ free. free 0 1 0 (cell 0 0) (cell 1 0) (λ e. (let apart = column e in cc)) refl refl refl refl,
 )
 
 -- ---- rotations
@@ -213,12 +250,6 @@ by_place (suc (suc (suc (suc n)))) i e = absurd (none-some i e)
 into : (i j : ℕ) (from to : Track) → track_of square i ≡ Some from → track_of square j ≡ Some to
     → (cell_at from 0 ≡ cell_at from 1 → ⊥) → cell_at from 1 ≡ cell_at to 0 → MovesInto square 0 i j
 into i j from to p q r s = record { from = from; to = to; is_from = p; is_to = q; moves = r; into = s }
-
-column : {u v : Cell} → u ≡ v → u.x ≡ v.x
-column e = ap (λ c. c.x) e
-
-line : {u v : Cell} → u ≡ v → u.y ≡ v.y
-line e = ap (λ c. c.y) e
 
 turns : (n i j : ℕ) → slice_get (0 ∷ 1 ∷ 2 ∷ 3 ∷ []) n ≡ Some i → following (0 ∷ 1 ∷ 2 ∷ 3 ∷ []) n ≡ Some j → MovesInto square 0 i j
 turns zero i j e f =
@@ -280,18 +311,25 @@ abbrev head_task : List Task → Task
 head_task [] = record { width = 0; height = 0; start = cell 0 0; goal = cell 0 0 }
 head_task (task ∷ tasks) = task
 
+both_fit : Fits 3 1 row.tracks (first_task ∷ second_task ∷ [])
+both_fit = (
+  _,
+  _,
+  refl,
+  record { same_width = refl; same_height = refl; from_start = refl; to_goal = refl },
+  (_, _, refl, record { same_width = refl; same_height = refl; from_start = refl; to_goal = refl }, refl),
+)
+
 pub returns-clause-tasks : goal.returns-clause-tasks
 returns-clause-tasks c = (
-  (
-    _,
-    _,
-    refl,
-    record { same_width = refl; same_height = refl; from_start = refl; to_goal = refl },
-    (_, _, refl, record { same_width = refl; same_height = refl; from_start = refl; to_goal = refl }, refl),
-  ),
+  both_fit,
   λ h. (let apart = column (h.3.from_start ∙ sym (ap (λ l. (head_task l).start) h.2)) in cc),
   λ h. (let one = ap length h.2 in let more = ap length h.4.2 in omega (arith, one, more)),
   λ h. (let height : ◌≡◌ {A = ℕ} 1 2 = ap (λ l. (head_task l).height) h.2 ∙ h.3.same_height in omega (arith, height)),
+  record { agents = refl; enough = omega arith; fits = both_fit },
+  λ h. (let two = h.agents in omega (arith, two)),
+  λ h. (let two = h.agents in omega (arith, two)),
+  λ h. (let one = h.enough in omega (arith, one)),
 )
 
 pub returns-clause-visits : goal.returns-clause-visits

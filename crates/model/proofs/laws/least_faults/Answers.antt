@@ -4,17 +4,16 @@ use Rattle.std.specs.Prelude.{Option, MatchOption, slice_get}
 use Rattle.std.proofs.lemmas.Bool.{cases_lt, cases_order}
 use Rattle.std.proofs.lemmas.Option.{slice_get_within, same_Some, none-some}
 use Rattle.grid.specs.Map.{Grid}
-use Rattle.model.specs.declared.act.Act.{Act}
 use Rattle.model.specs.declared.plan_fault.PlanFault.{PlanFault}
 use Rattle.model.specs.declared.plan_fault.PlanFault.TheVariants.{BadStart, BadMove, Vertex, Swap, OutOfMemory}
-use Rattle.model.specs.Plan.{Place, place_of, moved, Course, Plan, place_after, place_at, course_of, IsAt, HasFault, Key, key_of, IsBefore, IsLeastFault, longest_of}
+use Rattle.model.specs.Plan.{Position, position_of, Course, Plan, position_at, course_of, IsAt, HasPlanFault, Key, key_of, IsBefore, IsLeastFault, longest_of}
 use Rattle.model.proofs.Options.{found}
-use Rattle.model.proofs.PlaceLemmas.{same_place}
+use Rattle.model.proofs.PlaceLemmas.{same_place, position_after-end}
 use Rattle.model.proofs.laws.least_faults.Goals as goal
 
 -- ---- one fault for a key
 
-one_place : (o : Option Course) (t : ℕ) (u v : Place) → MatchOption o ⊥ (λ course. place_at course t ≡ u) → MatchOption o ⊥ (λ course. place_at course t ≡ v) → u ≡ v
+one_place : (o : Option Course) (t : ℕ) (u v : Position) → MatchOption o ⊥ (λ course. position_at course t ≡ u) → MatchOption o ⊥ (λ course. position_at course t ≡ v) → u ≡ v
 one_place None t u v h k = absurd h
 one_place (Some course) t u v h k = sym h ∙ k
 
@@ -45,7 +44,7 @@ level_from a b h k =
       ]
     ]
 
-same_fault : (m : Grid) (p : Plan) (f g : PlanFault) → HasFault m p f → HasFault m p g → IsLevel (key_of f) (key_of g) → f ≡ g
+same_fault : (m : Grid) (p : Plan) (f g : PlanFault) → HasPlanFault m p f → HasPlanFault m p g → IsLevel (key_of f) (key_of g) → f ≡ g
 same_fault m p (BadStart i) (BadStart j) h k l = ap (λ n. BadStart n) l.first
 same_fault m p (BadStart i) (BadMove j s) h k l = absurd (let e = l.time in omega (arith, e))
 same_fault m p (BadStart i) (Vertex j q t c) h k l = absurd (let e = l.rank in omega (arith, e))
@@ -60,8 +59,8 @@ same_fault m p (BadMove i s) (Swap j q t) h k l = absurd (let e = l.rank in omeg
 same_fault m p (Vertex i o s c) (BadStart j) h k l = absurd (let e = l.rank in omega (arith, e))
 same_fault m p (Vertex i o s c) (BadMove j t) h k l = absurd (let e = l.rank in omega (arith, e))
 same_fault m p (Vertex i o s c) (Vertex j q t d) h k l =
-    let there : IsAt p i s (place_of d) = subst (λ n. IsAt p n s (place_of d)) (sym l.first) (subst (λ n. IsAt p j n (place_of d)) (sym l.time) k.1) in
-    let cell = same_place c d (one_place (course_of p i) s (place_of c) (place_of d) h.1 there) in
+    let there : IsAt p i s (position_of d) = subst (λ n. IsAt p n s (position_of d)) (sym l.first) (subst (λ n. IsAt p j n (position_of d)) (sym l.time) k.1) in
+    let cell = same_place c d (one_place (course_of p i) s (position_of c) (position_of d) h.1 there) in
     ap (λ n. Vertex n o s c) l.first ∙ ap (λ n. Vertex j n s c) l.second ∙ ap (λ n. Vertex j q n c) l.time ∙ ap (λ x. Vertex j q t x) cell
 same_fault m p (Vertex i o s c) (Swap j q t) h k l = absurd (let e = l.rank in omega (arith, e))
 same_fault m p (Swap i o s) (BadStart j) h k l = absurd (let e = l.rank in omega (arith, e))
@@ -79,25 +78,19 @@ returns-clause-one c = λ m p f g h k. same_fault m p f g h.has k.has (level_fro
 
 -- ---- past the end
 
--- after the last act the agent stays
-rests : (p : Place) (acts : List Act) (t : ℕ) → length acts ≤ t → place_after p acts t ≡ place_after p acts (length acts)
-rests p [] t h = refl
-rests p (a ∷ acts) zero h = absurd (omega (arith, h))
-rests p (a ∷ acts) (suc t) h = rests (moved a p) acts t (omega (arith, h))
-
 longest-is : (courses : List Course) (i : ℕ) (course : Course) → slice_get courses i ≡ Some course → length course.acts ≤ longest_of courses
 longest-is [] i course e = absurd (none-some course e)
 longest-is (first ∷ courses) zero course e =
     let count = ap (λ k. length k.acts) (same_Some first course e) in omega (arith, count)
 longest-is (first ∷ courses) (suc i) course e = let rest = longest-is courses i course e in omega (arith, rest)
 
-at_end : (o : Option Course) (most t : ℕ) (place : Place) → ((course : Course) → o ≡ Some course → length course.acts ≤ most) → most ≤ t
-    → MatchOption o ⊥ (λ course. place_at course t ≡ place) → MatchOption o ⊥ (λ course. place_at course most ≡ place)
+at_end : (o : Option Course) (most t : ℕ) (place : Position) → ((course : Course) → o ≡ Some course → length course.acts ≤ most) → most ≤ t
+    → MatchOption o ⊥ (λ course. position_at course t ≡ place) → MatchOption o ⊥ (λ course. position_at course most ≡ place)
 at_end None most t place within past h = h
 at_end (Some course) most t place within past h =
     let count = within course refl in
-    let start = place_of course.start in
-    rests start course.acts most count ∙ sym (rests start course.acts t (omega (arith, count, past))) ∙ h
+    let start = position_of course.start in
+    position_after-end start course.acts most count ∙ sym (position_after-end start course.acts t (omega (arith, count, past))) ∙ h
 
 in_time : (m : Grid) (p : Plan) (f : PlanFault) → IsLeastFault m p f → (key_of f).time ≤ longest_of p.courses
 in_time m p (BadStart i) h = omega arith
@@ -113,8 +106,8 @@ in_time m p (Vertex i j t c) h =
       | inr within ↦ within
       | inl past ↦ absurd (
           let least : most ≤ t = omega (arith, past) in
-          let at_i = at_end (course_of p i) most t (place_of c) (λ course e. longest-is p.courses i course e) least h.has.1 in
-          let at_j = at_end (course_of p j) most t (place_of c) (λ course e. longest-is p.courses j course e) least h.has.2 in
+          let at_i = at_end (course_of p i) most t (position_of c) (λ course e. longest-is p.courses i course e) least h.has.1 in
+          let at_j = at_end (course_of p j) most t (position_of c) (λ course e. longest-is p.courses j course e) least h.has.2 in
           h.first (Vertex i j most c) (h.has.0, at_i, at_j) (inl past))
     ]
 in_time m p (Swap i j step) h =

@@ -79,7 +79,7 @@ never tab step agents free turns (now ∷ h) run place i track member there =
     elim (begun_now tab h i track there was now.event now.answer run.0) [
       | inl none ↦ omega (arith, none, most)
       | inr begun ↦
-          let even = level tab h i track was begun.2 in
+          let even = level h i was.low was.high begun.2 in
           elim (cases_lt (kept_starts h i) (moves_before track step)) [
             | inl less ↦ omega (arith, less, begun.0)
             | inr past ↦ absurd (

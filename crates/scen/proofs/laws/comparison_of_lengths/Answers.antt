@@ -1,7 +1,7 @@
 use Rattle.std.proofs.Common.{refl}
 use Rattle.scen.proofs.laws.comparison_of_lengths.Goals as goal
-use Rattle.scen.specs.Comparison.{parts_cmp}
-use Rattle.scen.specs.ComparisonLaws.{answers_Less, answers_Equal, answers_Greater}
+use Rattle.scen.specs.Code.Comparison.{parts_cmp}
+use Rattle.scen.specs.Code.ComparisonLaws.{answers_Less, answers_Equal, answers_Greater}
 
 pub returns-clause-less : goal.returns-clause-less
 returns-clause-less c = λ a b c d. answers_Less a b c d (parts_cmp a b c d) refl

@@ -2,7 +2,7 @@
 use Rattle.std.proofs.Common.{◌≡◌, ◌⊎◌, List, inl, inr, None, Some, refl, sym, ◌∙◌}
 use Rattle.std.specs.Prelude.{Option}
 use Rattle.grid.specs.Text.{lines_of}
-use Rattle.grid.specs.Reading.{IsFirstFault}
+use Rattle.grid.specs.Reading.{by_input, IsFirstFault}
 use Rattle.scen.specs.declared.scen_fault.ScenFault.{ScenFault}
 use Rattle.scen.specs.Query.{Query}
 use Rattle.scen.specs.ScenText.{ScenText}
@@ -17,20 +17,20 @@ returns-clause-some c text = go (first_fault version_due 0 (lines_of text)) refl
     go : (found : Option ScenFault) → first_fault version_due 0 (lines_of text) ≡ found
         → ((rows : List Query) × ScenText rows text) ⊎ ((f : ScenFault) × IsFirstFault ScenFaultAt f text)
     go None e = inl (rows_in version_due (lines_of text), ScenText-from_none text (c.places.ensures.are_lines text) e)
-    go (Some fault) e = inr (fault, IsFirstFault-from_found c.places.ensures.found fault text (c.places.ensures.are_lines text) e)
+    go (Some fault) e = inr (fault, IsFirstFault-from_found (c.places.ensures.found by_input) fault text (c.places.ensures.are_lines text) e)
 
 pub returns-clause-one_scenario : goal.returns-clause-one_scenario
 returns-clause-one_scenario c text m n p q = (scanned-from_ScenText m text p).1 ∙ sym (scanned-from_ScenText n text q).1
 
 pub returns-clause-one_fault : goal.returns-clause-one_fault
 returns-clause-one_fault c text f g p q =
-    let first = found-from_IsFirstFault c.places.ensures.stands f text p in
-    let second = found-from_IsFirstFault c.places.ensures.stands g text q in
+    let first = found-from_IsFirstFault (c.places.ensures.stands by_input) f text p in
+    let second = found-from_IsFirstFault (c.places.ensures.stands by_input) g text q in
     cc
 
 pub returns-clause-never_both : goal.returns-clause-never_both
 returns-clause-never_both c text rows f p q =
     let none = scanned-from_ScenText rows text p in
-    let some = found-from_IsFirstFault c.places.ensures.stands f text q in
+    let some = found-from_IsFirstFault (c.places.ensures.stands by_input) f text q in
     let bad = sym none.0 ∙ some in
     cc

@@ -1,6 +1,6 @@
 use Rattle.scen.proofs.laws.order_of_lengths.Goals as goal
-use Rattle.scen.specs.Squares.{only_zero}
-use Rattle.scen.specs.OrderLaws.{total, irreflexive, never_both, transitive}
+use Rattle.scen.specs.Code.Squares.{only_zero}
+use Rattle.scen.specs.Code.OrderLaws.{total, irreflexive, never_both, transitive}
 use Rattle.scen.proofs.OrderLemmas.{step, step_at_most}
 
 pub returns-clause-only_zero : goal.returns-clause-only_zero

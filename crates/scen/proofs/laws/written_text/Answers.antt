@@ -1,6 +1,6 @@
 -- What is written has the lines that were meant, and one reading.
 use Rattle.std.proofs.Common.{[], ◌∷◌, sym, ◌∙◌, codes, map}
-use Rattle.scen.specs.Query.{row_line, canonical_text}
+use Rattle.scen.specs.Query.{row_line, canonical_scen_text}
 use Rattle.scen.specs.ScenText.{ScenText}
 use Rattle.scen.proofs.TextScanned.{scanned-from_ScenText}
 use Rattle.scen.proofs.WrittenLemmas.{version_line-spells, version_line-is_line, written-rows, written-are_lines}
@@ -19,7 +19,7 @@ returns-clause-spells c rows within = record {
 
 pub returns-clause-only : goal.returns-clause-only
 returns-clause-only c rows others within spells =
-    let meant : ScenText rows (canonical_text rows) = record {
+    let meant : ScenText rows (canonical_scen_text rows) = record {
       before = [];
       version = codes "version 1";
       rest = map row_line rows;
@@ -28,4 +28,4 @@ returns-clause-only c rows others within spells =
       is_version = version_line-spells;
       are_rows = written-rows rows within;
     } in
-    (scanned-from_ScenText others (canonical_text rows) spells).1 ∙ sym (scanned-from_ScenText rows (canonical_text rows) meant).1
+    (scanned-from_ScenText others (canonical_scen_text rows) spells).1 ∙ sym (scanned-from_ScenText rows (canonical_scen_text rows) meant).1

@@ -1,6 +1,6 @@
 -- No point stands among the bytes so far.
 use Rattle.std.proofs.Common.{◌≡◌, ◌+◌, drop}
-use Rattle.scen.specs.Parsing.{point_at}
+use Rattle.scen.specs.Code.Parsing.{point_at}
 use Rattle.scen.proofs.numbers.around_point.Given as goal
 
 abbrev pub invariant-loop-i : goal.invariant-loop-i

@@ -5,7 +5,7 @@ use Rattle.std.specs.Str.Parse.{digits_value_after}
 use Rattle.std.proofs.lemmas.Bool.{cond-true}
 use Rattle.std.proofs.lemmas.List.{drop_all}
 use Rattle.std.proofs.lemmas.Grind.{common_steps}
-use Rattle.scen.specs.Parsing.{most_told}
+use Rattle.scen.specs.Code.Parsing.{most_told}
 use Rattle.scen.proofs.NumberLemmas.{value_after-digit}
 use Rattle.scen.proofs.numbers.spelled_after.Goals as goal
 

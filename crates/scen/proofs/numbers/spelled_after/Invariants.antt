@@ -3,7 +3,7 @@ use Rattle.std.proofs.Common.{◌≡◌, ◌≤◌, min, drop}
 use Rattle.std.specs.List.{list_all}
 use Rattle.std.specs.Char.{is_ascii_digit}
 use Rattle.std.specs.Str.Parse.{digits_value_after}
-use Rattle.scen.specs.Parsing.{most_told}
+use Rattle.scen.specs.Code.Parsing.{most_told}
 use Rattle.scen.proofs.numbers.spelled_after.Given as goal
 
 abbrev pub invariant-loop-b : goal.invariant-loop-b

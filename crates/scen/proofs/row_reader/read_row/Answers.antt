@@ -2,7 +2,7 @@ use Rattle.std.proofs.Common.{◌≡◌, true, refl, sym, ap, ◌∙◌, subst}
 use Rattle.scen.specs.Query.{IsQuery}
 use Rattle.scen.specs.ScenText.{SpellsRow}
 use Rattle.scen.specs.ScenFault.{is_in_grid}
-use Rattle.scen.specs.Parsing.{fields_seen}
+use Rattle.scen.specs.Code.Parsing.{fields_seen}
 use Rattle.scen.proofs.RowLemmas.{IsQuery-from_fields, SpellsRow-from_fields}
 use Rattle.scen.proofs.ReadRowLemmas.{in_grid-from_numbers, coordinates, row_read, row_line-from_content, faults-number, faults-grid, faults-length, are_right}
 use Rattle.scen.proofs.row_reader.read_row.Goals as goal

@@ -1,9 +1,9 @@
 -- Each line as it was taken, and what the whole text is at its end.
 use Rattle.std.proofs.Common.{◌≡◌, ◌++◌, ◌∷◌, [], take, ◌∙◌, subst, arith, length-append, length-take}
 use Rattle.std.proofs.lemmas.Result.{err_from_is_err_and}
-use Rattle.grid.specs.Reading.{line_number}
-use Rattle.scen.specs.Parsing.{due_after, Refuses}
-use Rattle.scen.proofs.LinesRead.{reads_push, last_line, end_line, refused_line, refused_end, ended, long_line, failed}
+use Rattle.grid.specs.Reading.{by_input, line_number}
+use Rattle.scen.specs.Code.Parsing.{due_after, Refuses}
+use Rattle.scen.proofs.LinesRead.{reads_push, last_line, end_line, refused_line, refused_end, ended, ended_within, long_line, failed}
 use Rattle.scen.proofs.scen_reader.read_lines.Goals as goal
 
 pub slice_bounds-room-end : goal.slice_bounds-room-end
@@ -60,7 +60,7 @@ pub add_line-requires-in-AtEnd-clause-line : goal.add_line-requires-in-AtEnd-cla
 add_line-requires-in-AtEnd-clause-line g c =
     let inv = c.lines.invariant in
     let t = c.in-AtEnd.ensures.taken _ inv.0 inv.1 in
-    end_line c.places.ensures.are_lines t.come.front inv.0 _ t.come.judged
+    end_line c.places.ensures.are_lines t.come.front inv.0 _ (t.come.judged by_input)
 
 pub returns-in_err-add_line-in-AtEnd-clause-reads : goal.returns-in_err-add_line-in-AtEnd-clause-reads
 returns-in_err-add_line-in-AtEnd-clause-reads g c =
@@ -71,10 +71,17 @@ returns-in_err-add_line-in-AtEnd-clause-reads g c =
     (subst (λ n. Refuses (due_after c.lines.progress.has_version) n (take c.in-AtEnd.count c.take_line.new.room) c.in_err-add_line-in-AtEnd.field-0.0)
     inv.4 c.in_err-add_line-in-AtEnd.ensures))
 
+pub scenario-requires : goal.scenario-requires
+scenario-requires g c is =
+    let inv = c.lines.invariant in
+    ended_within g.R.Read.remaining _ _ c.places.ensures.are_lines (c.places.ensures.last by_input) inv.0 c.take_line.new.room c.in-AtEnd.count
+    c.lines.progress.has_version c.add_line-in-AtEnd.new.self.has_version c.lines.progress.rows.items c.add_line-in-AtEnd.new.self.rows.items
+    is (c.in-AtEnd.ensures.taken _ inv.0 inv.1) (inv.2, inv.3) c.in_ok-add_line-in-AtEnd.ensures
+
 pub returns-in-AtEnd-clause-reads : goal.returns-in-AtEnd-clause-reads
 returns-in-AtEnd-clause-reads g c =
     let inv = c.lines.invariant in
-    ended g.R.Read.remaining _ _ c.places.ensures.are_lines c.places.ensures.last inv.0 c.take_line.new.room c.in-AtEnd.count
+    ended g.R.Read.remaining _ _ c.places.ensures.are_lines (c.places.ensures.last by_input) inv.0 c.take_line.new.room c.in-AtEnd.count
     c.lines.progress.has_version c.add_line-in-AtEnd.new.self.has_version c.lines.progress.rows.items c.add_line-in-AtEnd.new.self.rows.items
     c.scenario.result c.scenario.ensures (c.in-AtEnd.ensures.taken _ inv.0 inv.1) (inv.2, inv.3) c.in_ok-add_line-in-AtEnd.ensures
 
@@ -87,5 +94,5 @@ returns-in-TooLong-clause-reads g c =
 pub returns-in-Failed-clause-reads : goal.returns-in-Failed-clause-reads
 returns-in-Failed-clause-reads g c =
     let inv = c.lines.invariant in
-    failed g.R.Read.remaining _ _ c.places.ensures.stands inv.0 c.take_line.new.room c.lines.progress.has_version c.lines.progress.rows.items
+    failed g.R.Read.remaining _ _ (c.places.ensures.stands by_input) inv.0 c.take_line.new.room c.lines.progress.has_version c.lines.progress.rows.items
     (omega (arith, c.take_line.auto.room)) (c.in-Failed.ensures.taken _ inv.0 inv.1) (inv.2, inv.3)

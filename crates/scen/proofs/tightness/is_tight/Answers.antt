@@ -1,7 +1,7 @@
 -- The table is tight exactly where each row keeps.
 use Rattle.std.proofs.Common.{refl, sym, arith, ◌∙◌}
 use Rattle.std.proofs.lemmas.Bool.{false≢true}
-use Rattle.scen.specs.Tightness.{KeepsRow}
+use Rattle.scen.specs.Code.Tightness.{KeepsRow}
 use Rattle.scen.proofs.TightTables.{all_below_next, block_from_tight, tight_from_rows}
 use Rattle.scen.proofs.tightness.is_tight.Goals as goal
 

@@ -1,5 +1,5 @@
 use Rattle.std.proofs.Common.{ℕ, ◌<◌}
-use Rattle.scen.specs.Tightness.{KeepsRow}
+use Rattle.scen.specs.Code.Tightness.{KeepsRow}
 use Rattle.scen.proofs.tightness.is_tight.Given as goal
 
 abbrev pub invariant-loop-y : goal.invariant-loop-y

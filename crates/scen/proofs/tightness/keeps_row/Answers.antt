@@ -1,7 +1,7 @@
 -- Each block is tested by its corners.
 use Rattle.std.proofs.Common.{◌+◌, sym, arith, ◌∙◌}
 use Rattle.std.proofs.lemmas.Bool.{false≢true}
-use Rattle.scen.specs.Tightness.{corner_at}
+use Rattle.scen.specs.Code.Tightness.{corner_at}
 use Rattle.scen.proofs.TightTables.{all_below_next, block_along}
 use Rattle.scen.proofs.tightness.keeps_row.Goals as goal
 

@@ -1,5 +1,5 @@
 use Rattle.std.proofs.Common.{◌≡◌, ℕ, ◌+◌, ◌<◌}
-use Rattle.scen.specs.Tightness.{corner_at, KeepsBlock}
+use Rattle.scen.specs.Code.Tightness.{corner_at, KeepsBlock}
 use Rattle.scen.proofs.tightness.keeps_row.Given as goal
 
 -- the corners are those of the column, and each block before it keeps

@@ -4,7 +4,7 @@ use Rattle.std.specs.Prelude.{◌↔◌}
 use Rattle.std.proofs.lemmas.Bool.{true≢false}
 use Rattle.scen.specs.Length.{IsLess, IsAtMost}
 use Rattle.scen.proofs.OrderLemmas.{less_from_not_at_most}
-use Rattle.scen.specs.ComparisonLaws.{parts_cmp-Greater}
+use Rattle.scen.specs.Code.ComparisonLaws.{parts_cmp-Greater}
 use Rattle.scen.proofs.length.LengthOrd.cmp.Goals as goal
 
 -- of equal numbers in a wider type

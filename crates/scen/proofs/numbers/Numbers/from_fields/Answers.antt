@@ -1,6 +1,6 @@
 use Rattle.std.proofs.Common.{min, sym, ◌∙◌}
 use Rattle.scen.specs.ScenFault.{value_of, is_bucket, is_size, is_number}
-use Rattle.scen.specs.Parsing.{fields_seen, most_told}
+use Rattle.scen.specs.Code.Parsing.{fields_seen, most_told}
 use Rattle.scen.proofs.NumberLemmas.{some_from_test, no_wrong_number}
 use Rattle.scen.proofs.numbers.Numbers.from_fields.Goals as goal
 

@@ -1,7 +1,7 @@
 use Rattle.std.proofs.Common.{true, inr, refl, sym, ap, ◌∙◌, subst}
 use Rattle.scen.specs.declared.scen_fault.ScenFault.TheVariants.{NoVersion}
 use Rattle.scen.specs.ScenText.{IsVersion}
-use Rattle.scen.specs.Parsing.{due_after, Adds, Refuses, is_version}
+use Rattle.scen.specs.Code.Parsing.{due_after, Adds, Refuses, is_version}
 use Rattle.scen.proofs.VersionLemmas.{IsVersion-from_test, refuses-other}
 use Rattle.scen.proofs.scen_reader.Progress.add_line.Goals as goal
 

@@ -1,0 +1,131 @@
+//! Command lines and what each is read as.
+use mapf_cmd::{Line, LineFault, line};
+use std::alloc::{AllocError, Global};
+use std::test::Fail;
+
+/// The words of a command line, divided by single blanks.
+pub fn words(alloc: Global, text: &str) -> Result<Vec<String>, AllocError> {
+    let mut words = Vec::new(alloc);
+    for word in text.split(' ') {
+        words.push(String::from_str(alloc, word)?)?;
+    }
+    Ok(words)
+}
+
+#[test]
+fn map_lines(rt: HostRuntime) -> Result<(), Fail> {
+    for &(text, want) in &[
+        ("mapf map F", "F"),
+        ("mapf map ./a/b.map", "./a/b.map"),
+        ("other map map", "map"),
+        ("mapf map -- -h", "-h"),
+        ("mapf map -", "-"),
+    ] {
+        let words = words(rt.alloc(), text)?;
+        let Line::Map { file } = line(rt.alloc(), words.as_slice())? else {
+            assert!(rt; false, "another command at {text:?}");
+            return Ok(());
+        };
+        assert_eq!(rt; file.as_str(), want, "at {text:?}");
+    }
+    Ok(())
+}
+
+#[test]
+fn scen_lines(rt: HostRuntime) -> Result<(), Fail> {
+    for (text, want) in [("mapf scen F", "F"), ("mapf scen scen", "scen")] {
+        let words = words(rt.alloc(), text)?;
+        let Line::Scen { file } = line(rt.alloc(), words.as_slice())? else {
+            assert!(rt; false, "another command at {text:?}");
+            return Ok(());
+        };
+        assert_eq!(rt; file.as_str(), want, "at {text:?}");
+    }
+    Ok(())
+}
+
+#[test]
+fn row_lines(rt: HostRuntime) -> Result<(), Fail> {
+    for &(text, want) in &[
+        ("mapf row M S 0", 0),
+        ("mapf row M S 007", 7),
+        ("mapf row M S 4294967295", 4_294_967_295),
+        ("mapf row M S 000000004294967295", 4_294_967_295),
+        ("mapf row -- M S 12", 12),
+    ] {
+        let words = words(rt.alloc(), text)?;
+        let Line::Row { map, scen, row } = line(rt.alloc(), words.as_slice())? else {
+            assert!(rt; false, "another command at {text:?}");
+            return Ok(());
+        };
+        assert_eq!(rt; map.as_str(), "M", "at {text:?}");
+        assert_eq!(rt; scen.as_str(), "S", "at {text:?}");
+        assert_eq!(rt; row, want, "at {text:?}");
+    }
+    Ok(())
+}
+
+#[test]
+fn numbers_that_are_none(rt: HostRuntime) -> Result<(), Fail> {
+    for &number in &[
+        "4294967296",
+        "18446744073709551616",
+        "+1",
+        "-1",
+        "1x",
+        "x1",
+        "",
+        " 1",
+        "1 ",
+        "1.0",
+        "0x1",
+        "١",
+    ] {
+        let mut words = words(rt.alloc(), "mapf row M S")?;
+        words.push(String::from_str(rt.alloc(), number)?)?;
+        let got = line(rt.alloc(), words.as_slice());
+        assert_eq!(rt; got.err(), Some(LineFault::BadCommand), "at {number:?}");
+    }
+    Ok(())
+}
+
+#[test]
+fn refused_lines(rt: HostRuntime) -> Result<(), Fail> {
+    for &(text, want) in &[
+        ("mapf", LineFault::BadCommand),
+        ("mapf map", LineFault::BadCommand),
+        ("mapf map a b", LineFault::BadCommand),
+        ("mapf scen", LineFault::BadCommand),
+        ("mapf scen a b", LineFault::BadCommand),
+        ("mapf map scen F", LineFault::BadCommand),
+        ("mapf row", LineFault::BadCommand),
+        ("mapf row M", LineFault::BadCommand),
+        ("mapf row M S", LineFault::BadCommand),
+        ("mapf row M S 0 1", LineFault::BadCommand),
+        ("mapf row M 0 S", LineFault::BadCommand),
+        ("mapf map -x", LineFault::BadCommand),
+        ("mapf nosuch", LineFault::BadCommand),
+        ("mapf -x", LineFault::BadCommand),
+        ("mapf Map F", LineFault::BadCommand),
+        ("mapf -h", LineFault::Help),
+        ("mapf --help", LineFault::Help),
+        ("mapf help", LineFault::Help),
+        ("mapf help map", LineFault::Help),
+        ("mapf scen --help", LineFault::Help),
+        ("mapf map -h", LineFault::Help),
+        ("mapf map --help", LineFault::Help),
+        ("mapf map F --help", LineFault::Help),
+        ("mapf row --help", LineFault::Help),
+        ("mapf row M S x --help", LineFault::Help),
+    ] {
+        let words = words(rt.alloc(), text)?;
+        let got = line(rt.alloc(), words.as_slice());
+        assert_eq!(rt; got.err(), Some(want), "at {text:?}");
+    }
+    let none: [String; 0] = [];
+    assert_eq!(rt;
+        line(rt.alloc(), none.as_slice()).err(),
+        Some(LineFault::BadCommand)
+    );
+    Ok(())
+}

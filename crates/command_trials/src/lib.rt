@@ -1,0 +1,13 @@
+//! Tests of the crate mapf_cmd: whole commands over readers and writers, failing ones too, and command lines.
+#![tactic(auto)]
+
+#[cfg(test)]
+mod command_lines;
+#[cfg(test)]
+mod map_command;
+#[cfg(test)]
+mod program;
+#[cfg(test)]
+mod row_command;
+#[cfg(test)]
+mod scen_command;

@@ -1,0 +1,186 @@
+//! The program over files that record what was opened: its status, standard output and standard error.
+use crate::command_lines::words;
+use fakes::{CORNER, CORNER_WRITTEN, FakeFiles, Keeper, ROW, ROW_WRITTEN, Trouble};
+use grid::Counted;
+use mapf_cmd::run;
+use std::alloc::Global;
+use std::process::Abort;
+use std::test::Fail;
+
+/// The files of these tests. A scenario's name is no map, and a map's no scenario.
+const FILES: &[(&str, &str)] = &[("corner.map", CORNER), ("corner.scen", ROW)];
+
+/// What the program does on its words: its status, both outputs, and the names that it opens.
+#[derive(Clone, Copy)]
+struct Done<'a> {
+    words: &'a str,
+    status: u8,
+    out: &'a str,
+    err: &'a str,
+    opened: &'a str,
+}
+
+#[test]
+fn commands_open_their_files_in_order(rt: HostRuntime) -> Result<(), Fail> {
+    for want in &[
+        Done {
+            words: "mapf map corner.map",
+            status: 0,
+            out: CORNER_WRITTEN,
+            err: "",
+            opened: "corner.map\n",
+        },
+        Done {
+            words: "mapf scen corner.scen",
+            status: 0,
+            out: ROW_WRITTEN,
+            err: "",
+            opened: "corner.scen\n",
+        },
+        Done {
+            words: "mapf row corner.map corner.scen 0",
+            status: 0,
+            out: "shortest 2 0 listed 2.00000000 agrees\n",
+            err: "",
+            opened: "corner.map\ncorner.scen\n",
+        },
+        // The words are files in this order, and not what they are called.
+        Done {
+            words: "mapf row corner.scen corner.map 0",
+            status: 1,
+            out: "",
+            err: "mapf: BadHeader 1\n",
+            opened: "corner.scen\ncorner.map\n",
+        },
+        Done {
+            words: "mapf map corner.scen",
+            status: 1,
+            out: "",
+            err: "mapf: BadHeader 1\n",
+            opened: "corner.scen\n",
+        },
+        Done {
+            words: "mapf scen corner.map",
+            status: 1,
+            out: "",
+            err: "mapf: NoVersion\n",
+            opened: "corner.map\n",
+        },
+    ] {
+        does(&rt, rt.alloc(), want)?;
+    }
+    Ok(())
+}
+
+#[test]
+fn files_that_are_not_there(rt: HostRuntime) -> Result<(), Fail> {
+    for &(words, opened) in &[
+        ("mapf map other.map", "other.map\n"),
+        ("mapf scen other.scen", "other.scen\n"),
+        ("mapf row other.map corner.scen 0", "other.map\n"),
+        (
+            "mapf row corner.map other.scen 0",
+            "corner.map\nother.scen\n",
+        ),
+    ] {
+        let want = Done {
+            words,
+            status: 3,
+            out: "",
+            err: "mapf: OpenFailed\n",
+            opened,
+        };
+        does(&rt, rt.alloc(), &want)?;
+    }
+    Ok(())
+}
+
+#[test]
+fn words_that_are_no_command(rt: HostRuntime) -> Result<(), Fail> {
+    for &text in &[
+        "mapf",
+        "mapf other",
+        "mapf map",
+        "mapf row corner.map corner.scen x",
+    ] {
+        let files = FakeFiles::new(rt.alloc(), FILES);
+        let (mut out, mut err) = (Keeper::of_size(2048), Keeper::of_size(2048));
+        let words = words(rt.alloc(), text)?;
+        let status = run(
+            &files,
+            words.as_slice(),
+            &mut Counted::new(&mut out),
+            &mut Counted::new(&mut err),
+        );
+        assert_eq!(rt; status, 2, "at {text:?}");
+        assert!(rt; out.kept() == b"".as_slice(), "at {text:?}");
+        assert!(rt; err.kept().starts_with(b"usage: mapf "), "at {text:?}");
+        assert!(rt; files.were_opened(""), "at {text:?}");
+    }
+    Ok(())
+}
+
+#[test]
+fn help(rt: HostRuntime) -> Result<(), Fail> {
+    for &text in &["mapf help", "mapf -h", "mapf --help", "mapf row --help"] {
+        let files = FakeFiles::new(rt.alloc(), FILES);
+        let (mut out, mut err) = (Keeper::of_size(2048), Keeper::of_size(2048));
+        let words = words(rt.alloc(), text)?;
+        let status = run(
+            &files,
+            words.as_slice(),
+            &mut Counted::new(&mut out),
+            &mut Counted::new(&mut err),
+        );
+        assert_eq!(rt; status, 0, "at {text:?}");
+        assert!(rt;
+            out.kept().starts_with(b"Reads maps and scenarios"),
+            "at {text:?}"
+        );
+        assert!(rt; err.kept() == b"".as_slice(), "at {text:?}");
+        assert!(rt; files.were_opened(""), "at {text:?}");
+    }
+    Ok(())
+}
+
+#[test]
+fn help_that_cannot_be_written(rt: HostRuntime) -> Result<(), Fail> {
+    // The text is written at once, and then flushed.
+    for call in 1..=2 {
+        let files = FakeFiles::new(rt.alloc(), FILES);
+        let mut out = Keeper::of_size(2048).in_trouble_at(call, Trouble::Failure);
+        let mut err = Keeper::of_size(2048);
+        let words = words(rt.alloc(), "mapf help")?;
+        let status = run(
+            &files,
+            words.as_slice(),
+            &mut Counted::new(&mut out),
+            &mut Counted::new(&mut err),
+        );
+        assert_eq!(rt; status, 3, "at call {call}");
+        assert!(rt;
+            err.kept() == b"mapf: WriteFailed\n".as_slice(),
+            "at call {call}"
+        );
+    }
+    Ok(())
+}
+
+/// Runs the program over the files, and compares what it did.
+fn does(rt: &impl Abort, alloc: Global, want: &Done) -> Result<(), Fail> {
+    let files = FakeFiles::new(alloc, FILES);
+    let (mut out, mut err) = (Keeper::of_size(2048), Keeper::of_size(2048));
+    let words = words(alloc, want.words)?;
+    let status = run(
+        &files,
+        words.as_slice(),
+        &mut Counted::new(&mut out),
+        &mut Counted::new(&mut err),
+    );
+    let at = want.words;
+    assert_eq!(rt; status, want.status, "at {at:?}");
+    assert!(rt; out.kept() == want.out.as_bytes(), "at {at:?}");
+    assert!(rt; err.kept() == want.err.as_bytes(), "at {at:?}");
+    assert!(rt; files.were_opened(want.opened), "at {at:?}");
+    Ok(())
+}

@@ -1,0 +1,2 @@
+-- What the fake readers and writers hold.
+pub mod Held

@@ -1,0 +1,13 @@
+//! Texts that several crates' tests read, and how they are written.
+
+/// A map text whose lines end in CR LF, but for the last, which the end of the text ends.
+pub const CORNER: &str = "type octile\r\nheight 2\r\nwidth 3\r\nmap\r\n...\r\n.@.";
+
+/// The same map in canonical form.
+pub const CORNER_WRITTEN: &str = "type octile\nheight 2\nwidth 3\nmap\n...\n.@.\n";
+
+/// A scenario text of one row, whose lines end in CR LF.
+pub const ROW: &str = "version 1.0\r\n0 m.map 3 2 0 1 1 0 2.00000000\r\n";
+
+/// The same scenario in canonical form.
+pub const ROW_WRITTEN: &str = "version 1\n0\tm.map\t3\t2\t0\t1\t1\t0\t2.00000000\n";

@@ -1,0 +1,14 @@
+use Rattle.std.proofs.Common.{ℕ, sym, subst}
+use Rattle.mapf_cmd.specs.declared.command_line.LineFault.{LineFault}
+use Rattle.mapf_cmd.specs.declared.command_line.LineFault.TheVariants.{Help}
+use Rattle.mapf_cmd.specs.Program.{EndsRefused}
+use Rattle.mapf_cmd.proofs.Rewriting.{ends_writing}
+use Rattle.mapf_cmd.proofs.program.refuse.Goals as goal
+
+pub returns-in-Help : goal.returns-in-Help
+returns-in-Help g c =
+    let Ends : LineFault → Type 0 = λ fault. EndsRefused g.W.Write.contents fault c.args.out.now c.finish.new.out c.code.result in
+    let Coded : ℕ → Type 0 = λ code. EndsRefused g.W.Write.contents Help c.args.out.now c.finish.new.out code in
+    let shown = ends_writing g.W.Write.contents c.args.out.now c.write_text-written.new.writer c.finish.new.out _ _ _ c.finish.result
+    c.write_text-written.ensures c.finish.ensures.out in
+    subst Ends (sym c.in-Help.is) (subst Coded (sym c.code.ensures) (_, shown))

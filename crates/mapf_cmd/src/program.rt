@@ -1,0 +1,116 @@
+//! The program over its words: chooses the command, and opens its files.
+ghost use Rattle.std.specs.Prelude.{◌≡◌, MatchResult, map, string_bytes};
+ghost use Rattle.mapf_cmd.specs.Program.{PerformsOn, Performs, EndsRefused, AnswersWords};
+
+use crate::writing::{finish, write_text};
+use crate::{Line, LineFault, Status, line, map_cmd, report, row_cmd, scen_cmd};
+use grid::Counted;
+use std::io::Write;
+use std::rt::Files;
+use std::{fs, io};
+use thiserror::Error;
+
+const HELP: &str = "Reads maps and scenarios, and answers what they hold.
+
+Usage: mapf COMMAND
+
+Commands:
+  map FILE          reads a map and writes it in canonical form
+  scen FILE         reads a scenario and writes it in canonical form
+  row MAP SCEN N    judges the length that the scenario lists for its row N, from 0 on
+  help              shows this text
+";
+
+const USAGE: &str =
+    "usage: mapf map FILE | mapf scen FILE | mapf row MAP SCEN N (mapf help says more)\n";
+
+/// Why a command was not performed.
+#[derive(Clone, Copy, Debug, PartialEq, Eq, Error)]
+enum OpenFault {
+    #[error("OpenFailed")]
+    OpenFailed,
+}
+
+/// Answers the words of the command line, the program's name first, over the files of `rt`: what a command writes goes to `out`, and
+/// the line of a fault to `err`. The answer is the exit status.
+pub fn run<R: Files + AllocGlobal, W: Write, E: Write>(
+    rt: &R,
+    words: &[String],
+    out: &mut Counted<W>,
+    err: &mut Counted<E>,
+) -> u8
+    ensures { AnswersWords R.File.remaining W.contents (map string_bytes words.now) out.old out.new result }
+{
+    match line(rt.alloc(), words) {
+        Ok(line) => perform(rt, line, out, err),
+        Err(fault) => refuse(fault, out, err),
+    }
+}
+
+/// Performs a command on its files.
+fn perform<R: Files + AllocGlobal, W: Write, E: Write>(
+    rt: &R,
+    line: Line,
+    out: &mut Counted<W>,
+    err: &mut Counted<E>,
+) -> u8
+    ensures { Performs R.File.remaining W.contents line out.old out.new result }
+{
+    match perform_on_files(rt, line, out, err) {
+        Ok(status) => status,
+        Err(_) => {
+            let _ = report(err, OpenFault::OpenFailed);
+            Status::Failure.code()
+        }
+    }
+}
+
+/// Opens the files of a command, in the order of its words, and performs it. An error is that of a file that can't be opened.
+fn perform_on_files<R: Files + AllocGlobal, W: Write, E: Write>(
+    rt: &R,
+    line: Line,
+    out: &mut Counted<W>,
+    err: &mut Counted<E>,
+) -> io::Result<u8>
+    ensures { MatchResult result (PerformsOn R.File.remaining W.contents line out.old out.new) (λ _. out.new ≡ out.old) }
+{
+    match line {
+        Line::Map { file } => {
+            let mut map = Counted::new(fs::open(rt, &file)?);
+            Ok(map_cmd(rt.alloc(), &mut map, out, err))
+        }
+        Line::Scen { file } => {
+            let mut scen = Counted::new(fs::open(rt, &file)?);
+            Ok(scen_cmd(rt.alloc(), &mut scen, out, err))
+        }
+        Line::Row { map, scen, row } => {
+            let mut map = Counted::new(fs::open(rt, &map)?);
+            let mut scen = Counted::new(fs::open(rt, &scen)?);
+            Ok(row_cmd(rt.alloc(), &mut map, &mut scen, row, out, err))
+        }
+    }
+}
+
+/// Shows the help that was asked for, or says why the words are no command. The answer is the exit status.
+pub fn refuse<W: Write, E: Write>(
+    fault: LineFault,
+    out: &mut Counted<W>,
+    err: &mut Counted<E>,
+) -> u8
+    ensures { EndsRefused W.contents fault out.old out.new result }
+{
+    match fault {
+        LineFault::Help => {
+            let written = write_text(HELP.as_bytes(), out);
+            finish(written, Status::Done, out, err).code()
+        }
+        LineFault::BadCommand => {
+            let _ = err.write_all(USAGE.as_bytes());
+            Status::BadCommand.code()
+        }
+        LineFault::OutOfMemory => {
+            let _ = report(err, fault);
+            Status::Failure.code()
+        }
+    }
+}
