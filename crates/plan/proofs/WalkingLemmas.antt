@@ -1,0 +1,211 @@
+-- Legal steps, and the acts of a step.
+use Rattle.std.proofs.Common.{◌≡◌, ◌≢◌, ℕ, zero, suc, ◌+◌, ◌<◌, ◌≤◌, Bool, true, false, cond, List, [], ◌∷◌, ◌++◌, length, get_or, drop, Some, None, arith, refl, sym, ap, subst, inl, inr, ◌∙◌}
+use Rattle.std.specs.Prelude.{Option, MatchOption, Contains, ◌&&◌, nat_lt, slice_get}
+use Rattle.std.proofs.lemmas.Bool.{cases_Bool, cond_both, cond-true, cond-false, and_parts, ltb-true, lt-ltb, false≢true}
+use Rattle.std.proofs.lemmas.List.Elements.{Contains-push_cases, All-weaker, All-get_or, All-from_recursion, filter_passes}
+use Rattle.std.specs.List.{filter}
+use Rattle.std.proofs.lemmas.List.{drop_more}
+use Rattle.std.proofs.lemmas.Option.{slice_get_past, slice_get_within, slice_get-get_or}
+use Rattle.grid.specs.declared.cell.Cell.{Cell}
+use Rattle.grid.specs.declared.terrain.Terrain.{Terrain}
+use Rattle.grid.specs.Map.{Grid, terrain_at, AreJoined, IsStraightStep}
+use Rattle.model.specs.declared.act.Act.{Act}
+use Rattle.model.specs.declared.act.Act.TheVariants.{Wait}
+use Rattle.model.specs.Plan.{Course, Plan, Position, position_of, moved, position_after, position_at, IsLegal, IsBadMove}
+use Rattle.model.proofs.PlaceLemmas.{same_place, position_after-end}
+use Rattle.model.proofs.Options.{found}
+use Rattle.plan.specs.Limits.{IsCourse, IsPlan}
+use Rattle.plan.specs.Code.Standing.{IsOnGrid}
+use Rattle.plan.specs.Code.Walking.{IsRising, CanAct, is_within_acts, has_act, IsActive, LeadsTo, IsAhead, HasBadMove}
+use Rattle.plan.proofs.MeetingLemmas.{Contains-cases}
+
+-- ---- legal steps
+
+on_map_by : (b : Bool) (t : Option Terrain) (P : Terrain → Type 0) → MatchOption (cond b t None) ⊥ P → b ≡ true
+on_map_by true t P h = refl
+on_map_by false t P h = absurd h
+
+-- what has a terrain is a cell of the map
+pub on_map_from_terrain : (m : Grid) (c : Cell) (P : Terrain → Type 0) → MatchOption (terrain_at m c) ⊥ P → IsOnGrid m c
+on_map_from_terrain m c P h =
+    let both = and_parts (nat_lt c.x m.width) (nat_lt c.y m.height) (on_map_by (nat_lt c.x m.width && nat_lt c.y m.height) (slice_get m.terrain _) P h) in
+    record { column = ltb-true c.x m.width both.0; row = ltb-true c.y m.height both.1 }
+
+joined_to : (s t : Option Terrain) → AreJoined s t → MatchOption t ⊥ (λ u. Unit {0})
+joined_to None t h = absurd h
+joined_to (Some s) None h = absurd h
+joined_to (Some s) (Some t) h = tt
+
+pub on_map_from_step : (m : Grid) (u v : Cell) → IsStraightStep m u v → IsOnGrid m v
+on_map_from_step m u v step = on_map_from_terrain m v (λ t. Unit {0}) (joined_to (terrain_at m u) (terrain_at m v) step.joined)
+
+pub step_from_legal : (m : Grid) (from to : Cell) (place : Position) → position_of to ≡ place → IsLegal m (position_of from) place → IsStraightStep m from to
+step_from_legal m from to place at h =
+    subst (λ c. IsStraightStep m c to) (same_place h.u from h.is_from)
+    (subst (λ c. IsStraightStep m h.u c) (same_place h.v to (h.is_to ∙ sym at)) h.step)
+
+legal_from_step : (m : Grid) (from to : Cell) (place : Position) → position_of to ≡ place → IsStraightStep m from to → IsLegal m (position_of from) place
+legal_from_step m from to place at step = record { u = from; v = to; is_from = refl; is_to = at; step = step }
+
+pub leads-wait : (m : Grid) (from to : Cell) (act : Act) → IsOnGrid m from → act ≡ Wait → position_of to ≡ moved act (position_of from) → LeadsTo m from act to
+leads-wait m from to act on waits at =
+    let same : from ≡ to = same_place from to (sym (at ∙ ap (λ a. moved a (position_of from)) waits)) in
+    record { place = at; on_map = subst (IsOnGrid m) same on; legal = λ other. absurd (other waits) }
+
+pub leads-step : (m : Grid) (from to : Cell) (act : Act) → IsStraightStep m from to → position_of to ≡ moved act (position_of from) → LeadsTo m from act to
+leads-step m from to act step at =
+    record { place = at; on_map = on_map_from_step m from to step; legal = λ other. legal_from_step m from to (moved act (position_of from)) at step }
+
+-- where no cell is, no step leads
+pub no_cell : (m : Grid) (from : Cell) (act : Act) → ((c : Cell) → position_of c ≡ moved act (position_of from) → ⊥)
+    → (act ≢ Wait) × (IsLegal m (position_of from) (moved act (position_of from)) → ⊥)
+no_cell m from act none = (λ waits. none from (sym (ap (λ a. moved a (position_of from)) waits)), λ h. none h.v h.is_to)
+
+-- ---- acts
+
+pub position_at-start : (p : Position) (acts : List Act) → position_after p acts 0 ≡ p
+position_at-start p [] = refl
+position_at-start p (a ∷ acts) = refl
+
+pub position-moved : (p : Position) (acts : List Act) (step : ℕ) (act : Act) → slice_get acts step ≡ Some act
+    → position_after p acts (suc step) ≡ moved act (position_after p acts step)
+position-moved p [] step act h = cc
+position-moved p (a ∷ acts) zero act h = position_at-start (moved a p) acts ∙ (let same : a ≡ act = cc in ap (λ b. moved b p) same)
+position-moved p (a ∷ acts) (suc step) act h = position-moved (moved a p) acts step act h
+
+pub position-stays : (p : Position) (acts : List Act) (step later : ℕ) → length acts ≤ step → step ≤ later → position_after p acts later ≡ position_after p acts step
+position-stays p acts step later past h = position_after-end p acts later (omega (arith, past, h)) ∙ sym (position_after-end p acts step past)
+
+-- ---- where a step leads
+
+next : (n : ℕ) → n + 1 ≡ suc n
+next n = omega arith
+
+pub ahead-past : (m : Grid) (course : Course) (step : ℕ) (cell : Cell) → length course.acts ≤ step → position_of cell ≡ position_at course step → IsOnGrid m cell
+    → IsAhead m course step cell
+ahead-past m course step cell past at on = record {
+  place = at ∙ sym (position-stays (position_of course.start) course.acts step (step + 1) past (omega arith));
+  on_map = on;
+  good = λ bad. subst (λ o. MatchOption o ⊥ (λ act. (act ≢ Wait) × (IsLegal m (position_at course step) (position_at course (step + 1)) → ⊥))) (slice_get_past course.acts step past) bad;
+}
+
+-- the act of a step is bad where it is no wait and not legal
+bad_by : (m : Grid) (course : Course) (step : ℕ) (act : Act) → slice_get course.acts step ≡ Some act
+    → IsBadMove m course step ≡ ((act ≢ Wait) × (IsLegal m (position_at course step) (position_at course (step + 1)) → ⊥))
+bad_by m course step act is = ap (λ o. MatchOption o ⊥ (λ a. (a ≢ Wait) × (IsLegal m (position_at course step) (position_at course (step + 1)) → ⊥))) is
+
+pub moved-place : (course : Course) (step : ℕ) (from : Cell) (act : Act) → slice_get course.acts step ≡ Some act → position_of from ≡ position_at course step
+    → moved act (position_of from) ≡ position_at course (step + 1)
+moved-place course step from act is at =
+    ap (moved act) at ∙ sym (position-moved (position_of course.start) course.acts step act is) ∙ ap (position_at course) (sym (next step))
+
+legal_there : (m : Grid) (course : Course) (step : ℕ) (from : Cell) (act : Act) → slice_get course.acts step ≡ Some act → position_of from ≡ position_at course step
+    → IsLegal m (position_of from) (moved act (position_of from)) ≡ IsLegal m (position_at course step) (position_at course (step + 1))
+legal_there m course step from act is at = ap (λ p. IsLegal m p (moved act (position_of from))) at ∙ ap (IsLegal m (position_at course step)) (moved-place course step from act is at)
+
+pub ahead-moved : (m : Grid) (course : Course) (step : ℕ) (from to : Cell) (act : Act) → slice_get course.acts step ≡ Some act
+    → position_of from ≡ position_at course step → LeadsTo m from act to → IsAhead m course step to
+ahead-moved m course step from to act is at leads = record {
+  place = leads.place ∙ moved-place course step from act is at;
+  on_map = leads.on_map;
+  good = λ bad. let h = subst (λ P. P) (bad_by m course step act is) bad in h.1 (subst (λ P. P) (legal_there m course step from act is at) (leads.legal h.0));
+}
+
+pub bad-moved : (m : Grid) (course : Course) (step : ℕ) (from : Cell) (act : Act) → slice_get course.acts step ≡ Some act → position_of from ≡ position_at course step
+    → act ≢ Wait → (IsLegal m (position_of from) (moved act (position_of from)) → ⊥) → IsBadMove m course step
+bad-moved m course step from act is at acts illegal =
+    subst (λ P. P) (sym (bad_by m course step act is)) (acts, λ legal. illegal (subst (λ P. P) (sym (legal_there m course step from act is at)) legal))
+
+-- an agent has a bad move where its course has
+pub bad_at : (m : Grid) (courses : List Course) (step i : ℕ) (course : Course) → slice_get courses i ≡ Some course → IsBadMove m course step
+    → HasBadMove m courses step i
+bad_at m courses step i course there bad = subst (λ o. MatchOption o ⊥ (λ k. IsBadMove m k step)) (sym there) bad
+
+pub bad-has_act : (m : Grid) (course : Course) (step : ℕ) → IsBadMove m course step → step < length course.acts
+bad-has_act m course step bad =
+    let act = found (slice_get course.acts step) (λ act. (act ≢ Wait) × (IsLegal m (position_at course step) (position_at course (step + 1)) → ⊥)) bad in
+    slice_get_within course.acts step act.0 act.1
+
+pub course_from : (m : Grid) (courses : List Course) (step i : ℕ) → HasBadMove m courses step i
+    → (course : Course) × (slice_get courses i ≡ Some course) × IsBadMove m course step
+course_from m courses step i bad = found (slice_get courses i) (λ k. IsBadMove m k step) bad
+
+-- ---- rising numbers
+
+pub rising-more : (agents : List ℕ) (n : ℕ) → n < length agents → IsRising (drop n agents)
+    → ((j : ℕ) → Contains (drop (n + 1) agents) j → get_or agents n 0 < j) × IsRising (drop (n + 1) agents)
+rising-more agents n less h = subst IsRising (drop_more agents n 0 less) h
+
+pub Contains-cons : (a i : ℕ) (rest : List ℕ) → Contains rest i → Contains (a ∷ rest) i
+Contains-cons a i rest (k, less, is) = (suc k, omega (arith, less), is)
+
+pub rising-push : (agents : List ℕ) (n : ℕ) → IsRising agents → ((j : ℕ) → Contains agents j → j < n) → IsRising (agents ++ n ∷ [])
+rising-push [] n h below = (λ j comes. absurd (let none = comes.1 in omega (arith, none)), tt)
+rising-push (i ∷ agents) n h below = (
+  λ j comes. elim (Contains-push_cases agents n j comes) [
+    | inl there ↦ h.0 j there
+    | inr last ↦ (let less = below i (0, omega arith, refl) in omega (arith, last, less))
+  ],
+  rising-push agents n h.1 (λ j comes. below j (Contains-cons i j agents comes)),
+)
+
+-- ---- what a test keeps of rising numbers
+
+pub Contains-filter : (test : ℕ → Bool) (agents : List ℕ) (i : ℕ) → Contains agents i → test i ≡ true → Contains (filter test agents) i
+Contains-filter test [] i h passes = absurd (let none = h.1 in omega (arith, none))
+Contains-filter test (a ∷ agents) i h passes = elim (Contains-cases a i agents h) [
+  | inl same ↦ subst (λ l. Contains l i) (sym (cond-true (test a) _ _ (ap test (sym same) ∙ passes))) (0, omega arith, sym same)
+  | inr later ↦ cond_both (test a) (a ∷ filter test agents) (filter test agents) (λ l. Contains l i)
+      (λ e. Contains-cons a i (filter test agents) (Contains-filter test agents i later passes)) (λ e. Contains-filter test agents i later passes)
+]
+
+pub Contains-from_filter : (test : ℕ → Bool) (agents : List ℕ) (i : ℕ) → Contains (filter test agents) i → Contains agents i
+Contains-from_filter test [] i h = h
+Contains-from_filter test (a ∷ agents) i h = elim (cases_Bool (test a)) [
+  | inl passes ↦ elim (Contains-cases a i (filter test agents) (subst (λ l. Contains l i) (cond-true (test a) _ _ passes) h)) [
+    | inl same ↦ (0, omega arith, sym same)
+    | inr later ↦ Contains-cons a i agents (Contains-from_filter test agents i later)
+  ]
+  | inr fails ↦ Contains-cons a i agents (Contains-from_filter test agents i (subst (λ l. Contains l i) (cond-false (test a) _ _ fails) h))
+]
+
+pub rising-filter : (test : ℕ → Bool) (agents : List ℕ) → IsRising agents → IsRising (filter test agents)
+rising-filter test [] h = h
+rising-filter test (a ∷ agents) h = cond_both (test a) (a ∷ filter test agents) (filter test agents) IsRising
+    (λ e. (λ j comes. h.0 j (Contains-from_filter test agents j comes), rising-filter test agents h.1)) (λ e. rising-filter test agents h.1)
+
+has_act-can : (courses : List Course) (step i : ℕ) → has_act courses step i ≡ true → CanAct courses step i
+has_act-can courses step i h = by_course (slice_get courses i) refl h where
+  by_course : (o : Option Course) → slice_get courses i ≡ o → is_within_acts step o ≡ true → CanAct courses step i
+  by_course None e h = absurd (false≢true h)
+  by_course (Some course) e h = record {
+    is_agent = slice_get_within courses i course e;
+    has_act = λ other is. (let same : course ≡ other = cc in subst (λ k. step < length k.acts) same (ltb-true step (length course.acts) h));
+  }
+
+can-has_act : (courses : List Course) (step i : ℕ) → CanAct courses step i → has_act courses step i ≡ true
+can-has_act courses step i h =
+    let course = get_or courses i (record { start = record { x = 0; y = 0 }; acts = [] }) in
+    let there = slice_get-get_or courses i (record { start = record { x = 0; y = 0 }; acts = [] }) h.is_agent in
+    ap (is_within_acts step) there ∙ lt-ltb step (length course.acts) (h.has_act course there)
+
+pub active-filter : (courses : List Course) (step : ℕ) (agents kept : List ℕ) → IsRising agents → ((i : ℕ) → CanAct courses step i → Contains agents i)
+    → kept ≡ filter (has_act courses step) agents → IsActive courses step kept
+active-filter courses step agents kept rising all is = subst (IsActive courses step) (sym is) (record {
+  rising = rising-filter (has_act courses step) agents rising;
+  can_act = All-weaker (λ i. has_act courses step i ≡ true) (CanAct courses step) (has_act-can courses step) (filter (has_act courses step) agents)
+      (filter_passes (has_act courses step) agents);
+  all = λ i can. Contains-filter (has_act courses step) agents i (all i can) (can-has_act courses step i can);
+})
+
+-- where some agent has an act in the step, that is one of the acts that a plan may have
+pub step_limit : (p : Plan) (step : ℕ) (agents : List ℕ) → IsPlan p → IsActive p.courses step agents → 0 < length agents → step < 65535
+step_limit p step agents within active some =
+    let can : CanAct p.courses step (get_or agents 0 0) = All-get_or (CanAct p.courses step) agents 0 0 some active.can_act in
+    let none : Course = record { start = record { x = 0; y = 0 }; acts = [] } in
+    let i = get_or agents 0 0 in
+    let course = get_or p.courses i none in
+    let is_agent = can.is_agent in
+    let less = can.has_act course (slice_get-get_or p.courses i none is_agent) in
+    let most = (All-get_or IsCourse p.courses i none is_agent (All-from_recursion IsCourse p.courses within.courses)).acts_limit in
+    omega (arith, less, most)

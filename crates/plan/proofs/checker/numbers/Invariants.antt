@@ -1,0 +1,11 @@
+use Rattle.std.proofs.Common.{◌<◌, ℕ}
+use Rattle.std.specs.Prelude.{All, Contains}
+use Rattle.plan.specs.Code.Walking.{IsRising}
+use Rattle.plan.proofs.checker.numbers.Given as goal
+
+abbrev pub invariant-loop-number : goal.invariant-loop-number
+invariant-loop-number l = record {
+  rising : IsRising l.numbers.items;
+  below : All (λ i. i < l.number) l.numbers.items;
+  all : (i : ℕ) → i < l.number → Contains l.numbers.items i;
+}
