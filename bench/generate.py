@@ -1,8 +1,10 @@
 #!/usr/bin/env python3
 """Makes maps and scenarios of any size, the same for the same seed.
 
-Usage: generate.py KIND WIDTH HEIGHT [--seed N] [--rows N]      (KIND: open, random, rooms, terrain, sparse, maze, mixed, scen)
-The text goes to standard output; `scen` makes a scenario of so many rows for a map of that size.
+Usage: generate.py KIND WIDTH HEIGHT [--seed N] [--rows N] [--agents N] [--acts N]
+(KIND: open, random, rooms, terrain, sparse, maze, mixed, scen, boxes, blocks, trains, crowd)
+The text goes to standard output; `scen` makes a scenario of so many rows for a map of that size; `boxes`, `blocks`, `trains` and `crowd`
+make a valid plan of so many agents with so many acts each on an open map of that size, none a wait but in `crowd`.
 """
 import argparse
 import random
@@ -10,6 +12,7 @@ import sys
 
 KINDS = ("open", "random", "rooms", "terrain")
 WALKED_KINDS = ("open", "sparse", "rooms", "maze", "mixed")
+PLAN_KINDS = ("boxes", "blocks", "trains", "crowd")
 
 
 def table(shares):
@@ -134,9 +137,88 @@ def scen_text(width, height, seed, count):
     return "\n".join([*lines, ""])
 
 
+def loop_acts(side, acts, first=0):
+    """Acts that go round a square of so many steps a side, from its upper left corner on or from a place further along."""
+    once = "e" * side + "s" * side + "w" * side + "n" * side
+    first %= len(once)
+    return (once[first:] + once * (acts // len(once) + 1))[:acts]
+
+
+def loop_cell(x, y, side, place):
+    """The cell at a place along such a square."""
+    leg, along = divmod(place % (4 * side), side)
+    return [(x + along, y), (x + side, y + along), (x + side - along, y + side), (x, y + side - along)][leg]
+
+
+def box_courses(width, height, count, acts):
+    """Each agent goes round in a box of its own."""
+    across = int(count**0.5 + 0.999)
+    side = min(width, height) // across
+    for agent in range(count):
+        x, y = agent % across * side, agent // across * side
+        yield (x, y), loop_acts(side - 2, acts)
+
+
+def block_courses(width, height, count, acts, block=10):
+    """Blocks of agents, each of which follows the one before it, that go round as one."""
+    across = int((count / block**2) ** 0.5 + 0.999)
+    room = min(width, height) // across
+    for agent in range(count):
+        number, place = divmod(agent, block**2)
+        x, y = number % across * room, number // across * room
+        yield (x + place % block, y + place // block), loop_acts(room - block - 1, acts)
+
+
+def train_courses(width, height, count, acts, cars=100):
+    """Trains of agents on loops, one close behind the other."""
+    across = int((count / cars) ** 0.5 + 0.999)
+    room = min(width, height) // across
+    side = room - 2
+    for agent in range(count):
+        number, car = divmod(agent, cars)
+        x, y = number % across * room, number // across * room
+        yield loop_cell(x, y, side, car), loop_acts(side, acts, car)
+
+
+def crowd_courses(width, height, count, acts, seed):
+    """Agents that wander close together: each goes to a free cell beside it where there is one."""
+    rng = random.Random(f"crowd {width} {height} {seed}")
+    starts = [(at % width, at // width) for at in rng.sample(range(width * height), count)]
+    now, courses = list(starts), [[] for _ in starts]
+    steps = {"n": (0, -1), "e": (1, 0), "s": (0, 1), "w": (-1, 0)}
+    for _ in range(acts):
+        # a cell that somebody is in or goes to is nobody else's, so that none conflict
+        taken = set(now)
+        for agent, (x, y) in enumerate(now):
+            choices = [(act, (x + dx, y + dy)) for act, (dx, dy) in steps.items()]
+            free = [(act, c) for act, c in choices if 0 <= c[0] < width and 0 <= c[1] < height and c not in taken]
+            act, cell = rng.choice(free) if free else ("-", (x, y))
+            taken.add(cell)
+            now[agent] = cell
+            courses[agent].append(act)
+    return [(start, "".join(course)) for start, course in zip(starts, courses)]
+
+
+def plan_text(kind, width, height, seed, count, acts, number=7):
+    """The text of a valid plan on an open map."""
+    makers = {"boxes": box_courses, "blocks": block_courses, "trains": train_courses}
+    courses = crowd_courses(width, height, count, acts, seed) if kind == "crowd" else makers[kind](width, height, count, acts)
+    lines = [f"agent {x} {y} {course or '='}" for (x, y), course in courses]
+    return "\n".join(["mapf-plan 1", f"number {number}", f"agents {len(lines)}", *lines, ""])
+
+
+def with_late_fault(text):
+    """The same plan, but that the last agent's last act but one leads the other way, or to another agent's cell."""
+    lines = text.split("\n")
+    line = lines[-2]
+    other = {"n": "s", "s": "n", "e": "w", "w": "e", "-": "n"}
+    lines[-2] = line[:-2] + other[line[-2]] + line[-1]
+    return "\n".join(lines)
+
+
 def main():
     parser = argparse.ArgumentParser()
-    parser.add_argument("kind", choices=(*sorted({*KINDS, *WALKED_KINDS}), "scen"))
+    parser.add_argument("kind", choices=(*sorted({*KINDS, *WALKED_KINDS}), "scen", *PLAN_KINDS))
     parser.add_argument("width", type=int)
     parser.add_argument("height", type=int)
     parser.add_argument("--seed", type=int, default=1)

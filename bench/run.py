@@ -23,13 +23,13 @@ def build_peer():
     return BENCH / "peer/target/release/peer"
 
 
-def run_once(program, words, output):
+def run_once(program, words, output, statuses):
     """The seconds of one run, whose text goes to a file."""
     with open(output, "wb") as out:
         start = time.perf_counter()
         ended = subprocess.run([program, *words], stdout=out, stderr=subprocess.DEVNULL)
         seconds = time.perf_counter() - start
-    if ended.returncode != 0:
+    if ended.returncode not in statuses:
         sys.exit(f"{program} {' '.join(words)} ended with status {ended.returncode}")
     return seconds
 
@@ -54,14 +54,14 @@ def whole_peak_memory(program, words):
     return most
 
 
-def measure(programs, words, folder, rounds):
+def measure(programs, words, folder, rounds, statuses=(0,)):
     """The best time of each program in seconds, and the text that each wrote."""
     best = [float("inf")] * len(programs)
     texts = [None] * len(programs)
     for _ in range(rounds):
         for i, program in enumerate(programs):
             output = folder / f"out{i}"
-            best[i] = min(best[i], run_once(program, words, output))
+            best[i] = min(best[i], run_once(program, words, output, statuses))
             if texts[i] is None:
                 texts[i] = output.read_bytes()
     return best, texts
@@ -69,7 +69,7 @@ def measure(programs, words, folder, rounds):
 
 def report(name, best, most):
     ours, theirs = (1000 * seconds for seconds in best)
-    print(f"{name:16} {ours:8.2f} {theirs:8.2f} {ours / theirs:6.2f} {most[0] / 1024:8.1f} {most[1] / 1024:8.1f}", flush=True)
+    print(f"{name:28} {ours:8.2f} {theirs:8.2f} {ours / theirs:6.2f} {most[0] / 1024:8.1f} {most[1] / 1024:8.1f}", flush=True)
 
 
 def measure_text(programs, command, kind, text, folder, rounds):
@@ -100,19 +100,33 @@ def measure_row(programs, kind, side, folder, rounds):
     report(f"row {kind} {side}", best, [whole_peak_memory(program, words) for program in programs])
 
 
+def measure_check(programs, kind, side, agents, acts, folder, rounds):
+    """Measures programs that check a valid plan, and the same with one act changed near its end."""
+    map_path, plan_path = folder / f"{kind}.map", folder / f"{kind}.plan"
+    map_path.write_text(generate.map_text("open", side, side, 1))
+    text = generate.plan_text(kind, side, side, 1, agents, acts)
+    for name, plan in ((kind, text), (f"{kind}, late fault", generate.with_late_fault(text))):
+        plan_path.write_text(plan)
+        words = ["check", str(map_path), str(plan_path)]
+        best, written = measure(programs, words, folder, rounds, statuses=(0, 1))
+        if written[0] != written[1]:
+            sys.exit(f"the two programs wrote other lines for check {name}")
+        report(f"check {name} {acts}", best, [whole_peak_memory(program, words) for program in programs])
+
+
 def main():
     parser = argparse.ArgumentParser()
     parser.add_argument("--program", default=str(BENCH.parent / "crates/mapf/out/mapf"))
     parser.add_argument("--rounds", type=int, default=60)
     parser.add_argument("--side", type=int, default=2048)
     parser.add_argument("--rows", type=int, default=100_000)
-    parser.add_argument("--only", choices=("map", "scen", "row"))
+    parser.add_argument("--only", choices=("map", "scen", "row", "check"))
     given = parser.parse_args()
     programs = [str(pathlib.Path(given.program).resolve()), str(build_peer())]
     shared = pathlib.Path("/dev/shm")
     with tempfile.TemporaryDirectory(dir=shared if shared.is_dir() else None) as name:
         folder = pathlib.Path(name)
-        print(f"{'text':16} {'mapf ms':>8} {'peer ms':>8} {'ratio':>6} {'mapf MB':>8} {'peer MB':>8}")
+        print(f"{'text':28} {'mapf ms':>8} {'peer ms':>8} {'ratio':>6} {'mapf MB':>8} {'peer MB':>8}")
         if given.only in (None, "map"):
             for kind in generate.KINDS:
                 text = generate.map_text(kind, given.side, given.side, 1)
@@ -124,6 +138,11 @@ def main():
             for side in (given.side, given.side // 2, given.side // 4):
                 for kind in generate.WALKED_KINDS:
                     measure_row(programs, kind, side, folder, given.rounds)
+        if given.only in (None, "check"):
+            for acts in (400, 800, 1600):
+                for kind in ("boxes", "blocks", "trains"):
+                    measure_check(programs, kind, given.side, 10_000, acts, folder, given.rounds)
+            measure_check(programs, "crowd", 128, 1_000, 400, folder, given.rounds)
 
 
 if __name__ == "__main__":

@@ -1,6 +1,7 @@
-//! A plain Rust program that does the work of `mapf map`, `mapf scen` and `mapf row`, to measure it beside: it reads a text, checks it and
+//! A plain Rust program that does the work of `mapf map`, `mapf scen`, `mapf row` and `mapf check`, to measure it beside: it reads a text, checks it and
 //! writes it in canonical form, with the same faults, or solves a row of a scenario, with no certificate.
 mod map;
+mod plan;
 mod row;
 mod scen;
 mod search;
@@ -40,6 +41,11 @@ fn run(words: &[&str]) -> Result<Option<bool>, Fault> {
             writeln!(output().map_err(failed)?, "{line}").map_err(failed)?;
             Ok(Some(good))
         }
+        ["check", map, plan] => {
+            let (line, good) = plan::judge(open(map)?, open(plan)?)?;
+            writeln!(output().map_err(failed)?, "{line}").map_err(failed)?;
+            Ok(Some(good))
+        }
         _ => Ok(None),
     }
 }
@@ -51,7 +57,7 @@ fn main() -> ExitCode {
         Ok(Some(true)) => ExitCode::SUCCESS,
         Ok(Some(false)) => ExitCode::from(1),
         Ok(None) => {
-            eprintln!("usage: peer map FILE | peer scen FILE | peer row MAP SCEN N");
+            eprintln!("usage: peer map FILE | peer scen FILE | peer row MAP SCEN N | peer check MAP PLAN");
             ExitCode::from(2)
         }
         Err(Fault::Text(text)) => {

@@ -66,6 +66,76 @@ fn row_lines(rt: HostRuntime) -> Result<(), Fail> {
 }
 
 #[test]
+fn check_lines(rt: HostRuntime) -> Result<(), Fail> {
+    for &(text, scen, json) in &[
+        ("mapf check M P", None, false),
+        ("mapf check M P --json", None, true),
+        ("mapf check M --json P", None, true),
+        ("mapf check --json M P", None, true),
+        ("mapf check M P --scen S", Some("S"), false),
+        ("mapf check M --scen S P", Some("S"), false),
+        ("mapf check --scen S M P", Some("S"), false),
+        ("mapf check M P --scen=S", Some("S"), false),
+        ("mapf check M --scen=S P", Some("S"), false),
+        ("mapf check --scen=S M P", Some("S"), false),
+        ("mapf check M P --scen S --json", Some("S"), true),
+        ("mapf check M P --json --scen S", Some("S"), true),
+        ("mapf check --scen=S --json M P", Some("S"), true),
+        ("mapf check --json --scen=S M P", Some("S"), true),
+        ("mapf check M --scen S --json P", Some("S"), true),
+        ("mapf check --json M --scen=S P", Some("S"), true),
+        ("mapf check --scen S M --json P", Some("S"), true),
+        ("mapf check --scen S -- M P", Some("S"), false),
+        ("mapf check --json -- M P", None, true),
+        ("mapf check M P --scen -", Some("-"), false),
+        ("mapf check M P --scen=--json", Some("--json"), false),
+    ] {
+        let words = words(rt.alloc(), text)?;
+        let Line::Check {
+            map,
+            plan,
+            scen: got_scen,
+            json: got_json,
+        } = line(rt.alloc(), words.as_slice())?
+        else {
+            assert!(rt; false, "another command at {text:?}");
+            return Ok(());
+        };
+        assert_eq!(rt; map.as_str(), "M", "at {text:?}");
+        assert_eq!(rt; plan.as_str(), "P", "at {text:?}");
+        assert_eq!(rt; got_scen.as_deref(), scen, "at {text:?}");
+        assert_eq!(rt; got_json, json, "at {text:?}");
+    }
+    Ok(())
+}
+
+/// After `--` each word is a word, and none an option.
+#[test]
+fn check_lines_with_dashes(rt: HostRuntime) -> Result<(), Fail> {
+    for &(text, want_map, want_plan) in &[
+        ("mapf check M -- --json", "M", "--json"),
+        ("mapf check -- --json --scen", "--json", "--scen"),
+    ] {
+        let words = words(rt.alloc(), text)?;
+        let Line::Check {
+            map,
+            plan,
+            scen,
+            json,
+        } = line(rt.alloc(), words.as_slice())?
+        else {
+            assert!(rt; false, "another command at {text:?}");
+            return Ok(());
+        };
+        assert_eq!(rt; map.as_str(), want_map, "at {text:?}");
+        assert_eq!(rt; plan.as_str(), want_plan, "at {text:?}");
+        assert_eq!(rt; scen, None, "at {text:?}");
+        assert!(rt; !json, "at {text:?}");
+    }
+    Ok(())
+}
+
+#[test]
 fn numbers_that_are_none(rt: HostRuntime) -> Result<(), Fail> {
     for &number in &[
         "4294967296",
@@ -103,6 +173,28 @@ fn refused_lines(rt: HostRuntime) -> Result<(), Fail> {
         ("mapf row M S", LineFault::BadCommand),
         ("mapf row M S 0 1", LineFault::BadCommand),
         ("mapf row M 0 S", LineFault::BadCommand),
+        ("mapf check", LineFault::BadCommand),
+        ("mapf check M", LineFault::BadCommand),
+        ("mapf check M P X", LineFault::BadCommand),
+        ("mapf check M --scen S", LineFault::BadCommand),
+        ("mapf check M --json", LineFault::BadCommand),
+        ("mapf check M P --scen", LineFault::BadCommand),
+        ("mapf check M P --scen --json", LineFault::BadCommand),
+        ("mapf check M P --scen -x", LineFault::BadCommand),
+        ("mapf check M P --scen S T", LineFault::BadCommand),
+        ("mapf check M P --scen S --scen S", LineFault::BadCommand),
+        ("mapf check --scen=S M P --scen=T", LineFault::BadCommand),
+        ("mapf check M P --json --json", LineFault::BadCommand),
+        ("mapf check --json M P --json", LineFault::BadCommand),
+        ("mapf check M P --json=x", LineFault::BadCommand),
+        ("mapf check M P --json=true", LineFault::BadCommand),
+        ("mapf check M P --other", LineFault::BadCommand),
+        ("mapf check M P --js", LineFault::BadCommand),
+        ("mapf check M P -j", LineFault::BadCommand),
+        ("mapf check M P -s S", LineFault::BadCommand),
+        ("mapf --json check M P", LineFault::BadCommand),
+        ("mapf map F --json", LineFault::BadCommand),
+        ("mapf row M S 0 --scen S", LineFault::BadCommand),
         ("mapf map -x", LineFault::BadCommand),
         ("mapf nosuch", LineFault::BadCommand),
         ("mapf -x", LineFault::BadCommand),
@@ -117,6 +209,10 @@ fn refused_lines(rt: HostRuntime) -> Result<(), Fail> {
         ("mapf map F --help", LineFault::Help),
         ("mapf row --help", LineFault::Help),
         ("mapf row M S x --help", LineFault::Help),
+        ("mapf help check", LineFault::Help),
+        ("mapf check --help", LineFault::Help),
+        ("mapf check -h", LineFault::Help),
+        ("mapf check M P --json --scen S -h", LineFault::Help),
     ] {
         let words = words(rt.alloc(), text)?;
         let got = line(rt.alloc(), words.as_slice());

@@ -2,6 +2,8 @@
 #![tactic(auto)]
 
 #[cfg(test)]
+mod check_command;
+#[cfg(test)]
 mod command_lines;
 #[cfg(test)]
 mod map_command;

@@ -8,7 +8,14 @@ use std::process::Abort;
 use std::test::Fail;
 
 /// The files of these tests. A scenario's name is no map, and a map's no scenario.
-const FILES: &[(&str, &str)] = &[("corner.map", CORNER), ("corner.scen", ROW)];
+const FILES: &[(&str, &str)] = &[
+    ("corner.map", CORNER),
+    ("corner.scen", ROW),
+    ("corner.plan", PLAN),
+];
+
+/// A plan that solves the scenario's only row.
+const PLAN: &str = "mapf-plan 1\nnumber 0\nagents 1\nagent 0 1 ne\n";
 
 /// What the program does on its words: its status, both outputs, and the names that it opens.
 #[derive(Clone, Copy)]
@@ -66,6 +73,27 @@ fn commands_open_their_files_in_order(rt: HostRuntime) -> Result<(), Fail> {
             err: "mapf: NoVersion\n",
             opened: "corner.map\n",
         },
+        Done {
+            words: "mapf check corner.map corner.plan",
+            status: 0,
+            out: "accepted agents 1 cost 2 makespan 2\n",
+            err: "",
+            opened: "corner.map\ncorner.plan\n",
+        },
+        Done {
+            words: "mapf check --json corner.map --scen=corner.scen corner.plan",
+            status: 0,
+            out: "{\"accepted\":true,\"agents\":1,\"cost\":2,\"makespan\":2}\n",
+            err: "",
+            opened: "corner.map\ncorner.plan\ncorner.scen\n",
+        },
+        Done {
+            words: "mapf check corner.plan corner.map",
+            status: 1,
+            out: "",
+            err: "mapf: BadHeader 1\n",
+            opened: "corner.plan\ncorner.map\n",
+        },
     ] {
         does(&rt, rt.alloc(), want)?;
     }
@@ -81,6 +109,14 @@ fn files_that_are_not_there(rt: HostRuntime) -> Result<(), Fail> {
         (
             "mapf row corner.map other.scen 0",
             "corner.map\nother.scen\n",
+        ),
+        (
+            "mapf check corner.map other.plan",
+            "corner.map\nother.plan\n",
+        ),
+        (
+            "mapf check corner.map corner.plan --scen other.scen",
+            "corner.map\ncorner.plan\nother.scen\n",
         ),
     ] {
         let want = Done {
@@ -102,6 +138,8 @@ fn words_that_are_no_command(rt: HostRuntime) -> Result<(), Fail> {
         "mapf other",
         "mapf map",
         "mapf row corner.map corner.scen x",
+        "mapf check corner.map",
+        "mapf check corner.map corner.plan --scen",
     ] {
         let files = FakeFiles::new(rt.alloc(), FILES);
         let (mut out, mut err) = (Keeper::of_size(2048), Keeper::of_size(2048));
@@ -134,7 +172,7 @@ fn help(rt: HostRuntime) -> Result<(), Fail> {
         );
         assert_eq!(rt; status, 0, "at {text:?}");
         assert!(rt;
-            out.kept().starts_with(b"Reads maps and scenarios"),
+            out.kept().starts_with(b"Reads maps, scenarios and plans"),
             "at {text:?}"
         );
         assert!(rt; err.kept() == b"".as_slice(), "at {text:?}");

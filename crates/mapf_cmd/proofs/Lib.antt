@@ -4,5 +4,6 @@ mod Filled
 mod Commands
 mod Taken
 mod Rewriting
-mod VerdictPuts
+mod RowVerdictPuts
 mod RowAnswers
+mod PlainText

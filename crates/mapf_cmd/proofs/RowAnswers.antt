@@ -13,11 +13,11 @@ use Rattle.scen.specs.declared.certificate.CertFault.{CertFault}
 use Rattle.mapf_cmd.specs.declared.row_fault.RowFault.{RowFault}
 use Rattle.mapf_cmd.specs.declared.row_fault.RowFault.TheVariants.{Certificate}
 use Rattle.mapf_cmd.specs.declared.status.Status.{Status}
-use Rattle.mapf_cmd.specs.declared.verdict.Verdict.{Verdict}
-use Rattle.mapf_cmd.specs.RowCommand.{EndsByVerdict, IsAsked, JudgesRow, verdict_text}
+use Rattle.mapf_cmd.specs.declared.row_verdict.RowVerdict.{RowVerdict}
+use Rattle.mapf_cmd.specs.RowCommand.{EndsByRowVerdict, IsAsked, JudgesRow, row_verdict_text}
 use Rattle.mapf_cmd.specs.Rewriting.{EndsWriting}
 use Rattle.mapf_cmd.specs.Code.Parts.{Finishes}
-use Rattle.mapf_cmd.specs.Status.{code_of, verdict_status}
+use Rattle.mapf_cmd.specs.Status.{code_of, row_verdict_status}
 use Rattle.mapf_cmd.proofs.Rewriting.{ends_writing}
 use Rattle.scen.specs.declared.certificate.Proposal.{Proposal}
 
@@ -47,17 +47,17 @@ same_writer contents first last text (Ok u) puts breaks = puts.same_writer
 same_writer contents first last text (Err e) puts breaks = breaks.same_writer
 
 -- a verdict's line was written, and the command ended by the verdict
-pub verdict_ends : {W : Type 0} (contents : W → Option (List ℕ)) (old mid new : Counted W) (verdict : Verdict) (written : Bool) (success status : Status) (code : ℕ)
-    → success ≡ verdict_status verdict
-    → WritesText written (contents (counted_inner old)) (contents (counted_inner mid)) (failures_of old) (failures_of mid) (verdict_text verdict)
-    → Finishes contents written success mid new status → code ≡ code_of status → EndsByVerdict contents old new code (Ok verdict)
-verdict_ends contents old mid new verdict written success status code is wrote finished named =
-    let Ends : ℕ → Type 0 = λ n. EndsWriting contents old new n (verdict_status verdict) (verdict_text verdict) in
+pub row_verdict_ends : {W : Type 0} (contents : W → Option (List ℕ)) (old mid new : Counted W) (verdict : RowVerdict) (written : Bool) (success status : Status) (code : ℕ)
+    → success ≡ row_verdict_status verdict
+    → WritesText written (contents (counted_inner old)) (contents (counted_inner mid)) (failures_of old) (failures_of mid) (row_verdict_text verdict)
+    → Finishes contents written success mid new status → code ≡ code_of status → EndsByRowVerdict contents old new code (Ok verdict)
+row_verdict_ends contents old mid new verdict written success status code is wrote finished named =
+    let Ends : ℕ → Type 0 = λ n. EndsWriting contents old new n (row_verdict_status verdict) (row_verdict_text verdict) in
     let Finished : Status → Type 0 = λ s. Finishes contents written s mid new status in
-    subst Ends (sym named) (ends_writing contents old mid new (verdict_text verdict) written (verdict_status verdict) status wrote (subst Finished is finished))
+    subst Ends (sym named) (ends_writing contents old mid new (row_verdict_text verdict) written (row_verdict_status verdict) status wrote (subst Finished is finished))
 
 -- a certificate that was refused is passed up
-pub refusal_judged : (m : Grid) (rows : List Query) (number : ℕ) (r : Result Verdict RowFault) (fault : CertFault) → IsErrAnd r (λ f. f ≡ Certificate fault)
+pub refusal_judged : (m : Grid) (rows : List Query) (number : ℕ) (r : Result RowVerdict RowFault) (fault : CertFault) → IsErrAnd r (λ f. f ≡ Certificate fault)
     → ((q : Query) × IsAsked m rows number q × (proposal : Proposal) × Certifies m q.start q.goal proposal (Err fault)) → JudgesRow m rows number r
 refusal_judged m rows number (Ok v) fault is judged = absurd is
 refusal_judged m rows number (Err f) fault is judged =

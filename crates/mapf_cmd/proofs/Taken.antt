@@ -1,11 +1,11 @@
 -- Where clap's definition of the program takes the words, they name a command and give it the words that it requires.
-use Rattle.std.proofs.Common.{◌≡◌, true, false, List, Option, Some, None, refl}
+use Rattle.std.proofs.Common.{◌≡◌, true, false, List, Option, Some, None, refl, rules}
 use Rattle.std.specs.Prelude.{is_some, MatchOption}
 use Rattle.clap.specs.Simple.{App, argument_words, built, entered, is_simple, names_of, subcommand_of}
 use Rattle.clap.specs.Takes.{built_takes, entered_passes, level_passes, takes}
 use Rattle.clap.specs.Walk.{Row, Text, finished, nothing_held, walk, walk_from}
 use Rattle.clap.proofs.WalkLemmas.{both}
-use Rattle.mapf_cmd.specs.Words.{map_command, program_app, row_command, scen_command}
+use Rattle.mapf_cmd.specs.Words.{check_command, map_command, program_app, row_command, scen_command}
 use Rattle.mapf_cmd.specs.Code.Parts.{HasWords}
 use Rattle.mapf_cmd.proofs.Commands.{command_given, level_parts, valid_parts}
 use Rattle.mapf_cmd.proofs.Stops.{AreNamed, StopsAt, walk_stays}
@@ -23,8 +23,14 @@ Gives name = (words : List Text) → entered_passes program (Some (name, words))
 
 commands_give : AreNamed Gives (names_of program)
 commands_give = (
-  λ other. command_given map_command,
-  (λ other. command_given scen_command, (λ other. command_given row_command, (λ other. let bad : true ≡ false = other in cc, tt))),
+  λ other words. command_given map_command words (search rules),
+  (
+    λ other words. command_given scen_command words (search rules),
+    (
+      λ other words. command_given row_command words (search rules),
+      (λ other words. command_given check_command words (search rules), (λ other. let bad : true ≡ false = other in cc, tt)),
+    ),
+  ),
 )
 
 stop_gives : (stop : Option (Text × List Text)) → StopsAt Gives stop → entered_passes program stop ≡ true → is_some (entered program stop) ≡ true

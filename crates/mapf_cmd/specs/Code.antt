@@ -2,3 +2,5 @@
 
 -- what the parts of the commands owe each other
 pub mod Parts
+-- the same of `mapf check`
+pub mod Verdicts

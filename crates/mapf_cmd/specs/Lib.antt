@@ -11,6 +11,12 @@ pub mod MapCommand
 pub mod ScenCommand
 -- what `mapf row` does and answers
 pub mod RowCommand
+-- the text of a plan's fault
+pub mod FaultWords
+-- what is written for a plan that was checked
+pub mod VerdictText
+-- what `mapf check` does and answers
+pub mod CheckCommand
 -- what the program does with its words
 pub mod Program
 -- The code's own words, of which no promise speaks.

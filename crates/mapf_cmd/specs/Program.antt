@@ -1,12 +1,13 @@
 -- What the program does with the words of its command line.
-use Rattle.std.specs.Prelude.{◌≡◌, ℕ, ◌⊎◌, List, Option}
+use Rattle.std.specs.Prelude.{◌≡◌, ℕ, ◌⊎◌, List, Option, Some, None}
 use Rattle.grid.specs.declared.counted.Counted.{Counted}
 use Rattle.clap.specs.Words.{Text}
 use Rattle.mapf_cmd.specs.declared.command_line.Line.{Line}
-use Rattle.mapf_cmd.specs.declared.command_line.Line.TheVariants.{Map, Scen, Row}
+use Rattle.mapf_cmd.specs.declared.command_line.Line.TheVariants.{Map, Scen, Row, Check}
 use Rattle.mapf_cmd.specs.declared.command_line.LineFault.{LineFault}
 use Rattle.mapf_cmd.specs.declared.command_line.LineFault.TheVariants.{Help, BadCommand, OutOfMemory}
 use Rattle.mapf_cmd.specs.declared.status.Status.TheVariants as status
+use Rattle.mapf_cmd.specs.CheckCommand.{AnswersCheck, AnswersCheckFit}
 use Rattle.mapf_cmd.specs.MapCommand.{RewritesMap}
 use Rattle.mapf_cmd.specs.RowCommand.{AnswersRow}
 use Rattle.mapf_cmd.specs.Rewriting.{EndsWriting}
@@ -20,6 +21,11 @@ PerformsOn {F} remaining contents (Map file) old new code = (m n : Counted F) ×
 PerformsOn {F} remaining contents (Scen file) old new code = (s t : Counted F) × RewritesScen remaining contents s t old new code
 PerformsOn {F} remaining contents (Row map_file scen_file row) old new code =
     (m n : Counted F) × (s t : Counted F) × AnswersRow remaining remaining contents m n s t row old new code
+PerformsOn {F} remaining contents (Check map_file plan_file None json) old new code =
+    (m n : Counted F) × (p q : Counted F) × AnswersCheck remaining remaining contents m n p q json old new code
+PerformsOn {F} remaining contents (Check map_file plan_file (Some scen_file) json) old new code =
+    (m n : Counted F) × (p q : Counted F) × (s t : Counted F)
+    × AnswersCheckFit remaining remaining remaining contents m n p q s t json old new code
 
 -- the command was performed, or a file of it could not be opened, and nothing was written
 abbrev pub Performs : {F W : Type 0} → (F → Option (List ℕ)) → (W → Option (List ℕ)) → Line → Counted W → Counted W → ℕ → Type 0

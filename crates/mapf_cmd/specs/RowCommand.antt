@@ -18,10 +18,10 @@ use Rattle.scen.specs.declared.listed.Listed.{Listed}
 use Rattle.scen.specs.declared.scen_fault.ScenFault.{ScenFault}
 use Rattle.mapf_cmd.specs.declared.row_fault.RowFault.{RowFault}
 use Rattle.mapf_cmd.specs.declared.row_fault.RowFault.TheVariants.{Map, Scen, NoSuchRow, SizeDiffers, OutOfMemory, Certificate}
-use Rattle.mapf_cmd.specs.declared.verdict.Verdict.{Verdict}
-use Rattle.mapf_cmd.specs.declared.verdict.Verdict.TheVariants.{Shortest, Unreachable}
+use Rattle.mapf_cmd.specs.declared.row_verdict.RowVerdict.{RowVerdict}
+use Rattle.mapf_cmd.specs.declared.row_verdict.RowVerdict.TheVariants.{Shortest, Unreachable}
 use Rattle.mapf_cmd.specs.Rewriting.{Reads, EndsWriting}
-use Rattle.mapf_cmd.specs.Status.{code_of, row_fault_status, verdict_status}
+use Rattle.mapf_cmd.specs.Status.{code_of, row_fault_status, row_verdict_status}
 
 -- the words of the line, as `shortest 2 0 listed 2 agrees`
 abbrev pub shortest_words : Length → Listed → Bool → List (List ℕ)
@@ -34,15 +34,15 @@ abbrev pub shortest_text : Length → Listed → Bool → List ℕ
 shortest_text length listed agrees = join_with_byte space (shortest_words length listed agrees) ++ line_feed ∷ []
 
 -- the line that is written for a verdict
-abbrev pub verdict_text : Verdict → List ℕ
-verdict_text (Shortest length listed agrees) = shortest_text length listed agrees
-verdict_text Unreachable = codes "unreachable" ++ line_feed ∷ []
+abbrev pub row_verdict_text : RowVerdict → List ℕ
+row_verdict_text (Shortest length listed agrees) = shortest_text length listed agrees
+row_verdict_text Unreachable = codes "unreachable" ++ line_feed ∷ []
 
 -- the verdict on the listed length n / 10^decimals, by the length of the shortest walks
-abbrev pub IsVerdictOn : ℕ → ℕ → Option Length → Verdict → Type 0
-IsVerdictOn n decimals shortest (Shortest length listed agrees) =
+abbrev pub IsRowVerdictOn : ℕ → ℕ → Option Length → RowVerdict → Type 0
+IsRowVerdictOn n decimals shortest (Shortest length listed agrees) =
     (shortest ≡ Some length) × (listed.n ≡ n) × (listed.d ≡ decimals) × (IsTrue agrees ↔ Agrees n decimals length.straight length.diagonal)
-IsVerdictOn n decimals shortest Unreachable = shortest ≡ None
+IsRowVerdictOn n decimals shortest Unreachable = shortest ≡ None
 
 -- The length of the shortest walks of a query, or that there is none: a proposal was certified.
 pub record IsCertified (m : Grid) (q : Query) (shortest : Option Length) : Type 0 where
@@ -62,9 +62,9 @@ pub record IsAsked (m : Grid) (rows : List Query) (number : ℕ) (q : Query) : T
 
 -- What a row comes to: its verdict; or there is no such row; else its size is another one; else the search was refused memory, or
 -- what it proposed proves nothing.
-abbrev pub JudgesRow : Grid → List Query → ℕ → Result Verdict RowFault → Type 0
+abbrev pub JudgesRow : Grid → List Query → ℕ → Result RowVerdict RowFault → Type 0
 JudgesRow m rows number (Ok verdict) =
-    (q : Query) × IsAsked m rows number q × (shortest : Option Length) × IsCertified m q shortest × IsVerdictOn q.listed q.decimals shortest verdict
+    (q : Query) × IsAsked m rows number q × (shortest : Option Length) × IsCertified m q shortest × IsRowVerdictOn q.listed q.decimals shortest verdict
 JudgesRow m rows number (Err NoSuchRow) = length rows ≤ number
 JudgesRow m rows number (Err (SizeDiffers at)) =
     (at ≡ number) × (q : Query) × (slice_get rows number ≡ Some q) × (HasSizeOf m q → ⊥)
@@ -85,7 +85,7 @@ ReadsScen remaining old new answer = Reads ScenText ScenFaultAt remaining old ne
 -- what comes after it isn't touched.
 abbrev pub ReadsAndJudges
     : {R S : Type 0} → (R → Option (List ℕ)) → (S → Option (List ℕ)) → Counted R → Counted R → Counted S → Counted S → ℕ
-    → Result Verdict RowFault → Type 0
+    → Result RowVerdict RowFault → Type 0
 ReadsAndJudges map_left scen_left old_map new_map old_scen new_scen number (Err (Map fault)) =
     ReadsMap map_left old_map new_map (Err fault) × (new_scen ≡ old_scen)
 ReadsAndJudges map_left scen_left old_map new_map old_scen new_scen number (Err (Scen fault)) =
@@ -96,14 +96,14 @@ ReadsAndJudges map_left scen_left old_map new_map old_scen new_scen number answe
 
 -- The exit status and what the output got: the line of the verdict, or a beginning of it where the output failed; nothing where
 -- there is no verdict.
-abbrev pub EndsByVerdict : {W : Type 0} → (W → Option (List ℕ)) → Counted W → Counted W → ℕ → Result Verdict RowFault → Type 0
-EndsByVerdict contents old new status (Ok verdict) = EndsWriting contents old new status (verdict_status verdict) (verdict_text verdict)
-EndsByVerdict contents old new status (Err fault) = (status ≡ code_of (row_fault_status fault)) × (new ≡ old)
+abbrev pub EndsByRowVerdict : {W : Type 0} → (W → Option (List ℕ)) → Counted W → Counted W → ℕ → Result RowVerdict RowFault → Type 0
+EndsByRowVerdict contents old new status (Ok verdict) = EndsWriting contents old new status (row_verdict_status verdict) (row_verdict_text verdict)
+EndsByRowVerdict contents old new status (Err fault) = (status ≡ code_of (row_fault_status fault)) × (new ≡ old)
 
 -- The texts were read and the row was judged, and the command ended by that.
 pub record AnswersRow
     {R S W : Type 0} (map_left : R → Option (List ℕ)) (scen_left : S → Option (List ℕ)) (contents : W → Option (List ℕ))
     (old_map new_map : Counted R) (old_scen new_scen : Counted S) (number : ℕ) (old_out new_out : Counted W) (status : ℕ) : Type 0 where
-  pub answer : Result Verdict RowFault
+  pub answer : Result RowVerdict RowFault
   pub judges : ReadsAndJudges map_left scen_left old_map new_map old_scen new_scen number answer
-  pub ends : EndsByVerdict contents old_out new_out status answer
+  pub ends : EndsByRowVerdict contents old_out new_out status answer

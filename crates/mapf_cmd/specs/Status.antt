@@ -4,10 +4,14 @@ use Rattle.grid.specs.declared.map_fault.MapFault.{MapFault}
 use Rattle.grid.specs.declared.map_fault.MapFault.TheVariants as map_fault
 use Rattle.scen.specs.declared.scen_fault.ScenFault.{ScenFault}
 use Rattle.scen.specs.declared.scen_fault.ScenFault.TheVariants as scen_fault
+use Rattle.plan.specs.declared.plan_text_fault.PlanTextFault.{PlanTextFault}
+use Rattle.plan.specs.declared.plan_text_fault.PlanTextFault.TheVariants as plan_text_fault
+use Rattle.mapf_cmd.specs.declared.check_fault.CheckFault.{CheckFault}
+use Rattle.mapf_cmd.specs.declared.check_fault.CheckFault.TheVariants as check_fault
 use Rattle.mapf_cmd.specs.declared.row_fault.RowFault.{RowFault}
 use Rattle.mapf_cmd.specs.declared.row_fault.RowFault.TheVariants as row_fault
-use Rattle.mapf_cmd.specs.declared.verdict.Verdict.{Verdict}
-use Rattle.mapf_cmd.specs.declared.verdict.Verdict.TheVariants.{Shortest, Unreachable}
+use Rattle.mapf_cmd.specs.declared.row_verdict.RowVerdict.{RowVerdict}
+use Rattle.mapf_cmd.specs.declared.row_verdict.RowVerdict.TheVariants.{Shortest, Unreachable}
 use Rattle.mapf_cmd.specs.declared.status.Status.{Status}
 use Rattle.mapf_cmd.specs.declared.status.Status.TheVariants.{Done, Fault, BadCommand, Failure}
 
@@ -38,6 +42,18 @@ row_fault_status row_fault.OutOfMemory = Failure
 row_fault_status (row_fault.Certificate f) = Fault
 
 -- well only where the listed length agrees
-abbrev pub verdict_status : Verdict → Status
-verdict_status (Shortest length listed agrees) = if agrees then Done else Fault
-verdict_status Unreachable = Fault
+abbrev pub row_verdict_status : RowVerdict → Status
+row_verdict_status (Shortest length listed agrees) = if agrees then Done else Fault
+row_verdict_status Unreachable = Fault
+
+abbrev pub plan_text_fault_status : PlanTextFault → Status
+plan_text_fault_status plan_text_fault.ReadFailed = Failure
+plan_text_fault_status plan_text_fault.OutOfMemory = Failure
+plan_text_fault_status _ = Fault
+
+abbrev pub check_fault_status : CheckFault → Status
+check_fault_status (check_fault.Map f) = map_fault_status f
+check_fault_status (check_fault.Plan f) = plan_text_fault_status f
+check_fault_status (check_fault.Scen f) = scen_fault_status f
+check_fault_status check_fault.OutOfMemory = Failure
+check_fault_status (check_fault.Rejected rejection) = Fault

@@ -12,11 +12,26 @@ use thiserror::Error;
 #[derive(Debug, Drop, PartialEq, Eq)]
 pub enum Line {
     /// Reads a map and writes it in canonical form.
-    Map { file: String },
+    Map {
+        file: String,
+    },
     /// Reads a scenario and writes it in canonical form.
-    Scen { file: String },
+    Scen {
+        file: String,
+    },
     /// Judges the listed length of a scenario's row, counted from 0, on a map.
-    Row { map: String, scen: String, row: u32 },
+    Row {
+        map: String,
+        scen: String,
+        row: u32,
+    },
+    /// Checks a plan on a map, and perhaps that it solves the first rows of a scenario; `json` asks for the answer as JSON.
+    Check {
+        map: String,
+        plan: String,
+        scen: Option<String>,
+        json: bool,
+    },
 }
 
 /// Why the words are no command.

@@ -3,14 +3,16 @@ ghost use Rattle.std.specs.Prelude.{◌≡◌, MatchResult, map, string_bytes};
 ghost use Rattle.mapf_cmd.specs.Program.{PerformsOn, Performs, EndsRefused, AnswersWords};
 
 use crate::writing::{finish, write_text};
-use crate::{Line, LineFault, Status, line, map_cmd, report, row_cmd, scen_cmd};
+use crate::{
+    Line, LineFault, Status, check_cmd, check_fit_cmd, line, map_cmd, report, row_cmd, scen_cmd,
+};
 use grid::Counted;
 use std::io::Write;
 use std::rt::Files;
 use std::{fs, io};
 use thiserror::Error;
 
-const HELP: &str = "Reads maps and scenarios, and answers what they hold.
+const HELP: &str = "Reads maps, scenarios and plans, and answers what they hold.
 
 Usage: mapf COMMAND
 
@@ -18,11 +20,13 @@ Commands:
   map FILE          reads a map and writes it in canonical form
   scen FILE         reads a scenario and writes it in canonical form
   row MAP SCEN N    judges the length that the scenario lists for its row N, from 0 on
+  check MAP PLAN [--scen SCEN] [--json]
+                    checks a plan on a map, and that it solves the first rows of a scenario
   help              shows this text
 ";
 
 const USAGE: &str =
-    "usage: mapf map FILE | mapf scen FILE | mapf row MAP SCEN N (mapf help says more)\n";
+    "usage: mapf map FILE | mapf scen FILE | mapf row MAP SCEN N | mapf check MAP PLAN [--scen SCEN] [--json] (mapf help says more)\n";
 
 /// Why a command was not performed.
 #[derive(Clone, Copy, Debug, PartialEq, Eq, Error)]
@@ -87,6 +91,22 @@ fn perform_on_files<R: Files + AllocGlobal, W: Write, E: Write>(
             let mut map = Counted::new(fs::open(rt, &map)?);
             let mut scen = Counted::new(fs::open(rt, &scen)?);
             Ok(row_cmd(rt.alloc(), &mut map, &mut scen, row, out, err))
+        }
+        Line::Check {
+            map,
+            plan,
+            scen,
+            json,
+        } => {
+            let mut map = Counted::new(fs::open(rt, &map)?);
+            let mut plan = Counted::new(fs::open(rt, &plan)?);
+            match scen {
+                None => Ok(check_cmd(rt.alloc(), &mut map, &mut plan, json, out, err)),
+                Some(scen) => {
+                    let mut scen = Counted::new(fs::open(rt, &scen)?);
+                    Ok(check_fit_cmd(rt.alloc(), &mut map, &mut plan, &mut scen, json, out, err))
+                }
+            }
         }
     }
 }

@@ -5,7 +5,7 @@ ghost use Rattle.mapf_cmd.specs.RowCommand.{HasSizeOf, IsAsked, JudgesRow, Reads
 
 use crate::report;
 use crate::row_fault::RowFault;
-use crate::verdict::{Verdict, write_verdict};
+use crate::row_verdict::{RowVerdict, write_row_verdict};
 use crate::writing::finish;
 use grid::{Cell, Counted, Map, read_map};
 use scen::{Proposal, Row, Scenario, SearchFault, certify, read_scen, search};
@@ -28,7 +28,7 @@ pub fn row_cmd<R: Read, S: Read, W: Write, E: Write>(
 {
     match read_and_judge(alloc, map, scen, row) {
         Ok(verdict) => {
-            let written = write_verdict(verdict, out);
+            let written = write_row_verdict(verdict, out);
             finish(written, verdict.status(), out, err).code()
         }
         Err(fault) => {
@@ -44,7 +44,7 @@ fn read_and_judge<R: Read, S: Read>(
     map: &mut Counted<R>,
     scen: &mut Counted<S>,
     number: u32,
-) -> Result<Verdict, RowFault>
+) -> Result<RowVerdict, RowFault>
     ensures { ReadsAndJudges R.remaining S.remaining map.old map.new scen.old scen.new number result }
 {
     let map = read_map(alloc, map)?;
@@ -53,14 +53,14 @@ fn read_and_judge<R: Read, S: Read>(
 }
 
 /// Compares the listed length of the row with that of a certified shortest walk.
-fn judge(alloc: Global, map: &Map, scenario: &Scenario, number: u32) -> Result<Verdict, RowFault>
+fn judge(alloc: Global, map: &Map, scenario: &Scenario, number: u32) -> Result<RowVerdict, RowFault>
     ensures { JudgesRow map.now scenario.now number result }
 {
     let row = row_for(map, scenario, number)?;
     let (start, goal) = (row.start(), row.goal());
     let proposal = propose(alloc, map, start, goal)?;
     let shortest = certify(map, start, goal, &proposal)?;
-    Ok(Verdict::new(shortest, row.listed()))
+    Ok(RowVerdict::new(shortest, row.listed()))
 }
 
 /// Searches for a shortest walk between two cells of the map.

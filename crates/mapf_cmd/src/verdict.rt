@@ -1,115 +1,110 @@
-//! What a row of a scenario comes to, and its line.
-ghost use Rattle.std.specs.Prelude.{◌≡◌, [], ◌∷◌, ◌++◌, is_ok, OnOk, OnErr};
-ghost use Rattle.grid.specs.Counted.{counted_inner, failures_of};
-ghost use Rattle.grid.specs.Text.{space};
-ghost use Rattle.grid.specs.Sink.{held_back, Puts, Breaks};
-ghost use Rattle.grid.specs.Writing.{WritesText};
-ghost use Rattle.mapf_cmd.specs.Status.{verdict_status};
-ghost use Rattle.mapf_cmd.specs.RowCommand.{shortest_text, verdict_text, IsVerdictOn};
+//! What a plan comes to, and its text.
+ghost use Rattle.std.specs.Prelude.{◌≡◌, length, string_bytes, IfOk};
+ghost use Rattle.model.specs.Costs.{sum_of_costs, makespan};
+ghost use Rattle.serde_json.specs.View.{view};
+ghost use Rattle.mapf_cmd.specs.Code.Verdicts.{accepted_data, rejected_data, verdict_line, verdict_status};
+ghost use Rattle.mapf_cmd.specs.VerdictText.{IsPlain, IsPlainText, accepted_json, rejected_json, verdict_json_text};
 
 use crate::Status;
-use grid::{Counted, Sink, WriteFault};
-use itoa::Buffer;
-use scen::{Length, Listed, agrees, put_listed};
-use std::io::Write;
+use plan::CheckedPlan;
+use serde_json::{Value, json};
+use std::alloc::{AllocError, Global};
 
-/// What a row comes to.
+/// What a plan comes to.
 #[derive(Clone, Copy, Debug, PartialEq, Eq)]
-pub(crate) enum Verdict {
-    /// The shortest walks have this length, and the listed one agrees with it or doesn't.
-    Shortest {
-        length: Length,
-        listed: Listed,
-        agrees: bool,
+pub enum Verdict<'a> {
+    /// The plan is accepted: how many agents it has, the sum of their costs, and the greatest of them.
+    Accepted {
+        agents: u32,
+        cost: u64,
+        makespan: u32,
     },
-    /// No walk leads from the start to the goal.
-    Unreachable,
+    /// The plan is rejected, for this fault.
+    Rejected(&'a str),
 }
 
-impl Verdict {
-    /// The verdict on a listed length, by the length of the shortest walks.
-    pub(crate) fn new(shortest: Option<Length>, listed: Listed) -> Verdict
-        ensures { IsVerdictOn listed.n listed.d shortest result }
+impl Verdict<'_> {
+    /// The verdict on a plan that is accepted.
+    pub(crate) fn accepted(plan: &CheckedPlan) -> Verdict<'static>
+        ensures { result ≡ Verdict.Accepted (length plan.now.timetable.tracks) (sum_of_costs plan.now.timetable) (makespan plan.now.timetable) }
     {
-        match shortest {
-            Some(length) => Verdict::Shortest {
-                length,
-                listed,
-                agrees: agrees(listed, length),
-            },
-            None => Verdict::Unreachable,
+        Verdict::Accepted {
+            agents: plan.agents(),
+            cost: plan.sum_of_costs(),
+            makespan: plan.makespan(),
         }
     }
 
-    /// The status that it ends with: well only where the listed length agrees.
-    pub(crate) fn status(self) -> Status
-        ensures { result ≡ verdict_status self }
+    /// The status that it ends with.
+    pub(crate) fn status(&self) -> Status
+        ensures { result ≡ verdict_status self.now }
     {
         match self {
-            Verdict::Shortest { agrees, .. } if agrees => Status::Done,
-            _ => Status::Fault,
+            Verdict::Accepted { .. } => Status::Done,
+            Verdict::Rejected(_) => Status::Fault,
         }
     }
 }
 
-/// Writes the line of a verdict. The writer is not flushed.
-pub(crate) fn write_verdict<W: Write>(
-    verdict: Verdict,
-    writer: &mut Counted<W>,
-) -> Result<(), WriteFault>
-    ensures { WritesText (is_ok result) (W.contents (counted_inner writer.old)) (W.contents (counted_inner writer.new)) (failures_of writer.old) (failures_of writer.new) (verdict_text verdict) }
+/// The verdict as JSON, without an LF. A fault is told in letters, digits and spaces, of which none is escaped.
+pub fn verdict_json(alloc: Global, verdict: &Verdict<'_>) -> Result<String, AllocError>
+    requires { IsPlain verdict.now }
+    ensures { IfOk result (λ text. string_bytes text ≡ verdict_json_text verdict.now) }
 {
-    let mut sink = Sink::new(writer);
-    put_line(&mut sink, verdict)
-}
-
-/// Puts the line, and hands it on.
-fn put_line<W: Write>(sink: &mut Sink<'_, W>, verdict: Verdict) -> Result<(), WriteFault>
-    ensures ok { OnOk result (Puts W.contents sink.old sink.new (verdict_text verdict)) }
-    ensures none_held { OnOk result (held_back sink.new ≡ []) }
-    ensures err { OnErr result (Breaks W.contents sink.old sink.new (verdict_text verdict)) }
-{
-    put_verdict(sink, verdict)?;
-    sink.hand_on()
-}
-
-fn put_verdict<W: Write>(sink: &mut Sink<'_, W>, verdict: Verdict) -> Result<(), WriteFault>
-    ensures ok { OnOk result (Puts W.contents sink.old sink.new (verdict_text verdict)) }
-    ensures err { OnErr result (Breaks W.contents sink.old sink.new (verdict_text verdict)) }
-{
-    match verdict {
-        Verdict::Shortest {
-            length,
-            listed,
-            agrees,
-        } => put_shortest(sink, length, listed, agrees),
-        Verdict::Unreachable => sink.put(b"unreachable\n"),
+    match *verdict {
+        Verdict::Accepted {
+            agents,
+            cost,
+            makespan,
+        } => accepted_json(alloc, agents, cost, makespan),
+        Verdict::Rejected(fault) => rejected_json(alloc, fault),
     }
 }
 
-/// Puts the line of a shortest length, and how the listed one stands to it.
-fn put_shortest<W: Write>(
-    sink: &mut Sink<'_, W>,
-    length: Length,
-    listed: Listed,
-    agrees: bool,
-) -> Result<(), WriteFault>
-    ensures ok { OnOk result (Puts W.contents sink.old sink.new (shortest_text length listed agrees)) }
-    ensures err { OnErr result (Breaks W.contents sink.old sink.new (shortest_text length listed agrees)) }
+fn accepted_json(alloc: Global, agents: u32, cost: u64, makespan: u32) -> Result<String, AllocError>
+    ensures { IfOk result (λ text. string_bytes text ≡ accepted_json agents cost makespan) }
 {
-    put_word(sink, b"shortest")?;
-    put_word(sink, Buffer::new().format(length.straight).as_bytes())?;
-    put_word(sink, Buffer::new().format(length.diagonal).as_bytes())?;
-    put_word(sink, b"listed")?;
-    put_listed(sink, listed)?;
-    sink.put(if agrees { b" agrees\n" } else { b" differs\n" })
+    accepted_value(alloc, agents, cost, makespan)?.to_string(alloc)
 }
 
-/// Puts a word that another one follows.
-fn put_word<W: Write>(sink: &mut Sink<'_, W>, word: &[u8]) -> Result<(), WriteFault>
-    ensures ok { OnOk result (Puts W.contents sink.old sink.new (word.now ++ space ∷ [])) }
-    ensures err { OnErr result (Breaks W.contents sink.old sink.new (word.now ++ space ∷ [])) }
+fn accepted_value(alloc: Global, agents: u32, cost: u64, makespan: u32) -> Result<Value, AllocError>
+    ensures { IfOk result (λ value. view value ≡ accepted_data agents cost makespan) }
 {
-    sink.put(word)?;
-    sink.put(b" ")
+    json!(in alloc; {"accepted": true, "agents": agents, "cost": cost, "makespan": makespan})
+}
+
+fn rejected_json(alloc: Global, fault: &str) -> Result<String, AllocError>
+    requires { IsPlainText fault.now }
+    ensures { IfOk result (λ text. string_bytes text ≡ rejected_json fault.now) }
+{
+    rejected_value(alloc, fault)?.to_string(alloc)
+}
+
+fn rejected_value(alloc: Global, fault: &str) -> Result<Value, AllocError>
+    ensures { IfOk result (λ value. view value ≡ rejected_data fault.now) }
+{
+    json!(in alloc; {"accepted": false, "fault": fault})
+}
+
+/// The line of a verdict, in words or as JSON.
+pub(crate) fn verdict_line(
+    alloc: Global,
+    verdict: &Verdict<'_>,
+    json: bool,
+) -> Result<String, AllocError>
+    requires { IsPlain verdict.now }
+    ensures { IfOk result (λ line. string_bytes line ≡ verdict_line json verdict.now) }
+{
+    if json {
+        let text = verdict_json(alloc, verdict)?;
+        return format!(in alloc; "{text}\n");
+    }
+    match *verdict {
+        Verdict::Accepted {
+            agents,
+            cost,
+            makespan,
+        } => format!(in alloc; "accepted agents {agents} cost {cost} makespan {makespan}\n"),
+        Verdict::Rejected(fault) => format!(in alloc; "rejected {fault}\n"),
+    }
 }

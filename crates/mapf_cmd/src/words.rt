@@ -1,14 +1,14 @@
 //! The words of the command line.
-ghost use Rattle.std.specs.Prelude.{◌≡◌, ℕ, ◌^◌, ◌<◌, [], ◌∷◌, codes, true, false, IfOk, IfErr, OnOk, OnErr, MatchOption, IsTrue, Some, is_some, map, string_bytes};
+ghost use Rattle.std.specs.Prelude.{◌≡◌, ◌↔◌, ℕ, ◌^◌, ◌<◌, [], codes, true, false, IfOk, IfErr, OnOk, OnErr, MatchOption, IsTrue, Some, is_some, map, option_map, string_bytes};
 ghost use Rattle.std.specs.Char.{is_ascii_digit};
 ghost use Rattle.std.specs.List.{list_all};
 ghost use Rattle.clap.specs.Words.{app_of, with_subcommand, first_of, found_of, rows_of, rule_of, takes, fault_of};
 ghost use Rattle.grid.specs.Text.{SpellsNumber};
-ghost use Rattle.mapf_cmd.specs.Words.{program_app, row_command, command_of, required_word, HasRowNumber, GivesNumber, GiveNumber, IsCommand, IsLineOf, IsFaultOf};
+ghost use Rattle.mapf_cmd.specs.Words.{program_app, file_command, row_command, check_command, command_of, required_word, named_option, named_flag, IsFlagGiven, HasRowNumber, GivesNumber, GiveNumber, IsCommand, IsLineOf, IsFaultOf};
 ghost use Rattle.mapf_cmd.specs.Code.Parts.{HasWords, IsRefusal};
 
 use crate::{Line, LineFault};
-use clap::{Arg, ArgMatches, Command};
+use clap::{Arg, ArgAction, ArgMatches, Command};
 use std::alloc::{AllocError, Global};
 
 /// Reads the words of the command line, the program's name first.
@@ -33,7 +33,8 @@ fn program<'a>(alloc: Global) -> Result<Command<'a>, AllocError>
     let program = Command::new(alloc, "mapf").subcommand_required(true);
     let program = with_file_command(alloc, program, "map")?;
     let program = with_file_command(alloc, program, "scen")?;
-    with_row_command(alloc, program)
+    let program = with_row_command(alloc, program)?;
+    with_check_command(alloc, program)
 }
 
 /// The program with one more command, of a file.
@@ -42,7 +43,7 @@ fn with_file_command<'a>(
     program: Command<'a>,
     name: &'a str,
 ) -> Result<Command<'a>, AllocError>
-    ensures { IfOk result (λ c. app_of c ≡ with_subcommand (app_of program.entry) (command_of (name.entry.now, codes "file" ∷ [])).top) }
+    ensures { IfOk result (λ c. app_of c ≡ with_subcommand (app_of program.entry) (command_of (file_command name.entry.now)).top) }
 {
     let command = Command::new(alloc, name).arg(required(alloc, "file"))?;
     program.subcommand(command)
@@ -59,12 +60,40 @@ fn with_row_command<'a>(alloc: Global, program: Command<'a>) -> Result<Command<'
     program.subcommand(command)
 }
 
+/// The program with the command that checks a plan.
+fn with_check_command<'a>(alloc: Global, program: Command<'a>) -> Result<Command<'a>, AllocError>
+    ensures { IfOk result (λ c. app_of c ≡ with_subcommand (app_of program.entry) (command_of check_command).top) }
+{
+    let command = Command::new(alloc, "check")
+        .arg(required(alloc, "map"))?
+        .arg(required(alloc, "plan"))?
+        .arg(option(alloc, "scen"))?
+        .arg(flag(alloc, "json"))?;
+    program.subcommand(command)
+}
+
 /// A word that a command requires.
 fn required<'a>(alloc: Global, name: &'a str) -> Arg<'a>
     ensures rule { rule_of result ≡ required_word name.entry.now }
     ensures local { result.global ≡ false }
 {
     Arg::new(alloc, name).required(true)
+}
+
+/// An option with a value, as `--name VALUE`.
+fn option<'a>(alloc: Global, name: &'a str) -> Arg<'a>
+    ensures rule { rule_of result ≡ named_option name.entry.now }
+    ensures local { result.global ≡ false }
+{
+    Arg::new(alloc, name).long(name)
+}
+
+/// A flag, as `--name`.
+fn flag<'a>(alloc: Global, name: &'a str) -> Arg<'a>
+    ensures rule { rule_of result ≡ named_flag name.entry.now }
+    ensures local { result.global ≡ false }
+{
+    option(alloc, name).action(ArgAction::SetTrue)
 }
 
 /// Reads the command with this name, by the words that it was given.
@@ -86,6 +115,18 @@ fn read_command(alloc: Global, name: &str, given: &ArgMatches<'_>) -> Result<Lin
             scen: word(alloc, given, "scen")?,
             row: number(given, "row")?,
         }),
+        "check" => {
+            let map = word(alloc, given, "map")?;
+            let plan = word(alloc, given, "plan")?;
+            let scen = optional_word(alloc, given, "scen")?;
+            let json = has_flag(given, "json");
+            Ok(Line::Check {
+                map,
+                plan,
+                scen,
+                json,
+            })
+        }
         _ => Err(LineFault::BadCommand),
     }
 }
@@ -129,4 +170,26 @@ fn word(alloc: Global, given: &ArgMatches<'_>, name: &str) -> Result<String, Lin
         Some(text) => Ok(String::from_str(alloc, text)?),
         None => Err(LineFault::BadCommand),
     }
+}
+
+/// The word that an argument was given, if it was given one.
+fn optional_word(
+    alloc: Global,
+    given: &ArgMatches<'_>,
+    name: &str,
+) -> Result<Option<String>, AllocError>
+    ensures { IfOk result (λ s. first_of name.now (rows_of (found_of given.now)) ≡ option_map string_bytes s) }
+{
+    match given.get_str(name) {
+        Some(text) => Ok(Some(String::from_str(alloc, text)?)),
+        None => Ok(None),
+    }
+}
+
+/// Whether a flag was given.
+fn has_flag(given: &ArgMatches<'_>, name: &str) -> bool
+    ensures { result ≡ true ↔ IsFlagGiven name.now (rows_of (found_of given.now)) }
+{
+    // `get_flag` promises nothing where the text is neither `true` nor `false`
+    given.get_one(name).unwrap_or(false)
 }

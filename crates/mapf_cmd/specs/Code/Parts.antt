@@ -19,7 +19,7 @@ IsRefusal fault = (fault ≡ OutOfMemory) ⊎ (fault ≡ BadCommand)
 -- the rows have a value of each word that the command with this name requires
 abbrev pub HasWords : Text → List Row → Type 0
 HasWords name rows =
-    MatchOption (find (λ c. bytes_eq c.0 name) commands) ⊥ (λ c. AllByRecursion (λ word. IsTrue (is_some (first_of word rows))) c.1)
+    MatchOption (find (λ u. bytes_eq u.name name) commands) ⊥ (λ u. AllByRecursion (λ word. IsTrue (is_some (first_of word rows))) u.required)
 
 -- How a command ends after a write, by whether that passed: the output is called once more, for a flush, which leaves the bytes as
 -- they are, and not at all after a failed write. Where neither failed, the status is that of success.

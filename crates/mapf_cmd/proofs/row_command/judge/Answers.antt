@@ -5,8 +5,8 @@ use Rattle.scen.specs.Certificate.{Certifies, IsLeast}
 use Rattle.scen.specs.Query.{Query}
 use Rattle.scen.specs.declared.certificate.Proposal.{Proposal}
 use Rattle.scen.specs.declared.length.Length.{Length}
-use Rattle.mapf_cmd.specs.declared.verdict.Verdict.{Verdict}
-use Rattle.mapf_cmd.specs.RowCommand.{IsCertified, IsVerdictOn}
+use Rattle.mapf_cmd.specs.declared.row_verdict.RowVerdict.{RowVerdict}
+use Rattle.mapf_cmd.specs.RowCommand.{IsCertified, IsRowVerdictOn}
 use Rattle.mapf_cmd.proofs.RowAnswers.{refusal_judged}
 use Rattle.mapf_cmd.proofs.row_command.judge.Goals as goal
 
@@ -23,10 +23,10 @@ certified m q start finish proposal shortest s f answer least =
     }
 
 -- the verdict is on the listed length of the query
-on_query : (q : Query) (n decimals : ℕ) (shortest : Option Length) (verdict : Verdict) → n ≡ q.listed → decimals ≡ q.decimals
-    → IsVerdictOn n decimals shortest verdict → IsVerdictOn q.listed q.decimals shortest verdict
+on_query : (q : Query) (n decimals : ℕ) (shortest : Option Length) (verdict : RowVerdict) → n ≡ q.listed → decimals ≡ q.decimals
+    → IsRowVerdictOn n decimals shortest verdict → IsRowVerdictOn q.listed q.decimals shortest verdict
 on_query q n decimals shortest verdict e f is =
-    subst (λ (a : ℕ). IsVerdictOn a q.decimals shortest verdict) e (subst (λ (b : ℕ). IsVerdictOn n b shortest verdict) f is)
+    subst (λ (a : ℕ). IsRowVerdictOn a q.decimals shortest verdict) e (subst (λ (b : ℕ). IsRowVerdictOn n b shortest verdict) f is)
 
 pub returns-in_err-shortest : goal.returns-in_err-shortest
 returns-in_err-shortest c =

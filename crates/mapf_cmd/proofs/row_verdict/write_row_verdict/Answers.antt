@@ -1,11 +1,11 @@
 use Rattle.std.proofs.Common.{rules}
 use Rattle.mapf_cmd.proofs.RowAnswers.{same_writer, sink_written}
-use Rattle.mapf_cmd.specs.RowCommand.{verdict_text}
-use Rattle.mapf_cmd.proofs.verdict.write_verdict.Goals as goal
+use Rattle.mapf_cmd.specs.RowCommand.{row_verdict_text}
+use Rattle.mapf_cmd.proofs.row_verdict.write_row_verdict.Goals as goal
 
 pub returns : goal.returns
 returns g c =
-    let text = verdict_text c.args.verdict in
+    let text = row_verdict_text c.args.verdict in
     let same = same_writer g.W.Write.contents c.new-sink.result c.put_line.new.sink text c.put_line.result c.put_line.ensures.ok c.put_line.ensures.err in
     let wrote = sink_written g.W.Write.contents c.new-sink.result c.put_line.new.sink c.args.writer.now _ text c.put_line.result
     c.new-sink.ensures.writer c.new-sink.ensures.held_back c.drop-sink.ensures

@@ -4,10 +4,10 @@ use Rattle.std.specs.Prelude.{codes, decimal}
 use Rattle.std.proofs.lemmas.Result.{err_from_is_err_and}
 use Rattle.scen.specs.Query.{listed_text}
 use Rattle.scen.proofs.PutLemmas.{Leaves-broken, Puts-last, Breaks-last}
-use Rattle.mapf_cmd.proofs.VerdictPuts.{spaced, from_answer, from_listed, from_mark, from_diagonal, from_straight}
-use Rattle.mapf_cmd.proofs.VerdictPuts.{first-left, straight-left, diagonal-left, mark-left, listed-left, answer-left}
-use Rattle.mapf_cmd.proofs.verdict.put_shortest.Goals as goal
-use Rattle.mapf_cmd.proofs.verdict.put_shortest.Goals.{then-agrees, else-agrees}
+use Rattle.mapf_cmd.proofs.RowVerdictPuts.{spaced, from_answer, from_listed, from_mark, from_diagonal, from_straight}
+use Rattle.mapf_cmd.proofs.RowVerdictPuts.{first-left, straight-left, diagonal-left, mark-left, listed-left, answer-left}
+use Rattle.mapf_cmd.proofs.row_verdict.put_shortest.Goals as goal
+use Rattle.mapf_cmd.proofs.row_verdict.put_shortest.Goals.{then-agrees, else-agrees}
 
 pub returns-in_err-put_word-clause-err : goal.returns-in_err-put_word-clause-err
 returns-in_err-put_word-clause-err g c =
