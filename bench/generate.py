@@ -1,5 +1,5 @@
 #!/usr/bin/env python3
-"""Makes maps and scenarios of any size, the same for the same seed.
+"""Makes maps, scenarios and plans of any size, the same for the same seed.
 
 Usage: generate.py KIND WIDTH HEIGHT [--seed N] [--rows N] [--agents N] [--acts N]
 (KIND: open, random, rooms, terrain, sparse, maze, mixed, scen, boxes, blocks, trains, crowd)
@@ -223,9 +223,13 @@ def main():
     parser.add_argument("height", type=int)
     parser.add_argument("--seed", type=int, default=1)
     parser.add_argument("--rows", type=int, default=100_000)
+    parser.add_argument("--agents", type=int, default=1_000)
+    parser.add_argument("--acts", type=int, default=400)
     given = parser.parse_args()
     if given.kind == "scen":
         sys.stdout.write(scen_text(given.width, given.height, given.seed, given.rows))
+    elif given.kind in PLAN_KINDS:
+        sys.stdout.write(plan_text(given.kind, given.width, given.height, given.seed, given.agents, given.acts))
     else:
         sys.stdout.write(map_text(given.kind, given.width, given.height, given.seed))
 

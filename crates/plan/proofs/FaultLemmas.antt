@@ -1,8 +1,8 @@
 -- The least fault of a time, by the cells of the agents.
 use Rattle.std.proofs.Common.{◌≡◌, ℕ, ◌+◌, ◌<◌, ◌≤◌, ◌⊎◌, List, [], length, get_or, Some, None, arith, refl, sym, ap, subst, inl, inr, ◌∙◌}
-use Rattle.std.specs.Prelude.{MatchOption, Contains, slice_get}
+use Rattle.std.specs.Prelude.{MatchOption, Contains}
 use Rattle.std.proofs.lemmas.Bool.{cases_lt}
-use Rattle.std.proofs.lemmas.Option.{slice_get_within, slice_get-get_or}
+use Rattle.std.proofs.lemmas.Option.{slice_get_within, slice_get-get_or, get_or_from_slice_get}
 use Rattle.grid.specs.declared.cell.Cell.{Cell}
 use Rattle.grid.specs.Map.{Grid}
 use Rattle.model.specs.declared.plan_fault.PlanFault.{PlanFault}
@@ -14,7 +14,7 @@ use Rattle.plan.specs.declared.meeting.Pair.{Pair}
 use Rattle.plan.specs.Code.Standing.{cell_in, entry_at, AreOnGrid, IsStandingTable, rank_of, AreTogether, AreSwapped, IsLeastPair}
 use Rattle.plan.specs.Code.Walking.{AreAt, IsActive, IsFirst, IsAdvanced, HasBadMove, HasBadStart, ArePassable}
 use Rattle.plan.specs.Code.Watching.{IsClean}
-use Rattle.plan.proofs.WalkingLemmas.{position-stays, course_from, bad-has_act}
+use Rattle.plan.proofs.WalkingLemmas.{no_course, may_act, position-stays, course_from, bad-has_act}
 
 -- ---- who is where
 
@@ -26,9 +26,6 @@ is_at p t cells at i place there =
     let count = at.count in
     let is_agent : i < length p.courses = slice_get_within p.courses i course.0 course.1 in
     (at.each i course.0 course.1 ∙ course.2, omega (arith, count, is_agent))
-
-no_course : Course
-no_course = record { start = record { x = 0; y = 0 }; acts = [] }
 
 pub there_at : (p : Plan) (t : ℕ) (cells : List Cell) → AreAt p.courses t cells → (i : ℕ) (place : Position) → i < length cells
     → position_of (cell_in cells i) ≡ place → IsAt p i t place
@@ -250,34 +247,30 @@ on_map-next m courses step next count ahead i is =
     let there = slice_get-get_or courses i no_course (omega (arith, count, is)) in
     (ahead i (get_or courses i no_course) there).on_map
 
--- an agent without an act in the step stays in its cell
-pub stays_put : (courses : List Course) (step : ℕ) (agents : List ℕ) (now next : List Cell) → IsActive courses step agents → AreAt courses step now
+-- an agent without an act in a step stays in its cell in that and each later one
+pub stays_put : (courses : List Course) (begun step : ℕ) (agents : List ℕ) (now next : List Cell) → begun ≤ step → IsActive courses begun agents → AreAt courses step now
     → AreAt courses (step + 1) next → (i : ℕ) → i < length courses → Contains agents i ⊎ (cell_in next i ≡ cell_in now i)
-stays_put courses step agents now next active at after i is =
+stays_put courses begun step agents now next later active at after i is =
     let there = slice_get-get_or courses i no_course is in
     let course = get_or courses i no_course in
-    elim (cases_lt step (length course.acts)) [
-      | inl less ↦ inl (active.all i (record { is_agent = is; has_act = λ other at_i. subst (λ k. step < length k.acts) (one i other there at_i) less }))
+    elim (may_act courses begun agents i active is) [
+      | inl acts ↦ inl acts
       | inr past ↦ inr (same_place (cell_in next i) (cell_in now i)
-          (after.each i course there ∙ position-stays (position_of course.start) course.acts step (step + 1) past (omega arith) ∙ sym (at.each i course there)))
-    ] where
-      one : (i : ℕ) (other : Course) → slice_get courses i ≡ Some (get_or courses i no_course) → slice_get courses i ≡ Some other → get_or courses i no_course ≡ other
-      one i other h k = cc
+          (after.each i course there ∙ position-stays (position_of course.start) course.acts step (step + 1) (omega (arith, past, later)) (omega arith) ∙ sym (at.each i course there)))
+    ]
 
 -- ---- all acts are over
 
-pub valid_at_end : (m : Grid) (p : Plan) (step : ℕ) → IsClean m p (step + 1) → IsActive p.courses step [] → IsValid m p
-valid_at_end m p step clean active = valid where
+pub valid_at_end : (m : Grid) (p : Plan) (begun step : ℕ) → begun ≤ step → IsClean m p (step + 1) → IsActive p.courses begun [] → IsValid m p
+valid_at_end m p begun step later clean active = valid where
   over : (i : ℕ) (course : Course) → course_of p i ≡ Some course → length course.acts ≤ step
-  over i course there = elim (cases_lt step (length course.acts)) [
-    | inl less ↦ (
-        let member = active.all i (record { is_agent = slice_get_within p.courses i course there; has_act = λ other is. subst (λ k. step < length k.acts) (one i course other there is) less }) in
-        let none = member.1 in absurd (omega (arith, none))
+  over i course there = elim (may_act p.courses begun [] i active (slice_get_within p.courses i course there)) [
+    | inl some ↦ (let none = some.1 in absurd (omega (arith, none)))
+    | inr past ↦ (
+        let same = get_or_from_slice_get p.courses i course no_course there in
+        let less : length course.acts ≤ begun = subst (λ k. length k.acts ≤ begun) same past in omega (arith, less, later)
         )
-    | inr past ↦ past
-  ] where
-    one : (i : ℕ) (course other : Course) → course_of p i ≡ Some course → course_of p i ≡ Some other → course ≡ other
-    one i course other h k = cc
+  ]
 
   -- where an agent is later it is already
   already : (i t : ℕ) (place : Position) → step ≤ t → IsAt p i t place → IsAt p i step place

@@ -15,6 +15,8 @@ pub mod LinesRead
 pub mod MeetingLemmas
 pub mod WalkingLemmas
 pub mod FaultLemmas
+pub mod StretchLemmas
+pub mod BlockLemmas
 pub mod RestingLemmas
 pub mod StartLemmas
 pub mod CourseLemmas

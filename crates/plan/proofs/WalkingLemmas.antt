@@ -1,7 +1,7 @@
 -- Legal steps, and the acts of a step.
 use Rattle.std.proofs.Common.{◌≡◌, ◌≢◌, ℕ, zero, suc, ◌+◌, ◌<◌, ◌≤◌, Bool, true, false, cond, List, [], ◌∷◌, ◌++◌, length, get_or, drop, Some, None, arith, refl, sym, ap, subst, inl, inr, ◌∙◌}
-use Rattle.std.specs.Prelude.{Option, MatchOption, Contains, ◌&&◌, nat_lt, slice_get}
-use Rattle.std.proofs.lemmas.Bool.{cases_Bool, cond_both, cond-true, cond-false, and_parts, ltb-true, lt-ltb, false≢true}
+use Rattle.std.specs.Prelude.{Option, ◌⊎◌, MatchOption, Contains, ◌&&◌, nat_lt, slice_get}
+use Rattle.std.proofs.lemmas.Bool.{cases_Bool, cases_lt, cond_both, cond-true, cond-false, and_parts, ltb-true, lt-ltb, false≢true}
 use Rattle.std.proofs.lemmas.List.Elements.{Contains-push_cases, All-weaker, All-get_or, All-from_recursion, filter_passes}
 use Rattle.std.specs.List.{filter}
 use Rattle.std.proofs.lemmas.List.{drop_more}
@@ -16,7 +16,7 @@ use Rattle.model.proofs.PlaceLemmas.{same_place, position_after-end}
 use Rattle.model.proofs.Options.{found}
 use Rattle.plan.specs.Limits.{IsCourse, IsPlan}
 use Rattle.plan.specs.Code.Standing.{IsOnGrid}
-use Rattle.plan.specs.Code.Walking.{IsRising, CanAct, is_within_acts, has_act, IsActive, LeadsTo, IsAhead, HasBadMove}
+use Rattle.plan.specs.Code.Walking.{IsRising, CanAct, is_within_acts, has_act, IsActive, IsMoved, LeadsBeside, LeadsTo, IsAhead, HasBadMove}
 use Rattle.plan.proofs.MeetingLemmas.{Contains-cases}
 
 -- ---- legal steps
@@ -56,12 +56,19 @@ pub leads-step : (m : Grid) (from to : Cell) (act : Act) → IsStraightStep m fr
 leads-step m from to act step at =
     record { place = at; on_map = on_map_from_step m from to step; legal = λ other. legal_from_step m from to (moved act (position_of from)) at step }
 
--- where no cell is, no step leads
-pub no_cell : (m : Grid) (from : Cell) (act : Act) → ((c : Cell) → position_of c ≡ moved act (position_of from) → ⊥)
-    → (act ≢ Wait) × (IsLegal m (position_of from) (moved act (position_of from)) → ⊥)
-no_cell m from act none = (λ waits. none from (sym (ap (λ a. moved a (position_of from)) waits)), λ h. none h.v h.is_to)
+pub leads-beside : (m : Grid) (from to : Cell) (act : Act) → LeadsBeside from act to → IsStraightStep m from to → LeadsTo m from act to
+leads-beside m from to act (inl at) step = leads-step m from to act step at
+leads-beside m from to act (inr apart) step = absurd (apart.1 step.side)
+
+pub no_step : (m : Grid) (from to : Cell) (act : Act) → LeadsBeside from act to → (IsStraightStep m from to → ⊥)
+    → IsLegal m (position_of from) (moved act (position_of from)) → ⊥
+no_step m from to act (inl at) none h = none (step_from_legal m from to (moved act (position_of from)) at h)
+no_step m from to act (inr apart) none h = apart.0 h.v h.is_to
 
 -- ---- acts
+
+pub no_course : Course
+no_course = record { start = record { x = 0; y = 0 }; acts = [] }
 
 pub position_at-start : (p : Position) (acts : List Act) → position_after p acts 0 ≡ p
 position_at-start p [] = refl
@@ -115,6 +122,12 @@ pub bad-moved : (m : Grid) (course : Course) (step : ℕ) (from : Cell) (act : A
     → act ≢ Wait → (IsLegal m (position_of from) (moved act (position_of from)) → ⊥) → IsBadMove m course step
 bad-moved m course step from act is at acts illegal =
     subst (λ P. P) (sym (bad_by m course step act is)) (acts, λ legal. illegal (subst (λ P. P) (sym (legal_there m course step from act is at)) legal))
+
+-- where the act of a step leads
+pub after_act : (m : Grid) (course : Course) (step : ℕ) (from : Cell) (act : Act) (answer : Option Cell) → slice_get course.acts step ≡ Some act
+    → position_of from ≡ position_at course step → IsMoved m from act answer → MatchOption answer (IsBadMove m course step) (IsAhead m course step)
+after_act m course step from act None is at (acts, illegal) = bad-moved m course step from act is at acts illegal
+after_act m course step from act (Some to) is at leads = ahead-moved m course step from to act is at leads
 
 -- an agent has a bad move where its course has
 pub bad_at : (m : Grid) (courses : List Course) (step i : ℕ) (course : Course) → slice_get courses i ≡ Some course → IsBadMove m course step
@@ -185,8 +198,8 @@ has_act-can courses step i h = by_course (slice_get courses i) refl h where
 
 can-has_act : (courses : List Course) (step i : ℕ) → CanAct courses step i → has_act courses step i ≡ true
 can-has_act courses step i h =
-    let course = get_or courses i (record { start = record { x = 0; y = 0 }; acts = [] }) in
-    let there = slice_get-get_or courses i (record { start = record { x = 0; y = 0 }; acts = [] }) h.is_agent in
+    let course = get_or courses i no_course in
+    let there = slice_get-get_or courses i no_course h.is_agent in
     ap (is_within_acts step) there ∙ lt-ltb step (length course.acts) (h.has_act course there)
 
 pub active-filter : (courses : List Course) (step : ℕ) (agents kept : List ℕ) → IsRising agents → ((i : ℕ) → CanAct courses step i → Contains agents i)
@@ -198,14 +211,28 @@ active-filter courses step agents kept rising all is = subst (IsActive courses s
   all = λ i can. Contains-filter (has_act courses step) agents i (all i can) (can-has_act courses step i can);
 })
 
+-- an agent is one of those that have an act in the step, or its acts are over
+pub may_act : (courses : List Course) (step : ℕ) (agents : List ℕ) (i : ℕ) → IsActive courses step agents → i < length courses
+    → Contains agents i ⊎ (length (get_or courses i no_course).acts ≤ step)
+may_act courses step agents i active is = elim (cases_lt step (length (get_or courses i no_course).acts)) [
+  | inl less ↦ inl (active.all i (record {
+    is_agent = is;
+    has_act = λ other there. (
+        let here = slice_get-get_or courses i no_course is in
+        let same : get_or courses i no_course ≡ other = cc in
+        subst (λ k. step < length k.acts) same less
+        );
+  }))
+  | inr past ↦ inr past
+]
+
 -- where some agent has an act in the step, that is one of the acts that a plan may have
 pub step_limit : (p : Plan) (step : ℕ) (agents : List ℕ) → IsPlan p → IsActive p.courses step agents → 0 < length agents → step < 65535
 step_limit p step agents within active some =
     let can : CanAct p.courses step (get_or agents 0 0) = All-get_or (CanAct p.courses step) agents 0 0 some active.can_act in
-    let none : Course = record { start = record { x = 0; y = 0 }; acts = [] } in
     let i = get_or agents 0 0 in
-    let course = get_or p.courses i none in
+    let course = get_or p.courses i no_course in
     let is_agent = can.is_agent in
-    let less = can.has_act course (slice_get-get_or p.courses i none is_agent) in
-    let most = (All-get_or IsCourse p.courses i none is_agent (All-from_recursion IsCourse p.courses within.courses)).acts_limit in
+    let less = can.has_act course (slice_get-get_or p.courses i no_course is_agent) in
+    let most = (All-get_or IsCourse p.courses i no_course is_agent (All-from_recursion IsCourse p.courses within.courses)).acts_limit in
     omega (arith, less, most)

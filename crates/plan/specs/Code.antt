@@ -10,6 +10,8 @@ pub mod PlanLines
 pub mod Standing
 -- where the acts of a step lead, and which agents have one
 pub mod Walking
+-- blocks of steps, through which each agent is walked at once
+pub mod Blocks
 -- what a checker has seen up to a time
 pub mod Watching
 -- a course without what the agent waits at its end

@@ -127,15 +127,19 @@ fn acts_of(alloc: Global, characters: &[u8]) -> Result<Vec<Act>, AllocError>
     Ok(acts)
 }
 
-/// The act of its character.
+/// The act of its character. By comparisons, since which act comes next can't be foreseen, and a jump would be.
 fn act_by(b: u8) -> Act
     ensures { result ≡ act_by b }
 {
-    match b {
-        b'n' => Act::N,
-        b'e' => Act::E,
-        b's' => Act::S,
-        b'w' => Act::W,
-        _ => Act::Wait,
+    if b == b'n' {
+        Act::N
+    } else if b == b'e' {
+        Act::E
+    } else if b == b's' {
+        Act::S
+    } else if b == b'w' {
+        Act::W
+    } else {
+        Act::Wait
     }
 }

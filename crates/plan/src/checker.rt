@@ -1,15 +1,20 @@
 //! Checks a plan: goes through the times in order, with one table of one entry a cell.
-ghost use Rattle.std.specs.Prelude.{◌≡◌, ◌+◌, ◌*◌, ◌<◌, ◌⊎◌, ℕ, length, All, Contains, IfOk, MatchResult};
+ghost use Rattle.std.specs.Prelude.{◌≡◌, ◌+◌, ◌*◌, ◌^◌, ◌<◌, ◌≤◌, ◌⊎◌, ℕ, length, All, Contains, IfNone, IfOk, MatchResult};
 ghost use Rattle.plan.specs.Checking.{IsCheckOf, IsRefusedFor};
+ghost use Rattle.plan.specs.Limits.{IsPlan};
 ghost use Rattle.plan.specs.Code.Standing.{cell_in};
-ghost use Rattle.plan.specs.Code.Walking.{ArePassable, CanAct, has_act, IsActive, IsRising, start_cells};
-ghost use Rattle.plan.specs.Code.Watching.{IsVerdict, IsWatched, IsNextWatched};
+ghost use Rattle.plan.specs.Code.Walking.{ArePassable, CanAct, has_act, IsActive, IsAdvanced, IsRising, start_cells};
+ghost use Rattle.plan.specs.Code.Blocks.{block_steps, cells_after, IsReady, IsWalked};
+ghost use Rattle.plan.specs.Code.Watching.{IsVerdict, IsWatched, IsWatchedAt};
 
 use crate::checked_plan::CheckedPlan;
+use crate::configuration::Configuration;
 use crate::meeting::{Pair, enter, find_swap};
-use crate::moving::{advance, bad_start, starts};
+use crate::moving::bad_start;
 use crate::plan::{Course, Plan};
 use crate::resting::timetable_of;
+use crate::stretch::{BLOCK, Stretch};
+use crate::walking::{Walked, block, stretches, walk_all};
 use grid::{Cell, Map};
 use model::PlanFault;
 use std::alloc::{AllocError, Global};
@@ -45,10 +50,17 @@ fn find_fault(alloc: Global, map: &Map, plan: &Plan) -> Result<Option<PlanFault>
         return Ok(Some(PlanFault::BadStart(agent)));
     }
     let mut table = vec![in alloc; 0u16; map.width() as usize * map.height() as usize]?;
-    let mut now = starts(alloc, courses)?;
-    let mut next = starts(alloc, courses)?;
+    let mut block = block(alloc, courses)?;
+    let mut stretches = stretches(alloc, courses.len())?;
     let mut agents = numbers(alloc, courses.len() as u16)?;
-    Ok(look_through(map, plan, &mut now, &mut next, &mut agents, &mut table))
+    Ok(look_through(
+        map,
+        plan,
+        &mut agents,
+        &mut stretches,
+        &mut block,
+        &mut table,
+    ))
 }
 
 /// The numbers below the count.
@@ -68,53 +80,87 @@ fn numbers(alloc: Global, count: u16) -> Result<Vec<u16>, AllocError>
 fn look_through(
     map: &Map,
     plan: &Plan,
-    now: &mut [Cell],
-    next: &mut [Cell],
     agents: &mut Vec<u16>,
+    stretches: &mut [Stretch],
+    block: &mut [Configuration],
     table: &mut [u16],
 ) -> Option<PlanFault>
     requires starts { ArePassable map.now plan.now.courses }
-    requires now { now.old ≡ start_cells plan.now.courses }
-    requires next { next.old ≡ now.old }
     requires rising { IsRising agents.old.items }
     requires below { All (λ i. i < length plan.now.courses) agents.old.items }
     requires all { (i : ℕ) → i < length plan.now.courses → Contains agents.old.items i }
+    requires count { length block.old ≡ block_steps + 1 }
+    requires block { (k : ℕ) → k ≤ block_steps → cells_after block.old k ≡ start_cells plan.now.courses }
+    requires stretches { length stretches.old ≡ length plan.now.courses }
     requires table { length table.old ≡ map.now.width * map.now.height }
     ensures { IsVerdict map.now plan.now result }
 {
     let courses = plan.courses();
-    if let Some(pair) = enter(map, now, agents, table) {
-        return Some(vertex(pair, 0, now));
+    if let Some(pair) = enter(map, block[0].cells(), agents, table) {
+        return Some(vertex(pair, 0, block[0].cells()));
     }
     keep_active(agents, courses, 0);
-    watch(map, plan, now, next, agents, table)
+    watch(map, plan, agents, stretches, block, table)
 }
 
-/// Goes on, step by step, until all acts are over.
+/// Goes on, block by block, until all acts are over.
 fn watch(
     map: &Map,
     plan: &Plan,
-    now: &mut [Cell],
-    next: &mut [Cell],
     agents: &mut Vec<u16>,
+    stretches: &mut [Stretch],
+    block: &mut [Configuration],
     table: &mut [u16],
 ) -> Option<PlanFault>
-    requires watched { IsWatched map.now plan.now 0 agents.old.items now.old table.old }
-    requires next { next.old ≡ now.old }
+    requires watched { IsWatched map.now plan.now 0 (cells_after block.old 0) table.old }
+    requires ready { IsReady plan.now.courses 0 agents.old.items block.old }
+    requires stretches { length stretches.old ≡ length plan.now.courses }
     ensures { IsVerdict map.now plan.now result }
 {
     let courses = plan.courses();
     let mut step = 0;
     while !agents.is_empty() {
-        let fault = take_step(map, plan, step, agents, now, next, table);
+        let walked = walk_all(map, courses, agents, step, stretches, block);
+        keep_active(agents, courses, step);
+        let fault = take_block(map, plan, step, agents, &walked, block, table);
         if fault.is_some() {
             return fault;
         }
-        settle(agents, next, now);
-        step += 1;
-        keep_active(agents, courses, step);
+        block.swap(0, BLOCK);
+        step += BLOCK as u32;
     }
     None
+}
+
+/// Takes the agents through a block, and answers the least fault of its steps.
+fn take_block(
+    map: &Map,
+    plan: &Plan,
+    step: u32,
+    agents: &[u16],
+    walked: &Walked,
+    block: &[Configuration],
+    table: &mut [u16],
+) -> Option<PlanFault>
+    requires step { step < 2 ^ 31 }
+    requires plan { IsPlan plan.now }
+    requires watched { IsWatched map.now plan.now step (cells_after block.now 0) table.old }
+    requires active { IsActive plan.now.courses step agents.now }
+    requires walked { IsWalked map.now plan.now.courses step block.now walked.now }
+    ensures seen { IsWatchedAt map.now plan.now (step + block_steps) (cells_after block.now block_steps) table.new result }
+    ensures whole { IfNone result (walked.now.steps ≡ block_steps) }
+{
+    for taken in 0..walked.steps {
+        let (now, next) = (block[taken].cells(), block[taken + 1].cells());
+        let fault = take_step(map, plan, step + taken as u32, agents, now, next, table);
+        if fault.is_some() {
+            return fault;
+        }
+    }
+    match walked.bad {
+        Some(agent) => Some(PlanFault::BadMove(u32::from(agent), step + walked.steps as u32)),
+        None => None,
+    }
 }
 
 /// Takes the agents one step on, and answers the least fault of that step.
@@ -124,17 +170,18 @@ fn take_step(
     step: u32,
     agents: &[u16],
     now: &[Cell],
-    next: &mut [Cell],
+    next: &[Cell],
     table: &mut [u16],
 ) -> Option<PlanFault>
-    requires step { step < 65535 }
-    requires watched { IsWatched map.now plan.now step agents.now now.now table.old }
-    requires next { next.old ≡ now.now }
-    ensures { IsNextWatched map.now plan.now step next.new table.new result }
+    requires step { step + 1 < 2 ^ 32 }
+    requires plan { IsPlan plan.now }
+    requires watched { IsWatched map.now plan.now step now.now table.old }
+    requires count { length next.now ≡ length now.now }
+    requires next { IsAdvanced map.now plan.now.courses step next.now }
+    requires agents { All (λ i. i < length now.now) agents.now }
+    requires others { (i : ℕ) → i < length now.now → Contains agents.now i ⊎ cell_in next.now i ≡ cell_in now.now i }
+    ensures { IsWatchedAt map.now plan.now (step + 1) next.now table.new result }
 {
-    if let Some(agent) = advance(map, plan.courses(), agents, step as usize, now, next) {
-        return Some(PlanFault::BadMove(u32::from(agent), step));
-    }
     // Before the table is changed.
     let swap = find_swap(map, now, next, agents, table);
     if let Some(pair) = enter(map, next, agents, table) {
@@ -156,19 +203,6 @@ fn vertex(pair: Pair, time: u32, cells: &[Cell]) -> PlanFault
         time,
         cells[usize::from(pair.first)],
     )
-}
-
-/// The agents have gone on to their next cells.
-fn settle(agents: &[u16], next: &[Cell], now: &mut [Cell])
-    requires count { length next.now ≡ length now.old }
-    requires agents { All (λ i. i < length next.now) agents.now }
-    requires others { (i : ℕ) → i < length next.now → Contains agents.now i ⊎ cell_in next.now i ≡ cell_in now.old i }
-    ensures { now.new ≡ next.now }
-{
-    for agent in agents {
-        let index = usize::from(*agent);
-        now[index] = next[index];
-    }
 }
 
 /// Keeps the agents that have an act in the step.

@@ -5,6 +5,7 @@ mod agent_line;
 mod cells;
 mod checked_plan;
 mod checker;
+mod configuration;
 mod fit_fault;
 mod fitting;
 mod header_lines;
@@ -17,6 +18,8 @@ mod plan_reader;
 mod plan_text_fault;
 mod plan_writer;
 mod resting;
+mod stretch;
+mod walking;
 
 pub use cells::Cells;
 pub use checked_plan::CheckedPlan;

@@ -62,6 +62,29 @@ fn rejected(rt: HostRuntime) -> Result<(), Fail> {
 }
 
 #[test]
+fn late_faults(rt: HostRuntime) -> Result<(), Fail> {
+    // However many steps come before, the fault is that of its own.
+    let alloc = rt.alloc();
+    let mut waits = String::new(alloc);
+    for step in 0..70u32 {
+        let out = format!(in alloc; "agent 0 0 {waits}w\n")?;
+        let exchange = format!(in alloc; "agent 0 0 {waits}e\nagent 1 0 {waits}w\n")?;
+        let meeting = format!(in alloc; "agent 0 0 =\nagent 1 0 {waits}w\n")?;
+        let west = Cell { x: 0, y: 0 };
+        for (count, agents, fault) in [
+            (1, out.as_str(), PlanFault::BadMove(0, step)),
+            (2, exchange.as_str(), PlanFault::Swap(0, 1, step)),
+            (2, meeting.as_str(), PlanFault::Vertex(0, 1, step + 1, west)),
+        ] {
+            let answer = checked(alloc, ROW, count, agents)?;
+            assert_eq!(rt; answer.err(), Some(fault), "at {agents:?}");
+        }
+        waits.push('-')?;
+    }
+    Ok(())
+}
+
+#[test]
 fn accepted(rt: HostRuntime) -> Result<(), Fail> {
     for &(map, count, agents, cost, makespan) in &[
         (ROW, 2, "agent 1 0 e-\nagent 0 0 e\n", 2, 1),

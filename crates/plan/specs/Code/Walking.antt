@@ -1,7 +1,7 @@
 -- Where the acts of a step lead, and which agents have one.
-use Rattle.std.specs.Prelude.{◌≡◌, ◌≢◌, ℕ, ◌+◌, ◌<◌, List, [], ◌∷◌, length, map, All, Bool, false, nat_lt, Contains, Option, Some, None, MatchOption, slice_get}
+use Rattle.std.specs.Prelude.{◌≡◌, ◌≢◌, ℕ, ◌+◌, ◌<◌, ◌⊎◌, List, [], ◌∷◌, length, map, All, Bool, false, nat_lt, Contains, Option, Some, None, MatchOption, slice_get}
 use Rattle.grid.specs.declared.cell.Cell.{Cell}
-use Rattle.grid.specs.Map.{Grid}
+use Rattle.grid.specs.Map.{Grid, ShareSide}
 use Rattle.model.specs.declared.act.Act.{Act}
 use Rattle.model.specs.declared.act.Act.TheVariants.{Wait}
 use Rattle.model.specs.Plan.{Course, position_of, position_at, moved, IsLegal, IsPassable, IsBadMove}
@@ -57,6 +57,12 @@ abbrev pub HasBadMove : Grid → List Course → ℕ → ℕ → Type 0
 HasBadMove m courses step i = MatchOption (slice_get courses i) ⊥ (λ course. IsBadMove m course step)
 
 -- ---- a step
+
+-- the act leads to the cell, or to none, and then the cell is not beside
+abbrev pub LeadsBeside : Cell → Act → Cell → Type 0
+LeadsBeside from act to =
+    (position_of to ≡ moved act (position_of from))
+    ⊎ (((c : Cell) → position_of c ≡ moved act (position_of from) → ⊥) × (ShareSide from to → ⊥))
 
 -- the act leads to a cell of the map, by no step or a legal one
 pub record LeadsTo (m : Grid) (from : Cell) (act : Act) (to : Cell) : Type 0 where

@@ -1,0 +1,48 @@
+//! The acts of one agent in a block.
+ghost use Rattle.std.specs.Prelude.{◌≡◌, ◌<◌, ◌^◌, length};
+ghost use Rattle.plan.specs.Code.Blocks.{block_steps, IsStretch};
+
+use model::Act;
+use std::marker::Model;
+
+/// So many steps are walked at once.
+pub(crate) const BLOCK: usize = 32;
+
+/// The acts of one agent in a block, with waits behind its last.
+#[derive(Debug, Drop)]
+pub(crate) struct Stretch {
+    acts: [Act; BLOCK],
+}
+
+impl Model for Stretch {
+    ghost use Rattle.std.specs.Prelude.{List, ◌≡◌, length};
+    ghost use Rattle.model.specs.declared.act.Act.{Act as model_act};
+    ghost use Rattle.plan.specs.Code.Blocks.{block_steps};
+
+    ghost Value = { List model_act };
+
+    ghost view = { λ s. s.acts };
+
+    ghost invariant = { λ s. length s.acts ≡ block_steps };
+}
+
+impl Stretch {
+    /// Those of the acts that a block from this step on has.
+    pub(crate) fn of(acts: &[Act], step: usize) -> Stretch
+        requires { step < 2 ^ 32 }
+        ensures { IsStretch acts.now step result }
+    {
+        let begin = step.min(acts.len());
+        let end = acts.len().min(step + BLOCK);
+        let mut stretch = [Act::Wait; BLOCK];
+        stretch[..end - begin].copy_from_slice(&acts[begin..end]);
+        Stretch { acts: stretch }
+    }
+
+    pub(crate) fn acts(&self) -> &[Act]
+        ensures value { result.now ≡ self.now }
+        ensures count { length result.now ≡ block_steps }
+    {
+        &self.acts
+    }
+}
