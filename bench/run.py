@@ -114,13 +114,25 @@ def measure_check(programs, kind, side, agents, acts, folder, rounds):
         report(f"check {name} {acts}", best, [whole_peak_memory(program, words) for program in programs])
 
 
+def measure_deps(programs, kind, side, agents, acts, folder, rounds):
+    """Measures programs that write the dependencies of a valid plan."""
+    map_path, plan_path = folder / f"{kind}.map", folder / f"{kind}.plan"
+    map_path.write_text(generate.map_text("open", side, side, 1))
+    plan_path.write_text(generate.plan_text(kind, side, side, 1, agents, acts))
+    words = ["deps", str(map_path), str(plan_path)]
+    best, written = measure(programs, words, folder, rounds)
+    if written[0] != written[1]:
+        sys.exit(f"the two programs wrote other lines for deps {kind}")
+    report(f"deps {kind} {acts}", best, [whole_peak_memory(program, words) for program in programs])
+
+
 def main():
     parser = argparse.ArgumentParser()
     parser.add_argument("--program", default=str(BENCH.parent / "crates/mapf/out/mapf"))
     parser.add_argument("--rounds", type=int, default=60)
     parser.add_argument("--side", type=int, default=2048)
     parser.add_argument("--rows", type=int, default=100_000)
-    parser.add_argument("--only", choices=("map", "scen", "row", "check"))
+    parser.add_argument("--only", choices=("map", "scen", "row", "check", "deps"))
     given = parser.parse_args()
     programs = [str(pathlib.Path(given.program).resolve()), str(build_peer())]
     shared = pathlib.Path("/dev/shm")
@@ -143,6 +155,11 @@ def main():
                 for kind in ("boxes", "blocks", "trains"):
                     measure_check(programs, kind, given.side, 10_000, acts, folder, given.rounds)
             measure_check(programs, "crowd", 128, 1_000, 400, folder, given.rounds)
+        if given.only in (None, "deps"):
+            for acts in (400, 800, 1600):
+                for kind in ("boxes", "blocks", "trains"):
+                    measure_deps(programs, kind, given.side, 10_000, acts, folder, given.rounds)
+            measure_deps(programs, "crowd", 128, 1_000, 400, folder, given.rounds)
 
 
 if __name__ == "__main__":

@@ -1,5 +1,6 @@
-//! A plain Rust program that does the work of `mapf map`, `mapf scen`, `mapf row` and `mapf check`, to measure it beside: it reads a text, checks it and
+//! A plain Rust program that does the work of `mapf map`, `mapf scen`, `mapf row`, `mapf check` and `mapf deps`, to measure it beside: it reads a text, checks it and
 //! writes it in canonical form, with the same faults, or solves a row of a scenario, with no certificate.
+mod deps;
 mod map;
 mod plan;
 mod row;
@@ -46,6 +47,10 @@ fn run(words: &[&str]) -> Result<Option<bool>, Fault> {
             writeln!(output().map_err(failed)?, "{line}").map_err(failed)?;
             Ok(Some(good))
         }
+        ["deps", map, plan] => {
+            deps::tell(open(map)?, open(plan)?, output)?;
+            Ok(Some(true))
+        }
         _ => Ok(None),
     }
 }
@@ -57,7 +62,7 @@ fn main() -> ExitCode {
         Ok(Some(true)) => ExitCode::SUCCESS,
         Ok(Some(false)) => ExitCode::from(1),
         Ok(None) => {
-            eprintln!("usage: peer map FILE | peer scen FILE | peer row MAP SCEN N | peer check MAP PLAN");
+            eprintln!("usage: peer map FILE | peer scen FILE | peer row MAP SCEN N | peer check MAP PLAN | peer deps MAP PLAN");
             ExitCode::from(2)
         }
         Err(Fault::Text(text)) => {

@@ -10,11 +10,11 @@ const MOST_ACTS_IN_ALL: usize = 16_777_216;
 const LONGEST_LINE: usize = 65_553;
 const NOBODY: u16 = u16::MAX;
 
-struct Plan {
-    starts: Vec<(u16, u16)>,
+pub struct Plan {
+    pub starts: Vec<(u16, u16)>,
     /// The acts of all agents, as their characters, and where each agent's end.
-    acts: Vec<u8>,
-    ends: Vec<usize>,
+    pub acts: Vec<u8>,
+    pub ends: Vec<usize>,
 }
 
 /// Takes a line into `line`, without its LF.
@@ -262,6 +262,17 @@ fn check(width: usize, height: usize, cells: &[u8], plan: &Plan) -> Option<(&'st
         }
     }
     None
+}
+
+/// A plan that is valid on the map, with the map's width and height.
+pub fn read_checked(map: File, plan: File) -> Result<(usize, usize, Plan), Fault> {
+    let (width, height, cells) = map::read_map(map)?;
+    let plan = read_plan(plan)?;
+    let (width, height) = (width as usize, height as usize);
+    match check(width, height, &cells, &plan) {
+        Some((name, numbers)) => fault(name, &numbers),
+        None => Ok((width, height, plan)),
+    }
 }
 
 /// The line of a plan's verdict, and whether it is accepted.

@@ -136,6 +136,25 @@ fn check_lines_with_dashes(rt: HostRuntime) -> Result<(), Fail> {
 }
 
 #[test]
+fn deps_lines(rt: HostRuntime) -> Result<(), Fail> {
+    for &(text, want_map, want_plan) in &[
+        ("mapf deps M P", "M", "P"),
+        ("mapf deps deps map", "deps", "map"),
+        ("mapf deps M -- -h", "M", "-h"),
+        ("mapf deps -- --json P", "--json", "P"),
+    ] {
+        let words = words(rt.alloc(), text)?;
+        let Line::Deps { map, plan } = line(rt.alloc(), words.as_slice())? else {
+            assert!(rt; false, "another command at {text:?}");
+            return Ok(());
+        };
+        assert_eq!(rt; map.as_str(), want_map, "at {text:?}");
+        assert_eq!(rt; plan.as_str(), want_plan, "at {text:?}");
+    }
+    Ok(())
+}
+
+#[test]
 fn numbers_that_are_none(rt: HostRuntime) -> Result<(), Fail> {
     for &number in &[
         "4294967296",
@@ -195,6 +214,11 @@ fn refused_lines(rt: HostRuntime) -> Result<(), Fail> {
         ("mapf --json check M P", LineFault::BadCommand),
         ("mapf map F --json", LineFault::BadCommand),
         ("mapf row M S 0 --scen S", LineFault::BadCommand),
+        ("mapf deps", LineFault::BadCommand),
+        ("mapf deps M", LineFault::BadCommand),
+        ("mapf deps M P X", LineFault::BadCommand),
+        ("mapf deps M P --json", LineFault::BadCommand),
+        ("mapf deps M P --scen S", LineFault::BadCommand),
         ("mapf map -x", LineFault::BadCommand),
         ("mapf nosuch", LineFault::BadCommand),
         ("mapf -x", LineFault::BadCommand),
@@ -210,6 +234,9 @@ fn refused_lines(rt: HostRuntime) -> Result<(), Fail> {
         ("mapf row --help", LineFault::Help),
         ("mapf row M S x --help", LineFault::Help),
         ("mapf help check", LineFault::Help),
+        ("mapf help deps", LineFault::Help),
+        ("mapf deps --help", LineFault::Help),
+        ("mapf deps M P -h", LineFault::Help),
         ("mapf check --help", LineFault::Help),
         ("mapf check -h", LineFault::Help),
         ("mapf check M P --json --scen S -h", LineFault::Help),

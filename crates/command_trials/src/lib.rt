@@ -6,6 +6,8 @@ mod check_command;
 #[cfg(test)]
 mod command_lines;
 #[cfg(test)]
+mod deps_command;
+#[cfg(test)]
 mod map_command;
 #[cfg(test)]
 mod program;

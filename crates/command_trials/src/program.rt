@@ -94,6 +94,20 @@ fn commands_open_their_files_in_order(rt: HostRuntime) -> Result<(), Fail> {
             err: "mapf: BadHeader 1\n",
             opened: "corner.plan\ncorner.map\n",
         },
+        Done {
+            words: "mapf deps corner.map corner.plan",
+            status: 0,
+            out: "agents 1 moves 2 needs 0 rotations 0\n",
+            err: "",
+            opened: "corner.map\ncorner.plan\n",
+        },
+        Done {
+            words: "mapf deps corner.plan corner.map",
+            status: 1,
+            out: "",
+            err: "mapf: BadHeader 1\n",
+            opened: "corner.plan\ncorner.map\n",
+        },
     ] {
         does(&rt, rt.alloc(), want)?;
     }
@@ -118,6 +132,11 @@ fn files_that_are_not_there(rt: HostRuntime) -> Result<(), Fail> {
             "mapf check corner.map corner.plan --scen other.scen",
             "corner.map\ncorner.plan\nother.scen\n",
         ),
+        ("mapf deps other.map corner.plan", "other.map\n"),
+        (
+            "mapf deps corner.map other.plan",
+            "corner.map\nother.plan\n",
+        ),
     ] {
         let want = Done {
             words,
@@ -140,6 +159,7 @@ fn words_that_are_no_command(rt: HostRuntime) -> Result<(), Fail> {
         "mapf row corner.map corner.scen x",
         "mapf check corner.map",
         "mapf check corner.map corner.plan --scen",
+        "mapf deps corner.map",
     ] {
         let files = FakeFiles::new(rt.alloc(), FILES);
         let (mut out, mut err) = (Keeper::of_size(2048), Keeper::of_size(2048));

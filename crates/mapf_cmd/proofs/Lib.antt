@@ -7,3 +7,5 @@ mod Rewriting
 mod RowVerdictPuts
 mod RowAnswers
 mod PlainText
+mod DepsLemmas
+mod DepsPuts

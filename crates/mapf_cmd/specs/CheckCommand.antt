@@ -4,12 +4,12 @@ use Rattle.grid.specs.declared.counted.Counted.{Counted}
 use Rattle.grid.specs.Map.{Grid}
 use Rattle.model.specs.Costs.{sum_of_costs, makespan}
 use Rattle.model.specs.Plan.{Plan, IsLeastFault}
+use Rattle.plan_text.specs.PlanText.{PlanText}
+use Rattle.plan_text.specs.PlanTextFault.{PlanTextFaultAt, plan_outcome}
+use Rattle.plan_text.specs.declared.plan_text_fault.PlanTextFault.{PlanTextFault}
 use Rattle.plan.specs.Checking.{Checked, IsCheckOf}
 use Rattle.plan.specs.Fitting.{AnswersFit}
-use Rattle.plan.specs.PlanText.{PlanText}
-use Rattle.plan.specs.PlanTextFault.{PlanTextFaultAt, plan_outcome}
 use Rattle.plan.specs.declared.fit_fault.FitFault.{FitFault}
-use Rattle.plan.specs.declared.plan_text_fault.PlanTextFault.{PlanTextFault}
 use Rattle.scen.specs.Query.{Query}
 use Rattle.mapf_cmd.specs.declared.check_fault.CheckFault.{CheckFault}
 use Rattle.mapf_cmd.specs.declared.check_fault.CheckFault.TheVariants as check_fault

@@ -4,3 +4,5 @@
 pub mod Parts
 -- the same of `mapf check`
 pub mod Verdicts
+-- the same of `mapf deps`
+pub mod Dependencies

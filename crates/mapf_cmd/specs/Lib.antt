@@ -17,6 +17,10 @@ pub mod FaultWords
 pub mod VerdictText
 -- what `mapf check` does and answers
 pub mod CheckCommand
+-- what is written of a timetable's dependencies
+pub mod DepsText
+-- what `mapf deps` does and answers
+pub mod DepsCommand
 -- what the program does with its words
 pub mod Program
 -- The code's own words, of which no promise speaks.

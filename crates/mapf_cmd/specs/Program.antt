@@ -3,11 +3,12 @@ use Rattle.std.specs.Prelude.{◌≡◌, ℕ, ◌⊎◌, List, Option, Some, Non
 use Rattle.grid.specs.declared.counted.Counted.{Counted}
 use Rattle.clap.specs.Words.{Text}
 use Rattle.mapf_cmd.specs.declared.command_line.Line.{Line}
-use Rattle.mapf_cmd.specs.declared.command_line.Line.TheVariants.{Map, Scen, Row, Check}
+use Rattle.mapf_cmd.specs.declared.command_line.Line.TheVariants.{Map, Scen, Row, Check, Deps}
 use Rattle.mapf_cmd.specs.declared.command_line.LineFault.{LineFault}
 use Rattle.mapf_cmd.specs.declared.command_line.LineFault.TheVariants.{Help, BadCommand, OutOfMemory}
 use Rattle.mapf_cmd.specs.declared.status.Status.TheVariants as status
 use Rattle.mapf_cmd.specs.CheckCommand.{AnswersCheck, AnswersCheckFit}
+use Rattle.mapf_cmd.specs.DepsCommand.{AnswersDeps}
 use Rattle.mapf_cmd.specs.MapCommand.{RewritesMap}
 use Rattle.mapf_cmd.specs.RowCommand.{AnswersRow}
 use Rattle.mapf_cmd.specs.Rewriting.{EndsWriting}
@@ -26,6 +27,8 @@ PerformsOn {F} remaining contents (Check map_file plan_file None json) old new c
 PerformsOn {F} remaining contents (Check map_file plan_file (Some scen_file) json) old new code =
     (m n : Counted F) × (p q : Counted F) × (s t : Counted F)
     × AnswersCheckFit remaining remaining remaining contents m n p q s t json old new code
+PerformsOn {F} remaining contents (Deps map_file plan_file) old new code =
+    (m n : Counted F) × (p q : Counted F) × AnswersDeps remaining remaining contents m n p q old new code
 
 -- the command was performed, or a file of it could not be opened, and nothing was written
 abbrev pub Performs : {F W : Type 0} → (F → Option (List ℕ)) → (W → Option (List ℕ)) → Line → Counted W → Counted W → ℕ → Type 0

@@ -4,8 +4,8 @@ use Rattle.grid.specs.declared.map_fault.MapFault.{MapFault}
 use Rattle.grid.specs.declared.map_fault.MapFault.TheVariants as map_fault
 use Rattle.scen.specs.declared.scen_fault.ScenFault.{ScenFault}
 use Rattle.scen.specs.declared.scen_fault.ScenFault.TheVariants as scen_fault
-use Rattle.plan.specs.declared.plan_text_fault.PlanTextFault.{PlanTextFault}
-use Rattle.plan.specs.declared.plan_text_fault.PlanTextFault.TheVariants as plan_text_fault
+use Rattle.plan_text.specs.declared.plan_text_fault.PlanTextFault.{PlanTextFault}
+use Rattle.plan_text.specs.declared.plan_text_fault.PlanTextFault.TheVariants as plan_text_fault
 use Rattle.mapf_cmd.specs.declared.check_fault.CheckFault.{CheckFault}
 use Rattle.mapf_cmd.specs.declared.check_fault.CheckFault.TheVariants as check_fault
 use Rattle.mapf_cmd.specs.declared.row_fault.RowFault.{RowFault}

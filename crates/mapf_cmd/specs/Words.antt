@@ -7,7 +7,7 @@ use Rattle.clap.specs.declared.builder.action.ArgAction.TheVariants.{SetTrue}
 use Rattle.clap.specs.declared.error.kind.ErrorKind.{ErrorKind}
 use Rattle.clap.specs.declared.error.kind.ErrorKind.TheVariants as kind
 use Rattle.mapf_cmd.specs.declared.command_line.Line.{Line}
-use Rattle.mapf_cmd.specs.declared.command_line.Line.TheVariants.{Map, Scen, Row as row_line, Check}
+use Rattle.mapf_cmd.specs.declared.command_line.Line.TheVariants.{Map, Scen, Row as row_line, Check, Deps}
 use Rattle.mapf_cmd.specs.declared.command_line.LineFault.{LineFault}
 use Rattle.mapf_cmd.specs.declared.command_line.LineFault.TheVariants.{Help, BadCommand, OutOfMemory}
 
@@ -50,9 +50,17 @@ check_command = record {
   flags = codes "json" ∷ [];
 }
 
+abbrev pub deps_command : Usage
+deps_command = record {
+  name = codes "deps";
+  required = codes "map" ∷ codes "plan" ∷ [];
+  options = [];
+  flags = [];
+}
+
 -- all commands
 abbrev pub commands : List Usage
-commands = map_command ∷ scen_command ∷ row_command ∷ check_command ∷ []
+commands = map_command ∷ scen_command ∷ row_command ∷ check_command ∷ deps_command ∷ []
 
 -- one required word
 abbrev pub required_word : Text → Rule
@@ -109,6 +117,9 @@ IsCommand name rows (Check map_file plan_file scen_file json) =
     (name ≡ codes "check") × (first_of (codes "map") rows ≡ Some (string_bytes map_file))
     × (first_of (codes "plan") rows ≡ Some (string_bytes plan_file)) × (first_of (codes "scen") rows ≡ option_map string_bytes scen_file)
     × (json ≡ true ↔ IsFlagGiven (codes "json") rows)
+IsCommand name rows (Deps map_file plan_file) =
+    (name ≡ codes "deps") × (first_of (codes "map") rows ≡ Some (string_bytes map_file))
+    × (first_of (codes "plan") rows ≡ Some (string_bytes plan_file))
 
 -- the line is the command that clap's definition of the program gives for the words
 abbrev pub IsLineOf : List Text → Line → Type 0

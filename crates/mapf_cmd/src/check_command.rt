@@ -51,7 +51,7 @@ pub fn check_fit_cmd<M: Read, P: Read, S: Read, W: Write, E: Write>(
 }
 
 /// Reads the map and then the plan, and checks the plan.
-fn read_and_check<M: Read, P: Read>(
+pub(crate) fn read_and_check<M: Read, P: Read>(
     alloc: Global,
     map: &mut Counted<M>,
     plan: &mut Counted<P>,
@@ -140,7 +140,7 @@ fn tell<W: Write, E: Write>(
 }
 
 /// Says why there is no verdict. The answer is the exit status.
-fn give_up<E: Write>(fault: CheckFault, err: &mut Counted<E>) -> u8
+pub(crate) fn give_up<E: Write>(fault: CheckFault, err: &mut Counted<E>) -> u8
     ensures { result ≡ code_of (check_fault_status fault) }
 {
     let _ = report(err, fault);

@@ -9,6 +9,7 @@ use crate::Status;
 use crate::map_command::map_fault_status;
 use crate::rejection::Rejection;
 use crate::scen_command::scen_fault_status;
+use depgraph::OutOfMemory;
 use grid::MapFault;
 use plan::{FitFault, PlanFault, PlanTextFault};
 use scen::ScenFault;
@@ -26,7 +27,7 @@ pub(crate) enum CheckFault {
     /// The scenario could not be read.
     #[error("{0}")]
     Scen(ScenFault),
-    /// The checker was refused memory, or the text of a verdict was.
+    /// The checker was refused memory, or the text of a verdict or a graph was.
     #[error("OutOfMemory")]
     OutOfMemory,
     /// All was read, and the plan is rejected.
@@ -88,6 +89,14 @@ impl From<FitFault> for CheckFault {
 
     fn from(e: FitFault) -> CheckFault {
         CheckFault::Rejected(Rejection::Unfit(e))
+    }
+}
+
+impl From<OutOfMemory> for CheckFault {
+    ghost from_gives = { λ _ f. f ≡ check_fault.OutOfMemory };
+
+    fn from(_e: OutOfMemory) -> CheckFault {
+        CheckFault::OutOfMemory
     }
 }
 

@@ -32,6 +32,11 @@ pub enum Line {
         scen: Option<String>,
         json: bool,
     },
+    /// Says which moves of a plan wait for which.
+    Deps {
+        map: String,
+        plan: String,
+    },
 }
 
 /// Why the words are no command.

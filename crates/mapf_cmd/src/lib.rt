@@ -4,6 +4,8 @@
 mod check_command;
 mod check_fault;
 mod command_line;
+mod deps_command;
+mod deps_text;
 mod map_command;
 mod program;
 mod rejection;
@@ -18,6 +20,7 @@ mod writing;
 
 pub use check_command::{check_cmd, check_fit_cmd};
 pub use command_line::{Line, LineFault};
+pub use deps_command::deps_cmd;
 pub use map_command::map_cmd;
 pub use program::{refuse, run};
 pub use row_command::row_cmd;

@@ -4,7 +4,8 @@ ghost use Rattle.mapf_cmd.specs.Program.{PerformsOn, Performs, EndsRefused, Answ
 
 use crate::writing::{finish, write_text};
 use crate::{
-    Line, LineFault, Status, check_cmd, check_fit_cmd, line, map_cmd, report, row_cmd, scen_cmd,
+    Line, LineFault, Status, check_cmd, check_fit_cmd, deps_cmd, line, map_cmd, report, row_cmd,
+    scen_cmd,
 };
 use grid::Counted;
 use std::io::Write;
@@ -22,11 +23,12 @@ Commands:
   row MAP SCEN N    judges the length that the scenario lists for its row N, from 0 on
   check MAP PLAN [--scen SCEN] [--json]
                     checks a plan on a map, and that it solves the first rows of a scenario
+  deps MAP PLAN     checks a plan on a map, and says which move waits for which
   help              shows this text
 ";
 
 const USAGE: &str =
-    "usage: mapf map FILE | mapf scen FILE | mapf row MAP SCEN N | mapf check MAP PLAN [--scen SCEN] [--json] (mapf help says more)\n";
+    "usage: mapf map FILE | mapf scen FILE | mapf row MAP SCEN N | mapf check MAP PLAN [--scen SCEN] [--json] | mapf deps MAP PLAN (mapf help says more)\n";
 
 /// Why a command was not performed.
 #[derive(Clone, Copy, Debug, PartialEq, Eq, Error)]
@@ -107,6 +109,11 @@ fn perform_on_files<R: Files + AllocGlobal, W: Write, E: Write>(
                     Ok(check_fit_cmd(rt.alloc(), &mut map, &mut plan, &mut scen, json, out, err))
                 }
             }
+        }
+        Line::Deps { map, plan } => {
+            let mut map = Counted::new(fs::open(rt, &map)?);
+            let mut plan = Counted::new(fs::open(rt, &plan)?);
+            Ok(deps_cmd(rt.alloc(), &mut map, &mut plan, out, err))
         }
     }
 }

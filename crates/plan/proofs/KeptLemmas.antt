@@ -12,7 +12,7 @@ use Rattle.model.specs.Timetable.{Track, cell_after, cell_at}
 use Rattle.model.specs.Costs.{EndsAtRest, sum_of, greatest_of}
 use Rattle.model.specs.Plan.{Course}
 use Rattle.model.proofs.TrackLemmas.{cell_at-start}
-use Rattle.plan.specs.Limits.{most_acts}
+use Rattle.plan_text.specs.Limits.{most_acts}
 use Rattle.plan.specs.Checking.{Checked, steps_in, IsChecked}
 use Rattle.plan.specs.Code.Tracks.{cell_by, cells_along, track_along, StaysInRange, IsKept, HasCourse}
 

@@ -7,7 +7,7 @@ use Rattle.grid.specs.Map.{Grid, IsMap}
 use Rattle.model.specs.Timetable.{Track, Timetable, cell_at, IsConflictFree, IsSwapFree}
 use Rattle.model.specs.Costs.{AllEndAtRest}
 use Rattle.model.specs.Plan.{Course, Plan, position_of, position_at, IsValid, IsTrackOf, AreTracksOf, IsTimetableOf}
-use Rattle.plan.specs.Limits.{most_acts, acts_in, IsCourse, IsPlan}
+use Rattle.plan_text.specs.Limits.{most_acts, acts_in, IsCourse, IsPlan}
 use Rattle.plan.specs.Checking.{Checked, steps_in, IsChecked, IsCheckOf}
 use Rattle.plan.specs.Code.Tracks.{track_along}
 use Rattle.plan.specs.Code.Resting.{rested}

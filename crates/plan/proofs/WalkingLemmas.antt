@@ -1,22 +1,25 @@
 -- Legal steps, and the acts of a step.
-use Rattle.std.proofs.Common.{◌≡◌, ◌≢◌, ℕ, zero, suc, ◌+◌, ◌<◌, ◌≤◌, Bool, true, false, cond, List, [], ◌∷◌, ◌++◌, length, get_or, drop, Some, None, arith, refl, sym, ap, subst, inl, inr, ◌∙◌}
-use Rattle.std.specs.Prelude.{Option, ◌⊎◌, MatchOption, Contains, ◌&&◌, nat_lt, slice_get}
-use Rattle.std.proofs.lemmas.Bool.{cases_Bool, cases_lt, cond_both, cond-true, cond-false, and_parts, ltb-true, lt-ltb, false≢true}
+use Rattle.std.proofs.Common.{◌≡◌, ◌≢◌, ℕ, zero, suc, ◌+◌, ◌*◌, ◌<◌, ◌≤◌, pos, ◌+ℤ◌, ◌-ℤ◌, Bool, true, false, cond, map, List, [], ◌∷◌, ◌++◌, length, get_or, drop, Some, None, arith, refl, sym, ap, subst, inl, inr, ◌∙◌}
+use Rattle.std.specs.Prelude.{Option, ◌⊎◌, MatchOption, Contains, IsTrue, ◌&&◌, ◌||◌, ◌==◌, nat_lt, slice_get}
+use Rattle.std.proofs.lemmas.Bool.{cases_Bool, cases_lt, cond_both, cond-true, cond-false, and_parts, and_from, ltb-true, lt-ltb, false≢true}
 use Rattle.std.proofs.lemmas.List.Elements.{Contains-push_cases, All-weaker, All-get_or, All-from_recursion, filter_passes}
 use Rattle.std.specs.List.{filter}
-use Rattle.std.proofs.lemmas.List.{drop_more}
+use Rattle.std.proofs.lemmas.Int.{ints}
+use Rattle.std.proofs.lemmas.List.{drop_more, get_or-map}
 use Rattle.std.proofs.lemmas.Option.{slice_get_past, slice_get_within, slice_get-get_or}
 use Rattle.grid.specs.declared.cell.Cell.{Cell}
 use Rattle.grid.specs.declared.terrain.Terrain.{Terrain}
-use Rattle.grid.specs.Map.{Grid, terrain_at, AreJoined, IsStraightStep}
+use Rattle.grid.specs.declared.terrain.Terrain.TheVariants.{Floor, Grass, Void, OutOfBounds, Trees, Swamp, Water}
+use Rattle.grid.specs.Terrain.{Class, land, swamp, water, blocked, character_of, class_of, joins}
+use Rattle.grid.specs.Map.{Grid, IsSize, IsMap, terrain_at, ShareSide, AreJoined, IsStraightStep}
 use Rattle.model.specs.declared.act.Act.{Act}
-use Rattle.model.specs.declared.act.Act.TheVariants.{Wait}
+use Rattle.model.specs.declared.act.Act.TheVariants.{N, E, S, W, Wait}
 use Rattle.model.specs.Plan.{Course, Plan, Position, position_of, moved, position_after, position_at, IsLegal, IsBadMove}
 use Rattle.model.proofs.PlaceLemmas.{same_place, position_after-end}
 use Rattle.model.proofs.Options.{found}
-use Rattle.plan.specs.Limits.{IsCourse, IsPlan}
-use Rattle.plan.specs.Code.Standing.{IsOnGrid}
-use Rattle.plan.specs.Code.Walking.{IsRising, CanAct, is_within_acts, has_act, IsActive, IsMoved, LeadsBeside, LeadsTo, IsAhead, HasBadMove}
+use Rattle.plan_text.specs.Limits.{IsCourse, IsPlan}
+use Rattle.plan.specs.Code.Standing.{place_in, IsOnGrid}
+use Rattle.plan.specs.Code.Walking.{IsRising, CanAct, is_within_acts, has_act, IsActive, IsMoved, LeadsBeside, is_land, joins_by, LeadsTo, IsAhead, HasBadMove}
 use Rattle.plan.proofs.MeetingLemmas.{Contains-cases}
 
 -- ---- legal steps
@@ -36,9 +39,6 @@ joined_to None t h = absurd h
 joined_to (Some s) None h = absurd h
 joined_to (Some s) (Some t) h = tt
 
-pub on_map_from_step : (m : Grid) (u v : Cell) → IsStraightStep m u v → IsOnGrid m v
-on_map_from_step m u v step = on_map_from_terrain m v (λ t. Unit {0}) (joined_to (terrain_at m u) (terrain_at m v) step.joined)
-
 pub step_from_legal : (m : Grid) (from to : Cell) (place : Position) → position_of to ≡ place → IsLegal m (position_of from) place → IsStraightStep m from to
 step_from_legal m from to place at h =
     subst (λ c. IsStraightStep m c to) (same_place h.u from h.is_from)
@@ -47,23 +47,134 @@ step_from_legal m from to place at h =
 legal_from_step : (m : Grid) (from to : Cell) (place : Position) → position_of to ≡ place → IsStraightStep m from to → IsLegal m (position_of from) place
 legal_from_step m from to place at step = record { u = from; v = to; is_from = refl; is_to = at; step = step }
 
-pub leads-wait : (m : Grid) (from to : Cell) (act : Act) → IsOnGrid m from → act ≡ Wait → position_of to ≡ moved act (position_of from) → LeadsTo m from act to
+leads-wait : (m : Grid) (from to : Cell) (act : Act) → IsOnGrid m from → act ≡ Wait → position_of to ≡ moved act (position_of from) → LeadsTo m from act to
 leads-wait m from to act on waits at =
     let same : from ≡ to = same_place from to (sym (at ∙ ap (λ a. moved a (position_of from)) waits)) in
     record { place = at; on_map = subst (IsOnGrid m) same on; legal = λ other. absurd (other waits) }
 
-pub leads-step : (m : Grid) (from to : Cell) (act : Act) → IsStraightStep m from to → position_of to ≡ moved act (position_of from) → LeadsTo m from act to
-leads-step m from to act step at =
-    record { place = at; on_map = on_map_from_step m from to step; legal = λ other. legal_from_step m from to (moved act (position_of from)) at step }
+pub on_map_from_step : (m : Grid) (u v : Cell) → IsStraightStep m u v → IsOnGrid m v
+on_map_from_step m u v step = on_map_from_terrain m v (λ t. Unit {0}) (joined_to (terrain_at m u) (terrain_at m v) step.joined)
 
-pub leads-beside : (m : Grid) (from to : Cell) (act : Act) → LeadsBeside from act to → IsStraightStep m from to → LeadsTo m from act to
-leads-beside m from to act (inl at) step = leads-step m from to act step at
-leads-beside m from to act (inr apart) step = absurd (apart.1 step.side)
+-- an act that is no wait leads to a cell beside
+beside_by : (from to : Cell) (act : Act) → act ≢ Wait → position_of to ≡ moved act (position_of from) → ShareSide from to
+beside_by from to N other at =
+    let x : pos to.x ≡ pos from.x = ap (λ p. p.x) at in
+    let y : pos to.y ≡ pos from.y -ℤ pos 1 = ap (λ p. p.y) at in
+    inl (omega (arith, ints, x), inl (omega (arith, ints, y)))
+beside_by from to E other at =
+    let x : pos to.x ≡ pos from.x +ℤ pos 1 = ap (λ p. p.x) at in
+    let y : pos to.y ≡ pos from.y = ap (λ p. p.y) at in
+    inr (omega (arith, ints, y), inr (omega (arith, ints, x)))
+beside_by from to S other at =
+    let x : pos to.x ≡ pos from.x = ap (λ p. p.x) at in
+    let y : pos to.y ≡ pos from.y +ℤ pos 1 = ap (λ p. p.y) at in
+    inl (omega (arith, ints, x), inr (omega (arith, ints, y)))
+beside_by from to W other at =
+    let x : pos to.x ≡ pos from.x -ℤ pos 1 = ap (λ p. p.x) at in
+    let y : pos to.y ≡ pos from.y = ap (λ p. p.y) at in
+    inr (omega (arith, ints, y), inl (omega (arith, ints, x)))
+beside_by from to Wait other at = absurd (other refl)
 
-pub no_step : (m : Grid) (from to : Cell) (act : Act) → LeadsBeside from act to → (IsStraightStep m from to → ⊥)
+-- where an act leads, if that is on the map and the terrain joins
+pub leads-joined : (m : Grid) (from to : Cell) (act : Act) → IsSize m.width m.height → LeadsBeside from act to
+    → AreJoined (terrain_at m from) (terrain_at m to) → LeadsTo m from act to
+leads-joined m from to act size (inl at) joined = record {
+  place = at;
+  on_map = on_map_from_terrain m to (λ t. Unit {0}) (joined_to (terrain_at m from) (terrain_at m to) joined);
+  legal = λ other. legal_from_step m from to (moved act (position_of from)) at (record { side = beside_by from to act other at; joined = joined });
+}
+leads-joined m from to act size (inr apart) joined =
+    let on = on_map_from_terrain m to (λ t. Unit {0}) (joined_to (terrain_at m from) (terrain_at m to) joined) in
+    let column = on.column in
+    let row = on.row in
+    let width = size.width_limit in
+    let height = size.height_limit in
+    absurd (elim apart.1 [ inl x ↦ omega (arith, x, column, width) | inr y ↦ omega (arith, y, row, height) ])
+
+-- a wait leads nowhere else
+pub leads-waiting : (m : Grid) (from to : Cell) (act : Act) → IsOnGrid m from → act ≡ Wait → LeadsBeside from act to → LeadsTo m from act to
+leads-waiting m from to act on waits (inl at) = leads-wait m from to act on waits at
+leads-waiting m from to act on waits (inr apart) = absurd (apart.0 from (sym (ap (λ a. moved a (position_of from)) waits)))
+
+pub no_step : (m : Grid) (from to : Cell) (act : Act) → LeadsBeside from act to → (AreJoined (terrain_at m from) (terrain_at m to) → ⊥)
     → IsLegal m (position_of from) (moved act (position_of from)) → ⊥
-no_step m from to act (inl at) none h = none (step_from_legal m from to (moved act (position_of from)) at h)
+no_step m from to act (inl at) none h = none (step_from_legal m from to (moved act (position_of from)) at h).joined
 no_step m from to act (inr apart) none h = apart.0 h.v h.is_to
+
+-- ---- the characters of a map
+
+abbrev is_land_class : Class → Bool
+is_land_class land = true
+is_land_class swamp = true
+is_land_class _ = false
+
+abbrev is_water_class : Class → Bool
+is_water_class water = true
+is_water_class _ = false
+
+land-character : (t : Terrain) → is_land (character_of t) ≡ is_land_class (class_of t)
+land-character Floor = refl
+land-character Grass = refl
+land-character Void = refl
+land-character OutOfBounds = refl
+land-character Trees = refl
+land-character Swamp = refl
+land-character Water = refl
+
+water-character : (t : Terrain) → (character_of t == 87) ≡ is_water_class (class_of t)
+water-character Floor = refl
+water-character Grass = refl
+water-character Void = refl
+water-character OutOfBounds = refl
+water-character Trees = refl
+water-character Swamp = refl
+water-character Water = refl
+
+joins_class : (c d : Class) → ((is_land_class c && is_land_class d) || (is_water_class c && is_water_class d)) ≡ joins c d
+joins_class land land = refl
+joins_class land swamp = refl
+joins_class land water = refl
+joins_class land blocked = refl
+joins_class swamp land = refl
+joins_class swamp swamp = refl
+joins_class swamp water = refl
+joins_class swamp blocked = refl
+joins_class water land = refl
+joins_class water swamp = refl
+joins_class water water = refl
+joins_class water blocked = refl
+joins_class blocked land = refl
+joins_class blocked swamp = refl
+joins_class blocked water = refl
+joins_class blocked blocked = refl
+
+joins-characters : (t u : Terrain) → joins_by (character_of t) (character_of u) ≡ joins (class_of t) (class_of u)
+joins-characters t u = simp (land-character, water-character) (joins_class (class_of t) (class_of u))
+
+-- the terrain of a cell on the map, and its character
+terrain_on : (m : Grid) (c : Cell) → IsMap m → IsOnGrid m c → place_in m.width c < length m.terrain → terrain_at m c ≡ Some (get_or m.terrain (place_in m.width c) Floor)
+terrain_on m c is_map on within =
+    cond-true (nat_lt c.x m.width && nat_lt c.y m.height) _ _ (and_from (nat_lt c.x m.width) (nat_lt c.y m.height) (lt-ltb c.x m.width on.column) (lt-ltb c.y m.height on.row))
+    ∙ slice_get-get_or m.terrain (place_in m.width c) Floor within
+
+pub joined-characters : (m : Grid) (u v : Cell) (p q : ℕ) → IsMap m → IsOnGrid m u → IsOnGrid m v → p ≡ place_in m.width u → q ≡ place_in m.width v
+    → p < m.width * m.height → q < m.width * m.height
+    → IsTrue (joins_by (get_or (map character_of m.terrain) p 0) (get_or (map character_of m.terrain) q 0)) ≡ AreJoined (terrain_at m u) (terrain_at m v)
+joined-characters m u v p q is_map on_u on_v at_u at_v within_u within_v =
+    let count = is_map.cells in
+    let t = get_or m.terrain (place_in m.width u) Floor in
+    let s = get_or m.terrain (place_in m.width v) Floor in
+    let less_u : place_in m.width u < length m.terrain = omega (arith, count, at_u, within_u) in
+    let less_v : place_in m.width v < length m.terrain = omega (arith, count, at_v, within_v) in
+    let first : get_or (map character_of m.terrain) p 0 ≡ character_of t =
+    ap (λ k. get_or (map character_of m.terrain) k 0) at_u ∙ get_or-map character_of m.terrain (place_in m.width u) Floor 0 less_u in
+    let second : get_or (map character_of m.terrain) q 0 ≡ character_of s =
+    ap (λ k. get_or (map character_of m.terrain) k 0) at_v ∙ get_or-map character_of m.terrain (place_in m.width v) Floor 0 less_v in
+    ap (λ b. IsTrue (joins_by b (get_or (map character_of m.terrain) q 0))) first
+    ∙ ap (λ b. IsTrue (joins_by (character_of t) b)) second
+    ∙ ap IsTrue (joins-characters t s)
+    ∙ ap (λ o. AreJoined o (Some s)) (sym (terrain_on m u is_map on_u less_u))
+    ∙ ap (λ o. AreJoined (terrain_at m u) o) (sym (terrain_on m v is_map on_v less_v))
 
 -- ---- acts
 

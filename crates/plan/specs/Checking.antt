@@ -8,7 +8,7 @@ use Rattle.model.specs.declared.plan_fault.PlanFault.TheVariants.{BadStart, BadM
 use Rattle.model.specs.Costs.{AllEndAtRest}
 use Rattle.model.specs.Plan.{Plan, IsValid, IsLeastFault, IsTimetableOf}
 use Rattle.model.specs.Timetable.{Track, Timetable, Stands, IsConflictFree, IsSwapFree}
-use Rattle.plan.specs.Limits.{most_agents, most_acts, most_acts_in_all}
+use Rattle.plan_text.specs.Limits.{most_agents, most_acts, most_acts_in_all}
 
 -- a plan that was found valid, as its timetable, and the size of the map that it was checked on
 pub record Checked : Type 0 where

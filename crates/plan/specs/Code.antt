@@ -2,10 +2,6 @@
 
 -- the track of an agent, by its acts
 pub mod Tracks
--- how a number is told from other bytes
-pub mod Numerals
--- how the reader of a plan goes from line to line
-pub mod PlanLines
 -- where agents stand, as a list of cells, and a table of the agents that were last put in each cell
 pub mod Standing
 -- where the acts of a step lead, and which agents have one

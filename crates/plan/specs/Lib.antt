@@ -1,11 +1,6 @@
--- What has to be believed, in the order in which to read it: each promise of the crate is made in these words, and in those of `model`.
+-- What has to be believed, in the order in which to read it: each promise of the crate is made in these words, and in those of `model`
+-- and `plan_text`.
 
--- the limits that every plan keeps
-pub mod Limits
--- the grammar of a plan's text, and the one text that is written
-pub mod PlanText
--- the faults of a plan's text, and where each stands
-pub mod PlanTextFault
 -- what a checked plan is, and what a checker answers
 pub mod Checking
 -- when a plan solves the first rows of a scenario, and why not

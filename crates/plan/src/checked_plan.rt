@@ -6,8 +6,8 @@ ghost use Rattle.plan.specs.Checking.{Checked, IsChecked, cells_of};
 ghost use Rattle.plan.specs.Code.Tracks.{track_along, HasCourse};
 
 use crate::cells::{Cells, cell_after};
-use crate::plan::Course;
 use grid::Cell;
+use plan_text::Course;
 use std::marker::Model;
 
 /// A plan that is valid on a map, with that map's size. What its agents wait at their ends is left out of their acts.

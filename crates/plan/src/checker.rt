@@ -1,7 +1,7 @@
 //! Checks a plan: goes through the times in order, with one table of one entry a cell.
 ghost use Rattle.std.specs.Prelude.{◌≡◌, ◌+◌, ◌*◌, ◌^◌, ◌<◌, ◌≤◌, ◌⊎◌, ℕ, length, All, Contains, IfNone, IfOk, MatchResult};
+ghost use Rattle.plan_text.specs.Limits.{IsPlan};
 ghost use Rattle.plan.specs.Checking.{IsCheckOf, IsRefusedFor};
-ghost use Rattle.plan.specs.Limits.{IsPlan};
 ghost use Rattle.plan.specs.Code.Standing.{cell_in};
 ghost use Rattle.plan.specs.Code.Walking.{ArePassable, CanAct, has_act, IsActive, IsAdvanced, IsRising, start_cells};
 ghost use Rattle.plan.specs.Code.Blocks.{block_steps, cells_after, IsReady, IsWalked};
@@ -11,12 +11,12 @@ use crate::checked_plan::CheckedPlan;
 use crate::configuration::Configuration;
 use crate::meeting::{Pair, enter, find_swap};
 use crate::moving::bad_start;
-use crate::plan::{Course, Plan};
 use crate::resting::timetable_of;
 use crate::stretch::{BLOCK, Stretch};
 use crate::walking::{Walked, block, stretches, walk_all};
 use grid::{Cell, Map};
 use model::PlanFault;
+use plan_text::{Course, Plan};
 use std::alloc::{AllocError, Global};
 
 /// A plan that was not accepted, and why.
@@ -50,7 +50,7 @@ fn find_fault(alloc: Global, map: &Map, plan: &Plan) -> Result<Option<PlanFault>
         return Ok(Some(PlanFault::BadStart(agent)));
     }
     let mut table = vec![in alloc; 0u16; map.width() as usize * map.height() as usize]?;
-    let mut block = block(alloc, courses)?;
+    let mut configurations = block(alloc, courses)?;
     let mut stretches = stretches(alloc, courses.len())?;
     let mut agents = numbers(alloc, courses.len() as u16)?;
     Ok(look_through(
@@ -58,7 +58,7 @@ fn find_fault(alloc: Global, map: &Map, plan: &Plan) -> Result<Option<PlanFault>
         plan,
         &mut agents,
         &mut stretches,
-        &mut block,
+        &mut configurations,
         &mut table,
     ))
 }

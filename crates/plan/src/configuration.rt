@@ -1,5 +1,5 @@
 //! Where all agents stand at one time.
-ghost use Rattle.std.specs.Prelude.{◌≡◌, ◌<◌, length, set, get_or};
+ghost use Rattle.std.specs.Prelude.{◌≡◌, ◌<◌, length, set};
 
 use grid::Cell;
 use std::marker::Model;

@@ -129,7 +129,7 @@ fn is_in(cells: &[Cell], agent: u16, cell: Cell) -> bool
 }
 
 /// The cell's place in a table of all cells, row by row.
-fn place_of(map: &Map, cell: Cell) -> usize
+pub(crate) fn place_of(map: &Map, cell: Cell) -> usize
     requires { IsOnGrid map.now cell }
     ensures place { result ≡ place_in map.now.width cell }
     ensures within { result < map.now.width * map.now.height }

@@ -1,13 +1,15 @@
 //! Whether agents may start where they do, and where acts lead.
-ghost use Rattle.std.specs.Prelude.{◌<◌, ◌≤◌, ◌↔◌, length, IsTrue, MatchOption};
+ghost use Rattle.std.specs.Prelude.{◌≡◌, ◌<◌, ◌≤◌, ◌↔◌, length, IsTrue, MatchOption};
+ghost use Rattle.grid.specs.Map.{terrain_at, AreJoined};
 ghost use Rattle.model.specs.Plan.{IsPassable};
-ghost use Rattle.plan.specs.Limits.{most_agents};
+ghost use Rattle.plan_text.specs.Limits.{most_agents};
 ghost use Rattle.plan.specs.Code.Standing.{IsOnGrid};
-ghost use Rattle.plan.specs.Code.Walking.{LeadsBeside, IsMoved, ArePassable, HasBadStart, IsFirst};
+ghost use Rattle.plan.specs.Code.Walking.{LeadsBeside, IsMoved, ArePassable, HasBadStart, IsFirst, is_land, joins_by};
 
-use crate::plan::Course;
-use grid::{Cell, Map, Terrain, step4};
+use crate::meeting::place_of;
+use grid::{Cell, Map, Terrain};
 use model::Act;
+use plan_text::Course;
 
 /// The first agent whose start is off the map or blocked.
 pub(crate) fn bad_start(map: &Map, courses: &[Course]) -> Option<u32>
@@ -40,29 +42,63 @@ pub(crate) fn moved(map: &Map, from: Cell, act: Act) -> Option<Cell>
     // A map is narrow enough for one cell more.
     let _width = map.width();
     let to = beside(from, act);
+    // The terrain first: it mostly joins, also where an agent waits, and then nobody asks which act it is.
+    if are_joined(map, from, to) {
+        return Some(to);
+    }
     match act {
-        Act::Wait => Some(from),
-        _ if step4(map, from, to) => Some(to),
+        Act::Wait => Some(to),
         _ => None,
     }
 }
 
-/// The cell to which the act leads; beyond the north and the west there is none, and the answer is one at the other end, to which no
-/// step leads.
+/// The cell to which the act leads; beyond the north and the west there is none, and the answer is a cell that is on no map. It asks for
+/// each act by itself: which one comes can't be foreseen, and a choice between all of them would become a jump.
 fn beside(from: Cell, act: Act) -> Cell
     requires column { from.x < 65535 }
     requires row { from.y < 65535 }
     ensures { LeadsBeside from act result }
 {
-    let x = match act {
-        Act::E => from.x + 1,
-        Act::W => from.x.wrapping_sub(1),
-        _ => from.x,
-    };
-    let y = match act {
-        Act::S => from.y + 1,
-        Act::N => from.y.wrapping_sub(1),
-        _ => from.y,
-    };
-    Cell { x, y }
+    let mut to = from;
+    if matches!(act, Act::N) {
+        to.y = from.y.wrapping_sub(1);
+    }
+    if matches!(act, Act::E) {
+        to.x = from.x + 1;
+    }
+    if matches!(act, Act::S) {
+        to.y = from.y + 1;
+    }
+    if matches!(act, Act::W) {
+        to.x = from.x.wrapping_sub(1);
+    }
+    to
+}
+
+/// Whether the terrain of the one cell joins that of the other, if there is such a cell.
+fn are_joined(map: &Map, from: Cell, to: Cell) -> bool
+    requires { IsOnGrid map.now from }
+    ensures { IsTrue result ↔ AreJoined (terrain_at map.now from) (terrain_at map.now to) }
+{
+    if u32::from(to.x) >= map.width() || u32::from(to.y) >= map.height() {
+        return false;
+    }
+    let characters = map.characters();
+    joins(
+        characters[place_of(map, from)],
+        characters[place_of(map, to)],
+    )
+}
+
+/// Whether a straight step may lead from the terrain of the one character to that of the other.
+fn joins(from: u8, to: u8) -> bool
+    ensures { result ≡ joins_by from to }
+{
+    (is_land(from) && is_land(to)) || (from == b'W' && to == b'W')
+}
+
+fn is_land(character: u8) -> bool
+    ensures { result ≡ is_land character }
+{
+    matches!(character, b'.' | b'G' | b'S')
 }

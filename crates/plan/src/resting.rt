@@ -1,13 +1,13 @@
 //! The timetable of a valid plan: its courses without what the agents wait at their ends.
-ghost use Rattle.std.specs.Prelude.{◌≡◌, ◌↔◌, IsTrue, map};
+ghost use Rattle.std.specs.Prelude.{◌≡◌, ◌↔◌, IsTrue, map, take};
 ghost use Rattle.model.specs.Plan.{IsValid};
 ghost use Rattle.plan.specs.Checking.{IsCheckOf};
 ghost use Rattle.plan.specs.Code.Resting.{rested, rested_acts};
 
 use crate::checked_plan::CheckedPlan;
-use crate::plan::{Course, Plan};
 use grid::Map;
 use model::Act;
+use plan_text::{Course, Plan};
 
 /// What a valid plan says.
 pub(crate) fn timetable_of(grid: &Map, plan: Plan) -> CheckedPlan
@@ -31,19 +31,27 @@ fn rest_all(courses: &mut [Course])
     ensures { courses.new ≡ map rested courses.old }
 {
     for index in 0..courses.len() {
-        courses[index].rest();
+        rest(&mut courses[index]);
     }
 }
 
-/// Leaves out the waits at the end.
-pub(crate) fn leave_out_waits(acts: &mut Vec<Act>)
-    ensures { acts.new.items ≡ rested_acts acts.old.items }
+/// Leaves out what the agent waits at its end.
+fn rest(course: &mut Course)
+    ensures { course.new ≡ rested course.old }
+{
+    let count = count_without_waits(course.acts());
+    course.truncate(count);
+}
+
+/// How many acts there are before the waits at the end.
+fn count_without_waits(acts: &[Act]) -> usize
+    ensures { take result acts.now ≡ rested_acts acts.now }
 {
     let mut kept = acts.len();
     while kept > 0 && is_wait(acts[kept - 1]) {
         kept -= 1;
     }
-    acts.truncate(kept);
+    kept
 }
 
 fn is_wait(act: Act) -> bool

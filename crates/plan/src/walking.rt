@@ -9,10 +9,10 @@ ghost use Rattle.plan.specs.Code.Blocks.{block_steps, cells_after, course_along,
 
 use crate::configuration::Configuration;
 use crate::moving::moved;
-use crate::plan::Course;
 use crate::stretch::{BLOCK, Stretch};
 use grid::{Cell, Map};
 use model::Act;
+use plan_text::Course;
 use std::alloc::{AllocError, Global};
 
 /// How far all agents come in a block.

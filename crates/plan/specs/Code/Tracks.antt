@@ -6,7 +6,7 @@ use Rattle.model.specs.declared.act.Act.TheVariants.{N, E, S, W, Wait}
 use Rattle.model.specs.Plan.{Course}
 use Rattle.model.specs.Timetable.{Track, cell_after, track_of}
 use Rattle.model.specs.Costs.{cost}
-use Rattle.plan.specs.Limits.{most_acts}
+use Rattle.plan_text.specs.Limits.{most_acts}
 use Rattle.plan.specs.Checking.{Checked}
 
 -- the cell to which an act leads; beyond the west and the north there is none, and anything may stand for it

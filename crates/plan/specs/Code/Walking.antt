@@ -1,7 +1,7 @@
 -- Where the acts of a step lead, and which agents have one.
-use Rattle.std.specs.Prelude.{◌≡◌, ◌≢◌, ℕ, ◌+◌, ◌<◌, ◌⊎◌, List, [], ◌∷◌, length, map, All, Bool, false, nat_lt, Contains, Option, Some, None, MatchOption, slice_get}
+use Rattle.std.specs.Prelude.{◌≡◌, ◌≢◌, ℕ, ◌+◌, ◌<◌, ◌⊎◌, List, [], ◌∷◌, length, map, All, Bool, false, nat_lt, ◌==◌, ◌&&◌, ◌||◌, Contains, Option, Some, None, MatchOption, slice_get}
 use Rattle.grid.specs.declared.cell.Cell.{Cell}
-use Rattle.grid.specs.Map.{Grid, ShareSide}
+use Rattle.grid.specs.Map.{Grid}
 use Rattle.model.specs.declared.act.Act.{Act}
 use Rattle.model.specs.declared.act.Act.TheVariants.{Wait}
 use Rattle.model.specs.Plan.{Course, position_of, position_at, moved, IsLegal, IsPassable, IsBadMove}
@@ -58,11 +58,19 @@ HasBadMove m courses step i = MatchOption (slice_get courses i) ⊥ (λ course. 
 
 -- ---- a step
 
--- the act leads to the cell, or to none, and then the cell is not beside
+-- the act leads to the cell, or to none, and then the cell is on no map
 abbrev pub LeadsBeside : Cell → Act → Cell → Type 0
 LeadsBeside from act to =
     (position_of to ≡ moved act (position_of from))
-    ⊎ (((c : Cell) → position_of c ≡ moved act (position_of from) → ⊥) × (ShareSide from to → ⊥))
+    ⊎ (((c : Cell) → position_of c ≡ moved act (position_of from) → ⊥) × ((to.x ≡ 65535) ⊎ (to.y ≡ 65535)))
+
+-- the character of a terrain is that of land or of swamp
+abbrev pub is_land : ℕ → Bool
+is_land b = b == 46 || b == 71 || b == 83
+
+-- a straight step may lead from the terrain of the one character to that of the other
+abbrev pub joins_by : ℕ → ℕ → Bool
+joins_by b c = (is_land b && is_land c) || (b == 87 && c == 87)
 
 -- the act leads to a cell of the map, by no step or a legal one
 pub record LeadsTo (m : Grid) (from : Cell) (act : Act) (to : Cell) : Type 0 where

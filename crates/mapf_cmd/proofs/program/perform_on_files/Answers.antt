@@ -27,8 +27,8 @@ returns-in-None g c =
     (subst (λ scen. Ends (Check c.in-Check.map c.in-Check.plan scen c.in-Check.json)) (sym c.in-None.is)
     (c.new-map-in-Check.result, c.check_cmd.new.map, c.new-plan.result, c.check_cmd.new.plan, c.check_cmd.ensures.answers))
 
-pub returns : goal.returns
-returns g c =
+pub returns-in-Check : goal.returns-in-Check
+returns-in-Check g c =
     let Ends : Line → Type 0 = λ line. PerformsOn g.R.File.Read.remaining g.W.Write.contents line c.args.out.now c.check_fit_cmd.new.out c.check_fit_cmd.result in
     subst Ends (sym c.in-Check.is)
     (subst (λ scen. Ends (Check c.in-Check.map c.in-Check.plan scen c.in-Check.json)) (sym c.in-Some.is) (
@@ -40,3 +40,8 @@ returns g c =
       c.check_fit_cmd.new.scen,
       c.check_fit_cmd.ensures.answers,
     ))
+
+pub returns : goal.returns
+returns g c =
+    let Ends : Line → Type 0 = λ line. PerformsOn g.R.File.Read.remaining g.W.Write.contents line c.args.out.now c.deps_cmd.new.out c.deps_cmd.result in
+    subst Ends (sym c.in-Deps.is) (c.new-map-in-Deps.result, c.deps_cmd.new.map, c.new-plan-in-Deps.result, c.deps_cmd.new.plan, c.deps_cmd.ensures.answers)

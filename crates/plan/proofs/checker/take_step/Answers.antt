@@ -4,7 +4,7 @@ use Rattle.grid.specs.declared.cell.Cell.{Cell}
 use Rattle.grid.specs.Map.{Grid}
 use Rattle.model.specs.declared.plan_fault.PlanFault.TheVariants.{Swap}
 use Rattle.model.specs.Plan.{Plan, IsLeastFault}
-use Rattle.plan.specs.Limits.{IsPlan}
+use Rattle.plan_text.specs.Limits.{IsPlan}
 use Rattle.plan.specs.Code.Standing.{AreOnGrid}
 use Rattle.plan.specs.Code.Walking.{AreAt, IsAdvanced}
 use Rattle.plan.specs.Code.Watching.{IsWatched}

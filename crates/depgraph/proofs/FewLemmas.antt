@@ -1,0 +1,55 @@
+-- The cells of all paths are few enough to be counted.
+use Rattle.std.proofs.Common.{◌≡◌, ℕ, zero, suc, ◌+◌, ◌-◌, ◌^◌, ◌<◌, ◌≤◌, true, false, List, [], ◌∷◌, length, Some, None, inl, inr, arith, refl, sym, ap, subst, ◌∙◌}
+use Rattle.std.specs.Prelude.{Option, slice_get}
+use Rattle.std.specs.List.{AllByRecursion}
+use Rattle.std.proofs.lemmas.Bool.{cases_Bool, cond-true, cond-false}
+use Rattle.std.proofs.lemmas.List.{length-append}
+use Rattle.std.proofs.lemmas.Option.{same_Some, none-some}
+use Rattle.grid.specs.declared.cell.Cell.{Cell}
+use Rattle.model.specs.Timetable.{Track, path}
+use Rattle.plan_text.specs.Limits.{most_agents, most_acts, most_acts_in_all}
+use Rattle.plan.specs.Checking.{cells_of, steps_in}
+use Rattle.depgraph.specs.Code.Arrivals.{is_new, entered}
+use Rattle.depgraph.specs.Code.Entries.{IsEntry, AreFew}
+use Rattle.depgraph.specs.Code.Paths.{all_entered, ArePaths}
+use Rattle.depgraph.proofs.ArrivalLemmas.{entered_path}
+use Rattle.depgraph.proofs.VisitLemmas.{entry_own, entry_track}
+use Rattle.depgraph.proofs.TrackLemmas.{no_track}
+
+few_entered : (here : Option Cell) (cells : List Cell) → length (entered here cells) ≤ length cells
+few_entered here [] = omega arith
+few_entered here (c ∷ cells) =
+    let rest = few_entered (Some c) cells in
+    elim (cases_Bool (is_new here c)) [
+      | inl new ↦ (let is = ap length (cond-true (is_new here c) (c ∷ entered (Some c) cells) (entered (Some c) cells) new) in omega (arith, rest, is))
+      | inr old ↦ (let is = ap length (cond-false (is_new here c) (c ∷ entered (Some c) cells) (entered (Some c) cells) old) in omega (arith, rest, is))
+    ]
+
+few_of_all : (tracks : List Track) → length (all_entered tracks) ≤ steps_in tracks + length tracks
+few_of_all [] = omega arith
+few_of_all (track ∷ tracks) =
+    let own = few_entered None (cells_of track) in
+    let rest = few_of_all tracks in
+    let parts = length-append (entered None (cells_of track)) (all_entered tracks) in
+    omega (arith, own, rest, parts)
+
+few_steps : (tracks : List Track) (i : ℕ) (track : Track) → AllByRecursion (λ t. length t.later ≤ most_acts) tracks → slice_get tracks i ≡ Some track → length track.later ≤ most_acts
+few_steps [] i track h is = absurd (none-some track is)
+few_steps (first ∷ tracks) zero track h is = subst (λ t. length t.later ≤ most_acts) (same_Some first track is) h.0
+few_steps (first ∷ tracks) (suc i) track h is = few_steps tracks i track h.1 is
+
+pub are_few : (tracks : List Track) (cells : List Cell) (times ends : List ℕ) → ArePaths tracks cells times ends → length tracks ≤ most_agents
+    → AllByRecursion (λ t. length t.later ≤ most_acts) tracks → steps_in tracks ≤ most_acts_in_all → AreFew cells ends
+are_few tracks cells times ends h agents steps whole = record {
+  agents = (let count = h.count in omega (arith, agents, count));
+  own = λ i k e entry. (
+      let found = entry_track tracks cells times ends h i k e entry in
+      let own = entry_own tracks cells times ends h i k e found.0 found.0.start found.1 entry in
+      let long = ap length (entered_path found.0) in
+      let few = few_entered None (cells_of found.0) in
+      let most = few_steps tracks i found.0 steps found.1 in
+      let less = own.0 in
+      omega (arith, long, few, most, less)
+      );
+  all = (let few = few_of_all tracks in let same = ap length h.are_cells in omega (arith, few, same, agents, whole));
+}

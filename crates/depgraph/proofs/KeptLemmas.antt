@@ -1,0 +1,412 @@
+-- What a graph keeps tells its timetable, its routes and its visits.
+use Rattle.std.proofs.Common.{◌≡◌, ℕ, suc, ◌+◌, ◌-◌, ◌^◌, ◌<◌, ◌≤◌, true, false, cond, List, length, get_or, map, take, Some, None, inl, inr, arith, refl, sym, ap, subst, ◌∙◌}
+use Rattle.std.specs.Prelude.{◌⊎◌, Option, ◌==◌, if◌then◌else◌, slice_get}
+use Rattle.std.specs.List.{range_with_len}
+use Rattle.std.proofs.lemmas.Bool.{cases_lt, cond-true, cond-false, eq-eqb, ne_eqb}
+use Rattle.std.proofs.lemmas.List.{ext_get_or, length-map, get_or-map}
+use Rattle.std.proofs.lemmas.List.FromFn.{get_or-map-range_with_len, length-map-range_with_len}
+use Rattle.std.proofs.lemmas.Option.{slice_get-get_or, slice_get_past, get_or_from_slice_get}
+use Rattle.grid.specs.declared.cell.Cell.{Cell}
+use Rattle.model.specs.declared.visit.Visit.{Visit}
+use Rattle.model.specs.Dependency.{need}
+use Rattle.model.specs.Timetable.{Track, Timetable, same_cell, cell_at, moves, path, step_of, track_of}
+use Rattle.model.proofs.TrackLemmas.{same_cell-true, same_cell-false, length-path}
+use Rattle.depgraph.specs.Routes.{IsRouteOf}
+use Rattle.depgraph.specs.Visits.{AreAllVisits}
+use Rattle.depgraph.specs.Code.Entries.{begin_in, IsEntry, arrival_time}
+use Rattle.depgraph.specs.Code.Keeping.{no_visit, times_in, IsKept, route_by, route_in, before_by, before_in, need_of}
+use Rattle.depgraph.specs.Code.Numbers.{no_cell}
+use Rattle.depgraph.specs.Code.Paths.{all_entered, all_times}
+use Rattle.depgraph.specs.Code.Placing.{listing}
+use Rattle.depgraph.specs.Code.Ranks.{tally, below, rank}
+use Rattle.depgraph.specs.Code.Schedules.{no_arrival, entry_in}
+use Rattle.depgraph.proofs.BlockLemmas.{name-of, occurrences-rise, part_of, listing-get, listing-count, part-visit, begin-below, end-below, part-within, at-cell, all_visits}
+use Rattle.depgraph.proofs.PositionLemmas.{visit_at, cell_of}
+use Rattle.depgraph.proofs.RankLemmas.{occurs, occurrence-rank, rank-is, rank-one, rank-within, ranked, tally-within, below-all}
+use Rattle.depgraph.proofs.ScheduleLemmas.{same_count, begin_most}
+use Rattle.depgraph.proofs.TrackLemmas.{no_track}
+use Rattle.depgraph.proofs.VisitLemmas.{begin_is, end_is, IsArrival, arrives, arrival-cell, entry_own, entry_track, entry_at, entry-within}
+use Rattle.depgraph.proofs.WaitLemmas.{IsJustBefore, need_none, need_some}
+
+module _ (tt : Timetable) (cells : List Cell) (ends : List ℕ) (visits : List Visit) (places visit_ends : List ℕ) (h : IsKept tt cells ends visits places visit_ends) where
+  -- the arrival of an entry
+  position : (e : ℕ) → e < length (all_entered tt.tracks) → (p : ℕ) × (p < length h.arrivals) × (entry_in ends h.arrivals p ≡ e)
+  position e less =
+      let times = all_times tt.tracks in
+      let same = same_count tt.tracks (all_entered tt.tracks) times ends h.line.paths in
+      let within : e < length times = omega (arith, less, same) in
+      let p = rank times e in
+      let place = rank-within times (length h.step_ends) e h.line.within within in
+      let count = h.line.schedule.count in
+      let inside : p < length h.arrivals = omega (arith, place, count) in
+      let entry = h.line.schedule.entries p inside in
+      let there = entry-within tt.tracks (all_entered tt.tracks) times ends h.line.paths (get_or h.arrivals p no_arrival).agent (get_or h.arrivals p no_arrival).index (entry_in ends h.arrivals p) entry in
+      (p, inside, rank-one times (entry_in ends h.arrivals p) e (omega (arith, there, same)) within (h.line.schedule.places p inside))
+
+  place-visit : (p : ℕ) → p < length h.arrivals → get_or visits (get_or places (entry_in ends h.arrivals p) 0) no_visit ≡ visit_at tt.number tt.tracks ends h.arrivals h.step_ends h.line p
+  place-visit p less =
+      ap (λ n. get_or visits n no_visit) (h.placing.placed.place p less)
+      ∙ get_or_from_slice_get visits (rank h.placing.listed p) (visit_at tt.number tt.tracks ends h.arrivals h.step_ends h.line p) no_visit (h.placing.placed.visit p less)
+
+  -- the times by the visits are those of the entries
+  pub kept_times : times_in visits places ≡ all_times tt.tracks
+  kept_times =
+      let long = length-map places (λ place. (get_or visits place no_visit).time) in
+      let count = h.placing.place_count in
+      let scheduled = h.line.schedule.count in
+      let same = same_count tt.tracks (all_entered tt.tracks) (all_times tt.tracks) ends h.line.paths in
+      ext_get_or 0 (times_in visits places) (all_times tt.tracks) (omega (arith, long, count, scheduled)) (λ e less.
+      let at = position e (omega (arith, less, long, count, scheduled, same)) in
+      get_or-map (λ place. (get_or visits place no_visit).time) places e 0 0 (omega (arith, less, long))
+      ∙ ap (λ x. (get_or visits (get_or places x 0) no_visit).time) (sym at.2) ∙ ap (λ v. v.time) (place-visit at.0 at.1) ∙ ap (λ x. get_or (all_times tt.tracks) x 0) at.2)
+
+  -- ---- routes
+
+  -- what an entry of an agent's path tells
+  entry_parts : (i k e : ℕ) → IsEntry ends i k e → (track : Track) × (track_of tt i ≡ Some track) × (k < length (path track)) × (get_or (all_entered tt.tracks) e no_cell ≡ get_or (path track) k no_cell)
+      × (get_or (all_times tt.tracks) e 0 ≡ arrival_time track k)
+  entry_parts i k e entry =
+      let found = entry_track tt.tracks (all_entered tt.tracks) (all_times tt.tracks) ends h.line.paths i k e entry in
+      let own = entry_own tt.tracks (all_entered tt.tracks) (all_times tt.tracks) ends h.line.paths i k e found.0 no_cell found.1 entry in
+      (found.0, found.1, own.0, own.1, own.2)
+
+  pub kept_cell : (i k e : ℕ) → IsEntry ends i k e → slice_get (route_in tt i).cells k ≡ Some (get_or cells e no_cell)
+  kept_cell i k e entry =
+      let own = entry_parts i k e entry in
+      ap (λ o. slice_get (route_by tt i o).cells k) own.1 ∙ slice_get-get_or (path own.0) k no_cell own.2 ∙ ap Some (sym own.3 ∙ ap (λ l. get_or l e no_cell) (sym h.are_cells))
+
+  in_moves : (track : Track) (k : ℕ) → k + 1 < length (path track) → k < moves track
+  in_moves track k less = (let long = length-path track.start track.later in omega (arith, less, long))
+
+  of_moves : {X : Type 0} (f : ℕ → X) (k n : ℕ) → k < n → slice_get (map f (range_with_len 0 n)) k ≡ Some (f k)
+  of_moves f k n less =
+      let long = length-map-range_with_len f 0 n in
+      slice_get-get_or (map f (range_with_len 0 n)) k (f k) (omega (arith, less, long)) ∙ ap Some (get_or-map-range_with_len f 0 n k k (f k) less (omega arith))
+
+  -- one before a time that is not the start
+  before_time : (track : Track) (k : ℕ) → arrival_time track (k + 1) ≡ step_of track k + 1
+  before_time track k = (let next : k + 1 ≡ suc k = omega arith in ap (arrival_time track) next)
+
+  entry_visit_at : (i k e : ℕ) → IsEntry ends i k e → (p : ℕ) × (p < length h.arrivals) × (entry_in ends h.arrivals p ≡ e)
+  entry_visit_at i k e entry = position e (entry-within tt.tracks (all_entered tt.tracks) (all_times tt.tracks) ends h.line.paths i k e entry)
+
+  -- the time of the visit of an entry past the first is one behind the step of the move
+  pub kept_time : (i k e : ℕ) → IsEntry ends i (k + 1) e → (track : Track) × (track_of tt i ≡ Some track) × (k < moves track)
+      × ((get_or visits (get_or places e 0) no_visit).time ≡ step_of track k + 1)
+  kept_time i k e entry =
+      let own = entry_parts i (k + 1) e entry in
+      let at = entry_visit_at i (k + 1) e entry in (
+        own.0,
+        own.1,
+        in_moves own.0 k own.2,
+        ap (λ x. (get_or visits (get_or places x 0) no_visit).time) (sym at.2) ∙ ap (λ v. v.time) (place-visit at.0 at.1) ∙ ap (λ x. get_or (all_times tt.tracks) x 0) at.2 ∙ own.4 ∙ before_time own.0 k,
+      )
+
+  pub kept_step : (i k e : ℕ) → IsEntry ends i (k + 1) e → slice_get (route_in tt i).steps k ≡ Some ((get_or visits (get_or places e 0) no_visit).time - 1)
+  kept_step i k e entry =
+      let own = kept_time i k e entry in
+      let time = own.3 in
+      ap (λ o. slice_get (route_by tt i o).steps k) own.1 ∙ of_moves (step_of own.0) k (moves own.0) own.2 ∙ ap Some (omega (arith, time))
+
+  -- ---- the visit before
+
+  abbrev pub arrives_at : ℕ → Visit
+  arrives_at p = visit_at tt.number tt.tracks ends h.arrivals h.step_ends h.line p
+
+  abbrev pub place_of : ℕ → Cell
+  place_of p = cell_of tt.number tt.tracks ends h.arrivals h.step_ends h.line p
+
+  rank-visit : (q : ℕ) → q < length h.arrivals → get_or visits (rank h.placing.listed q) no_visit ≡ arrives_at q
+  rank-visit q less = get_or_from_slice_get visits (rank h.placing.listed q) (arrives_at q) no_visit (h.placing.placed.visit q less)
+
+  -- looked up by the visit that stands before
+  before-is : (p q : ℕ) → p < length h.arrivals → q < length h.arrivals → rank h.placing.listed q ≡ rank h.placing.listed p - 1
+      → before_in cells ends visits places (entry_in ends h.arrivals p) ≡ before_by cells ends (arrives_at q) (rank h.placing.listed p) (entry_in ends h.arrivals p)
+  before-is p q in_p in_q place =
+      let entry = entry_in ends h.arrivals p in
+      let own = h.placing.placed.place p in_p in
+      ap (λ n. before_by cells ends (get_or visits (n - 1) no_visit) n entry) own
+      ∙ ap (λ v. before_by cells ends v (rank h.placing.listed p) entry) (ap (λ n. get_or visits n no_visit) (sym place) ∙ rank-visit q in_q)
+
+  own_cell : (p : ℕ) → p < length h.arrivals → get_or cells (entry_in ends h.arrivals p) no_cell ≡ place_of p
+  own_cell p less = ap (λ l. get_or l (entry_in ends h.arrivals p) no_cell) h.are_cells
+
+  -- the cell of the visit of an arrival, by its agent's path
+  visit_cell : (q : ℕ) → q < length h.arrivals → get_or cells (begin_in ends (arrives_at q).agent + (arrives_at q).index) no_cell ≡ place_of q
+  visit_cell q less = own_cell q less
+
+  before-none : (p q : ℕ) → p < length h.arrivals → q < length h.arrivals → (place_of q ≡ place_of p → ⊥) → before_by cells ends (arrives_at q) (rank h.placing.listed p) (entry_in ends h.arrivals p) ≡ None
+  before-none p q in_p in_q other =
+      let differs = same_cell-false (get_or cells (begin_in ends (arrives_at q).agent + (arrives_at q).index) no_cell) (get_or cells (entry_in ends h.arrivals p) no_cell)
+      (λ same. other (sym (visit_cell q in_q) ∙ same ∙ own_cell p in_p)) in
+      let inner = cond-false (same_cell (get_or cells (begin_in ends (arrives_at q).agent + (arrives_at q).index) no_cell) (get_or cells (entry_in ends h.arrivals p) no_cell))
+      (Some (arrives_at q)) None differs in
+      either (rank h.placing.listed p == 0) (if same_cell (get_or cells (begin_in ends (arrives_at q).agent + (arrives_at q).index) no_cell) (get_or cells (entry_in ends h.arrivals p) no_cell)
+      then Some (arrives_at q) else None) inner
+    where
+      either : (b : _) (o : Option Visit) → o ≡ None → cond b None o ≡ None
+      either true o is = refl
+      either false o is = is
+
+  before-some : (p q : ℕ) → p < length h.arrivals → q < length h.arrivals → 0 < rank h.placing.listed p → place_of q ≡ place_of p
+      → before_by cells ends (arrives_at q) (rank h.placing.listed p) (entry_in ends h.arrivals p) ≡ Some (arrives_at q)
+  before-some p q in_p in_q some same =
+      let equal = same_cell-true (get_or cells (begin_in ends (arrives_at q).agent + (arrives_at q).index) no_cell) (get_or cells (entry_in ends h.arrivals p) no_cell)
+      (visit_cell q in_q ∙ same ∙ sym (own_cell p in_p)) in
+      cond-false (rank h.placing.listed p == 0) None (if same_cell (get_or cells (begin_in ends (arrives_at q).agent + (arrives_at q).index) no_cell) (get_or cells (entry_in ends h.arrivals p) no_cell)
+      then Some (arrives_at q) else None) (ne_eqb (rank h.placing.listed p) 0 (λ none. omega (arith, none, some)))
+      ∙ cond-true (same_cell (get_or cells (begin_in ends (arrives_at q).agent + (arrives_at q).index) no_cell) (get_or cells (entry_in ends h.arrivals p) no_cell)) (Some (arrives_at q)) None equal
+
+  nobody : (p : ℕ) → p < length h.arrivals → tally (take p h.placing.listed) (get_or h.placing.listed p 0) ≡ 0 → before_in cells ends visits places (entry_in ends h.arrivals p) ≡ None
+  nobody p less none =
+      let listed = h.placing.listed in
+      let n = get_or listed p 0 in
+      let is = rank-is listed p n refl in
+      elim (cases_lt 0 (rank listed p)) [
+        | inl some ↦ (
+            let found = ranked listed n (rank listed p - 1) (omega (arith, is, none, some)) in
+            let q = found.0 in
+            let all = h.placing.all in
+            let inside = found.1 in
+            let within : q < length h.arrivals = omega (arith, inside, all) in
+            let lesser = found.3 in
+            before-is p q less within found.2 ∙ before-none p q less within (λ same.
+            let one = h.placing.numbered.distinct (get_or listed q 0) n (place_of p) (h.placing.numbered.named q inside ∙ ap Some same) (h.placing.numbered.named p (omega (arith, less, all))) in
+            omega (arith, one, lesser))
+            )
+        | inr zero_place ↦ (
+            let at : rank listed p ≡ 0 = omega (arith, zero_place) in
+            let own = h.placing.placed.place p less ∙ at in
+            cond-true (get_or places (entry_in ends h.arrivals p) 0 == 0) None _ (eq-eqb (get_or places (entry_in ends h.arrivals p) 0) 0 own)
+            )
+      ]
+
+  -- what is looked up is the visit before in the same cell: there was none, or it is that of the arrival just before
+  pub looked_up : (p : ℕ) → p < length h.arrivals
+      → ((tally (take p h.placing.listed) (get_or h.placing.listed p 0) ≡ 0) × (before_in cells ends visits places (entry_in ends h.arrivals p) ≡ None))
+      ⊎ ((q : ℕ) × (q < length h.arrivals) × IsJustBefore tt.number tt.tracks ends h.arrivals h.step_ends h.line visits places visit_ends h.placing h.graphed.conflict_free q p
+      × (before_in cells ends visits places (entry_in ends h.arrivals p) ≡ Some (arrives_at q)))
+  looked_up p less =
+      let listed = h.placing.listed in
+      let n = get_or listed p 0 in
+      let r = tally (take p listed) n in
+      let all = h.placing.all in
+      elim (cases_lt 0 r) [
+        | inl some ↦ (
+            let within = tally-within listed p n (omega (arith, less, all)) refl in
+            let found = occurs listed n (r - 1) (omega (arith, some, within)) in
+            let q = found.0 in
+            let inside = found.1.within in
+            let in_q : q < length h.arrivals = omega (arith, inside, all) in
+            let before = found.1.before in
+            let same = sym (name-of tt.number tt.tracks ends h.arrivals h.step_ends h.line visits places visit_ends h.placing q in_q) ∙ ap (λ m. get_or h.placing.names m no_cell) found.1.key
+            ∙ name-of tt.number tt.tracks ends h.arrivals h.step_ends h.line visits places visit_ends h.placing p less in
+            let place = occurrence-rank listed n (r - 1) q found.1 in
+            let is = rank-is listed p n refl in
+            inr (
+              q,
+              in_q,
+              record {
+                before = occurrences-rise tt.number tt.tracks ends h.arrivals h.step_ends h.line visits places visit_ends h.placing n (r - 1) r q p (omega (arith, some)) found.1
+                    (record { within = omega (arith, less, all); key = refl; before = refl });
+                key = found.1.key;
+                cell = same;
+                next = omega (arith, before, some);
+              },
+              before-is p q less in_q (omega (arith, place, is, some)) ∙ before-some p q less in_q (omega (arith, is, some)) same,
+            )
+            )
+        | inr none ↦ (let zero_before : r ≡ 0 = omega (arith, none) in inl (zero_before, nobody p less zero_before))
+      ]
+
+  -- ---- needs
+
+  pub kept_need : (i k e : ℕ) → IsEntry ends i (k + 1) e → slice_get (route_in tt i).needs k ≡ Some (need_of i (before_in cells ends visits places e))
+  unfolding kept_time entry_parts
+  kept_need i k e entry =
+      let own = kept_time i k e entry in
+      let track = own.0 in
+      let at = entry_visit_at i (k + 1) e entry in
+      let p = at.0 in
+      let less = at.1 in
+      let s = step_of track k in
+      let time : (arrives_at p).time ≡ s + 1 = ap (λ v. v.time) (sym (place-visit p less)) ∙ ap (λ x. (get_or visits (get_or places x 0) no_visit).time) at.2 ∙ own.3 in
+      let parts = entry_parts i (k + 1) e entry in
+      let cell : place_of p ≡ cell_at track (s + 1) = ap (λ x. get_or (all_entered tt.tracks) x no_cell) at.2 ∙ parts.3
+      ∙ arrival-cell track (k + 1) (s + 1) no_cell (subst (IsArrival track (k + 1)) (before_time track k) (arrives track (k + 1) parts.2)) in
+      ap (λ o. slice_get (route_by tt i o).needs k) own.1 ∙ of_moves (need tt i track) k (moves track) own.2
+      ∙ ap Some (elim (looked_up p less) [
+        | inl none ↦
+            need_none tt.number tt.tracks ends h.arrivals h.step_ends h.line visits places visit_ends h.placing h.graphed.conflict_free p i k s track less refl time cell none.0
+            ∙ ap (need_of i) (sym none.1 ∙ ap (before_in cells ends visits places) at.2)
+        | inr some ↦
+            need_some tt.number tt.tracks ends h.arrivals h.step_ends h.line visits places visit_ends h.placing h.graphed.conflict_free some.0 p i k s track some.1 less refl time cell some.2
+            ∙ ap (need_of i) (sym some.3 ∙ ap (before_in cells ends visits places) at.2)
+      ])
+
+  -- ---- where there is no such entry
+
+  pub no_cell_at : (i k : ℕ) → ((e : ℕ) → IsEntry ends i k e → ⊥) → slice_get (route_in tt i).cells k ≡ None
+  no_cell_at i k none = by (track_of tt i) refl where
+    by : (o : Option Track) → track_of tt i ≡ o → slice_get (route_in tt i).cells k ≡ None
+    by None is = ap (λ o. slice_get (route_by tt i o).cells k) is
+    by (Some track) is = ap (λ o. slice_get (route_by tt i o).cells k) is ∙ slice_get_past (path track) k (elim (cases_lt k (length (path track))) [
+      | inl less ↦ absurd (none (begin_in ends i + k) (entry_at tt.tracks (all_entered tt.tracks) (all_times tt.tracks) ends h.line.paths i k track is less))
+      | inr past ↦ past
+    ])
+
+  no_moves : (i k : ℕ) (track : Track) → track_of tt i ≡ Some track → ((e : ℕ) → IsEntry ends i (k + 1) e → ⊥) → moves track ≤ k
+  no_moves i k track is none = elim (cases_lt k (moves track)) [
+    | inl less ↦ (
+        let long = length-path track.start track.later in
+        absurd (none (begin_in ends i + (k + 1)) (entry_at tt.tracks (all_entered tt.tracks) (all_times tt.tracks) ends h.line.paths i (k + 1) track is (omega (arith, less, long))))
+        )
+    | inr past ↦ past
+  ]
+
+  past_moves : {X : Type 0} (f : ℕ → X) (k n : ℕ) → n ≤ k → slice_get (map f (range_with_len 0 n)) k ≡ None
+  past_moves f k n past = (let long = length-map-range_with_len f 0 n in slice_get_past (map f (range_with_len 0 n)) k (omega (arith, past, long)))
+
+  pub no_step_at : (i k : ℕ) → ((e : ℕ) → IsEntry ends i (k + 1) e → ⊥) → slice_get (route_in tt i).steps k ≡ None
+  no_step_at i k none = by (track_of tt i) refl where
+    by : (o : Option Track) → track_of tt i ≡ o → slice_get (route_in tt i).steps k ≡ None
+    by None is = ap (λ o. slice_get (route_by tt i o).steps k) is
+    by (Some track) is = ap (λ o. slice_get (route_by tt i o).steps k) is ∙ past_moves (step_of track) k (moves track) (no_moves i k track is none)
+
+  pub no_need_at : (i k : ℕ) → ((e : ℕ) → IsEntry ends i (k + 1) e → ⊥) → slice_get (route_in tt i).needs k ≡ None
+  no_need_at i k none = by (track_of tt i) refl where
+    by : (o : Option Track) → track_of tt i ≡ o → slice_get (route_in tt i).needs k ≡ None
+    by None is = ap (λ o. slice_get (route_by tt i o).needs k) is
+    by (Some track) is = ap (λ o. slice_get (route_by tt i o).needs k) is ∙ past_moves (need tt i track) k (moves track) (no_moves i k track is none)
+
+  -- ---- what is looked up is there
+
+  pub begins_before : (i : ℕ) → i < length ends → begin_in ends i ≤ get_or ends i 0
+  begins_before i less = begin_most tt.tracks (all_entered tt.tracks) (all_times tt.tracks) ends h.line.paths i less
+
+  pub entry_inside : (i k e : ℕ) → IsEntry ends i k e → (e < length cells) × (e < length places)
+  entry_inside i k e entry =
+      let within = entry-within tt.tracks (all_entered tt.tracks) (all_times tt.tracks) ends h.line.paths i k e entry in
+      let same = ap length h.are_cells in
+      let count = h.placing.place_count in
+      let scheduled = h.line.schedule.count in
+      let times = same_count tt.tracks (all_entered tt.tracks) (all_times tt.tracks) ends h.line.paths in
+      (omega (arith, within, same), omega (arith, within, count, scheduled, times))
+
+  pub places_count : length places ≡ length cells
+  places_count =
+      let same = ap length h.are_cells in
+      let count = h.placing.place_count in
+      let scheduled = h.line.schedule.count in
+      let times = same_count tt.tracks (all_entered tt.tracks) (all_times tt.tracks) ends h.line.paths in
+      omega (arith, same, count, scheduled, times)
+
+  pub place_inside : (i k e : ℕ) → IsEntry ends i k e → get_or places e 0 < length visits
+  place_inside i k e entry =
+      let at = entry_visit_at i k e entry in
+      let own = ap (λ x. get_or places x 0) (sym at.2) ∙ h.placing.placed.place at.0 at.1 in
+      let less = at.1 in
+      let all = h.placing.all in
+      let within = rank-within h.placing.listed (length h.placing.counts) at.0 h.placing.numbered.known (omega (arith, less, all)) in
+      let count = h.placing.visit_count in
+      omega (arith, own, within, all, count)
+
+  -- each visit is one of the entries
+  pub visit_inside : (n : ℕ) → n < length visits → ((get_or visits n no_visit).agent < length ends)
+      × (begin_in ends (get_or visits n no_visit).agent + (get_or visits n no_visit).index < length cells) × ((get_or visits n no_visit).index < 2 ^ 16)
+  visit_inside n less =
+      let all = h.placing.all in
+      let count = h.placing.visit_count in
+      let whole = below-all h.placing.listed (length h.placing.counts) h.placing.numbered.known in
+      let found = ranked h.placing.listed (length h.placing.counts) n (omega (arith, less, count, all, whole)) in
+      let p = found.0 in
+      let inside = found.1 in
+      let in_p : p < length h.arrivals = omega (arith, inside, all) in
+      let is = sym (ap (λ k. get_or visits k no_visit) found.2) ∙ rank-visit p in_p in
+      let entry = h.line.schedule.entries p in_p in
+      let within = entry_inside (arrives_at p).agent (arrives_at p).index (entry_in ends h.arrivals p) entry in (
+        subst (λ v. v.agent < length ends) (sym is) entry.is_agent,
+        subst (λ v. begin_in ends v.agent + v.index < length cells) (sym is) within.0,
+        subst (λ v. v.index < 2 ^ 16) (sym is) (h.line.few.own (arrives_at p).agent (arrives_at p).index (entry_in ends h.arrivals p) entry),
+      )
+
+  -- ---- the agents
+
+  pub ends_count : length ends ≡ length tt.tracks
+  ends_count = h.line.paths.count
+
+  pub kept_moves : (i : ℕ) → i < length ends → (begin_in ends i + 1 ≤ get_or ends i 0) × (track_of tt i ≡ Some (get_or tt.tracks i no_track)) × (get_or ends i 0 - begin_in ends i - 1 ≡ moves (get_or tt.tracks i no_track))
+  kept_moves i less =
+      let count = ends_count in
+      let within : i < length tt.tracks = omega (arith, less, count) in
+      let track = get_or tt.tracks i no_track in
+      let is = slice_get-get_or tt.tracks i no_track within in
+      let begin = begin_is tt.tracks (all_entered tt.tracks) (all_times tt.tracks) ends h.line.paths i within in
+      let end = end_is tt.tracks (all_entered tt.tracks) (all_times tt.tracks) ends h.line.paths i track is in
+      let long = length-path track.start track.later in
+      (omega (arith, begin, end, long), is, omega (arith, begin, end, long))
+
+  pub few_moves : (i : ℕ) → i < length ends → get_or ends i 0 - begin_in ends i - 1 < 2 ^ 16
+  few_moves i less =
+      let some = (kept_moves i less).0 in
+      h.line.few.own i (get_or ends i 0 - begin_in ends i - 1) (get_or ends i 0 - 1) (record { is_agent = less; place = omega (arith, some); within = omega (arith, some) })
+
+  pub no_track_at : (i : ℕ) → length ends ≤ i → track_of tt i ≡ None
+  no_track_at i past = (let count = ends_count in slice_get_past tt.tracks i (omega (arith, past, count)))
+
+  pub kept_route : (i : ℕ) (track : Track) → track_of tt i ≡ Some track → IsRouteOf tt i track (route_in tt i)
+  kept_route i track is = subst (λ o. IsRouteOf tt i track (route_by tt i o)) (sym is) (record {
+    cells = refl;
+    step_count = length-map-range_with_len (step_of track) 0 (moves track);
+    steps = λ k less. of_moves (step_of track) k (moves track) less;
+    need_count = length-map-range_with_len (need tt i track) 0 (moves track);
+    needs = λ k less. of_moves (need tt i track) k (moves track) less;
+  })
+
+  -- ---- the visits
+
+  pub kept_visits : AreAllVisits tt (listing 0 h.placing.names visit_ends visits)
+  kept_visits = all_visits tt.number tt.tracks ends h.arrivals h.step_ends h.line visits places visit_ends h.placing h.graphed.conflict_free
+
+  pub kept_count : length visit_ends ≡ length (listing 0 h.placing.names visit_ends visits)
+  kept_count = h.placing.end_count ∙ sym (listing-count 0 h.placing.names visit_ends visits h.placing.end_count)
+
+  pub few_visited : length visit_ends < 2 ^ 32
+  few_visited =
+      let held = h.placing.end_count in
+      let count = h.placing.numbered.count in
+      let few = h.placing.numbered.few in
+      let all = h.placing.all in
+      let scheduled = h.line.schedule.count in
+      let times = same_count tt.tracks (all_entered tt.tracks) (all_times tt.tracks) ends h.line.paths in
+      let limit = h.line.few.all in
+      omega (arith, held, count, few, all, scheduled, times, limit)
+
+  -- the part of a visited cell, and its first visit
+  pub kept_part : (n : ℕ) → n < length visit_ends → (begin_in visit_ends n < get_or visit_ends n 0) × (get_or visit_ends n 0 ≤ length visits)
+      × (slice_get (listing 0 h.placing.names visit_ends visits) n ≡ Some (record { cell = get_or cells (begin_in ends (get_or visits (begin_in visit_ends n) no_visit).agent + (get_or visits (begin_in visit_ends n) no_visit).index) no_cell; visits = part_of visit_ends visits n }))
+  kept_part n less =
+      let held = h.placing.end_count in
+      let within : n < length h.placing.names = omega (arith, less, held) in
+      let listed = h.placing.listed in
+      let count = h.placing.numbered.count in
+      let found = h.placing.numbered.occurs n (omega (arith, within, count)) in
+      let some = tally-within listed found.0 n found.1 found.2 in
+      let first = part-visit tt.number tt.tracks ends h.arrivals h.step_ends h.line visits places visit_ends h.placing n 0 within (omega (arith, some)) in
+      let q = first.0 in
+      let begin = begin-below tt.number tt.tracks ends h.arrivals h.step_ends h.line visits places visit_ends h.placing n within in
+      let end = end-below tt.number tt.tracks ends h.arrivals h.step_ends h.line visits places visit_ends h.placing n within in
+      let next : below listed (suc n) ≡ below listed n + tally listed n = refl in
+      let most = part-within tt.number tt.tracks ends h.arrivals h.step_ends h.line visits places visit_ends h.placing n within in
+      let place = occurrence-rank listed n 0 q first.1 in
+      let is : get_or visits (begin_in visit_ends n) no_visit ≡ arrives_at q = ap (λ k. get_or visits k no_visit) (omega (arith, begin, place)) ∙ rank-visit q first.2 in
+      let cell : get_or h.placing.names n no_cell ≡ get_or cells (begin_in ends (get_or visits (begin_in visit_ends n) no_visit).agent + (get_or visits (begin_in visit_ends n) no_visit).index) no_cell =
+      sym (at-cell tt.number tt.tracks ends h.arrivals h.step_ends h.line visits places visit_ends h.placing n 0 q first.2 first.1) ∙ sym (visit_cell q first.2)
+      ∙ ap (λ v. get_or cells (begin_in ends v.agent + v.index) no_cell) (sym is) in (
+        omega (arith, begin, end, next, some),
+        omega (arith, end, most),
+        listing-get h.placing.names visit_ends visits n held within ∙ ap (λ x. Some (record { cell = x; visits = part_of visit_ends visits n })) cell,
+      )
+
+  pub past_visits : (n : ℕ) → length visit_ends ≤ n → slice_get (listing 0 h.placing.names visit_ends visits) n ≡ None
+  past_visits n past = (let count = kept_count in slice_get_past (listing 0 h.placing.names visit_ends visits) n (omega (arith, past, count)))

@@ -1,0 +1,21 @@
+-- Lemmas that several proofs share.
+pub mod RisingLemmas
+pub mod ArrivalLemmas
+pub mod PathLemmas
+pub mod TrackLemmas
+pub mod RankLemmas
+pub mod VisitLemmas
+pub mod ScheduleLemmas
+pub mod NumberLemmas
+pub mod PlacingLemmas
+pub mod PositionLemmas
+pub mod BlockLemmas
+pub mod WaitLemmas
+pub mod KeptLemmas
+pub mod RingLemmas
+pub mod WalkLemmas
+pub mod CycleLemmas
+pub mod RotationLemmas
+pub mod StepLemmas
+pub mod TurnLemmas
+pub mod FewLemmas

@@ -1,0 +1,24 @@
+-- The code's own words: what bodies and proofs speak of, and no promise.
+
+-- when an agent comes into the cells of its path
+pub mod Arrivals
+-- the paths of all agents in one list
+pub mod Paths
+-- the track that a path and its times tell
+pub mod Tracks
+-- places of elements that are sorted by a key
+pub mod Ranks
+-- where the cells of paths stand
+pub mod Entries
+-- all of them by time
+pub mod Schedules
+-- numbers of cells
+pub mod Numbers
+-- visits in their places
+pub mod Placing
+-- what a graph keeps
+pub mod Keeping
+-- the cycles of agents that follow one another
+pub mod Cycles
+-- who moves into whose cell in a step
+pub mod Turning

@@ -1,0 +1,12 @@
+-- What has to be believed of the crate, beside the definitions of `model`, in the order in which to read it.
+
+-- what a graph says of an agent: its path, and the step and the need of each of its moves
+pub mod Routes
+-- all visits, by cells in order of first visit
+pub mod Visits
+-- all rotations, in order
+pub mod Rotations
+-- what every graph keeps
+pub mod Graphs
+-- the code's own words
+pub mod Code

@@ -1,0 +1,214 @@
+//! The dependency graph.
+ghost use Rattle.std.specs.Prelude.{◌≡◌, List, length, None, slice_get, option_map, IsSomeAnd, MatchOption, IfOk};
+ghost use Rattle.model.specs.Timetable.{moves, track_of};
+ghost use Rattle.depgraph.specs.Graphs.{IsGraphed};
+ghost use Rattle.depgraph.specs.Rotations.{AreRotations, turns_of};
+ghost use Rattle.depgraph.specs.Routes.{IsRouteOf, need_at};
+ghost use Rattle.depgraph.specs.Visits.{Visited, AreAllVisits};
+ghost use Rattle.depgraph.specs.Code.Keeping.{route_in};
+
+use crate::entries::{begin_in, entry_at};
+use crate::numbering::numbering_of;
+use crate::out_of_memory::OutOfMemory;
+use crate::paths::{Paths, paths_of};
+use crate::placing::{place_visits, visit_before};
+use crate::rotations::find_rotations;
+use crate::schedule::schedule_of;
+use grid::Cell;
+use model::{Rotation, Visit};
+use plan::CheckedPlan;
+use std::alloc::Global;
+use std::marker::Model;
+
+/// What a checked plan says of who waits for whom.
+#[derive(Debug, Drop)]
+pub struct Graph {
+    number: u32,
+    cells: Vec<Cell>,
+    ends: Vec<usize>,
+    visits: Vec<Visit>,
+    places: Vec<u32>,
+    visit_ends: Vec<u32>,
+    rotations: Vec<Rotation>,
+}
+
+impl Model for Graph {
+    ghost use Rattle.model.specs.Timetable.{Timetable};
+    ghost use Rattle.depgraph.specs.Rotations.{AreRotations, turns_of};
+    ghost use Rattle.depgraph.specs.Code.Keeping.{times_in, IsKept};
+    ghost use Rattle.depgraph.specs.Code.Tracks.{timetable_by};
+
+    ghost Value = { Timetable };
+
+    ghost view = { λ g. timetable_by g.number g.cells.items (times_in g.visits.items g.places.items) g.ends.items };
+
+    ghost invariant = { λ g. IsKept (timetable_by g.number g.cells.items (times_in g.visits.items g.places.items) g.ends.items)
+        g.cells.items g.ends.items g.visits.items g.places.items g.visit_ends.items
+        × AreRotations (timetable_by g.number g.cells.items (times_in g.visits.items g.places.items) g.ends.items) (turns_of g.rotations.items) };
+}
+
+impl Graph {
+    /// The graph of a plan. It borrows nothing from the plan.
+    pub fn build(alloc: Global, plan: &CheckedPlan) -> Result<Graph, OutOfMemory>
+        ensures { IfOk result (λ g. g ≡ plan.now.timetable) }
+    {
+        let number = plan.number();
+        let paths = paths_of(alloc, plan)?;
+        let schedule = schedule_of(alloc, &paths)?;
+        let numbering = numbering_of(alloc, &paths, &schedule.arrivals)?;
+        let Paths { cells, times, ends } = paths;
+        // Each time is kept with its visit.
+        drop(times);
+        let placed = place_visits(alloc, plan, &ends, &schedule, numbering)?;
+        let rotations = find_rotations(alloc, plan, &cells, &ends, &schedule, &placed)?;
+        Ok(Graph {
+            number,
+            cells,
+            ends,
+            visits: placed.visits,
+            places: placed.places,
+            visit_ends: placed.next.next,
+            rotations,
+        })
+    }
+
+    /// The plan's number.
+    pub fn number(&self) -> u32
+        ensures number { result ≡ self.now.number }
+        ensures within { IsGraphed self.now }
+    {
+        self.number
+    }
+
+    /// How many agents there are.
+    pub fn agents(&self) -> u32
+        ensures agents { result ≡ length self.now.tracks }
+        ensures within { IsGraphed self.now }
+    {
+        self.ends.len() as u32
+    }
+
+    /// How many moves an agent makes; `None` where there is no such agent.
+    pub fn moves(&self, agent: u32) -> Option<u32>
+        ensures moves { result ≡ option_map moves (track_of self.now agent) }
+        ensures within { IsGraphed self.now }
+    {
+        let agent = agent as usize;
+        if agent < self.ends.len() {
+            Some((self.ends[agent] - begin_in(&self.ends, agent) - 1) as u32)
+        } else {
+            None
+        }
+    }
+
+    /// The path of an agent, and the steps and needs of its moves; `None` where there is no such agent.
+    pub fn route(&self, agent: u32) -> Option<Route<'_>>
+        ensures { MatchOption (track_of self.now agent) (result ≡ None) (λ track. IsSomeAnd result (λ route. IsRouteOf self.now agent track route)) }
+    {
+        if (agent as usize) < self.ends.len() {
+            Some(Route { graph: self, agent })
+        } else {
+            None
+        }
+    }
+
+    /// How many cells are visited.
+    pub fn cell_count(&self) -> u32
+        ensures { (cells : List Visited) × AreAllVisits self.now cells × (result ≡ length cells) }
+    {
+        self.visit_ends.len() as u32
+    }
+
+    /// The n-th visited cell, in order of first visit by time and then by agent, and its visits by time; `None` past the last.
+    pub fn visits(&self, n: u32) -> Option<(Cell, &[Visit])>
+        ensures { (cells : List Visited) × AreAllVisits self.now cells × (option_map (λ at. record { cell = at.0; visits = at.1.now }) result ≡ slice_get cells n) }
+    {
+        let n = n as usize;
+        if n >= self.visit_ends.len() {
+            return None;
+        }
+        let begin = if n == 0 {
+            0
+        } else {
+            self.visit_ends[n - 1] as usize
+        };
+        let first = self.visits[begin];
+        let cell = self.cells[begin_in(&self.ends, usize::from(first.agent))
+            + first.index as usize];
+        Some((cell, &self.visits[begin..self.visit_ends[n] as usize]))
+    }
+
+    /// All rotations, by step and then by least agent.
+    pub fn rotations(&self) -> &[Rotation]
+        ensures { AreRotations self.now (turns_of result.now) }
+    {
+        &self.rotations
+    }
+
+    fn cell(&self, agent: u32, index: u32) -> Option<Cell>
+        ensures { result ≡ slice_get (route_in self.now agent).cells index }
+    {
+        let entry = entry_at(&self.ends, agent, index as usize)?;
+        Some(self.cells[entry])
+    }
+
+    fn step(&self, agent: u32, number: u32) -> Option<u32>
+        ensures { result ≡ slice_get (route_in self.now agent).steps number }
+    {
+        let entry = entry_at(&self.ends, agent, number as usize + 1)?;
+        Some(self.visits[self.places[entry] as usize].time - 1)
+    }
+
+    fn need(&self, agent: u32, number: u32) -> Option<(u16, u32)>
+        ensures { result ≡ need_at (route_in self.now agent) number }
+    {
+        let entry = entry_at(&self.ends, agent, number as usize + 1)?;
+        let before = visit_before(&self.cells, &self.ends, &self.visits, &self.places, entry)?;
+        if u32::from(before.agent) == agent {
+            None
+        } else {
+            Some((before.agent, before.index + 1))
+        }
+    }
+}
+
+/// An agent's path, and the planned step and the need of each of its moves.
+#[derive(Debug, Drop)]
+pub struct Route<'a> {
+    graph: &'a Graph,
+    agent: u32,
+}
+
+impl<'a> Model for Route<'a> {
+    ghost use Rattle.std.specs.Prelude.{◌<◌, length};
+    ghost use Rattle.depgraph.specs.Routes.{Route as model_route};
+    ghost use Rattle.depgraph.specs.Code.Keeping.{route_in};
+
+    ghost Value = { model_route };
+
+    ghost view = { λ r. route_in r.graph.now r.agent };
+}
+
+impl<'a> Route<'a> {
+    /// The n-th cell of the path; `None` past its end.
+    pub fn cell(&self, n: u32) -> Option<Cell>
+        ensures { result ≡ slice_get self.now.cells n }
+    {
+        self.graph.cell(self.agent, n)
+    }
+
+    /// The planned step of the move with this number, from 0 on; `None` past the last.
+    pub fn step(&self, number: u32) -> Option<u32>
+        ensures { result ≡ slice_get self.now.steps number }
+    {
+        self.graph.step(self.agent, number)
+    }
+
+    /// Which agent, and how many moves it must have finished before the move with this number may begin; `None` where the move
+    /// waits for nobody, and past the last.
+    pub fn need(&self, number: u32) -> Option<(u16, u32)>
+        ensures { result ≡ need_at self.now number }
+    {
+        self.graph.need(self.agent, number)
+    }
+}

@@ -1,0 +1,18 @@
+//! The dependency graph of a checked plan: which move waits for which.
+#![tactic(auto)]
+
+mod cycles;
+mod entries;
+mod graph;
+pub mod laws;
+mod numbering;
+mod out_of_memory;
+mod paths;
+mod placing;
+mod rotations;
+mod schedule;
+mod sorting;
+
+pub use graph::{Graph, Route};
+pub use model::{Rotation, Visit};
+pub use out_of_memory::OutOfMemory;

@@ -1,0 +1,14 @@
+-- With the digits that follow, the value so far spells the whole.
+use Rattle.std.proofs.Common.{◌≡◌, ◌-◌, ◌^◌, ◌≤◌, min, drop}
+use Rattle.std.specs.List.{list_all}
+use Rattle.std.specs.Char.{is_ascii_digit}
+use Rattle.std.specs.Str.Parse.{digits_value_after}
+use Rattle.plan_text.specs.Code.Numerals.{numeral_value}
+use Rattle.plan_text.proofs.numerals.spelled.Given as goal
+
+abbrev pub invariant-loop-b : goal.invariant-loop-b
+invariant-loop-b l = record {
+  value : min (digits_value_after 10 l.value (drop l.b-index l.bytes)) (2 ^ 64 - 1) ≡ min (numeral_value l.bytes) (2 ^ 64 - 1);
+  within : l.value ≤ 2 ^ 64 - 1;
+  digits : list_all is_ascii_digit (drop l.b-index l.bytes) ≡ list_all is_ascii_digit l.bytes;
+}
