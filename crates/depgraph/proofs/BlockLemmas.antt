@@ -10,7 +10,7 @@ use Rattle.model.specs.Timetable.{Track, IsConflictFree}
 use Rattle.depgraph.specs.declared.schedule.Arrival.{Arrival}
 use Rattle.depgraph.specs.Visits.{IsVisitTo, AreVisitsTo, ComesBefore, Visited, AreAllVisits}
 use Rattle.depgraph.specs.Code.Entries.{begin_in}
-use Rattle.depgraph.specs.Code.Keeping.{no_visit}
+use Rattle.depgraph.specs.Code.Waits.{no_visit}
 use Rattle.depgraph.specs.Code.Numbers.{no_cell}
 use Rattle.depgraph.specs.Code.Placing.{IsTimeline, IsPlacing, listing}
 use Rattle.depgraph.specs.Code.Ranks.{tally, below, rank}
@@ -62,7 +62,7 @@ listing-get names ends visits n same less =
     ∙ ap (λ b. Some (record { cell = get_or names n no_cell; visits = take (get_or ends n 0 - b) (drop b visits) })) (begin-same ends n)
 
 module _ (number : ℕ) (tracks : List Track) (ends : List ℕ) (arrivals : List Arrival) (step_ends : List ℕ) (line : IsTimeline tracks ends arrivals step_ends)
-    (visits : List Visit) (places visit_ends : List ℕ) (h : IsPlacing tracks ends arrivals visits places visit_ends) where
+    (visits : List Visit) (visit_ends : List ℕ) (h : IsPlacing tracks ends arrivals visits visit_ends) where
   pub begin-below : (n : ℕ) → n < length h.names → begin_in visit_ends n ≡ below h.listed n
   begin-below zero less = refl
   begin-below (suc n) less = (let count = h.end_count in h.visit_end n (omega (arith, less, count)))
@@ -120,7 +120,7 @@ module _ (number : ℕ) (tracks : List Track) (ends : List ℕ) (arrivals : List
         found.1,
         within,
         part-get visits (begin_in visit_ends n) (get_or visit_ends n 0 - begin_in visit_ends n) k no_visit (omega (arith, begin, end, next, most)) (omega (arith, begin, end, next, inside))
-            ∙ ap (slice_get visits) place ∙ h.placed.visit p within,
+            ∙ ap (slice_get visits) place ∙ h.placed p within,
       )
 
   -- the same, from what stands there

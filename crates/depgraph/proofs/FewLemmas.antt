@@ -1,20 +1,19 @@
 -- The cells of all paths are few enough to be counted.
-use Rattle.std.proofs.Common.{◌≡◌, ℕ, zero, suc, ◌+◌, ◌-◌, ◌^◌, ◌<◌, ◌≤◌, true, false, List, [], ◌∷◌, length, Some, None, inl, inr, arith, refl, sym, ap, subst, ◌∙◌}
+use Rattle.std.proofs.Common.{◌≡◌, ℕ, zero, suc, ◌+◌, ◌≤◌, List, [], ◌∷◌, length, Some, None, inl, inr, arith, ap, subst}
 use Rattle.std.specs.Prelude.{Option, slice_get}
 use Rattle.std.specs.List.{AllByRecursion}
 use Rattle.std.proofs.lemmas.Bool.{cases_Bool, cond-true, cond-false}
 use Rattle.std.proofs.lemmas.List.{length-append}
 use Rattle.std.proofs.lemmas.Option.{same_Some, none-some}
 use Rattle.grid.specs.declared.cell.Cell.{Cell}
-use Rattle.model.specs.Timetable.{Track, path}
+use Rattle.model.specs.Timetable.{Track}
 use Rattle.plan_text.specs.Limits.{most_agents, most_acts, most_acts_in_all}
 use Rattle.plan.specs.Checking.{cells_of, steps_in}
 use Rattle.depgraph.specs.Code.Arrivals.{is_new, entered}
-use Rattle.depgraph.specs.Code.Entries.{IsEntry, AreFew}
+use Rattle.depgraph.specs.Code.Entries.{AreFew}
 use Rattle.depgraph.specs.Code.Paths.{all_entered, ArePaths}
 use Rattle.depgraph.proofs.ArrivalLemmas.{entered_path}
 use Rattle.depgraph.proofs.VisitLemmas.{entry_own, entry_track}
-use Rattle.depgraph.proofs.TrackLemmas.{no_track}
 
 few_entered : (here : Option Cell) (cells : List Cell) → length (entered here cells) ≤ length cells
 few_entered here [] = omega arith

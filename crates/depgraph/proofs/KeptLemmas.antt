@@ -1,34 +1,36 @@
 -- What a graph keeps tells its timetable, its routes and its visits.
-use Rattle.std.proofs.Common.{◌≡◌, ℕ, suc, ◌+◌, ◌-◌, ◌^◌, ◌<◌, ◌≤◌, true, false, cond, List, length, get_or, map, take, Some, None, inl, inr, arith, refl, sym, ap, subst, ◌∙◌}
-use Rattle.std.specs.Prelude.{◌⊎◌, Option, ◌==◌, if◌then◌else◌, slice_get}
+use Rattle.std.proofs.Common.{◌≡◌, ℕ, suc, ◌+◌, ◌-◌, ◌^◌, ◌<◌, ◌≤◌, List, length, get_or, map, take, Some, None, inl, inr, arith, refl, sym, ap, subst, ◌∙◌}
+use Rattle.std.specs.Prelude.{◌⊎◌, Option, ◌==◌, slice_get}
 use Rattle.std.specs.List.{range_with_len}
-use Rattle.std.proofs.lemmas.Bool.{cases_lt, cond-true, cond-false, eq-eqb, ne_eqb}
-use Rattle.std.proofs.lemmas.List.{ext_get_or, length-map, get_or-map}
+use Rattle.std.proofs.lemmas.Bool.{cases_lt, cases_Bool, cond-true, cond-false, eq-eqb, ne_eqb}
 use Rattle.std.proofs.lemmas.List.FromFn.{get_or-map-range_with_len, length-map-range_with_len}
 use Rattle.std.proofs.lemmas.Option.{slice_get-get_or, slice_get_past, get_or_from_slice_get}
 use Rattle.grid.specs.declared.cell.Cell.{Cell}
 use Rattle.model.specs.declared.visit.Visit.{Visit}
 use Rattle.model.specs.Dependency.{need}
-use Rattle.model.specs.Timetable.{Track, Timetable, same_cell, cell_at, moves, path, step_of, track_of}
-use Rattle.model.proofs.TrackLemmas.{same_cell-true, same_cell-false, length-path}
-use Rattle.depgraph.specs.Routes.{IsRouteOf}
+use Rattle.model.specs.Timetable.{Track, Timetable, cell_at, moves, path, step_of, track_of}
+use Rattle.model.proofs.TrackLemmas.{length-path}
+use Rattle.depgraph.specs.Routes.{IsRouteOf, asked_by}
 use Rattle.depgraph.specs.Visits.{AreAllVisits}
+use Rattle.depgraph.specs.declared.waiting.Wait.{Wait}
 use Rattle.depgraph.specs.Code.Entries.{begin_in, IsEntry, arrival_time}
-use Rattle.depgraph.specs.Code.Keeping.{no_visit, times_in, IsKept, route_by, route_in, before_by, before_in, need_of}
+use Rattle.depgraph.specs.Code.Keeping.{IsKept, route_by, route_in, need_of, asked_of}
 use Rattle.depgraph.specs.Code.Numbers.{no_cell}
 use Rattle.depgraph.specs.Code.Paths.{all_entered, all_times}
 use Rattle.depgraph.specs.Code.Placing.{listing}
 use Rattle.depgraph.specs.Code.Ranks.{tally, below, rank}
 use Rattle.depgraph.specs.Code.Schedules.{no_arrival, entry_in}
-use Rattle.depgraph.proofs.BlockLemmas.{name-of, occurrences-rise, part_of, listing-get, listing-count, part-visit, begin-below, end-below, part-within, at-cell, all_visits}
+use Rattle.depgraph.specs.Code.Waits.{no_visit, no_wait, entry_for, wait_of, before_at}
+use Rattle.depgraph.proofs.BlockLemmas.{name-of, occurrences-rise, part_of, listing-get, listing-count, number-within, part-visit, begin-below, end-below, part-within, at-cell, all_visits}
 use Rattle.depgraph.proofs.PositionLemmas.{visit_at, cell_of}
-use Rattle.depgraph.proofs.RankLemmas.{occurs, occurrence-rank, rank-is, rank-one, rank-within, ranked, tally-within, below-all}
+use Rattle.depgraph.proofs.NoteLemmas.{later-is}
+use Rattle.depgraph.proofs.RankLemmas.{occurs, occurrence-rank, rank-is, rank-least, rank-most, rank-one, rank-within, ranked, tally-within, below-all}
 use Rattle.depgraph.proofs.ScheduleLemmas.{same_count, begin_most}
 use Rattle.depgraph.proofs.TrackLemmas.{no_track}
-use Rattle.depgraph.proofs.VisitLemmas.{begin_is, end_is, IsArrival, arrives, arrival-cell, entry_own, entry_track, entry_at, entry-within}
+use Rattle.depgraph.proofs.VisitLemmas.{begin_is, end_is, IsArrival, arrives, arrival-cell, entry_own, entry_track, entry_at, entry-one, entry-within}
 use Rattle.depgraph.proofs.WaitLemmas.{IsJustBefore, need_none, need_some}
 
-module _ (tt : Timetable) (cells : List Cell) (ends : List ℕ) (visits : List Visit) (places visit_ends : List ℕ) (h : IsKept tt cells ends visits places visit_ends) where
+module _ (tt : Timetable) (cells : List Cell) (times ends : List ℕ) (needs : List Wait) (visits : List Visit) (visit_ends : List ℕ) (h : IsKept tt cells times ends needs visits visit_ends) where
   -- the arrival of an entry
   position : (e : ℕ) → e < length (all_entered tt.tracks) → (p : ℕ) × (p < length h.arrivals) × (entry_in ends h.arrivals p ≡ e)
   position e less =
@@ -42,23 +44,6 @@ module _ (tt : Timetable) (cells : List Cell) (ends : List ℕ) (visits : List V
       let entry = h.line.schedule.entries p inside in
       let there = entry-within tt.tracks (all_entered tt.tracks) times ends h.line.paths (get_or h.arrivals p no_arrival).agent (get_or h.arrivals p no_arrival).index (entry_in ends h.arrivals p) entry in
       (p, inside, rank-one times (entry_in ends h.arrivals p) e (omega (arith, there, same)) within (h.line.schedule.places p inside))
-
-  place-visit : (p : ℕ) → p < length h.arrivals → get_or visits (get_or places (entry_in ends h.arrivals p) 0) no_visit ≡ visit_at tt.number tt.tracks ends h.arrivals h.step_ends h.line p
-  place-visit p less =
-      ap (λ n. get_or visits n no_visit) (h.placing.placed.place p less)
-      ∙ get_or_from_slice_get visits (rank h.placing.listed p) (visit_at tt.number tt.tracks ends h.arrivals h.step_ends h.line p) no_visit (h.placing.placed.visit p less)
-
-  -- the times by the visits are those of the entries
-  pub kept_times : times_in visits places ≡ all_times tt.tracks
-  kept_times =
-      let long = length-map places (λ place. (get_or visits place no_visit).time) in
-      let count = h.placing.place_count in
-      let scheduled = h.line.schedule.count in
-      let same = same_count tt.tracks (all_entered tt.tracks) (all_times tt.tracks) ends h.line.paths in
-      ext_get_or 0 (times_in visits places) (all_times tt.tracks) (omega (arith, long, count, scheduled)) (λ e less.
-      let at = position e (omega (arith, less, long, count, scheduled, same)) in
-      get_or-map (λ place. (get_or visits place no_visit).time) places e 0 0 (omega (arith, less, long))
-      ∙ ap (λ x. (get_or visits (get_or places x 0) no_visit).time) (sym at.2) ∙ ap (λ v. v.time) (place-visit at.0 at.1) ∙ ap (λ x. get_or (all_times tt.tracks) x 0) at.2)
 
   -- ---- routes
 
@@ -90,19 +75,13 @@ module _ (tt : Timetable) (cells : List Cell) (ends : List ℕ) (visits : List V
   entry_visit_at : (i k e : ℕ) → IsEntry ends i k e → (p : ℕ) × (p < length h.arrivals) × (entry_in ends h.arrivals p ≡ e)
   entry_visit_at i k e entry = position e (entry-within tt.tracks (all_entered tt.tracks) (all_times tt.tracks) ends h.line.paths i k e entry)
 
-  -- the time of the visit of an entry past the first is one behind the step of the move
-  pub kept_time : (i k e : ℕ) → IsEntry ends i (k + 1) e → (track : Track) × (track_of tt i ≡ Some track) × (k < moves track)
-      × ((get_or visits (get_or places e 0) no_visit).time ≡ step_of track k + 1)
+  -- the time of an entry past the first is one behind the step of the move
+  pub kept_time : (i k e : ℕ) → IsEntry ends i (k + 1) e → (track : Track) × (track_of tt i ≡ Some track) × (k < moves track) × (get_or times e 0 ≡ step_of track k + 1)
   kept_time i k e entry =
       let own = entry_parts i (k + 1) e entry in
-      let at = entry_visit_at i (k + 1) e entry in (
-        own.0,
-        own.1,
-        in_moves own.0 k own.2,
-        ap (λ x. (get_or visits (get_or places x 0) no_visit).time) (sym at.2) ∙ ap (λ v. v.time) (place-visit at.0 at.1) ∙ ap (λ x. get_or (all_times tt.tracks) x 0) at.2 ∙ own.4 ∙ before_time own.0 k,
-      )
+      (own.0, own.1, in_moves own.0 k own.2, ap (λ l. get_or l e 0) h.are_times ∙ own.4 ∙ before_time own.0 k)
 
-  pub kept_step : (i k e : ℕ) → IsEntry ends i (k + 1) e → slice_get (route_in tt i).steps k ≡ Some ((get_or visits (get_or places e 0) no_visit).time - 1)
+  pub kept_step : (i k e : ℕ) → IsEntry ends i (k + 1) e → slice_get (route_in tt i).steps k ≡ Some (get_or times e 0 - 1)
   kept_step i k e entry =
       let own = kept_time i k e entry in
       let time = own.3 in
@@ -117,16 +96,7 @@ module _ (tt : Timetable) (cells : List Cell) (ends : List ℕ) (visits : List V
   place_of p = cell_of tt.number tt.tracks ends h.arrivals h.step_ends h.line p
 
   rank-visit : (q : ℕ) → q < length h.arrivals → get_or visits (rank h.placing.listed q) no_visit ≡ arrives_at q
-  rank-visit q less = get_or_from_slice_get visits (rank h.placing.listed q) (arrives_at q) no_visit (h.placing.placed.visit q less)
-
-  -- looked up by the visit that stands before
-  before-is : (p q : ℕ) → p < length h.arrivals → q < length h.arrivals → rank h.placing.listed q ≡ rank h.placing.listed p - 1
-      → before_in cells ends visits places (entry_in ends h.arrivals p) ≡ before_by cells ends (arrives_at q) (rank h.placing.listed p) (entry_in ends h.arrivals p)
-  before-is p q in_p in_q place =
-      let entry = entry_in ends h.arrivals p in
-      let own = h.placing.placed.place p in_p in
-      ap (λ n. before_by cells ends (get_or visits (n - 1) no_visit) n entry) own
-      ∙ ap (λ v. before_by cells ends v (rank h.placing.listed p) entry) (ap (λ n. get_or visits n no_visit) (sym place) ∙ rank-visit q in_q)
+  rank-visit q less = get_or_from_slice_get visits (rank h.placing.listed q) (arrives_at q) no_visit (h.placing.placed q less)
 
   own_cell : (p : ℕ) → p < length h.arrivals → get_or cells (entry_in ends h.arrivals p) no_cell ≡ place_of p
   own_cell p less = ap (λ l. get_or l (entry_in ends h.arrivals p) no_cell) h.are_cells
@@ -135,113 +105,109 @@ module _ (tt : Timetable) (cells : List Cell) (ends : List ℕ) (visits : List V
   visit_cell : (q : ℕ) → q < length h.arrivals → get_or cells (begin_in ends (arrives_at q).agent + (arrives_at q).index) no_cell ≡ place_of q
   visit_cell q less = own_cell q less
 
-  before-none : (p q : ℕ) → p < length h.arrivals → q < length h.arrivals → (place_of q ≡ place_of p → ⊥) → before_by cells ends (arrives_at q) (rank h.placing.listed p) (entry_in ends h.arrivals p) ≡ None
-  before-none p q in_p in_q other =
-      let differs = same_cell-false (get_or cells (begin_in ends (arrives_at q).agent + (arrives_at q).index) no_cell) (get_or cells (entry_in ends h.arrivals p) no_cell)
-      (λ same. other (sym (visit_cell q in_q) ∙ same ∙ own_cell p in_p)) in
-      let inner = cond-false (same_cell (get_or cells (begin_in ends (arrives_at q).agent + (arrives_at q).index) no_cell) (get_or cells (entry_in ends h.arrivals p) no_cell))
-      (Some (arrives_at q)) None differs in
-      either (rank h.placing.listed p == 0) (if same_cell (get_or cells (begin_in ends (arrives_at q).agent + (arrives_at q).index) no_cell) (get_or cells (entry_in ends h.arrivals p) no_cell)
-      then Some (arrives_at q) else None) inner
-    where
-      either : (b : _) (o : Option Visit) → o ≡ None → cond b None o ≡ None
-      either true o is = refl
-      either false o is = is
-
-  before-some : (p q : ℕ) → p < length h.arrivals → q < length h.arrivals → 0 < rank h.placing.listed p → place_of q ≡ place_of p
-      → before_by cells ends (arrives_at q) (rank h.placing.listed p) (entry_in ends h.arrivals p) ≡ Some (arrives_at q)
-  before-some p q in_p in_q some same =
-      let equal = same_cell-true (get_or cells (begin_in ends (arrives_at q).agent + (arrives_at q).index) no_cell) (get_or cells (entry_in ends h.arrivals p) no_cell)
-      (visit_cell q in_q ∙ same ∙ sym (own_cell p in_p)) in
-      cond-false (rank h.placing.listed p == 0) None (if same_cell (get_or cells (begin_in ends (arrives_at q).agent + (arrives_at q).index) no_cell) (get_or cells (entry_in ends h.arrivals p) no_cell)
-      then Some (arrives_at q) else None) (ne_eqb (rank h.placing.listed p) 0 (λ none. omega (arith, none, some)))
-      ∙ cond-true (same_cell (get_or cells (begin_in ends (arrives_at q).agent + (arrives_at q).index) no_cell) (get_or cells (entry_in ends h.arrivals p) no_cell)) (Some (arrives_at q)) None equal
-
-  nobody : (p : ℕ) → p < length h.arrivals → tally (take p h.placing.listed) (get_or h.placing.listed p 0) ≡ 0 → before_in cells ends visits places (entry_in ends h.arrivals p) ≡ None
-  nobody p less none =
+  -- what the arrival waits for, by the place of its visit
+  noted : (p : ℕ) → p < length h.arrivals → get_or needs (entry_in ends h.arrivals p) no_wait
+      ≡ wait_of (arrives_at p).agent (before_at visits (begin_in visit_ends (get_or h.placing.listed p 0)) (rank h.placing.listed p))
+  noted p less =
       let listed = h.placing.listed in
       let n = get_or listed p 0 in
-      let is = rank-is listed p n refl in
-      elim (cases_lt 0 (rank listed p)) [
-        | inl some ↦ (
-            let found = ranked listed n (rank listed p - 1) (omega (arith, is, none, some)) in
-            let q = found.0 in
-            let all = h.placing.all in
-            let inside = found.1 in
-            let within : q < length h.arrivals = omega (arith, inside, all) in
-            let lesser = found.3 in
-            before-is p q less within found.2 ∙ before-none p q less within (λ same.
-            let one = h.placing.numbered.distinct (get_or listed q 0) n (place_of p) (h.placing.numbered.named q inside ∙ ap Some same) (h.placing.numbered.named p (omega (arith, less, all))) in
-            omega (arith, one, lesser))
-            )
-        | inr zero_place ↦ (
-            let at : rank listed p ≡ 0 = omega (arith, zero_place) in
-            let own = h.placing.placed.place p less ∙ at in
-            cond-true (get_or places (entry_in ends h.arrivals p) 0 == 0) None _ (eq-eqb (get_or places (entry_in ends h.arrivals p) 0) 0 own)
-            )
-      ]
+      let k = rank listed p in
+      let all = h.placing.all in
+      let within = number-within tt.number tt.tracks ends h.arrivals h.step_ends h.line visits visit_ends h.placing p less in
+      let count = h.placing.end_count in
+      let begin = begin-below tt.number tt.tracks ends h.arrivals h.step_ends h.line visits visit_ends h.placing n within in
+      let end = end-below tt.number tt.tracks ends h.arrivals h.step_ends h.line visits visit_ends h.placing n within in
+      let least = rank-least listed p n refl in
+      let most = rank-most listed p n (omega (arith, less, all)) refl in
+      subst (λ v. get_or needs (entry_for ends v) no_wait ≡ wait_of v.agent (before_at visits (begin_in visit_ends n) k)) (rank-visit p less)
+      (h.are_needs.each n k (omega (arith, within, count)) (omega (arith, begin, least)) (omega (arith, end, most)))
 
-  -- what is looked up is the visit before in the same cell: there was none, or it is that of the arrival just before
+  -- what is noted is what the visit before in the same cell says: there was none, or it is that of the arrival just before
   pub looked_up : (p : ℕ) → p < length h.arrivals
-      → ((tally (take p h.placing.listed) (get_or h.placing.listed p 0) ≡ 0) × (before_in cells ends visits places (entry_in ends h.arrivals p) ≡ None))
-      ⊎ ((q : ℕ) × (q < length h.arrivals) × IsJustBefore tt.number tt.tracks ends h.arrivals h.step_ends h.line visits places visit_ends h.placing h.graphed.conflict_free q p
-      × (before_in cells ends visits places (entry_in ends h.arrivals p) ≡ Some (arrives_at q)))
+      → ((tally (take p h.placing.listed) (get_or h.placing.listed p 0) ≡ 0) × (get_or needs (entry_in ends h.arrivals p) no_wait ≡ no_wait))
+      ⊎ ((q : ℕ) × (q < length h.arrivals) × IsJustBefore tt.number tt.tracks ends h.arrivals h.step_ends h.line visits visit_ends h.placing h.graphed.conflict_free q p
+      × (get_or needs (entry_in ends h.arrivals p) no_wait ≡ wait_of (arrives_at p).agent (Some (arrives_at q))))
   looked_up p less =
       let listed = h.placing.listed in
       let n = get_or listed p 0 in
       let r = tally (take p listed) n in
       let all = h.placing.all in
+      let within = number-within tt.number tt.tracks ends h.arrivals h.step_ends h.line visits visit_ends h.placing p less in
+      let begin = begin-below tt.number tt.tracks ends h.arrivals h.step_ends h.line visits visit_ends h.placing n within in
+      let is = rank-is listed p n refl in
       elim (cases_lt 0 r) [
         | inl some ↦ (
-            let within = tally-within listed p n (omega (arith, less, all)) refl in
-            let found = occurs listed n (r - 1) (omega (arith, some, within)) in
+            let counted = tally-within listed p n (omega (arith, less, all)) refl in
+            let found = occurs listed n (r - 1) (omega (arith, some, counted)) in
             let q = found.0 in
             let inside = found.1.within in
             let in_q : q < length h.arrivals = omega (arith, inside, all) in
             let before = found.1.before in
-            let same = sym (name-of tt.number tt.tracks ends h.arrivals h.step_ends h.line visits places visit_ends h.placing q in_q) ∙ ap (λ m. get_or h.placing.names m no_cell) found.1.key
-            ∙ name-of tt.number tt.tracks ends h.arrivals h.step_ends h.line visits places visit_ends h.placing p less in
+            let same = sym (name-of tt.number tt.tracks ends h.arrivals h.step_ends h.line visits visit_ends h.placing q in_q) ∙ ap (λ m. get_or h.placing.names m no_cell) found.1.key
+            ∙ name-of tt.number tt.tracks ends h.arrivals h.step_ends h.line visits visit_ends h.placing p less in
             let place = occurrence-rank listed n (r - 1) q found.1 in
-            let is = rank-is listed p n refl in
+            let side : rank listed p - 1 ≡ rank listed q = omega (arith, place, is, some) in
             inr (
               q,
               in_q,
               record {
-                before = occurrences-rise tt.number tt.tracks ends h.arrivals h.step_ends h.line visits places visit_ends h.placing n (r - 1) r q p (omega (arith, some)) found.1
+                before = occurrences-rise tt.number tt.tracks ends h.arrivals h.step_ends h.line visits visit_ends h.placing n (r - 1) r q p (omega (arith, some)) found.1
                     (record { within = omega (arith, less, all); key = refl; before = refl });
                 key = found.1.key;
                 cell = same;
                 next = omega (arith, before, some);
               },
-              before-is p q less in_q (omega (arith, place, is, some)) ∙ before-some p q less in_q (omega (arith, is, some)) same,
+              noted p less ∙ ap (wait_of (arrives_at p).agent) (later-is visits (begin_in visit_ends n) (rank listed p) (omega (arith, begin, is, some))
+                  ∙ ap Some (ap (λ k. get_or visits k no_visit) side ∙ rank-visit q in_q)),
             )
             )
-        | inr none ↦ (let zero_before : r ≡ 0 = omega (arith, none) in inl (zero_before, nobody p less zero_before))
+        | inr none ↦ (
+            let zero_before : r ≡ 0 = omega (arith, none) in
+            inl (
+              zero_before,
+              noted p less ∙ ap (wait_of (arrives_at p).agent)
+                  (cond-true (rank listed p == begin_in visit_ends n) None (Some (get_or visits (rank listed p - 1) no_visit)) (eq-eqb (rank listed p) (begin_in visit_ends n) (omega (arith, begin, is, zero_before)))),
+            )
+            )
       ]
 
   -- ---- needs
 
-  pub kept_need : (i k e : ℕ) → IsEntry ends i (k + 1) e → slice_get (route_in tt i).needs k ≡ Some (need_of i (before_in cells ends visits places e))
-  unfolding kept_time entry_parts
+  -- the same need, in the words of the graph and in those of its list
+  same_asked : (i : ℕ) (o : Option Visit) → asked_by (Some (need_of i o)) ≡ asked_of (wait_of i o)
+  same_asked i None = refl
+  same_asked i (Some v) = elim (cases_Bool (v.agent == i)) [
+    | inl own ↦
+        ap (λ n. asked_by (Some n)) (cond-true (v.agent == i) None (Some (record { agent = v.agent; count = v.index + 1 })) own)
+        ∙ sym (ap asked_of (cond-true (v.agent == i) no_wait (record { agent = v.agent; count = v.index + 1 }) own))
+    | inr other ↦
+        ap (λ n. asked_by (Some n)) (cond-false (v.agent == i) None (Some (record { agent = v.agent; count = v.index + 1 })) other)
+        ∙ sym (cond-false (v.index + 1 == 0) None (Some (v.agent, v.index + 1)) (ne_eqb (v.index + 1) 0 (λ none. omega (arith, none))))
+        ∙ sym (ap asked_of (cond-false (v.agent == i) no_wait (record { agent = v.agent; count = v.index + 1 }) other))
+  ]
+
+  pub kept_need : (i k e : ℕ) → IsEntry ends i (k + 1) e → asked_by (slice_get (route_in tt i).needs k) ≡ asked_of (get_or needs e no_wait)
   kept_need i k e entry =
-      let own = kept_time i k e entry in
-      let track = own.0 in
+      let parts = entry_parts i (k + 1) e entry in
+      let track = parts.0 in
       let at = entry_visit_at i (k + 1) e entry in
       let p = at.0 in
       let less = at.1 in
       let s = step_of track k in
-      let time : (arrives_at p).time ≡ s + 1 = ap (λ v. v.time) (sym (place-visit p less)) ∙ ap (λ x. (get_or visits (get_or places x 0) no_visit).time) at.2 ∙ own.3 in
-      let parts = entry_parts i (k + 1) e entry in
+      let own = subst (IsEntry ends (arrives_at p).agent (arrives_at p).index) at.2 (h.line.schedule.entries p less) in
+      let agent = (entry-one tt.tracks (all_entered tt.tracks) (all_times tt.tracks) ends h.line.paths (arrives_at p).agent i (arrives_at p).index (k + 1) e own entry).0 in
+      let time : (arrives_at p).time ≡ s + 1 = ap (λ x. get_or (all_times tt.tracks) x 0) at.2 ∙ parts.4 ∙ before_time track k in
       let cell : place_of p ≡ cell_at track (s + 1) = ap (λ x. get_or (all_entered tt.tracks) x no_cell) at.2 ∙ parts.3
       ∙ arrival-cell track (k + 1) (s + 1) no_cell (subst (IsArrival track (k + 1)) (before_time track k) (arrives track (k + 1) parts.2)) in
-      ap (λ o. slice_get (route_by tt i o).needs k) own.1 ∙ of_moves (need tt i track) k (moves track) own.2
-      ∙ ap Some (elim (looked_up p less) [
+      ap asked_by (ap (λ o. slice_get (route_by tt i o).needs k) parts.1 ∙ of_moves (need tt i track) k (moves track) (in_moves track k parts.2))
+      ∙ (elim (looked_up p less) [
         | inl none ↦
-            need_none tt.number tt.tracks ends h.arrivals h.step_ends h.line visits places visit_ends h.placing h.graphed.conflict_free p i k s track less refl time cell none.0
-            ∙ ap (need_of i) (sym none.1 ∙ ap (before_in cells ends visits places) at.2)
+            ap (λ n. asked_by (Some n)) (need_none tt.number tt.tracks ends h.arrivals h.step_ends h.line visits visit_ends h.placing h.graphed.conflict_free p i k s track less refl time cell none.0)
+            ∙ sym (ap asked_of (sym (ap (λ x. get_or needs x no_wait) at.2) ∙ none.1))
         | inr some ↦
-            need_some tt.number tt.tracks ends h.arrivals h.step_ends h.line visits places visit_ends h.placing h.graphed.conflict_free some.0 p i k s track some.1 less refl time cell some.2
-            ∙ ap (need_of i) (sym some.3 ∙ ap (before_in cells ends visits places) at.2)
+            ap (λ n. asked_by (Some n)) (need_some tt.number tt.tracks ends h.arrivals h.step_ends h.line visits visit_ends h.placing h.graphed.conflict_free some.0 p i k s track some.1 less refl time cell some.2)
+            ∙ same_asked i (Some (arrives_at some.0))
+            ∙ sym (ap asked_of (sym (ap (λ x. get_or needs x no_wait) at.2) ∙ some.3 ∙ ap (λ j. wait_of j (Some (arrives_at some.0))) agent))
       ])
 
   -- ---- where there is no such entry
@@ -284,32 +250,16 @@ module _ (tt : Timetable) (cells : List Cell) (ends : List ℕ) (visits : List V
   pub begins_before : (i : ℕ) → i < length ends → begin_in ends i ≤ get_or ends i 0
   begins_before i less = begin_most tt.tracks (all_entered tt.tracks) (all_times tt.tracks) ends h.line.paths i less
 
-  pub entry_inside : (i k e : ℕ) → IsEntry ends i k e → (e < length cells) × (e < length places)
+  pub entry_inside : (i k e : ℕ) → IsEntry ends i k e → (e < length cells) × (e < length times) × (e < length needs)
   entry_inside i k e entry =
       let within = entry-within tt.tracks (all_entered tt.tracks) (all_times tt.tracks) ends h.line.paths i k e entry in
       let same = ap length h.are_cells in
-      let count = h.placing.place_count in
-      let scheduled = h.line.schedule.count in
-      let times = same_count tt.tracks (all_entered tt.tracks) (all_times tt.tracks) ends h.line.paths in
-      (omega (arith, within, same), omega (arith, within, count, scheduled, times))
-
-  pub places_count : length places ≡ length cells
-  places_count =
-      let same = ap length h.are_cells in
-      let count = h.placing.place_count in
-      let scheduled = h.line.schedule.count in
-      let times = same_count tt.tracks (all_entered tt.tracks) (all_times tt.tracks) ends h.line.paths in
-      omega (arith, same, count, scheduled, times)
-
-  pub place_inside : (i k e : ℕ) → IsEntry ends i k e → get_or places e 0 < length visits
-  place_inside i k e entry =
-      let at = entry_visit_at i k e entry in
-      let own = ap (λ x. get_or places x 0) (sym at.2) ∙ h.placing.placed.place at.0 at.1 in
-      let less = at.1 in
-      let all = h.placing.all in
-      let within = rank-within h.placing.listed (length h.placing.counts) at.0 h.placing.numbered.known (omega (arith, less, all)) in
+      let timed = ap length h.are_times in
+      let noted_all = h.are_needs.count in
       let count = h.placing.visit_count in
-      omega (arith, own, within, all, count)
+      let scheduled = h.line.schedule.count in
+      let all = same_count tt.tracks (all_entered tt.tracks) (all_times tt.tracks) ends h.line.paths in
+      (omega (arith, within, same), omega (arith, within, timed, all), omega (arith, within, noted_all, count, scheduled, all))
 
   -- each visit is one of the entries
   pub visit_inside : (n : ℕ) → n < length visits → ((get_or visits n no_visit).agent < length ends)
@@ -366,7 +316,7 @@ module _ (tt : Timetable) (cells : List Cell) (ends : List ℕ) (visits : List V
   -- ---- the visits
 
   pub kept_visits : AreAllVisits tt (listing 0 h.placing.names visit_ends visits)
-  kept_visits = all_visits tt.number tt.tracks ends h.arrivals h.step_ends h.line visits places visit_ends h.placing h.graphed.conflict_free
+  kept_visits = all_visits tt.number tt.tracks ends h.arrivals h.step_ends h.line visits visit_ends h.placing h.graphed.conflict_free
 
   pub kept_count : length visit_ends ≡ length (listing 0 h.placing.names visit_ends visits)
   kept_count = h.placing.end_count ∙ sym (listing-count 0 h.placing.names visit_ends visits h.placing.end_count)
@@ -392,16 +342,16 @@ module _ (tt : Timetable) (cells : List Cell) (ends : List ℕ) (visits : List V
       let count = h.placing.numbered.count in
       let found = h.placing.numbered.occurs n (omega (arith, within, count)) in
       let some = tally-within listed found.0 n found.1 found.2 in
-      let first = part-visit tt.number tt.tracks ends h.arrivals h.step_ends h.line visits places visit_ends h.placing n 0 within (omega (arith, some)) in
+      let first = part-visit tt.number tt.tracks ends h.arrivals h.step_ends h.line visits visit_ends h.placing n 0 within (omega (arith, some)) in
       let q = first.0 in
-      let begin = begin-below tt.number tt.tracks ends h.arrivals h.step_ends h.line visits places visit_ends h.placing n within in
-      let end = end-below tt.number tt.tracks ends h.arrivals h.step_ends h.line visits places visit_ends h.placing n within in
+      let begin = begin-below tt.number tt.tracks ends h.arrivals h.step_ends h.line visits visit_ends h.placing n within in
+      let end = end-below tt.number tt.tracks ends h.arrivals h.step_ends h.line visits visit_ends h.placing n within in
       let next : below listed (suc n) ≡ below listed n + tally listed n = refl in
-      let most = part-within tt.number tt.tracks ends h.arrivals h.step_ends h.line visits places visit_ends h.placing n within in
+      let most = part-within tt.number tt.tracks ends h.arrivals h.step_ends h.line visits visit_ends h.placing n within in
       let place = occurrence-rank listed n 0 q first.1 in
       let is : get_or visits (begin_in visit_ends n) no_visit ≡ arrives_at q = ap (λ k. get_or visits k no_visit) (omega (arith, begin, place)) ∙ rank-visit q first.2 in
       let cell : get_or h.placing.names n no_cell ≡ get_or cells (begin_in ends (get_or visits (begin_in visit_ends n) no_visit).agent + (get_or visits (begin_in visit_ends n) no_visit).index) no_cell =
-      sym (at-cell tt.number tt.tracks ends h.arrivals h.step_ends h.line visits places visit_ends h.placing n 0 q first.2 first.1) ∙ sym (visit_cell q first.2)
+      sym (at-cell tt.number tt.tracks ends h.arrivals h.step_ends h.line visits visit_ends h.placing n 0 q first.2 first.1) ∙ sym (visit_cell q first.2)
       ∙ ap (λ v. get_or cells (begin_in ends v.agent + v.index) no_cell) (sym is) in (
         omega (arith, begin, end, next, some),
         omega (arith, end, most),

@@ -11,6 +11,7 @@ pub mod PlacingLemmas
 pub mod PositionLemmas
 pub mod BlockLemmas
 pub mod WaitLemmas
+pub mod NoteLemmas
 pub mod KeptLemmas
 pub mod RingLemmas
 pub mod WalkLemmas

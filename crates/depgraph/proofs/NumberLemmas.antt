@@ -1,9 +1,9 @@
 -- A cell's number in a set of cells.
-use Rattle.std.proofs.Common.{◌≡◌, ℕ, zero, suc, ◌+◌, ◌-◌, ◌<◌, ◌≤◌, Bool, true, false, List, [], ◌∷◌, ◌++◌, length, get_or, set, take, Some, inl, inr, arith, refl, sym, ap, subst, ◌∙◌}
+use Rattle.std.proofs.Common.{◌≡◌, ℕ, ◌+◌, ◌<◌, ◌≤◌, Bool, true, false, List, [], ◌∷◌, ◌++◌, length, get_or, set, take, Some, inl, inr, arith, refl, sym, ap, subst, ◌∙◌}
 use Rattle.std.specs.Prelude.{not, if◌then◌else◌, slice_get}
 use Rattle.std.specs.List.{list_any, IsDistinct}
 use Rattle.std.proofs.lemmas.Bool.{cases_lt, cases_Bool, cond-true, cond-false, false≢true, true≢false}
-use Rattle.std.proofs.lemmas.List.{length-append, get_or_push, get_or_append_left, take_all, get_or_past, get_or-set_same, get_or-set_other, length-set, get_or_default, ext_get_or, length-map, get_or-map}
+use Rattle.std.proofs.lemmas.List.{length-append, get_or_push, get_or_append_left, take_all, get_or_past, get_or-set_same, get_or-set_other, length-set, get_or_default}
 use Rattle.std.proofs.Math.Seq.{take-append_seam}
 use Rattle.std.proofs.lemmas.Map.Keys.{apart_from_distinct}
 use Rattle.std.proofs.lemmas.Option.{slice_get-get_or, slice_get_within, get_or_from_slice_get}
@@ -11,9 +11,9 @@ use Rattle.grid.specs.declared.cell.Cell.{Cell}
 use Rattle.model.specs.Timetable.{same_cell}
 use Rattle.model.proofs.TrackLemmas.{same_cell-same, same_cell-true}
 use Rattle.depgraph.specs.declared.schedule.Arrival.{Arrival}
-use Rattle.depgraph.specs.Code.Numbers.{no_cell, AreDistinct, HasNumber, AreNumbered, numbers_in}
+use Rattle.depgraph.specs.Code.Numbers.{no_cell, AreDistinct, HasNumber, AreNumbered}
 use Rattle.depgraph.specs.Code.Ranks.{tally}
-use Rattle.depgraph.specs.Code.Schedules.{no_arrival, entry_of, entry_in}
+use Rattle.depgraph.specs.Code.Schedules.{entry_in}
 use Rattle.depgraph.proofs.RankLemmas.{tallied-next, tally-none}
 
 pub distinct_cells : (names : List Cell) → IsDistinct same_cell names → AreDistinct names
@@ -225,18 +225,3 @@ module _ (cells : List Cell) (ends : List ℕ) (arrivals : List Arrival) (names 
           | inl within ↦ was.counted m within
           | inr past ↦ get_or_past counts m 0 (omega (arith, past)) ∙ sym (tally-none listed m (λ e less same. let known = was.known e less in omega (arith, known, same, past)))
         ]
-
--- the numbers that were listed are those of the entries
-pub listed_numbers : (ends : List ℕ) (arrivals : List Arrival) (numbers listed : List ℕ) → length listed ≡ length arrivals
-    → ((p : ℕ) → p < length listed → get_or numbers (entry_in ends arrivals p) 0 ≡ get_or listed p 0) → listed ≡ numbers_in ends arrivals numbers
-listed_numbers ends arrivals numbers listed count h =
-    let long = length-map arrivals (λ a. get_or numbers (entry_of ends a) 0) in
-    ext_get_or 0 listed (numbers_in ends arrivals numbers) (count ∙ sym long) (λ p less.
-    sym (h p less) ∙ sym (get_or-map (λ a. get_or numbers (entry_of ends a) 0) arrivals p no_arrival 0 (omega (arith, less, count))))
-
-pub number_in : (ends : List ℕ) (arrivals : List Arrival) (numbers : List ℕ) (p : ℕ) → p < length arrivals
-    → get_or (numbers_in ends arrivals numbers) p 0 ≡ get_or numbers (entry_in ends arrivals p) 0
-number_in ends arrivals numbers p less = get_or-map (λ a. get_or numbers (entry_of ends a) 0) arrivals p no_arrival 0 less
-
-pub count_numbers : (ends : List ℕ) (arrivals : List Arrival) (numbers : List ℕ) → length (numbers_in ends arrivals numbers) ≡ length arrivals
-count_numbers ends arrivals numbers = length-map arrivals (λ a. get_or numbers (entry_of ends a) 0)

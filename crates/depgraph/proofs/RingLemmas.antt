@@ -1,9 +1,9 @@
 -- Elements of lists by their places: after a push, after a write, and in a ring.
-use Rattle.std.proofs.Common.{◌≡◌, ℕ, zero, suc, ◌+◌, ◌-◌, ◌<◌, ◌≤◌, List, [], ◌∷◌, ◌++◌, length, get_or, Some, inl, inr, arith, refl, sym, ap, ◌∙◌}
+use Rattle.std.proofs.Common.{◌≡◌, ℕ, zero, suc, ◌+◌, ◌-◌, ◌<◌, ◌≤◌, List, [], ◌∷◌, ◌++◌, length, get_or, take, drop, Some, inl, inr, arith, refl, sym, ap, ◌∙◌}
 use Rattle.std.specs.Prelude.{◌⊎◌, nat_lt, slice_get}
 use Rattle.std.proofs.Math.ListN.{set}
 use Rattle.std.proofs.lemmas.Bool.{cases_lt, lt-ltb, le-ltb, cond-true, cond-false}
-use Rattle.std.proofs.lemmas.List.{same_lists}
+use Rattle.std.proofs.lemmas.List.{same_lists, take_all, take-append-le}
 use Rattle.std.proofs.lemmas.Option.{none-some, same_Some, slice_get-get_or, slice_get_within}
 use Rattle.model.specs.Dependency.{following}
 
@@ -84,3 +84,7 @@ followed agents (suc place) i h =
 pub same_agents : (xs ys : List ℕ) → length xs ≡ length ys → ((k : ℕ) → k < length xs → slice_get xs k ≡ slice_get ys k) → xs ≡ ys
 same_agents xs ys long same = same_lists xs ys long (λ k d less.
     same_Some (get_or xs k d) (get_or ys k d) (sym (slice_get-get_or xs k d less) ∙ same k less ∙ slice_get-get_or ys k d (omega (arith, less, long))))
+
+-- a list that was lent whole has what was written
+pub written : {X : Type 0} (len : ℕ) (old new : List X) → len ≡ length old → length new ≡ length old → take len (new ++ drop (length new) old) ≡ new
+written len old new is same = take-append-le len new (drop (length new) old) (omega (arith, is, same)) ∙ take_all len new (omega (arith, is, same))

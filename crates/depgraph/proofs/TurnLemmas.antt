@@ -1,6 +1,6 @@
 -- The cycles of the links of a step are its rotations.
-use Rattle.std.proofs.Common.{◌≡◌, ℕ, zero, suc, ◌+◌, ◌-◌, ◌<◌, ◌≤◌, List, [], ◌∷◌, ◌++◌, length, get_or, Some, None, inl, inr, arith, refl, sym, ap, subst, ◌∙◌}
-use Rattle.std.specs.Prelude.{◌⊎◌, Option, ◌==◌, slice_get}
+use Rattle.std.proofs.Common.{◌≡◌, ℕ, zero, suc, ◌+◌, ◌-◌, ◌<◌, ◌≤◌, List, [], ◌∷◌, ◌++◌, length, get_or, Some, inl, inr, arith, refl, sym, ap, subst, ◌∙◌}
+use Rattle.std.specs.Prelude.{◌⊎◌, ◌==◌, slice_get}
 use Rattle.std.proofs.lemmas.Bool.{cases_Bool, false≢true, cases_lt, cases_eq, cond-true, cond-false, eq-eqb, ne_eqb}
 use Rattle.std.proofs.lemmas.Option.{same_Some, none-some, slice_get-get_or, slice_get_within}
 use Rattle.grid.specs.declared.cell.Cell.{Cell}
@@ -11,16 +11,18 @@ use Rattle.model.proofs.NeedLemmas.{stands-from}
 use Rattle.model.proofs.TrackLemmas.{same_cell-same, same_cell-true, moves-stay, moves_at-start}
 use Rattle.depgraph.specs.Rotations.{Turn, TurnsBefore, AreRotations}
 use Rattle.depgraph.specs.Code.Cycles.{nobody, Leads, AreLinks, AreMovers, IsCycle, turns_in, IsWithCycles}
-use Rattle.depgraph.specs.Code.Keeping.{before_in, IsKept}
+use Rattle.depgraph.specs.declared.waiting.Wait.{Wait}
+use Rattle.depgraph.specs.Code.Keeping.{IsKept}
 use Rattle.depgraph.specs.Code.Paths.{all_entered, all_times}
 use Rattle.depgraph.specs.Code.Ranks.{below}
 use Rattle.depgraph.specs.Code.Schedules.{entry_in}
 use Rattle.depgraph.specs.Code.Turning.{agent_in, AreApart, ahead_by, ahead_in, AreLinked, AreMoved, AreCounts}
+use Rattle.depgraph.specs.Code.Waits.{no_wait}
 use Rattle.depgraph.proofs.PlacingLemmas.{time_at}
 use Rattle.depgraph.proofs.PositionLemmas.{arrivals-rise}
 use Rattle.depgraph.proofs.RankLemmas.{below-up_to, below-all}
 use Rattle.depgraph.proofs.RingLemmas.{one_at, following-next, following-first}
-use Rattle.depgraph.proofs.RotationLemmas.{visit_of, is_visit, time_bounds, mover-arrival, into-before, before-into, before_agent}
+use Rattle.depgraph.proofs.RotationLemmas.{visit_of, is_visit, time_bounds, mover-arrival, into-waits, waits-into, wait_agent}
 use Rattle.depgraph.proofs.ScheduleLemmas.{same_count, arrival-within}
 use Rattle.depgraph.proofs.StepLemmas.{between}
 use Rattle.depgraph.proofs.WalkLemmas.{cycle-leads}
@@ -31,16 +33,15 @@ cases_same c d = elim (cases_Bool (same_cell c d)) [
   | inr other ↦ inr (λ is. false≢true (sym other ∙ same_cell-true c d is))
 ]
 
--- ---- who is ahead, by the visit before
+-- ---- who is ahead, by what is waited for
 
-ahead-there : (latest : List ℕ) (v : Visit) → get_or latest v.agent 0 ≡ v.index → ahead_by latest (Some v) ≡ v.agent
-ahead-there latest v is = cond-true (get_or latest v.agent 0 == v.index) v.agent nobody (eq-eqb (get_or latest v.agent 0) v.index is)
+ahead-there : (latest : List ℕ) (w : Wait) → get_or latest w.agent 0 + 1 ≡ w.count → ahead_by latest w ≡ w.agent
+ahead-there latest w is = cond-true (get_or latest w.agent 0 + 1 == w.count) w.agent nobody (eq-eqb (get_or latest w.agent 0 + 1) w.count is)
 
-ahead-cases : (latest : List ℕ) (o : Option Visit) → (ahead_by latest o ≡ nobody) ⊎ ((v : Visit) × (o ≡ Some v) × (get_or latest v.agent 0 ≡ v.index) × (ahead_by latest o ≡ v.agent))
-ahead-cases latest None = inl refl
-ahead-cases latest (Some v) = elim (cases_eq (get_or latest v.agent 0) v.index) [
-  | inl same ↦ inr (v, refl, same, ahead-there latest v same)
-  | inr other ↦ inl (cond-false (get_or latest v.agent 0 == v.index) v.agent nobody (ne_eqb (get_or latest v.agent 0) v.index other))
+ahead-cases : (latest : List ℕ) (w : Wait) → (ahead_by latest w ≡ nobody) ⊎ ((get_or latest w.agent 0 + 1 ≡ w.count) × (ahead_by latest w ≡ w.agent))
+ahead-cases latest w = elim (cases_eq (get_or latest w.agent 0 + 1) w.count) [
+  | inl same ↦ inr (same, ahead-there latest w same)
+  | inr other ↦ inl (cond-false (get_or latest w.agent 0 + 1 == w.count) w.agent nobody (ne_eqb (get_or latest w.agent 0 + 1) w.count other))
 ]
 
 -- ---- the rotations of the steps so far
@@ -144,14 +145,14 @@ below-next tt s ahead before after is_rotation is_cycle was more = record {
   split : (n : ℕ) (r : Turn) → slice_get after n ≡ Some r → (slice_get before n ≡ Some r) ⊎ ((m : ℕ) × (n ≡ length before + m) × (slice_get (turns_in s more.cycles) m ≡ Some r))
   split n r there = append-cases before (turns_in s more.cycles) n r (ap (λ l. slice_get l n) (sym more.behind) ∙ there)
 
-module _ (tt : Timetable) (cells : List Cell) (ends : List ℕ) (visits : List Visit) (places visit_ends : List ℕ) (h : IsKept tt cells ends visits places visit_ends) where
+module _ (tt : Timetable) (cells : List Cell) (times ends : List ℕ) (needs : List Wait) (visits : List Visit) (visit_ends : List ℕ) (h : IsKept tt cells times ends needs visits visit_ends) where
   abbrev begin_at : ℕ → ℕ
   begin_at t = below (all_times tt.tracks) t
 
   agents_count : length ends ≡ length tt.tracks
   agents_count = h.line.paths.count
 
-  visit_time : (p t : ℕ) → p < length h.arrivals → begin_at t ≤ p → p < begin_at (suc t) → (visit_of tt cells ends visits places visit_ends h p).time ≡ t
+  visit_time : (p t : ℕ) → p < length h.arrivals → begin_at t ≤ p → p < begin_at (suc t) → (visit_of tt cells times ends needs visits visit_ends h p).time ≡ t
   visit_time p t less after before = time_at tt.tracks ends h.arrivals h.step_ends h.placing.listed h.line h.placing.all p t less after before
 
   all_arrivals : (t : ℕ) → t ≤ length h.step_ends → begin_at t ≤ length h.arrivals
@@ -187,24 +188,24 @@ module _ (tt : Timetable) (cells : List Cell) (ends : List ℕ) (visits : List V
   -- ---- the links of a step
 
   module _ (s : ℕ) (latest ahead movers : List ℕ) (in_time : s + 1 < length h.step_ends) (counts : AreCounts tt s latest) (long : length ahead ≡ length ends)
-      (links : AreLinked (ahead_in cells ends visits places latest h.arrivals) h.arrivals (begin_at (s + 1)) (begin_at (suc (s + 1))) ahead movers) where
+      (links : AreLinked (ahead_in ends needs latest h.arrivals) h.arrivals (begin_at (s + 1)) (begin_at (suc (s + 1))) ahead movers) where
     in_arrivals : (p : ℕ) → p < begin_at (suc (s + 1)) → p < length h.arrivals
     in_arrivals p before = (let all = all_arrivals (suc (s + 1)) (omega (arith, in_time)) in omega (arith, before, all))
 
     -- who moves into a cell has a link to the agent that stands there
     pub into-leads : (i j : ℕ) → MovesInto tt s i j → Leads ahead i j
     into-leads i j into =
-        let found = mover-arrival tt cells ends visits places visit_ends h i s into.from into.is_from into.moves in
+        let found = mover-arrival tt cells times ends needs visits visit_ends h i s into.from into.is_from into.moves in
         let p = found.0 in
-        let bounds = time_bounds tt cells ends visits places visit_ends h p (s + 1) found.1 found.3 in
-        let before = into-before tt cells ends visits places visit_ends h i j s p found.1 found.2 found.3 into in
-        let v = before.0 in
+        let bounds = time_bounds tt cells times ends needs visits visit_ends h p (s + 1) found.1 found.3 in
+        let w = get_or needs (entry_in ends h.arrivals p) no_wait in
+        let waits = into-waits tt cells times ends needs visits visit_ends h i j s p found.1 found.2 found.3 into in
         let known = agent_known j into.to into.is_to in
         let count = agents_count in
         let few = h.line.few.agents in
         let each = counts.each j (omega (arith, known, count)) in
-        let latest_v : get_or latest v.agent 0 ≡ v.index = ap (λ x. get_or latest x 0) before.2 ∙ each ∙ sym before.3 in (
-          ap (slice_get ahead) (sym found.2) ∙ links.linked p bounds.0 bounds.1 ∙ ap Some (ap (ahead_by latest) before.1 ∙ ahead-there latest v latest_v ∙ before.2),
+        let latest_w : get_or latest w.agent 0 + 1 ≡ w.count = ap (λ x. get_or latest x 0 + 1) waits.0 ∙ ap (λ n. n + 1) each ∙ sym waits.1 in (
+          ap (slice_get ahead) (sym found.2) ∙ links.linked p bounds.0 bounds.1 ∙ ap Some (ahead-there latest w latest_w ∙ waits.0),
           λ none. omega (arith, none, known, few),
         )
 
@@ -216,15 +217,15 @@ module _ (tt : Timetable) (cells : List Cell) (ends : List ℕ) (visits : List V
           let p = found.0 in
           let less = in_arrivals p found.2 in
           let time = visit_time p (s + 1) less found.1 found.2 in
-          let told = same_Some j (ahead_in cells ends visits places latest h.arrivals p) (sym leads.0 ∙ ap (slice_get ahead) (sym found.3) ∙ links.linked p found.1 found.2) in
-          elim (ahead-cases latest (before_in cells ends visits places (entry_in ends h.arrivals p))) [
+          let told = same_Some j (ahead_in ends needs latest h.arrivals p) (sym leads.0 ∙ ap (slice_get ahead) (sym found.3) ∙ links.linked p found.1 found.2) in
+          let w = get_or needs (entry_in ends h.arrivals p) no_wait in
+          elim (ahead-cases latest w) [
             | inl none ↦ absurd (leads.1 (told ∙ none))
             | inr some ↦ (
-                let v = some.0 in
-                let own = before_agent tt cells ends visits places visit_ends h p v less some.1 in
+                let own = wait_agent tt cells times ends needs visits visit_ends h p less in
                 let count = agents_count in
-                let into = before-into tt cells ends visits places visit_ends h s p v less time some.1 (sym some.2 ∙ counts.each v.agent (omega (arith, own, count))) in
-                subst (λ x. MovesInto tt s x j) found.3 (subst (MovesInto tt s (agent_in h.arrivals p)) (sym (told ∙ some.3)) into)
+                let into = waits-into tt cells times ends needs visits visit_ends h s p less time (sym some.0 ∙ ap (λ n. n + 1) (counts.each w.agent (omega (arith, own, count)))) in
+                subst (λ x. MovesInto tt s x j) found.3 (subst (MovesInto tt s (agent_in h.arrivals p)) (sym (told ∙ some.1)) into)
                 )
           ]
           )
@@ -262,8 +263,8 @@ module _ (tt : Timetable) (cells : List Cell) (ends : List ℕ) (visits : List V
           );
       whole = λ i j leads. (
           let into = leads-into i j leads in
-          let found = mover-arrival tt cells ends visits places visit_ends h i s into.from into.is_from into.moves in
-          let bounds = time_bounds tt cells ends visits places visit_ends h found.0 (s + 1) found.1 found.3 in
+          let found = mover-arrival tt cells times ends needs visits visit_ends h i s into.from into.is_from into.moves in
+          let bounds = time_bounds tt cells times ends needs visits visit_ends h found.0 (s + 1) found.1 found.3 in
           let after = bounds.0 in
           let before = bounds.1 in
           let count = links.count in
@@ -336,7 +337,7 @@ module _ (tt : Timetable) (cells : List Cell) (ends : List ℕ) (visits : List V
               let before = found.2 in
               let within : p < length h.arrivals = omega (arith, before, all) in
               let time = visit_time p (s + 1) within found.1 found.2 in
-              let v = is_visit tt cells ends visits places visit_ends h p within in
+              let v = is_visit tt cells times ends needs visits visit_ends h p within in
               let is = same_Some v.track track (sym v.is_track ∙ ap (track_of tt) found.3 ∙ own.1) in
               ap (λ x. get_or more x 0) (sym found.3) ∙ moved.moved p found.1 found.2 ∙ sym v.is_index ∙ ap (moves_before v.track) time ∙ ap (λ t. moves_before t (s + 1)) is
               ∙ sym (ap (λ o. moves_in o (s + 1)) own.1)
@@ -352,8 +353,8 @@ module _ (tt : Timetable) (cells : List Cell) (ends : List ℕ) (visits : List V
     stays i track is none next = elim (cases_same (cell_at track s) (cell_at track (s + 1))) [
       | inl same ↦ same ∙ ap (cell_at track) next
       | inr moves ↦ absurd (
-          let found = mover-arrival tt cells ends visits places visit_ends h i s track is moves in
-          let bounds = time_bounds tt cells ends visits places visit_ends h found.0 (s + 1) found.1 found.3 in
+          let found = mover-arrival tt cells times ends needs visits visit_ends h i s track is moves in
+          let bounds = time_bounds tt cells times ends needs visits visit_ends h found.0 (s + 1) found.1 found.3 in
           none found.0 bounds.0 bounds.1 found.2
           )
     ]
@@ -405,7 +406,7 @@ module _ (tt : Timetable) (cells : List Cell) (ends : List ℕ) (visits : List V
       let first = one_at agents 0 (omega (arith, three)) in
       let second = one_at agents 1 (omega (arith, three)) in
       let into = r.cycle 0 first.0 second.0 first.1 (following-next agents 0 (omega (arith, three)) ∙ second.1) in
-      let found = mover-arrival tt cells ends visits places visit_ends h first.0 s into.from into.is_from into.moves in
+      let found = mover-arrival tt cells times ends needs visits visit_ends h first.0 s into.from into.is_from into.moves in
       let within = arrival-within tt.tracks (all_entered tt.tracks) (all_times tt.tracks) ends h.arrivals found.0 h.line.paths h.line.schedule found.1 in
       let same = same_count tt.tracks (all_entered tt.tracks) (all_times tt.tracks) ends h.line.paths in
       let most = h.line.within (entry_in ends h.arrivals found.0) (omega (arith, within, same)) in
@@ -427,11 +428,11 @@ module _ (tt : Timetable) (cells : List Cell) (ends : List ℕ) (visits : List V
     pub cycle : (agents : List ℕ) → IsRotation tt s agents → IsCycle ahead agents
 
   pub step-links : (s begin end : ℕ) (latest given ahead movers : List ℕ) → s + 1 < length h.step_ends → begin ≡ get_or h.step_ends s 0 → end ≡ get_or h.step_ends (s + 1) 0
-      → AreCounts tt s latest → given ≡ latest → length ahead ≡ length ends → AreLinked (ahead_in cells ends visits places given h.arrivals) h.arrivals begin end ahead movers
+      → AreCounts tt s latest → given ≡ latest → length ahead ≡ length ends → AreLinked (ahead_in ends needs given h.arrivals) h.arrivals begin end ahead movers
       → IsStep s ahead movers
   step-links s begin end latest given ahead movers less is_begin is_end counts same long linked =
-      let links = links-at s begin end (ahead_in cells ends visits places latest h.arrivals) ahead movers less is_begin is_end
-      (subst (λ l. AreLinked (ahead_in cells ends visits places l h.arrivals) h.arrivals begin end ahead movers) same linked) in
+      let links = links-at s begin end (ahead_in ends needs latest h.arrivals) ahead movers less is_begin is_end
+      (subst (λ l. AreLinked (ahead_in ends needs l h.arrivals) h.arrivals begin end ahead movers) same linked) in
       record {
         links = are_links s latest ahead movers less counts long links;
         movers_in = are_movers s latest ahead movers less counts long links;

@@ -25,7 +25,7 @@ same_place track s t same =
     sym (cell-visit track.start track.later s track.start) ∙ ap (λ n. get_or (path track) n track.start) same ∙ cell-visit track.start track.later t track.start
 
 module _ (number : ℕ) (tracks : List Track) (ends : List ℕ) (arrivals : List Arrival) (step_ends : List ℕ) (line : IsTimeline tracks ends arrivals step_ends)
-    (visits : List Visit) (places visit_ends : List ℕ) (h : IsPlacing tracks ends arrivals visits places visit_ends)
+    (visits : List Visit) (visit_ends : List ℕ) (h : IsPlacing tracks ends arrivals visits visit_ends)
     (free : IsConflictFree (table number tracks ends arrivals step_ends line)) where
   abbrev pub tt : Timetable
   tt = table number tracks ends arrivals step_ends line
@@ -36,7 +36,7 @@ module _ (number : ℕ) (tracks : List Track) (ends : List ℕ) (arrivals : List
   abbrev pub cell_in : ℕ → Cell
   cell_in p = cell_of number tracks ends arrivals step_ends line p
 
-  visit_stands : (p : ℕ) → p < length arrivals → Stands tt (visit_of p).agent (visit_of p).time (cell_in p)
+  pub visit_stands : (p : ℕ) → p < length arrivals → Stands tt (visit_of p).agent (visit_of p).time (cell_in p)
   visit_stands p less =
       let v = arrival-visit number tracks ends arrivals step_ends line p less in
       stands-from tt (visit_of p).agent (visit_of p).time (cell_in p) v.track v.is_track v.is_there
@@ -88,7 +88,7 @@ module _ (number : ℕ) (tracks : List Track) (ends : List ℕ) (arrivals : List
       let same = found.2 ∙ sym cell in
       let before = earlier-before q p found.1 in_p same (omega (arith, most, below, time)) in
       let all = h.all in
-      let key = one_number number tracks ends arrivals step_ends line visits places visit_ends h q p found.1 in_p same in
+      let key = one_number number tracks ends arrivals step_ends line visits visit_ends h q p found.1 in_p same in
       let more = tally-same h.listed q (get_or h.listed p 0) (omega (arith, before, in_p, all)) key in
       let rises = tally-up_to h.listed (q + 1) p (get_or h.listed p 0) (omega (arith, before)) (omega (arith, in_p, all)) in
       absurd (omega (arith, more, rises, none))
@@ -124,7 +124,7 @@ module _ (number : ℕ) (tracks : List Track) (ends : List ℕ) (arrivals : List
       let below = last.1 in
       let same = found.2 ∙ sym cell in
       let before = earlier-before x p found.1 in_p same (omega (arith, most, below, time)) in
-      let key = one_number number tracks ends arrivals step_ends line visits places visit_ends h x p found.1 in_p same in
+      let key = one_number number tracks ends arrivals step_ends line visits visit_ends h x p found.1 in_p same in
       let one : q ≡ x = (elim (cases_lt q x) [
         | inl after ↦ absurd (none_between q x p in_p just after before key)
         | inr not_after ↦ elim (cases_lt x q) [

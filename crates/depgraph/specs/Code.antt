@@ -16,6 +16,8 @@ pub mod Schedules
 pub mod Numbers
 -- visits in their places
 pub mod Placing
+-- what the moves wait for
+pub mod Waits
 -- what a graph keeps
 pub mod Keeping
 -- the cycles of agents that follow one another

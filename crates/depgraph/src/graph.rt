@@ -11,9 +11,10 @@ use crate::entries::{begin_in, entry_at};
 use crate::numbering::numbering_of;
 use crate::out_of_memory::OutOfMemory;
 use crate::paths::{Paths, paths_of};
-use crate::placing::{place_visits, visit_before};
+use crate::placing::{Placed, place_visits};
 use crate::rotations::find_rotations;
 use crate::schedule::schedule_of;
+use crate::waiting::{Wait, waits_of};
 use grid::Cell;
 use model::{Rotation, Visit};
 use plan::CheckedPlan;
@@ -25,9 +26,12 @@ use std::marker::Model;
 pub struct Graph {
     number: u32,
     cells: Vec<Cell>,
+    /// When each of these cells is entered.
+    times: Vec<u32>,
     ends: Vec<usize>,
+    /// What the move into each waits for.
+    needs: Vec<Wait>,
     visits: Vec<Visit>,
-    places: Vec<u32>,
     visit_ends: Vec<u32>,
     rotations: Vec<Rotation>,
 }
@@ -35,16 +39,16 @@ pub struct Graph {
 impl Model for Graph {
     ghost use Rattle.model.specs.Timetable.{Timetable};
     ghost use Rattle.depgraph.specs.Rotations.{AreRotations, turns_of};
-    ghost use Rattle.depgraph.specs.Code.Keeping.{times_in, IsKept};
+    ghost use Rattle.depgraph.specs.Code.Keeping.{IsKept};
     ghost use Rattle.depgraph.specs.Code.Tracks.{timetable_by};
 
     ghost Value = { Timetable };
 
-    ghost view = { λ g. timetable_by g.number g.cells.items (times_in g.visits.items g.places.items) g.ends.items };
+    ghost view = { λ g. timetable_by g.number g.cells.items g.times.items g.ends.items };
 
-    ghost invariant = { λ g. IsKept (timetable_by g.number g.cells.items (times_in g.visits.items g.places.items) g.ends.items)
-        g.cells.items g.ends.items g.visits.items g.places.items g.visit_ends.items
-        × AreRotations (timetable_by g.number g.cells.items (times_in g.visits.items g.places.items) g.ends.items) (turns_of g.rotations.items) };
+    ghost invariant = { λ g. IsKept (timetable_by g.number g.cells.items g.times.items g.ends.items) g.cells.items g.times.items g.ends.items g.needs.items g.visits.items
+        g.visit_ends.items
+        × AreRotations (timetable_by g.number g.cells.items g.times.items g.ends.items) (turns_of g.rotations.items) };
 }
 
 impl Graph {
@@ -54,20 +58,26 @@ impl Graph {
     {
         let number = plan.number();
         let paths = paths_of(alloc, plan)?;
-        let schedule = schedule_of(alloc, &paths)?;
-        let numbering = numbering_of(alloc, &paths, &schedule.arrivals)?;
+        let (schedule, came) = schedule_of(alloc, &paths)?;
         let Paths { cells, times, ends } = paths;
-        // Each time is kept with its visit.
+        // Both are found again in the end: to hold them all along would take more memory than the graph.
+        drop(cells);
         drop(times);
+        let numbering = numbering_of(alloc, plan, &ends, &schedule, came)?;
         let placed = place_visits(alloc, plan, &ends, &schedule, numbering)?;
-        let rotations = find_rotations(alloc, plan, &cells, &ends, &schedule, &placed)?;
+        let Placed { visits, next } = placed;
+        let needs = waits_of(alloc, &ends, &visits, &next.next)?;
+        let rotations = find_rotations(alloc, plan, &ends, &schedule, &needs)?;
+        drop(schedule);
+        let again = paths_of(alloc, plan)?;
         Ok(Graph {
             number,
-            cells,
+            cells: again.cells,
+            times: again.times,
             ends,
-            visits: placed.visits,
-            places: placed.places,
-            visit_ends: placed.next.next,
+            needs,
+            visits,
+            visit_ends: next.next,
             rotations,
         })
     }
@@ -156,18 +166,18 @@ impl Graph {
         ensures { result ≡ slice_get (route_in self.now agent).steps number }
     {
         let entry = entry_at(&self.ends, agent, number as usize + 1)?;
-        Some(self.visits[self.places[entry] as usize].time - 1)
+        Some(self.times[entry] - 1)
     }
 
     fn need(&self, agent: u32, number: u32) -> Option<(u16, u32)>
         ensures { result ≡ need_at (route_in self.now agent) number }
     {
         let entry = entry_at(&self.ends, agent, number as usize + 1)?;
-        let before = visit_before(&self.cells, &self.ends, &self.visits, &self.places, entry)?;
-        if u32::from(before.agent) == agent {
+        let wait = self.needs[entry];
+        if wait.count == 0 {
             None
         } else {
-            Some((before.agent, before.index + 1))
+            Some((wait.agent, u32::from(wait.count)))
         }
     }
 }

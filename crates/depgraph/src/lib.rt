@@ -12,6 +12,7 @@ mod placing;
 mod rotations;
 mod schedule;
 mod sorting;
+mod waiting;
 
 pub use graph::{Graph, Route};
 pub use model::{Rotation, Visit};

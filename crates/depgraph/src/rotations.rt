@@ -1,35 +1,29 @@
-//! The rotations of a timetable. Who moves in a step arrives at the time after it, and whoever came into that cell just before
-//! is the one whose cell it was, unless that one had left.
-ghost use Rattle.std.specs.Prelude.{◌≡◌, ◌<◌, ◌≤◌, All, [], length, IfOk, IfSome, OnOk};
-ghost use Rattle.model.specs.Timetable.{Timetable};
-ghost use Rattle.depgraph.specs.Graphs.{IsGraphed};
+//! The rotations of a timetable. Who moves in a step arrives at the time after it, and waits for whoever was last in that cell,
+//! which is the one whose cell it was, unless that one had left.
+ghost use Rattle.std.specs.Prelude.{◌≡◌, ◌<◌, ◌≤◌, ℕ, All, [], length, get_or, IfOk, OnOk};
 ghost use Rattle.depgraph.specs.Rotations.{AreRotations, turns_of};
 ghost use Rattle.depgraph.specs.Code.Cycles.{nobody};
-ghost use Rattle.depgraph.specs.Code.Paths.{all_entered};
-ghost use Rattle.depgraph.specs.Code.Placing.{IsTimeline, IsPlacing};
+ghost use Rattle.depgraph.specs.Code.Schedules.{entry_in};
 ghost use Rattle.depgraph.specs.Code.Turning.{AreLaid, AreApart, ahead_by, ahead_in, AreLinked, AreMoved};
+ghost use Rattle.depgraph.specs.Code.Waits.{no_wait};
 
 use crate::cycles::{NOBODY, add_rotations};
-use crate::placing::{Placed, visit_before};
 use crate::schedule::{Arrival, Schedule, entry_of};
-use grid::Cell;
-use model::{Rotation, Visit};
+use crate::waiting::Wait;
+use model::Rotation;
 use plan::CheckedPlan;
 use std::alloc::{AllocError, Global};
 
-/// All rotations of a plan's timetable, by step and then by least agent.
+/// All rotations of a plan's timetable, by step and then by least agent. `waits` has for each entry what the move into its cell
+/// waits for.
 pub(crate) fn find_rotations(
     alloc: Global,
     plan: &CheckedPlan,
-    cells: &[Cell],
     ends: &[usize],
     schedule: &Schedule,
-    placed: &Placed,
+    waits: &[Wait],
 ) -> Result<Vec<Rotation>, AllocError>
-    requires graphed { IsGraphed plan.now.timetable }
-    requires cells { cells.now ≡ all_entered plan.now.timetable.tracks }
-    requires timeline { IsTimeline plan.now.timetable.tracks ends.now schedule.now.arrivals.items schedule.now.ends.items }
-    requires placing { IsPlacing plan.now.timetable.tracks ends.now schedule.now.arrivals.items placed.now.visits.items placed.now.places.items placed.now.next.next.items }
+    requires { AreLaid plan.now.timetable ends.now schedule.now.arrivals.items schedule.now.ends.items waits.now }
     ensures { IfOk result (λ v. AreRotations plan.now.timetable (turns_of v.items)) }
 {
     // How many moves each agent has made.
@@ -43,10 +37,9 @@ pub(crate) fn find_rotations(
         let begin = schedule.ends[time - 1] as usize;
         let end = schedule.ends[time] as usize;
         link(
-            cells,
             ends,
-            schedule,
-            placed,
+            &schedule.arrivals,
+            waits,
             &latest,
             begin,
             end,
@@ -69,47 +62,46 @@ pub(crate) fn find_rotations(
 
 /// Lists the agents that arrive between two places, and links each to the one into whose cell it has moved.
 fn link(
-    cells: &[Cell],
     ends: &[usize],
-    schedule: &Schedule,
-    placed: &Placed,
+    arrivals: &[Arrival],
+    waits: &[Wait],
     latest: &[u16],
     begin: usize,
     end: usize,
     ahead: &mut [u16],
     movers: &mut Vec<u16>,
 ) -> Result<(), AllocError>
-    requires laid { (tt : Timetable) × AreLaid tt cells.now ends.now schedule.now.arrivals.items schedule.now.ends.items placed.now.visits.items placed.now.places.items placed.now.next.next.items }
     requires latest { length latest.now ≡ length ends.now }
     requires order { begin ≤ end }
-    requires apart { AreApart schedule.now.arrivals.items (length ends.now) begin end }
+    requires apart { AreApart arrivals.now (length ends.now) begin end }
+    requires entries { (p : ℕ) → begin ≤ p → p < end → entry_in ends.now arrivals.now p < length waits.now }
+    requires agents { (p : ℕ) → begin ≤ p → p < end → (get_or waits.now (entry_in ends.now arrivals.now p) no_wait).agent < length ends.now }
     requires count { length ahead.old ≡ length ends.now }
     requires gone { All (λ j. j ≡ nobody) ahead.old }
     requires movers { movers.old.items ≡ [] }
     ensures count { OnOk result (length ahead.new ≡ length ahead.old) }
-    ensures linked { OnOk result (AreLinked (ahead_in cells.now ends.now placed.now.visits.items placed.now.places.items latest.now schedule.now.arrivals.items)
-        schedule.now.arrivals.items begin end ahead.new movers.new.items) }
+    ensures linked { OnOk result (AreLinked (ahead_in ends.now waits.now latest.now arrivals.now) arrivals.now begin end ahead.new movers.new.items) }
 {
     let mut at = begin;
     while at < end {
-        let arrival = schedule.arrivals[at];
+        let arrival = arrivals[at];
         let entry = entry_of(ends, arrival);
-        let before = visit_before(cells, ends, &placed.visits, &placed.places, entry);
         movers.push(arrival.agent)?;
-        ahead[usize::from(arrival.agent)] = ahead_of(latest, before);
+        ahead[usize::from(arrival.agent)] = ahead_of(latest, waits[entry]);
         at += 1;
     }
     Ok(())
 }
 
-/// The agent of a visit, if it is still in that cell.
-fn ahead_of(latest: &[u16], before: Option<Visit>) -> u16
-    requires { IfSome before (λ v. v.agent < length latest.now) }
-    ensures { result ≡ ahead_by latest.now before }
+/// The agent that is waited for, if it is still in that cell: the next of its moves is the one that is waited for.
+fn ahead_of(latest: &[u16], wait: Wait) -> u16
+    requires { wait.agent < length latest.now }
+    ensures { result ≡ ahead_by latest.now wait }
 {
-    match before {
-        Some(visit) if u32::from(latest[usize::from(visit.agent)]) == visit.index => visit.agent,
-        _ => NOBODY,
+    if u32::from(latest[usize::from(wait.agent)]) + 1 == u32::from(wait.count) {
+        wait.agent
+    } else {
+        NOBODY
     }
 }
 

@@ -1,16 +1,12 @@
 -- The numbers of cells, in order of first visit.
-use Rattle.std.specs.Prelude.{◌≡◌, ℕ, ◌<◌, ◌≤◌, ◌⊎◌, Bool, true, false, List, [], ◌∷◌, ◌++◌, length, get_or, map, Some, slice_get}
+use Rattle.std.specs.Prelude.{◌≡◌, ℕ, ◌<◌, ◌≤◌, ◌⊎◌, Bool, true, false, List, [], ◌∷◌, ◌++◌, length, get_or, Some, slice_get}
 use Rattle.grid.specs.declared.cell.Cell.{Cell}
 use Rattle.depgraph.specs.declared.schedule.Arrival.{Arrival}
 use Rattle.depgraph.specs.Code.Ranks.{tally}
-use Rattle.depgraph.specs.Code.Schedules.{entry_of, entry_in}
+use Rattle.depgraph.specs.Code.Schedules.{entry_in}
 
 abbrev pub no_cell : Cell
 no_cell = record { x = 0; y = 0 }
-
--- the numbers of the arrivals' cells, from those of the entries
-abbrev pub numbers_in : List ℕ → List Arrival → List ℕ → List ℕ
-numbers_in ends arrivals numbers = map (λ a. get_or numbers (entry_of ends a) 0) arrivals
 
 -- no cell stands twice in the list
 abbrev pub AreDistinct : List Cell → Type 0
@@ -31,3 +27,8 @@ pub record AreNumbered (cells : List Cell) (ends : List ℕ) (arrivals : List Ar
   pub count : length counts ≡ length names
   pub few : length counts ≤ length listed
   pub counted : (n : ℕ) → n < length counts → get_or counts n 0 ≡ tally listed n
+
+-- for each arrival its cell
+pub record AreCellsOf (cells : List Cell) (ends : List ℕ) (arrivals : List Arrival) (came : List Cell) : Type 0 where
+  pub count : length came ≡ length arrivals
+  pub each : (p : ℕ) → p < length arrivals → get_or came p no_cell ≡ get_or cells (entry_in ends arrivals p) no_cell

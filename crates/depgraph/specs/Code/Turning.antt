@@ -1,23 +1,24 @@
 -- Who moves into whose cell in a step, by the arrivals of the time after it.
-use Rattle.std.specs.Prelude.{◌≡◌, ℕ, ◌+◌, ◌<◌, ◌≤◌, ◌==◌, if◌then◌else◌, List, length, get_or, Option, None, Some, slice_get}
-use Rattle.grid.specs.declared.cell.Cell.{Cell}
+use Rattle.std.specs.Prelude.{◌≡◌, ℕ, ◌+◌, ◌<◌, ◌≤◌, ◌==◌, if◌then◌else◌, List, length, get_or, Some, slice_get}
 use Rattle.model.specs.declared.visit.Visit.{Visit}
 use Rattle.model.specs.Timetable.{Timetable}
 use Rattle.model.specs.Dependency.{moves_to}
 use Rattle.depgraph.specs.declared.schedule.Arrival.{Arrival}
+use Rattle.depgraph.specs.declared.waiting.Wait.{Wait}
 use Rattle.depgraph.specs.Graphs.{IsGraphed}
 use Rattle.depgraph.specs.Code.Cycles.{nobody}
-use Rattle.depgraph.specs.Code.Keeping.{before_in}
-use Rattle.depgraph.specs.Code.Paths.{all_entered}
 use Rattle.depgraph.specs.Code.Placing.{IsTimeline, IsPlacing}
 use Rattle.depgraph.specs.Code.Schedules.{no_arrival, entry_in}
+use Rattle.depgraph.specs.Code.Waits.{no_wait, AreWaits}
 
--- the paths, the arrivals and the visits of a timetable
-pub record AreLaid (tt : Timetable) (cells : List Cell) (ends : List ℕ) (arrivals : List Arrival) (step_ends : List ℕ) (visits : List Visit) (places visit_ends : List ℕ) : Type 0 where
+-- the arrivals of a timetable, and what they wait for by its visits
+pub record AreLaid (tt : Timetable) (ends : List ℕ) (arrivals : List Arrival) (step_ends : List ℕ) (waits : List Wait) : Type 0 where
   pub graphed : IsGraphed tt
-  pub are_cells : cells ≡ all_entered tt.tracks
   pub line : IsTimeline tt.tracks ends arrivals step_ends
-  pub placing : IsPlacing tt.tracks ends arrivals visits places visit_ends
+  pub visits : List Visit
+  pub visit_ends : List ℕ
+  pub placing : IsPlacing tt.tracks ends arrivals visits visit_ends
+  pub are_waits : AreWaits ends visits visit_ends waits
 
 abbrev pub agent_in : List Arrival → ℕ → ℕ
 agent_in arrivals p = (get_or arrivals p no_arrival).agent
@@ -31,14 +32,13 @@ pub record AreApart (arrivals : List Arrival) (agents begin end : ℕ) : Type 0 
   pub known : (p : ℕ) → begin ≤ p → p < end → agent_in arrivals p < agents
   pub rising : (p q : ℕ) → begin ≤ p → p < q → q < end → agent_in arrivals p < agent_in arrivals q
 
--- the agent of a visit, if it is still in that cell: the latest index of each agent is listed
-abbrev pub ahead_by : List ℕ → Option Visit → ℕ
-ahead_by latest None = nobody
-ahead_by latest (Some v) = if get_or latest v.agent 0 == v.index then v.agent else nobody
+-- the agent that is waited for, if it is still in that cell: the latest index of each agent is listed
+abbrev pub ahead_by : List ℕ → Wait → ℕ
+ahead_by latest w = if get_or latest w.agent 0 + 1 == w.count then w.agent else nobody
 
 -- the agent into whose cell the one that arrives at a place has moved
-abbrev pub ahead_in : List Cell → List ℕ → List Visit → List ℕ → List ℕ → List Arrival → ℕ → ℕ
-ahead_in cells ends visits places latest arrivals p = ahead_by latest (before_in cells ends visits places (entry_in ends arrivals p))
+abbrev pub ahead_in : List ℕ → List Wait → List ℕ → List Arrival → ℕ → ℕ
+ahead_in ends waits latest arrivals p = ahead_by latest (get_or waits (entry_in ends arrivals p) no_wait)
 
 -- The agents that arrive between two places, and for each the one ahead of it; the others have nobody ahead.
 pub record AreLinked (aheads : ℕ → ℕ) (arrivals : List Arrival) (begin end : ℕ) (ahead movers : List ℕ) : Type 0 where

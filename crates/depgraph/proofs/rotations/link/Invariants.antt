@@ -7,7 +7,7 @@ invariant-loop-at l = record {
   after : l.begin ≤ l.at;
   most : l.at ≤ l.end;
   count : length l.ahead ≡ length l.ends;
-  linked : AreLinked (ahead_in l.cells l.ends l.placed.visits.items l.placed.places.items l.latest l.schedule.arrivals.items) l.schedule.arrivals.items l.begin l.at l.ahead l.movers.items;
+  linked : AreLinked (ahead_in l.ends l.waits l.latest l.arrivals) l.arrivals l.begin l.at l.ahead l.movers.items;
 }
 
 abbrev pub decreases-loop-at : goal.decreases-loop-at

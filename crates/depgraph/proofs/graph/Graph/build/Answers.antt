@@ -1,22 +1,26 @@
 -- The paths, the schedule and the visits are those of the plan's timetable, and tell it.
-use Rattle.std.proofs.Common.{◌≡◌, ℕ, ◌^◌, ◌<◌, ◌≤◌, suc, List, length, get_or, sym, ap, subst, ◌∙◌}
+use Rattle.std.proofs.Common.{◌≡◌, ℕ, ◌^◌, ◌<◌, ◌≤◌, suc, List, length, get_or, sym, ap, subst, ◌∙◌, arith}
 use Rattle.grid.specs.declared.cell.Cell.{Cell}
 use Rattle.model.specs.declared.visit.Visit.{Visit}
 use Rattle.model.specs.Timetable.{Track, Timetable}
 use Rattle.plan.specs.Checking.{Checked, IsChecked}
 use Rattle.depgraph.specs.declared.schedule.Arrival.{Arrival}
+use Rattle.depgraph.specs.declared.waiting.Wait.{Wait}
 use Rattle.depgraph.specs.Graphs.{IsGraphed}
 use Rattle.depgraph.specs.Rotations.{AreRotations, turns_of}
 use Rattle.depgraph.specs.Code.Entries.{AreFew}
-use Rattle.depgraph.specs.Code.Keeping.{times_in, IsKept}
-use Rattle.depgraph.specs.Code.Numbers.{AreNumbered, numbers_in}
-use Rattle.depgraph.specs.Code.Paths.{all_entered, all_times, ArePaths}
+use Rattle.depgraph.specs.Code.Keeping.{IsKept}
+use Rattle.depgraph.specs.Code.Numbers.{AreCellsOf}
+use Rattle.depgraph.specs.Code.Paths.{all_entered, ArePaths}
 use Rattle.depgraph.specs.Code.Placing.{IsTimeline, AreNumbersOf, IsPlacing}
 use Rattle.depgraph.specs.Code.Ranks.{below}
 use Rattle.depgraph.specs.Code.Schedules.{IsSchedule}
+use Rattle.depgraph.specs.Code.Turning.{AreLaid}
+use Rattle.depgraph.specs.Code.Waits.{AreWaits, AreBlocks}
 use Rattle.depgraph.specs.Code.Tracks.{timetable_by, tracks_by}
 use Rattle.depgraph.proofs.FewLemmas.{are_few}
-use Rattle.depgraph.proofs.KeptLemmas.{kept_times}
+use Rattle.depgraph.proofs.NoteLemmas.{are_blocks}
+use Rattle.depgraph.proofs.ScheduleLemmas.{same_count}
 use Rattle.depgraph.proofs.TrackLemmas.{tracks_told}
 use Rattle.depgraph.proofs.graph.Graph.build.Goals as goal
 
@@ -46,30 +50,37 @@ timeline checked cells times ends arrivals step_ends is h schedule short within 
   time_end = subst (λ l. (t : ℕ) → t < length step_ends → get_or step_ends t 0 ≡ below l (suc t)) h.are_times time_end;
 }
 
-numbers : (tracks : List Track) (cells : List Cell) (times ends : List ℕ) (arrivals : List Arrival) (listed counts : List ℕ) → ArePaths tracks cells times ends
-    → (names : List Cell) × AreNumbered cells ends arrivals names (numbers_in ends arrivals listed) counts × (length listed ≡ length arrivals) → AreNumbersOf tracks ends arrivals listed counts
-numbers tracks cells times ends arrivals listed counts h n =
-    (n.0, subst (λ l. AreNumbered l ends arrivals n.0 (numbers_in ends arrivals listed) counts) h.are_cells n.1, n.2)
-
 -- what was built, of the plan's timetable
-kept : (checked : Checked) (cells : List Cell) (times ends : List ℕ) (arrivals : List Arrival) (step_ends : List ℕ) (visits : List Visit) (places visit_ends : List ℕ) → IsChecked checked
+laid : (checked : Checked) (ends : List ℕ) (arrivals : List Arrival) (step_ends : List ℕ) (visits : List Visit) (visit_ends : List ℕ) (needs : List Wait) → IsChecked checked
+    → IsTimeline checked.timetable.tracks ends arrivals step_ends → IsPlacing checked.timetable.tracks ends arrivals visits visit_ends → AreWaits ends visits visit_ends needs
+    → AreLaid checked.timetable ends arrivals step_ends needs
+laid checked ends arrivals step_ends visits visit_ends needs is line placing waits = record {
+  graphed = graphed checked is;
+  line = line;
+  visits = visits;
+  visit_ends = visit_ends;
+  placing = placing;
+  are_waits = waits;
+}
+
+kept : (checked : Checked) (cells : List Cell) (times ends : List ℕ) (arrivals : List Arrival) (step_ends : List ℕ) (needs : List Wait) (visits : List Visit) (visit_ends : List ℕ) → IsChecked checked
     → ArePaths checked.timetable.tracks cells times ends → IsTimeline checked.timetable.tracks ends arrivals step_ends
-    → IsPlacing checked.timetable.tracks ends arrivals visits places visit_ends → IsKept checked.timetable cells ends visits places visit_ends
-kept checked cells times ends arrivals step_ends visits places visit_ends is h line placing = record {
+    → IsPlacing checked.timetable.tracks ends arrivals visits visit_ends → AreWaits ends visits visit_ends needs → IsKept checked.timetable cells times ends needs visits visit_ends
+kept checked cells times ends arrivals step_ends needs visits visit_ends is h line placing waits = record {
   graphed = graphed checked is;
   are_cells = h.are_cells;
+  are_times = h.are_times;
   arrivals = arrivals;
   step_ends = step_ends;
   line = line;
   placing = placing;
+  are_needs = waits;
 }
 
-told : (checked : Checked) (number : ℕ) (cells : List Cell) (times ends : List ℕ) (visits : List Visit) (places visit_ends : List ℕ) → IsChecked checked → number ≡ checked.timetable.number
-    → ArePaths checked.timetable.tracks cells times ends → IsKept checked.timetable cells ends visits places visit_ends
-    → timetable_by number cells (times_in visits places) ends ≡ checked.timetable
-told checked number cells times ends visits places visit_ends is same h keeps =
-    ap (λ l. timetable_by number cells l ends) (kept_times checked.timetable cells ends visits places visit_ends keeps ∙ sym h.are_times)
-    ∙ ap {A = ℕ} {B = Timetable} (λ n. record { number = n; tracks = tracks_by cells times ends }) same
+told : (checked : Checked) (number : ℕ) (cells : List Cell) (times ends : List ℕ) → IsChecked checked → number ≡ checked.timetable.number
+    → ArePaths checked.timetable.tracks cells times ends → timetable_by number cells times ends ≡ checked.timetable
+told checked number cells times ends is same h =
+    ap {A = ℕ} {B = Timetable} (λ n. record { number = n; tracks = tracks_by cells times ends }) same
     ∙ ap {A = List Track} {B = Timetable} (λ l. record { number = checked.timetable.number; tracks = l }) (tracks_told checked.timetable.tracks cells times ends h is.at_rest)
 
 pub schedule_of-requires-clause-limits : goal.schedule_of-requires-clause-limits
@@ -77,10 +88,27 @@ schedule_of-requires-clause-limits c =
     let p = c.in_ok-paths.paths in
     few c.args.plan.now p.cells.items p.times.items p.ends.items c.number-number.ensures.within c.in_ok-paths.ensures
 
-pub numbering_of-requires-clause-limits : goal.numbering_of-requires-clause-limits
-numbering_of-requires-clause-limits c =
+pub numbering_of-requires-clause-limit : goal.numbering_of-requires-clause-limit
+numbering_of-requires-clause-limit c =
     let p = c.in_ok-paths.paths in
-    few c.args.plan.now p.cells.items p.times.items p.ends.items c.number-number.ensures.within c.in_ok-paths.ensures
+    let count = c.in_ok-schedule.ensures.arrivals.count in
+    let same = same_count c.args.plan.now.timetable.tracks p.cells.items p.times.items p.ends.items c.in_ok-paths.ensures in
+    let limit = (few c.args.plan.now p.cells.items p.times.items p.ends.items c.number-number.ensures.within c.in_ok-paths.ensures).all in
+    omega (arith, count, same, limit)
+
+pub numbering_of-requires-clause-cells : goal.numbering_of-requires-clause-cells
+numbering_of-requires-clause-cells c =
+    let p = c.in_ok-paths.paths in
+    let arrivals = c.in_ok-schedule.schedule.arrivals.items in
+    let came = c.in_ok-schedule.came.items in
+    subst (λ l. AreCellsOf (all_entered c.args.plan.now.timetable.tracks) l arrivals came) (sym c.deref.ensures.value)
+    (subst (λ l. AreCellsOf l p.ends.items arrivals came) c.in_ok-paths.ensures.are_cells c.in_ok-schedule.ensures.cells)
+
+pub place_visits-requires-clause-numbers : goal.place_visits-requires-clause-numbers
+place_visits-requires-clause-numbers c =
+    let n = c.in_ok-numbering.numbering in
+    subst (λ l. AreNumbersOf c.args.plan.now.timetable.tracks l c.in_ok-schedule.schedule.arrivals.items n.numbers.items n.counts.items) (c.deref.ensures.value ∙ sym c.deref-2.ensures.value)
+    c.in_ok-numbering.ensures
 
 pub place_visits-requires-clause-timeline : goal.place_visits-requires-clause-timeline
 place_visits-requires-clause-timeline c =
@@ -90,13 +118,45 @@ place_visits-requires-clause-timeline c =
     subst (λ l. IsTimeline c.args.plan.now.timetable.tracks l s.arrivals.items s.ends.items) (sym c.deref-2.ensures.value)
     (timeline c.args.plan.now p.cells.items p.times.items p.ends.items s.arrivals.items s.ends.items c.number-number.ensures.within c.in_ok-paths.ensures did.arrivals did.few did.within did.ends)
 
-pub find_rotations-requires-clause-timeline : goal.find_rotations-requires-clause-timeline
-find_rotations-requires-clause-timeline c =
+-- the lists that were lent are those that are kept
+noted : (ends given_ends : List ℕ) (visits given_visits : List Visit) (visit_ends given_visit_ends : List ℕ) (needs : List Wait) → given_ends ≡ ends → given_visits ≡ visits
+    → given_visit_ends ≡ visit_ends → AreWaits given_ends given_visits given_visit_ends needs → AreWaits ends visits visit_ends needs
+noted ends given_ends visits given_visits visit_ends given_visit_ends needs a b c is =
+    subst (λ l. AreWaits ends visits l needs) c (subst (λ l. AreWaits ends l given_visit_ends needs) b (subst (λ l. AreWaits l given_visits given_visit_ends needs) a is))
+
+pub waits_of-requires : goal.waits_of-requires
+waits_of-requires c =
+    let checked = c.args.plan.now in
     let p = c.in_ok-paths.paths in
     let s = c.in_ok-schedule.schedule in
     let did = c.in_ok-schedule.ensures in
-    subst (λ l. IsTimeline c.args.plan.now.timetable.tracks l s.arrivals.items s.ends.items) (sym c.deref-4.ensures.value)
-    (timeline c.args.plan.now p.cells.items p.times.items p.ends.items s.arrivals.items s.ends.items c.number-number.ensures.within c.in_ok-paths.ensures did.arrivals did.few did.within did.ends)
+    let d = c.in_ok-placed.placed in
+    let line = timeline checked p.cells.items p.times.items p.ends.items s.arrivals.items s.ends.items c.number-number.ensures.within c.in_ok-paths.ensures did.arrivals did.few did.within did.ends in
+    let placing = subst (λ l. IsPlacing checked.timetable.tracks l s.arrivals.items d.visits.items d.next.next.items) c.deref-2.ensures.value c.in_ok-placed.ensures in
+    let blocks = are_blocks checked.timetable.number checked.timetable.tracks p.ends.items s.arrivals.items s.ends.items line d.visits.items d.next.next.items placing c.number-number.ensures.within.conflict_free in
+    subst (λ l. AreBlocks l c.deref-4.result.now c.deref-5.result.now) (sym c.deref-3.ensures.value)
+    (subst (λ l. AreBlocks p.ends.items l c.deref-5.result.now) (sym c.deref-4.ensures.value) (subst (AreBlocks p.ends.items d.visits.items) (sym c.deref-5.ensures.value) blocks))
+
+pub find_rotations-requires : goal.find_rotations-requires
+find_rotations-requires c =
+    let checked = c.args.plan.now in
+    let p = c.in_ok-paths.paths in
+    let s = c.in_ok-schedule.schedule in
+    let did = c.in_ok-schedule.ensures in
+    let d = c.in_ok-placed.placed in
+    let line = timeline checked p.cells.items p.times.items p.ends.items s.arrivals.items s.ends.items c.number-number.ensures.within c.in_ok-paths.ensures did.arrivals did.few did.within did.ends in
+    let placing = subst (λ l. IsPlacing checked.timetable.tracks l s.arrivals.items d.visits.items d.next.next.items) c.deref-2.ensures.value c.in_ok-placed.ensures in
+    let needs = c.in_ok-needs.needs.items in
+    let waits = noted p.ends.items c.deref-3.result.now d.visits.items c.deref-4.result.now d.next.next.items c.deref-5.result.now needs c.deref-3.ensures.value c.deref-4.ensures.value c.deref-5.ensures.value
+    c.in_ok-needs.ensures in
+    let lays = laid checked p.ends.items s.arrivals.items s.ends.items d.visits.items d.next.next.items needs c.number-number.ensures.within line placing waits in
+    subst (λ l. AreLaid checked.timetable l s.arrivals.items s.ends.items c.deref-7.result.now) (sym c.deref-6.ensures.value)
+    (subst (AreLaid checked.timetable p.ends.items s.arrivals.items s.ends.items) (sym c.deref-7.ensures.value) lays)
+
+-- the paths that were found again end where those before did
+same_ends : (tracks : List Track) (cells again : List Cell) (times more : List ℕ) (ends others : List ℕ) → ArePaths tracks cells times ends → ArePaths tracks again more others
+    → ArePaths tracks again more ends
+same_ends tracks cells again times more ends others h h2 = record { are_cells = h2.are_cells; are_times = h2.are_times; count = h.count; are_ends = h.are_ends }
 
 pub invariant_of-result : goal.invariant_of-result
 invariant_of-result c =
@@ -106,10 +166,15 @@ invariant_of-result c =
     let did = c.in_ok-schedule.ensures in
     let d = c.in_ok-placed.placed in
     let line = timeline checked p.cells.items p.times.items p.ends.items s.arrivals.items s.ends.items c.number-number.ensures.within c.in_ok-paths.ensures did.arrivals did.few did.within did.ends in
-    let placing = subst (λ l. IsPlacing checked.timetable.tracks l s.arrivals.items d.visits.items d.places.items d.next.next.items) c.deref-2.ensures.value c.in_ok-placed.ensures in
-    let keeps = kept checked p.cells.items p.times.items p.ends.items s.arrivals.items s.ends.items d.visits.items d.places.items d.next.next.items c.number-number.ensures.within c.in_ok-paths.ensures line placing in
-    let is = sym (told checked c.number-number.result p.cells.items p.times.items p.ends.items d.visits.items d.places.items d.next.next.items c.number-number.ensures.within c.number-number.ensures.number c.in_ok-paths.ensures keeps) in (
-      subst (λ tt. IsKept tt p.cells.items p.ends.items d.visits.items d.places.items d.next.next.items) is keeps,
+    let placing = subst (λ l. IsPlacing checked.timetable.tracks l s.arrivals.items d.visits.items d.next.next.items) c.deref-2.ensures.value c.in_ok-placed.ensures in
+    let needs = c.in_ok-needs.needs.items in
+    let waits = noted p.ends.items c.deref-3.result.now d.visits.items c.deref-4.result.now d.next.next.items c.deref-5.result.now needs c.deref-3.ensures.value c.deref-4.ensures.value c.deref-5.ensures.value
+    c.in_ok-needs.ensures in
+    let q = c.in_ok-again.again in
+    let paths = same_ends checked.timetable.tracks p.cells.items q.cells.items p.times.items q.times.items p.ends.items q.ends.items c.in_ok-paths.ensures c.in_ok-again.ensures in
+    let keeps = kept checked q.cells.items q.times.items p.ends.items s.arrivals.items s.ends.items needs d.visits.items d.next.next.items c.number-number.ensures.within paths line placing waits in
+    let is = sym (told checked c.number-number.result q.cells.items q.times.items p.ends.items c.number-number.ensures.within c.number-number.ensures.number paths) in (
+      subst (λ tt. IsKept tt q.cells.items q.times.items p.ends.items needs d.visits.items d.next.next.items) is keeps,
       subst (λ tt. AreRotations tt (turns_of c.in_ok-rotations.rotations.items)) is c.in_ok-rotations.ensures,
     )
 
@@ -117,10 +182,6 @@ pub returns : goal.returns
 returns c =
     let checked = c.args.plan.now in
     let p = c.in_ok-paths.paths in
-    let s = c.in_ok-schedule.schedule in
-    let did = c.in_ok-schedule.ensures in
-    let d = c.in_ok-placed.placed in
-    let line = timeline checked p.cells.items p.times.items p.ends.items s.arrivals.items s.ends.items c.number-number.ensures.within c.in_ok-paths.ensures did.arrivals did.few did.within did.ends in
-    let placing = subst (λ l. IsPlacing checked.timetable.tracks l s.arrivals.items d.visits.items d.places.items d.next.next.items) c.deref-2.ensures.value c.in_ok-placed.ensures in
-    let keeps = kept checked p.cells.items p.times.items p.ends.items s.arrivals.items s.ends.items d.visits.items d.places.items d.next.next.items c.number-number.ensures.within c.in_ok-paths.ensures line placing in
-    told checked c.number-number.result p.cells.items p.times.items p.ends.items d.visits.items d.places.items d.next.next.items c.number-number.ensures.within c.number-number.ensures.number c.in_ok-paths.ensures keeps
+    let q = c.in_ok-again.again in
+    let paths = same_ends checked.timetable.tracks p.cells.items q.cells.items p.times.items q.times.items p.ends.items q.ends.items c.in_ok-paths.ensures c.in_ok-again.ensures in
+    told checked c.number-number.result q.cells.items q.times.items p.ends.items c.number-number.ensures.within c.number-number.ensures.number paths

@@ -1,9 +1,9 @@
 -- A cell's visits stand together; its cell is that of the first.
-use Rattle.std.proofs.Common.{◌≡◌, ℕ, zero, suc, ◌+◌, ◌-◌, ◌<◌, ◌≤◌, List, length, get_or, take, drop, Some, None, arith, refl, sym, ap, subst, ◌∙◌}
+use Rattle.std.proofs.Common.{◌≡◌, ℕ, zero, suc, ◌+◌, ◌-◌, ◌<◌, List, length, get_or, take, drop, Some, arith, refl, sym, ap, subst, ◌∙◌}
 use Rattle.std.proofs.lemmas.List.{get_or_default}
-use Rattle.depgraph.specs.Visits.{Visited}
 use Rattle.depgraph.specs.Code.Entries.{begin_in}
-use Rattle.depgraph.specs.Code.Keeping.{no_visit, IsKept}
+use Rattle.depgraph.specs.Code.Keeping.{IsKept}
+use Rattle.depgraph.specs.Code.Waits.{no_visit}
 use Rattle.depgraph.specs.Code.Numbers.{no_cell}
 use Rattle.depgraph.specs.Code.Placing.{listing}
 use Rattle.depgraph.proofs.BlockLemmas.{part_of}
@@ -23,16 +23,16 @@ positive (suc n) other = omega arith
 pub returns-then-n-len : goal.returns-then-n-len
 returns-then-n-len c =
     let g = c.self.inside in
-    let h = subst (λ v. IsKept v g.cells.items g.ends.items g.visits.items g.places.items g.visit_ends.items) c.self.view_is c.self.invariant.0 in
+    let h = subst (λ v. IsKept v g.cells.items g.times.items g.ends.items g.needs.items g.visits.items g.visit_ends.items) c.self.view_is c.self.invariant.0 in
     let past = c.if-n-len.true in
     let asked = c.len.ensures in
     let count = g.visit_ends.ok.0 in
-    (listing 0 h.placing.names g.visit_ends.items g.visits.items, kept_visits c.args.self.now g.cells.items g.ends.items g.visits.items g.places.items g.visit_ends.items h, sym (past_visits c.args.self.now g.cells.items g.ends.items g.visits.items g.places.items g.visit_ends.items h c.args.n (omega (arith, past, asked, count))))
+    (listing 0 h.placing.names g.visit_ends.items g.visits.items, kept_visits c.args.self.now g.cells.items g.times.items g.ends.items g.needs.items g.visits.items g.visit_ends.items h, sym (past_visits c.args.self.now g.cells.items g.times.items g.ends.items g.needs.items g.visits.items g.visit_ends.items h c.args.n (omega (arith, past, asked, count))))
 
 pub index-first-requires : goal.index-first-requires
 index-first-requires c =
     let g = c.self.inside in
-    let h = subst (λ v. IsKept v g.cells.items g.ends.items g.visits.items g.places.items g.visit_ends.items) c.self.view_is c.self.invariant.0 in
+    let h = subst (λ v. IsKept v g.cells.items g.times.items g.ends.items g.needs.items g.visits.items g.visit_ends.items) c.self.view_is c.self.invariant.0 in
     let past = c.if-n-len.false in
     let asked = c.len.ensures in
     let count = g.visit_ends.ok.0 in
@@ -44,7 +44,7 @@ index-first-requires c =
           w.begin-is ∙ w.index.ensures ∙ get_or_default g.visit_ends.items (c.args.n - 1) w.index.result.now 0 (omega (arith, within)) ∙ sym (later_begin g.visit_ends.items c.args.n some)
           )
     ] in
-    let part = kept_part c.args.self.now g.cells.items g.ends.items g.visits.items g.places.items g.visit_ends.items h c.args.n within in
+    let part = kept_part c.args.self.now g.cells.items g.times.items g.ends.items g.needs.items g.visits.items g.visit_ends.items h c.args.n within in
     let some = part.0 in
     let most = part.1 in
     let visits = g.visits.ok.0 in
@@ -53,7 +53,7 @@ index-first-requires c =
 pub begin_in-requires : goal.begin_in-requires
 begin_in-requires c =
     let g = c.self.inside in
-    let h = subst (λ v. IsKept v g.cells.items g.ends.items g.visits.items g.places.items g.visit_ends.items) c.self.view_is c.self.invariant.0 in
+    let h = subst (λ v. IsKept v g.cells.items g.times.items g.ends.items g.needs.items g.visits.items g.visit_ends.items) c.self.view_is c.self.invariant.0 in
     let past = c.if-n-len.false in
     let asked = c.len.ensures in
     let count = g.visit_ends.ok.0 in
@@ -65,12 +65,12 @@ begin_in-requires c =
           w.begin-is ∙ w.index.ensures ∙ get_or_default g.visit_ends.items (c.args.n - 1) w.index.result.now 0 (omega (arith, within)) ∙ sym (later_begin g.visit_ends.items c.args.n some)
           )
     ] in
-    let part = kept_part c.args.self.now g.cells.items g.ends.items g.visits.items g.places.items g.visit_ends.items h c.args.n within in
+    let part = kept_part c.args.self.now g.cells.items g.times.items g.ends.items g.needs.items g.visits.items g.visit_ends.items h c.args.n within in
     let some = part.0 in
     let most = part.1 in
     let at : c.if-n-eq0.begin < length g.visits.items = omega (arith, begin, some, most) in
     let first = c.index-first.ensures ∙ get_or_default g.visits.items c.if-n-eq0.begin c.index-first.result.now no_visit at ∙ ap (λ k. get_or g.visits.items k no_visit) begin in
-    let known = visit_inside c.args.self.now g.cells.items g.ends.items g.visits.items g.places.items g.visit_ends.items h (begin_in g.visit_ends.items c.args.n) (omega (arith, some, most)) in
+    let known = visit_inside c.args.self.now g.cells.items g.times.items g.ends.items g.needs.items g.visits.items g.visit_ends.items h (begin_in g.visit_ends.items c.args.n) (omega (arith, some, most)) in
     let v = get_or g.visits.items (begin_in g.visit_ends.items c.args.n) no_visit in
     let agent = known.0 in
     let from = c.from.ensures ∙ ap (λ x. x.agent) first in
@@ -80,7 +80,7 @@ begin_in-requires c =
 pub overflow_add-begin_in : goal.overflow_add-begin_in
 overflow_add-begin_in c =
     let g = c.self.inside in
-    let h = subst (λ v. IsKept v g.cells.items g.ends.items g.visits.items g.places.items g.visit_ends.items) c.self.view_is c.self.invariant.0 in
+    let h = subst (λ v. IsKept v g.cells.items g.times.items g.ends.items g.needs.items g.visits.items g.visit_ends.items) c.self.view_is c.self.invariant.0 in
     let past = c.if-n-len.false in
     let asked = c.len.ensures in
     let count = g.visit_ends.ok.0 in
@@ -92,12 +92,12 @@ overflow_add-begin_in c =
           w.begin-is ∙ w.index.ensures ∙ get_or_default g.visit_ends.items (c.args.n - 1) w.index.result.now 0 (omega (arith, within)) ∙ sym (later_begin g.visit_ends.items c.args.n some)
           )
     ] in
-    let part = kept_part c.args.self.now g.cells.items g.ends.items g.visits.items g.places.items g.visit_ends.items h c.args.n within in
+    let part = kept_part c.args.self.now g.cells.items g.times.items g.ends.items g.needs.items g.visits.items g.visit_ends.items h c.args.n within in
     let some = part.0 in
     let most = part.1 in
     let at : c.if-n-eq0.begin < length g.visits.items = omega (arith, begin, some, most) in
     let first = c.index-first.ensures ∙ get_or_default g.visits.items c.if-n-eq0.begin c.index-first.result.now no_visit at ∙ ap (λ k. get_or g.visits.items k no_visit) begin in
-    let known = visit_inside c.args.self.now g.cells.items g.ends.items g.visits.items g.places.items g.visit_ends.items h (begin_in g.visit_ends.items c.args.n) (omega (arith, some, most)) in
+    let known = visit_inside c.args.self.now g.cells.items g.times.items g.ends.items g.needs.items g.visits.items g.visit_ends.items h (begin_in g.visit_ends.items c.args.n) (omega (arith, some, most)) in
     let v = get_or g.visits.items (begin_in g.visit_ends.items c.args.n) no_visit in
     let from = c.begin_in.ensures ∙ ap (λ l. begin_in l c.from.result) c.deref.ensures.value ∙ ap (begin_in g.ends.items) (c.from.ensures ∙ ap (λ x. x.agent) first) in
     let index = ap (λ x. x.index) first in
@@ -109,7 +109,7 @@ overflow_add-begin_in c =
 pub index-cell-requires : goal.index-cell-requires
 index-cell-requires c =
     let g = c.self.inside in
-    let h = subst (λ v. IsKept v g.cells.items g.ends.items g.visits.items g.places.items g.visit_ends.items) c.self.view_is c.self.invariant.0 in
+    let h = subst (λ v. IsKept v g.cells.items g.times.items g.ends.items g.needs.items g.visits.items g.visit_ends.items) c.self.view_is c.self.invariant.0 in
     let past = c.if-n-len.false in
     let asked = c.len.ensures in
     let count = g.visit_ends.ok.0 in
@@ -121,12 +121,12 @@ index-cell-requires c =
           w.begin-is ∙ w.index.ensures ∙ get_or_default g.visit_ends.items (c.args.n - 1) w.index.result.now 0 (omega (arith, within)) ∙ sym (later_begin g.visit_ends.items c.args.n some)
           )
     ] in
-    let part = kept_part c.args.self.now g.cells.items g.ends.items g.visits.items g.places.items g.visit_ends.items h c.args.n within in
+    let part = kept_part c.args.self.now g.cells.items g.times.items g.ends.items g.needs.items g.visits.items g.visit_ends.items h c.args.n within in
     let some = part.0 in
     let most = part.1 in
     let at : c.if-n-eq0.begin < length g.visits.items = omega (arith, begin, some, most) in
     let first = c.index-first.ensures ∙ get_or_default g.visits.items c.if-n-eq0.begin c.index-first.result.now no_visit at ∙ ap (λ k. get_or g.visits.items k no_visit) begin in
-    let known = visit_inside c.args.self.now g.cells.items g.ends.items g.visits.items g.places.items g.visit_ends.items h (begin_in g.visit_ends.items c.args.n) (omega (arith, some, most)) in
+    let known = visit_inside c.args.self.now g.cells.items g.times.items g.ends.items g.needs.items g.visits.items g.visit_ends.items h (begin_in g.visit_ends.items c.args.n) (omega (arith, some, most)) in
     let v = get_or g.visits.items (begin_in g.visit_ends.items c.args.n) no_visit in
     let from = c.begin_in.ensures ∙ ap (λ l. begin_in l c.from.result) c.deref.ensures.value ∙ ap (begin_in g.ends.items) (c.from.ensures ∙ ap (λ x. x.agent) first) in
     let index = ap (λ x. x.index) first in
@@ -137,7 +137,7 @@ index-cell-requires c =
 pub slice_bounds-result-count : goal.slice_bounds-result-count
 slice_bounds-result-count c =
     let g = c.self.inside in
-    let h = subst (λ v. IsKept v g.cells.items g.ends.items g.visits.items g.places.items g.visit_ends.items) c.self.view_is c.self.invariant.0 in
+    let h = subst (λ v. IsKept v g.cells.items g.times.items g.ends.items g.needs.items g.visits.items g.visit_ends.items) c.self.view_is c.self.invariant.0 in
     let past = c.if-n-len.false in
     let asked = c.len.ensures in
     let count = g.visit_ends.ok.0 in
@@ -149,7 +149,7 @@ slice_bounds-result-count c =
           w.begin-is ∙ w.index.ensures ∙ get_or_default g.visit_ends.items (c.args.n - 1) w.index.result.now 0 (omega (arith, within)) ∙ sym (later_begin g.visit_ends.items c.args.n some)
           )
     ] in
-    let part = kept_part c.args.self.now g.cells.items g.ends.items g.visits.items g.places.items g.visit_ends.items h c.args.n within in
+    let part = kept_part c.args.self.now g.cells.items g.times.items g.ends.items g.needs.items g.visits.items g.visit_ends.items h c.args.n within in
     let some = part.0 in
     let most = part.1 in
     let end = c.index-2.ensures ∙ get_or_default g.visit_ends.items c.args.n c.index-2.result.now 0 within in
@@ -158,7 +158,7 @@ slice_bounds-result-count c =
 pub slice_bounds-result-start : goal.slice_bounds-result-start
 slice_bounds-result-start c =
     let g = c.self.inside in
-    let h = subst (λ v. IsKept v g.cells.items g.ends.items g.visits.items g.places.items g.visit_ends.items) c.self.view_is c.self.invariant.0 in
+    let h = subst (λ v. IsKept v g.cells.items g.times.items g.ends.items g.needs.items g.visits.items g.visit_ends.items) c.self.view_is c.self.invariant.0 in
     let past = c.if-n-len.false in
     let asked = c.len.ensures in
     let count = g.visit_ends.ok.0 in
@@ -170,7 +170,7 @@ slice_bounds-result-start c =
           w.begin-is ∙ w.index.ensures ∙ get_or_default g.visit_ends.items (c.args.n - 1) w.index.result.now 0 (omega (arith, within)) ∙ sym (later_begin g.visit_ends.items c.args.n some)
           )
     ] in
-    let part = kept_part c.args.self.now g.cells.items g.ends.items g.visits.items g.places.items g.visit_ends.items h c.args.n within in
+    let part = kept_part c.args.self.now g.cells.items g.times.items g.ends.items g.needs.items g.visits.items g.visit_ends.items h c.args.n within in
     let some = part.0 in
     let most = part.1 in
     let end = c.index-2.ensures ∙ get_or_default g.visit_ends.items c.args.n c.index-2.result.now 0 within in
@@ -179,7 +179,7 @@ slice_bounds-result-start c =
 pub slice_bounds-result-end : goal.slice_bounds-result-end
 slice_bounds-result-end c =
     let g = c.self.inside in
-    let h = subst (λ v. IsKept v g.cells.items g.ends.items g.visits.items g.places.items g.visit_ends.items) c.self.view_is c.self.invariant.0 in
+    let h = subst (λ v. IsKept v g.cells.items g.times.items g.ends.items g.needs.items g.visits.items g.visit_ends.items) c.self.view_is c.self.invariant.0 in
     let past = c.if-n-len.false in
     let asked = c.len.ensures in
     let count = g.visit_ends.ok.0 in
@@ -191,7 +191,7 @@ slice_bounds-result-end c =
           w.begin-is ∙ w.index.ensures ∙ get_or_default g.visit_ends.items (c.args.n - 1) w.index.result.now 0 (omega (arith, within)) ∙ sym (later_begin g.visit_ends.items c.args.n some)
           )
     ] in
-    let part = kept_part c.args.self.now g.cells.items g.ends.items g.visits.items g.places.items g.visit_ends.items h c.args.n within in
+    let part = kept_part c.args.self.now g.cells.items g.times.items g.ends.items g.needs.items g.visits.items g.visit_ends.items h c.args.n within in
     let some = part.0 in
     let most = part.1 in
     let end = c.index-2.ensures ∙ get_or_default g.visit_ends.items c.args.n c.index-2.result.now 0 within in
@@ -201,7 +201,7 @@ slice_bounds-result-end c =
 pub returns : goal.returns
 returns c =
     let g = c.self.inside in
-    let h = subst (λ v. IsKept v g.cells.items g.ends.items g.visits.items g.places.items g.visit_ends.items) c.self.view_is c.self.invariant.0 in
+    let h = subst (λ v. IsKept v g.cells.items g.times.items g.ends.items g.needs.items g.visits.items g.visit_ends.items) c.self.view_is c.self.invariant.0 in
     let past = c.if-n-len.false in
     let asked = c.len.ensures in
     let count = g.visit_ends.ok.0 in
@@ -213,12 +213,12 @@ returns c =
           w.begin-is ∙ w.index.ensures ∙ get_or_default g.visit_ends.items (c.args.n - 1) w.index.result.now 0 (omega (arith, within)) ∙ sym (later_begin g.visit_ends.items c.args.n some)
           )
     ] in
-    let part = kept_part c.args.self.now g.cells.items g.ends.items g.visits.items g.places.items g.visit_ends.items h c.args.n within in
+    let part = kept_part c.args.self.now g.cells.items g.times.items g.ends.items g.needs.items g.visits.items g.visit_ends.items h c.args.n within in
     let some = part.0 in
     let most = part.1 in
     let at : c.if-n-eq0.begin < length g.visits.items = omega (arith, begin, some, most) in
     let first = c.index-first.ensures ∙ get_or_default g.visits.items c.if-n-eq0.begin c.index-first.result.now no_visit at ∙ ap (λ k. get_or g.visits.items k no_visit) begin in
-    let known = visit_inside c.args.self.now g.cells.items g.ends.items g.visits.items g.places.items g.visit_ends.items h (begin_in g.visit_ends.items c.args.n) (omega (arith, some, most)) in
+    let known = visit_inside c.args.self.now g.cells.items g.times.items g.ends.items g.needs.items g.visits.items g.visit_ends.items h (begin_in g.visit_ends.items c.args.n) (omega (arith, some, most)) in
     let v = get_or g.visits.items (begin_in g.visit_ends.items c.args.n) no_visit in
     let from = c.begin_in.ensures ∙ ap (λ l. begin_in l c.from.result) c.deref.ensures.value ∙ ap (begin_in g.ends.items) (c.from.ensures ∙ ap (λ x. x.agent) first) in
     let index = ap (λ x. x.index) first in
@@ -232,7 +232,7 @@ returns c =
     ∙ ap (λ b. take (c.index-2.result.now - b) (drop b g.visits.items)) begin
     ∙ ap (λ e. take (e - begin_in g.visit_ends.items c.args.n) (drop (begin_in g.visit_ends.items c.args.n) g.visits.items)) end in (
       listing 0 h.placing.names g.visit_ends.items g.visits.items,
-      kept_visits c.args.self.now g.cells.items g.ends.items g.visits.items g.places.items g.visit_ends.items h,
+      kept_visits c.args.self.now g.cells.items g.times.items g.ends.items g.needs.items g.visits.items g.visit_ends.items h,
       ap {B = _} (λ x. Some (record { cell = x; visits = take (c.index-2.result.now - c.if-n-eq0.begin) (drop c.if-n-eq0.begin c.deref-2.result.now) })) own
           ∙ ap (λ l. Some (record { cell = get_or g.cells.items (begin_in g.ends.items v.agent + v.index) no_cell; visits = l })) visits ∙ sym part.2,
     )

@@ -1,0 +1,45 @@
+-- What the moves wait for, by the visit before in the cell that each enters.
+use Rattle.std.specs.Prelude.{◌≡◌, ℕ, ◌+◌, ◌-◌, ◌<◌, ◌≤◌, ◌^◌, ◌==◌, if◌then◌else◌, List, length, get_or, Option, None, Some}
+use Rattle.model.specs.declared.visit.Visit.{Visit}
+use Rattle.depgraph.specs.declared.waiting.Wait.{Wait}
+use Rattle.depgraph.specs.Code.Entries.{begin_in}
+
+abbrev pub no_visit : Visit
+no_visit = record { agent = 0; index = 0; time = 0 }
+
+-- what waits for nobody
+abbrev pub no_wait : Wait
+no_wait = record { agent = 0; count = 0 }
+
+-- the entry of a visit
+abbrev pub entry_for : List ℕ → Visit → ℕ
+entry_for ends v = begin_in ends v.agent + v.index
+
+-- what an agent's move into a cell waits for, after the visit before: that the other agent has left, and for nobody after its own
+abbrev pub wait_of : ℕ → Option Visit → Wait
+wait_of i None = no_wait
+wait_of i (Some v) = if v.agent == i then no_wait else record { agent = v.agent; count = v.index + 1 }
+
+-- the visit before one that stands at a place, where those of its cell begin at another
+abbrev pub before_at : List Visit → ℕ → ℕ → Option Visit
+before_at visits begin k = if k == begin then None else Some (get_or visits (k - 1) no_visit)
+
+-- the entry of the visit at a place has what the move into that cell waits for
+abbrev pub IsNoted : List ℕ → List Visit → List Wait → ℕ → ℕ → Type 0
+IsNoted ends visits waits begin k =
+    get_or waits (entry_for ends (get_or visits k no_visit)) no_wait ≡ wait_of (get_or visits k no_visit).agent (before_at visits begin k)
+
+-- For each entry what the move into its cell waits for: the visits of each cell stand together, up to their end.
+pub record AreWaits (ends : List ℕ) (visits : List Visit) (visit_ends : List ℕ) (waits : List Wait) : Type 0 where
+  pub count : length waits ≡ length visits
+  pub each : (n k : ℕ) → n < length visit_ends → begin_in visit_ends n ≤ k → k < get_or visit_ends n 0 → IsNoted ends visits waits (begin_in visit_ends n) k
+
+-- Visits that stand cell after cell, each of an entry of its own. Who comes next into a cell finds that the other agent has left it, by one move more.
+pub record AreBlocks (ends : List ℕ) (visits : List Visit) (visit_ends : List ℕ) : Type 0 where
+  pub order : (n : ℕ) → n < length visit_ends → begin_in visit_ends n ≤ get_or visit_ends n 0
+  pub within : (n : ℕ) → n < length visit_ends → get_or visit_ends n 0 ≤ length visits
+  pub agents : (k : ℕ) → k < length visits → (get_or visits k no_visit).agent < length ends
+  pub entries : (k : ℕ) → k < length visits → entry_for ends (get_or visits k no_visit) < length visits
+  pub apart : (j k : ℕ) → j < length visits → k < length visits → entry_for ends (get_or visits j no_visit) ≡ entry_for ends (get_or visits k no_visit) → j ≡ k
+  pub left : (n k : ℕ) → n < length visit_ends → begin_in visit_ends n < k → k < get_or visit_ends n 0
+      → ((get_or visits (k - 1) no_visit).agent ≡ (get_or visits k no_visit).agent → ⊥) → (get_or visits (k - 1) no_visit).index + 1 < 2 ^ 16
