@@ -1,4 +1,4 @@
-//! Tests of the crate mapf_cmd: whole commands over readers and writers, failing ones too, and command lines.
+//! Tests of the crate mapf_cmd and of what it passes on: whole commands over readers and writers, failing ones too, and command lines.
 #![tactic(auto)]
 
 #[cfg(test)]

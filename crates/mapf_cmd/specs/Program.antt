@@ -2,19 +2,19 @@
 use Rattle.std.specs.Prelude.{◌≡◌, ℕ, ◌⊎◌, List, Option, Some, None}
 use Rattle.grid.specs.declared.counted.Counted.{Counted}
 use Rattle.clap.specs.Words.{Text}
-use Rattle.mapf_cmd.specs.declared.command_line.Line.{Line}
-use Rattle.mapf_cmd.specs.declared.command_line.Line.TheVariants.{Map, Scen, Row, Check, Deps}
-use Rattle.mapf_cmd.specs.declared.command_line.LineFault.{LineFault}
-use Rattle.mapf_cmd.specs.declared.command_line.LineFault.TheVariants.{Help, BadCommand, OutOfMemory}
-use Rattle.mapf_cmd.specs.declared.status.Status.TheVariants as status
-use Rattle.mapf_cmd.specs.CheckCommand.{AnswersCheck, AnswersCheckFit}
-use Rattle.mapf_cmd.specs.DepsCommand.{AnswersDeps}
-use Rattle.mapf_cmd.specs.MapCommand.{RewritesMap}
-use Rattle.mapf_cmd.specs.RowCommand.{AnswersRow}
-use Rattle.mapf_cmd.specs.Rewriting.{EndsWriting}
-use Rattle.mapf_cmd.specs.ScenCommand.{RewritesScen}
-use Rattle.mapf_cmd.specs.Status.{code_of}
-use Rattle.mapf_cmd.specs.Words.{IsLineOf, IsFaultOf}
+use Rattle.command_line.specs.declared.command_line.Line.{Line}
+use Rattle.command_line.specs.declared.command_line.Line.TheVariants.{Map, Scen, Row, Check, Deps}
+use Rattle.command_line.specs.declared.command_line.LineFault.{LineFault}
+use Rattle.command_line.specs.declared.command_line.LineFault.TheVariants.{Help, BadCommand, OutOfMemory}
+use Rattle.text_commands.specs.declared.status.Status.TheVariants as status
+use Rattle.plan_commands.specs.CheckCommand.{AnswersCheck, AnswersCheckFit}
+use Rattle.plan_commands.specs.DepsCommand.{AnswersDeps}
+use Rattle.text_commands.specs.MapCommand.{RewritesMap}
+use Rattle.text_commands.specs.RowCommand.{AnswersRow}
+use Rattle.text_commands.specs.Rewriting.{EndsWriting}
+use Rattle.text_commands.specs.ScenCommand.{RewritesScen}
+use Rattle.text_commands.specs.Status.{code_of}
+use Rattle.command_line.specs.Words.{IsLineOf, IsFaultOf}
 
 -- The command ended by what it read of its files, each as it was opened. Which file was opened for which word no clause can say.
 abbrev pub PerformsOn : {F W : Type 0} → (F → Option (List ℕ)) → (W → Option (List ℕ)) → Line → Counted W → Counted W → ℕ → Type 0

@@ -2,15 +2,13 @@
 ghost use Rattle.std.specs.Prelude.{◌≡◌, MatchResult, map, string_bytes};
 ghost use Rattle.mapf_cmd.specs.Program.{PerformsOn, Performs, EndsRefused, AnswersWords};
 
-use crate::writing::{finish, write_text};
-use crate::{
-    Line, LineFault, Status, check_cmd, check_fit_cmd, deps_cmd, line, map_cmd, report, row_cmd,
-    scen_cmd,
-};
+use command_line::{Line, LineFault, line};
 use grid::Counted;
+use plan_commands::{check_cmd, check_fit_cmd, deps_cmd};
 use std::io::Write;
 use std::rt::Files;
 use std::{fs, io};
+use text_commands::{Status, finish, map_cmd, report, row_cmd, scen_cmd, write_text};
 use thiserror::Error;
 
 const HELP: &str = "Reads maps, scenarios and plans, and answers what they hold.

@@ -1,7 +1,7 @@
 -- The command ends as its call says, on the files that were opened.
 use Rattle.std.proofs.Common.{sym, subst}
-use Rattle.mapf_cmd.specs.declared.command_line.Line.{Line}
-use Rattle.mapf_cmd.specs.declared.command_line.Line.TheVariants.{Check}
+use Rattle.command_line.specs.declared.command_line.Line.{Line}
+use Rattle.command_line.specs.declared.command_line.Line.TheVariants.{Check}
 use Rattle.mapf_cmd.specs.Program.{PerformsOn}
 use Rattle.mapf_cmd.proofs.program.perform_on_files.Goals as goal
 

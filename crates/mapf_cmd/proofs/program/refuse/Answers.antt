@@ -1,8 +1,8 @@
 use Rattle.std.proofs.Common.{ℕ, sym, subst}
-use Rattle.mapf_cmd.specs.declared.command_line.LineFault.{LineFault}
-use Rattle.mapf_cmd.specs.declared.command_line.LineFault.TheVariants.{Help}
+use Rattle.command_line.specs.declared.command_line.LineFault.{LineFault}
+use Rattle.command_line.specs.declared.command_line.LineFault.TheVariants.{Help}
 use Rattle.mapf_cmd.specs.Program.{EndsRefused}
-use Rattle.mapf_cmd.proofs.Rewriting.{ends_writing}
+use Rattle.text_commands.proofs.Rewriting.{ends_writing}
 use Rattle.mapf_cmd.proofs.program.refuse.Goals as goal
 
 pub returns-in-Help : goal.returns-in-Help

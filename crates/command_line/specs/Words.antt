@@ -1,0 +1,134 @@
+-- The command line of `mapf`, in the words of clap.
+use Rattle.std.specs.Prelude.{◌≡◌, ◌↔◌, ℕ, ◌^◌, ◌<◌, ◌⊎◌, true, List, [], ◌∷◌, ◌++◌, map, option_map, fold, codes, Some, string_bytes}
+use Rattle.grid.specs.Text.{SpellsNumber}
+use Rattle.clap.specs.Kinds.{IsAmong}
+use Rattle.clap.specs.Words.{App, fault_of, Row, Rule, Text, first_of, new_app, new_rule, one_of, subcommand_of, with_subcommand}
+use Rattle.clap.specs.declared.builder.action.ArgAction.TheVariants.{SetTrue}
+use Rattle.clap.specs.declared.error.kind.ErrorKind.{ErrorKind}
+use Rattle.clap.specs.declared.error.kind.ErrorKind.TheVariants as kind
+use Rattle.command_line.specs.declared.command_line.Line.{Line}
+use Rattle.command_line.specs.declared.command_line.Line.TheVariants.{Map, Scen, Row as row_line, Check, Deps}
+use Rattle.command_line.specs.declared.command_line.LineFault.{LineFault}
+use Rattle.command_line.specs.declared.command_line.LineFault.TheVariants.{Help, BadCommand, OutOfMemory}
+
+-- what a refusal of clap comes to
+abbrev pub fault_of_kind : ErrorKind → LineFault
+fault_of_kind kind.DisplayHelp = Help
+fault_of_kind kind.OutOfMemory = OutOfMemory
+fault_of_kind _ = BadCommand
+
+-- a command: its name, the names of the words that it requires, and the long names of its options, which take one value, and of its flags
+pub record Usage : Type 0 where
+  pub name : Text
+  pub required : List Text
+  pub options : List Text
+  pub flags : List Text
+
+-- the command with this name that takes a file
+abbrev pub file_command : Text → Usage
+file_command name = record { name = name; required = codes "file" ∷ []; options = []; flags = [] }
+
+abbrev pub map_command : Usage
+map_command = file_command (codes "map")
+
+abbrev pub scen_command : Usage
+scen_command = file_command (codes "scen")
+
+abbrev pub row_command : Usage
+row_command = record {
+  name = codes "row";
+  required = codes "map" ∷ codes "scen" ∷ codes "row" ∷ [];
+  options = [];
+  flags = [];
+}
+
+abbrev pub check_command : Usage
+check_command = record {
+  name = codes "check";
+  required = codes "map" ∷ codes "plan" ∷ [];
+  options = codes "scen" ∷ [];
+  flags = codes "json" ∷ [];
+}
+
+abbrev pub deps_command : Usage
+deps_command = record {
+  name = codes "deps";
+  required = codes "map" ∷ codes "plan" ∷ [];
+  options = [];
+  flags = [];
+}
+
+-- all commands
+abbrev pub commands : List Usage
+commands = map_command ∷ scen_command ∷ row_command ∷ check_command ∷ deps_command ∷ []
+
+-- one required word
+abbrev pub required_word : Text → Rule
+required_word name = record (new_rule name) { required = true }
+
+-- an option that takes one value: `--name VALUE` or `--name=VALUE`
+abbrev pub named_option : Text → Rule
+named_option name = record (new_rule name) { long = Some name }
+
+-- a flag: `--name`
+abbrev pub named_flag : Text → Rule
+named_flag name = record (named_option name) { action = Some SetTrue }
+
+-- the arguments of a command
+abbrev pub rules_of_usage : Usage → List Rule
+rules_of_usage u = map required_word u.required ++ (map named_option u.options ++ map named_flag u.flags)
+
+-- a command as clap takes it
+abbrev pub command_of : Usage → App
+command_of u = record (new_app u.name) { top = record (new_app u.name).top { rules = rules_of_usage u } }
+
+-- the program without its commands: one of them is required
+abbrev pub bare_program : App
+bare_program = record (new_app (codes "mapf")) { top = record (new_app (codes "mapf")).top { subcommand_required = true } }
+
+-- the program with all its commands
+abbrev pub program_app : App
+program_app = fold (λ app c. with_subcommand app (command_of c).top) bare_program commands
+
+-- the rows have a value of this word, which is digits alone and spells the number
+abbrev pub GivesNumber : Text → List Row → ℕ → Type 0
+GivesNumber word rows n = (digits : Text) × (first_of word rows ≡ Some digits) × SpellsNumber n digits
+
+-- the number that the command with this name wants, if it wants one, is spelled, and below 2^32
+abbrev pub HasRowNumber : Text → List Row → Type 0
+HasRowNumber name rows = name ≡ codes "row" → (n : ℕ) × (n < 2 ^ 32) × GivesNumber (codes "row") rows n
+
+-- the same of the words of the command line
+abbrev pub GiveNumber : List Text → Type 0
+GiveNumber words = (name : Text) (rows : List Row) → subcommand_of program_app words ≡ Some (name, rows) → HasRowNumber name rows
+
+-- the rows show this flag as given: clap puts down `true` where it is, and `false` where it is not
+abbrev pub IsFlagGiven : Text → List Row → Type 0
+IsFlagGiven flag rows = one_of flag rows ≡ Some (codes "true")
+
+-- the line is the command with this name, and its words have the values that the rows give
+abbrev pub IsCommand : Text → List Row → Line → Type 0
+IsCommand name rows (Map file) = (name ≡ codes "map") × (first_of (codes "file") rows ≡ Some (string_bytes file))
+IsCommand name rows (Scen file) = (name ≡ codes "scen") × (first_of (codes "file") rows ≡ Some (string_bytes file))
+IsCommand name rows (row_line map_file scen_file row) =
+    (name ≡ codes "row") × (first_of (codes "map") rows ≡ Some (string_bytes map_file))
+    × (first_of (codes "scen") rows ≡ Some (string_bytes scen_file)) × GivesNumber (codes "row") rows row
+IsCommand name rows (Check map_file plan_file scen_file json) =
+    (name ≡ codes "check") × (first_of (codes "map") rows ≡ Some (string_bytes map_file))
+    × (first_of (codes "plan") rows ≡ Some (string_bytes plan_file)) × (first_of (codes "scen") rows ≡ option_map string_bytes scen_file)
+    × (json ≡ true ↔ IsFlagGiven (codes "json") rows)
+IsCommand name rows (Deps map_file plan_file) =
+    (name ≡ codes "deps") × (first_of (codes "map") rows ≡ Some (string_bytes map_file))
+    × (first_of (codes "plan") rows ≡ Some (string_bytes plan_file))
+
+-- the line is the command that clap's definition of the program gives for the words
+abbrev pub IsLineOf : List Text → Line → Type 0
+IsLineOf words line = (name : Text) × (rows : List Row) × (subcommand_of program_app words ≡ Some (name, rows)) × IsCommand name rows line
+
+-- Why the words are no command: memory was refused; or clap refuses them, and this is what its kind of refusal comes to; or it takes
+-- them, and a number is none.
+abbrev pub IsFaultOf : List Text → LineFault → Type 0
+IsFaultOf words fault =
+    (fault ≡ OutOfMemory)
+    ⊎ (((refusal : ErrorKind) × IsAmong refusal (fault_of program_app words) × (fault ≡ fault_of_kind refusal))
+    ⊎ ((fault_of program_app words ≡ []) × (fault ≡ BadCommand)))

@@ -1,0 +1,8 @@
+//! The command line of `mapf` as a value.
+#![tactic(auto)]
+
+mod command_line;
+mod words;
+
+pub use command_line::{Line, LineFault};
+pub use words::line;

@@ -1,0 +1,4 @@
+-- Lemmas on what is written for plans.
+mod PlainText
+mod DepsLemmas
+mod DepsPuts

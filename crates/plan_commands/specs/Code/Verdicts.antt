@@ -1,0 +1,37 @@
+-- What the parts of `mapf check` owe each other.
+use Rattle.std.specs.Prelude.{ℕ, Bool, true, false, List, codes}
+use Rattle.model.specs.declared.plan_fault.PlanFault.{PlanFault}
+use Rattle.model.specs.declared.plan_fault.PlanFault.TheVariants as plan_fault
+use Rattle.serde_json.specs.Data.{Data, boolean, number, unsigned, string, object, member, no_members}
+use Rattle.plan_commands.specs.VerdictText.{accepted_line, rejected_line}
+use Rattle.plan_commands.specs.declared.check_fault.CheckFault.{CheckFault}
+use Rattle.plan_commands.specs.declared.check_fault.CheckFault.TheVariants as check_fault
+use Rattle.plan_commands.specs.declared.rejection.Rejection.TheVariants.{Invalid}
+use Rattle.text_commands.specs.declared.status.Status.{Status}
+use Rattle.text_commands.specs.declared.status.Status.TheVariants.{Done, Fault}
+use Rattle.plan_commands.specs.declared.verdict.Verdict.{Verdict}
+use Rattle.plan_commands.specs.declared.verdict.Verdict.TheVariants.{Accepted, Rejected}
+
+-- what a plan's fault is to the command: a rejection, or the checker was refused memory
+abbrev pub check_fault_of : PlanFault → CheckFault
+check_fault_of plan_fault.OutOfMemory = check_fault.OutOfMemory
+check_fault_of fault = check_fault.Rejected (Invalid fault)
+
+-- well only where the plan is accepted
+abbrev pub verdict_status : Verdict → Status
+verdict_status (Accepted agents cost makespan) = Done
+verdict_status (Rejected fault) = Fault
+
+-- the line of a verdict
+abbrev pub verdict_line : Bool → Verdict → List ℕ
+verdict_line json (Accepted agents cost makespan) = accepted_line json agents cost makespan
+verdict_line json (Rejected fault) = rejected_line json fault.now
+
+-- a verdict as a JSON value, whose members stand in the order of their names
+abbrev pub accepted_data : (agents cost makespan : ℕ) → Data
+accepted_data agents cost makespan =
+    object (member (codes "accepted") (boolean true) (member (codes "agents") (number (unsigned agents))
+    (member (codes "cost") (number (unsigned cost)) (member (codes "makespan") (number (unsigned makespan)) no_members))))
+
+abbrev pub rejected_data : List ℕ → Data
+rejected_data fault = object (member (codes "accepted") (boolean false) (member (codes "fault") (string fault) no_members))

@@ -1,0 +1,17 @@
+-- What has to be believed, in the order in which to read it: each promise of the crate is made in these words, and in those of
+-- `text_commands`.
+
+-- which exit status a fault ends with
+pub mod CheckStatus
+-- the text of a plan's fault
+pub mod FaultWords
+-- what is written for a plan that was checked
+pub mod VerdictText
+-- what `mapf check` does and answers
+pub mod CheckCommand
+-- what is written of a timetable's dependencies
+pub mod DepsText
+-- what `mapf deps` does and answers
+pub mod DepsCommand
+-- The code's own words, of which no promise speaks.
+pub mod Code

@@ -1,0 +1,148 @@
+//! `mapf check`: checks a plan on a map, and whether it solves the first rows of a scenario.
+ghost use Rattle.std.specs.Prelude.{◌≡◌, Err};
+ghost use Rattle.plan_commands.specs.CheckCommand.{ReadsAndChecks, ReadsChecksAndFits, EndsByCheck, EndsByLine, AnswersCheck, AnswersCheckFit};
+ghost use Rattle.plan_commands.specs.Code.Verdicts.{verdict_line, verdict_status};
+ghost use Rattle.text_commands.specs.Status.{code_of};
+ghost use Rattle.plan_commands.specs.CheckStatus.{check_fault_status};
+ghost use Rattle.plan_commands.specs.VerdictText.{IsPlain};
+
+use crate::check_fault::CheckFault;
+use crate::verdict::{Verdict, verdict_line};
+use grid::{Counted, read_map};
+use plan::{CheckedPlan, check, fits, read_plan};
+use scen::read_scen;
+use std::alloc::Global;
+use std::io::{Read, Write};
+use text_commands::{finish, report, write_text};
+
+/// Reads a map from `map` and a plan from `plan`, and writes the verdict on the plan to `out`, in words or as JSON, with a fault's
+/// line on `err`. The answer is the exit status, which stays where `err` fails.
+pub fn check_cmd<M: Read, P: Read, W: Write, E: Write>(
+    alloc: Global,
+    map: &mut Counted<M>,
+    plan: &mut Counted<P>,
+    json: bool,
+    out: &mut Counted<W>,
+    err: &mut Counted<E>,
+) -> u8
+    ensures answers { AnswersCheck M.remaining P.remaining W.contents map.old map.new plan.old plan.new json out.old out.new result }
+    ensures quiet { result ≡ 0 → err.new ≡ err.old }
+{
+    let answer = read_and_check(alloc, map, plan);
+    conclude(alloc, answer, json, out, err)
+}
+
+/// The same with a scenario, which is read only where the plan is valid: the plan is accepted only where it also solves the first
+/// rows, as many as it has agents.
+pub fn check_fit_cmd<M: Read, P: Read, S: Read, W: Write, E: Write>(
+    alloc: Global,
+    map: &mut Counted<M>,
+    plan: &mut Counted<P>,
+    scen: &mut Counted<S>,
+    json: bool,
+    out: &mut Counted<W>,
+    err: &mut Counted<E>,
+) -> u8
+    ensures answers { AnswersCheckFit M.remaining P.remaining S.remaining W.contents map.old map.new plan.old plan.new scen.old scen.new json out.old out.new result }
+    ensures quiet { result ≡ 0 → err.new ≡ err.old }
+{
+    let answer = read_check_and_fit(alloc, map, plan, scen);
+    conclude(alloc, answer, json, out, err)
+}
+
+/// Reads the map and then the plan, and checks the plan.
+pub(crate) fn read_and_check<M: Read, P: Read>(
+    alloc: Global,
+    map: &mut Counted<M>,
+    plan: &mut Counted<P>,
+) -> Result<CheckedPlan, CheckFault>
+    ensures { ReadsAndChecks M.remaining P.remaining map.old map.new plan.old plan.new result }
+{
+    let map = read_map(alloc, map)?;
+    let plan = read_plan(alloc, plan)?;
+    match check(alloc, &map, plan) {
+        Ok(checked) => Ok(checked),
+        Err(rejected) => Err(CheckFault::from(rejected.fault)),
+    }
+}
+
+/// Reads the map and the plan and checks the plan, and then reads the scenario and holds the plan against it.
+fn read_check_and_fit<M: Read, P: Read, S: Read>(
+    alloc: Global,
+    map: &mut Counted<M>,
+    plan: &mut Counted<P>,
+    scen: &mut Counted<S>,
+) -> Result<CheckedPlan, CheckFault>
+    ensures { ReadsChecksAndFits M.remaining P.remaining S.remaining map.old map.new plan.old plan.new scen.old scen.new result }
+{
+    let checked = read_and_check(alloc, map, plan)?;
+    let scenario = read_scen(alloc, scen)?;
+    fits(&checked, &scenario, checked.agents())?;
+    Ok(checked)
+}
+
+/// Writes the verdict, or says why there is none. The answer is the exit status.
+fn conclude<W: Write, E: Write>(
+    alloc: Global,
+    answer: Result<CheckedPlan, CheckFault>,
+    json: bool,
+    out: &mut Counted<W>,
+    err: &mut Counted<E>,
+) -> u8
+    ensures ends { EndsByCheck W.contents json out.old out.new result answer }
+    ensures quiet { result ≡ 0 → err.new ≡ err.old }
+{
+    match answer {
+        Ok(plan) => tell(alloc, &Verdict::accepted(&plan), json, out, err),
+        Err(fault) => refuse(alloc, fault, json, out, err),
+    }
+}
+
+/// Writes the verdict on a plan that is rejected, or says why there is none. The answer is the exit status.
+fn refuse<W: Write, E: Write>(
+    alloc: Global,
+    fault: CheckFault,
+    json: bool,
+    out: &mut Counted<W>,
+    err: &mut Counted<E>,
+) -> u8
+    ensures ends { EndsByCheck W.contents json out.old out.new result (Err fault) }
+    ensures quiet { result ≡ 0 → err.new ≡ err.old }
+{
+    match fault {
+        CheckFault::Rejected(rejection) => match rejection.text(alloc) {
+            Ok(text) => tell(alloc, &Verdict::Rejected(&text), json, out, err),
+            Err(_) => give_up(CheckFault::OutOfMemory, err),
+        },
+        _ => give_up(fault, err),
+    }
+}
+
+/// Writes the line of a verdict. The answer is the exit status.
+fn tell<W: Write, E: Write>(
+    alloc: Global,
+    verdict: &Verdict<'_>,
+    json: bool,
+    out: &mut Counted<W>,
+    err: &mut Counted<E>,
+) -> u8
+    requires { IsPlain verdict.now }
+    ensures ends { EndsByLine W.contents out.old out.new result (verdict_status verdict.now) (verdict_line json verdict.now) }
+    ensures quiet { result ≡ 0 → err.new ≡ err.old }
+{
+    match verdict_line(alloc, verdict, json) {
+        Ok(line) => {
+            let written = write_text(line.as_bytes(), out);
+            finish(written, verdict.status(), out, err).code()
+        }
+        Err(_) => give_up(CheckFault::OutOfMemory, err),
+    }
+}
+
+/// Says why there is no verdict. The answer is the exit status.
+pub(crate) fn give_up<E: Write>(fault: CheckFault, err: &mut Counted<E>) -> u8
+    ensures { result ≡ code_of (check_fault_status fault) }
+{
+    let _ = report(err, fault);
+    fault.status().code()
+}

@@ -1,0 +1,110 @@
+//! Why a plan is not accepted.
+ghost use Rattle.std.specs.Prelude.{◌≡◌};
+ghost use Rattle.plan_commands.specs.CheckStatus.{check_fault_status, plan_text_fault_status};
+ghost use Rattle.plan_commands.specs.Code.Verdicts.{check_fault_of};
+ghost use Rattle.plan_commands.specs.declared.check_fault.CheckFault.TheVariants as check_fault;
+ghost use Rattle.plan_commands.specs.declared.rejection.Rejection.TheVariants as rejection;
+
+use crate::rejection::Rejection;
+use depgraph::OutOfMemory;
+use grid::MapFault;
+use plan::{FitFault, PlanFault, PlanTextFault};
+use scen::ScenFault;
+use text_commands::{Status, map_fault_status, scen_fault_status};
+use thiserror::Error;
+
+/// Why a plan is not accepted.
+#[derive(Clone, Copy, Debug, PartialEq, Eq, Error)]
+pub(crate) enum CheckFault {
+    /// The map could not be read.
+    #[error("{0}")]
+    Map(MapFault),
+    /// The plan could not be read.
+    #[error("{0}")]
+    Plan(PlanTextFault),
+    /// The scenario could not be read.
+    #[error("{0}")]
+    Scen(ScenFault),
+    /// The checker was refused memory, or the text of a verdict or a graph was.
+    #[error("OutOfMemory")]
+    OutOfMemory,
+    /// All was read, and the plan is rejected.
+    #[error("{0}")]
+    Rejected(Rejection),
+}
+
+impl CheckFault {
+    /// The status that it ends with.
+    pub(crate) fn status(self) -> Status
+        ensures { result ≡ check_fault_status self }
+    {
+        match self {
+            CheckFault::Map(fault) => map_fault_status(fault),
+            CheckFault::Plan(fault) => plan_text_fault_status(fault),
+            CheckFault::Scen(fault) => scen_fault_status(fault),
+            CheckFault::OutOfMemory => Status::Failure,
+            CheckFault::Rejected(_) => Status::Fault,
+        }
+    }
+}
+
+/// The status that a fault of a plan's text ends with.
+fn plan_text_fault_status(fault: PlanTextFault) -> Status
+    ensures { result ≡ plan_text_fault_status fault }
+{
+    match fault {
+        PlanTextFault::ReadFailed | PlanTextFault::OutOfMemory => Status::Failure,
+        _ => Status::Fault,
+    }
+}
+
+impl From<MapFault> for CheckFault {
+    ghost from_gives = { λ e f. f ≡ check_fault.Map e };
+
+    fn from(e: MapFault) -> CheckFault {
+        CheckFault::Map(e)
+    }
+}
+
+impl From<PlanTextFault> for CheckFault {
+    ghost from_gives = { λ e f. f ≡ check_fault.Plan e };
+
+    fn from(e: PlanTextFault) -> CheckFault {
+        CheckFault::Plan(e)
+    }
+}
+
+impl From<ScenFault> for CheckFault {
+    ghost from_gives = { λ e f. f ≡ check_fault.Scen e };
+
+    fn from(e: ScenFault) -> CheckFault {
+        CheckFault::Scen(e)
+    }
+}
+
+impl From<FitFault> for CheckFault {
+    ghost from_gives = { λ e f. f ≡ check_fault.Rejected (rejection.Unfit e) };
+
+    fn from(e: FitFault) -> CheckFault {
+        CheckFault::Rejected(Rejection::Unfit(e))
+    }
+}
+
+impl From<OutOfMemory> for CheckFault {
+    ghost from_gives = { λ _ f. f ≡ check_fault.OutOfMemory };
+
+    fn from(_e: OutOfMemory) -> CheckFault {
+        CheckFault::OutOfMemory
+    }
+}
+
+impl From<PlanFault> for CheckFault {
+    ghost from_gives = { λ e f. f ≡ check_fault_of e };
+
+    fn from(e: PlanFault) -> CheckFault {
+        match e {
+            PlanFault::OutOfMemory => CheckFault::OutOfMemory,
+            _ => CheckFault::Rejected(Rejection::Invalid(e)),
+        }
+    }
+}

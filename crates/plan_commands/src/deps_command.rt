@@ -1,0 +1,58 @@
+//! `mapf deps`: says which moves of a plan wait for which.
+ghost use Rattle.std.specs.Prelude.{◌≡◌};
+ghost use Rattle.plan_commands.specs.DepsCommand.{ReadsTimetable, EndsByDeps, AnswersDeps};
+
+use crate::check_command::{give_up, read_and_check};
+use crate::check_fault::CheckFault;
+use crate::deps_text::write_deps;
+use depgraph::Graph;
+use grid::Counted;
+use std::alloc::Global;
+use std::io::{Read, Write};
+use text_commands::{Status, finish};
+
+/// Reads a map from `map` and a plan from `plan`, checks the plan on the map, and writes what its moves wait for and its rotations
+/// to `out`, with a fault's line on `err`, also one of the plan. The answer is the exit status, which stays where `err` fails.
+pub fn deps_cmd<M: Read, P: Read, W: Write, E: Write>(
+    alloc: Global,
+    map: &mut Counted<M>,
+    plan: &mut Counted<P>,
+    out: &mut Counted<W>,
+    err: &mut Counted<E>,
+) -> u8
+    ensures answers { AnswersDeps M.remaining P.remaining W.contents map.old map.new plan.old plan.new out.old out.new result }
+    ensures quiet { result ≡ 0 → err.new ≡ err.old }
+{
+    let answer = read_and_build(alloc, map, plan);
+    conclude(answer, out, err)
+}
+
+/// Reads the map and then the plan, checks the plan, and builds its graph.
+fn read_and_build<M: Read, P: Read>(
+    alloc: Global,
+    map: &mut Counted<M>,
+    plan: &mut Counted<P>,
+) -> Result<Graph, CheckFault>
+    ensures { ReadsTimetable M.remaining P.remaining map.old map.new plan.old plan.new result }
+{
+    let plan = read_and_check(alloc, map, plan)?;
+    Ok(Graph::build(alloc, &plan)?)
+}
+
+/// Writes the dependencies, or says why there are none. The answer is the exit status.
+fn conclude<W: Write, E: Write>(
+    answer: Result<Graph, CheckFault>,
+    out: &mut Counted<W>,
+    err: &mut Counted<E>,
+) -> u8
+    ensures ends { EndsByDeps W.contents out.old out.new result answer }
+    ensures quiet { result ≡ 0 → err.new ≡ err.old }
+{
+    match answer {
+        Ok(graph) => {
+            let written = write_deps(&graph, out);
+            finish(written, Status::Done, out, err).code()
+        }
+        Err(fault) => give_up(fault, err),
+    }
+}

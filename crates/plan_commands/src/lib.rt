@@ -1,0 +1,13 @@
+//! The commands over plans.
+#![tactic(auto)]
+
+mod check_command;
+mod check_fault;
+mod deps_command;
+mod deps_text;
+mod rejection;
+mod verdict;
+
+pub use check_command::{check_cmd, check_fit_cmd};
+pub use deps_command::deps_cmd;
+pub use verdict::{Verdict, verdict_json};

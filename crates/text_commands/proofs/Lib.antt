@@ -1,0 +1,5 @@
+-- Lemmas on commands that write a text.
+pub mod Rewriting
+pub mod SinkWritten
+mod RowVerdictPuts
+mod RowAnswers

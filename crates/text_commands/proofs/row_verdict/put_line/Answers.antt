@@ -1,0 +1,19 @@
+-- The line, and then what is held back.
+use Rattle.std.proofs.Common.{[], ◌++◌, refl, append-nil}
+use Rattle.scen.proofs.PutLemmas.{Leaves-all, Leaves-less, Puts-last, Breaks-last}
+use Rattle.text_commands.specs.RowCommand.{row_verdict_text}
+use Rattle.text_commands.proofs.row_verdict.put_line.Goals as goal
+
+pub returns-clause-ok : goal.returns-clause-ok
+returns-clause-ok g c =
+    let text = row_verdict_text c.args.verdict in
+    let all = Leaves-all g.W.Write.contents _ text (text ++ []) (append-nil text) in
+    let last = Leaves-less g.W.Write.contents _ _ _ _ text [] _ all refl c.in_ok-put_row_verdict.ensures.ok in
+    Puts-last g.W.Write.contents _ _ _ _ [] _ c.hand_on.result last refl c.hand_on.ensures.ok
+
+pub returns-clause-err : goal.returns-clause-err
+returns-clause-err g c =
+    let text = row_verdict_text c.args.verdict in
+    let all = Leaves-all g.W.Write.contents _ text (text ++ []) (append-nil text) in
+    let last = Leaves-less g.W.Write.contents _ _ _ _ text [] _ all refl c.in_ok-put_row_verdict.ensures.ok in
+    Breaks-last g.W.Write.contents _ _ _ _ [] _ c.hand_on.result last refl c.hand_on.ensures.err

@@ -1,0 +1,15 @@
+-- How a command ends that wrote a text.
+use Rattle.std.specs.Prelude.{◌≡◌, ℕ, ◌⊎◌, Bool, true, false, List, Option}
+use Rattle.std.specs.Io.KnownBytes.{Keeps}
+use Rattle.grid.specs.declared.counted.Counted.{Counted}
+use Rattle.grid.specs.Counted.{counted_inner, calls_of, failures_of, one_more, Rises}
+use Rattle.text_commands.specs.declared.status.Status.{Status}
+use Rattle.text_commands.specs.declared.status.Status.TheVariants.{Failure}
+
+-- How a command ends after a write, by whether that passed: the output is called once more, for a flush, which leaves the bytes as
+-- they are, and not at all after a failed write. Where neither failed, the status is that of success.
+abbrev pub Finishes : {W : Type 0} → (W → Option (List ℕ)) → Bool → Status → Counted W → Counted W → Status → Type 0
+Finishes contents true success old new status =
+    Keeps (contents (counted_inner old)) (contents (counted_inner new)) × (calls_of new ≡ one_more (calls_of old))
+    × (((status ≡ success) × (failures_of new ≡ failures_of old)) ⊎ ((status ≡ Failure) × Rises (failures_of old) (failures_of new)))
+Finishes contents false success old new status = (status ≡ Failure) × (new ≡ old)

@@ -1,0 +1,14 @@
+-- What has to be believed, in the order in which to read it: each promise of the crate is made in these words, and in those of `grid`
+-- and `scen`.
+
+-- the exit statuses, and which one a fault of a text or a row's verdict ends with
+pub mod Status
+-- how a command ends that wrote a text
+pub mod Finishing
+-- what a command does that reads a text and writes it in canonical form
+pub mod Rewriting
+-- the same of maps, and of scenarios
+pub mod MapCommand
+pub mod ScenCommand
+-- what `mapf row` does and answers
+pub mod RowCommand

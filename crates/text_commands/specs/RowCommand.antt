@@ -1,0 +1,109 @@
+-- What `mapf row` does and answers.
+use Rattle.std.specs.Prelude.{◌≡◌, ℕ, ◌≤◌, ◌↔◌, IsTrue, Bool, if◌then◌else◌, List, [], ◌∷◌, ◌++◌, length, Option, Some, None, Result, Ok, Err, slice_get, codes, decimal}
+use Rattle.std.specs.List.{join_with_byte}
+use Rattle.grid.specs.declared.counted.Counted.{Counted}
+use Rattle.grid.specs.Map.{Grid}
+use Rattle.grid.specs.MapFault.{MapFaultAt, map_outcome}
+use Rattle.grid.specs.MapText.{MapText}
+use Rattle.grid.specs.Text.{space, line_feed}
+use Rattle.grid.specs.declared.map_fault.MapFault.{MapFault}
+use Rattle.scen.specs.Certificate.{AreOn, Certifies, IsLeast}
+use Rattle.scen.specs.Length.{Agrees}
+use Rattle.scen.specs.Query.{Query, listed_text}
+use Rattle.scen.specs.ScenFault.{ScenFaultAt, scen_outcome}
+use Rattle.scen.specs.ScenText.{ScenText}
+use Rattle.scen.specs.declared.certificate.Proposal.{Proposal}
+use Rattle.scen.specs.declared.length.Length.{Length}
+use Rattle.scen.specs.declared.listed.Listed.{Listed}
+use Rattle.scen.specs.declared.scen_fault.ScenFault.{ScenFault}
+use Rattle.text_commands.specs.declared.row_fault.RowFault.{RowFault}
+use Rattle.text_commands.specs.declared.row_fault.RowFault.TheVariants.{Map, Scen, NoSuchRow, SizeDiffers, OutOfMemory, Certificate}
+use Rattle.text_commands.specs.declared.row_verdict.RowVerdict.{RowVerdict}
+use Rattle.text_commands.specs.declared.row_verdict.RowVerdict.TheVariants.{Shortest, Unreachable}
+use Rattle.text_commands.specs.Rewriting.{Reads, EndsWriting}
+use Rattle.text_commands.specs.Status.{code_of, row_fault_status, row_verdict_status}
+
+-- the words of the line, as `shortest 2 0 listed 2 agrees`
+abbrev pub shortest_words : Length → Listed → Bool → List (List ℕ)
+shortest_words length listed agrees =
+    codes "shortest" ∷ decimal length.straight ∷ decimal length.diagonal ∷ codes "listed" ∷ listed_text listed.n listed.d
+    ∷ (if agrees then codes "agrees" else codes "differs") ∷ []
+
+-- the line that is written for a shortest length
+abbrev pub shortest_text : Length → Listed → Bool → List ℕ
+shortest_text length listed agrees = join_with_byte space (shortest_words length listed agrees) ++ line_feed ∷ []
+
+-- the line that is written for a verdict
+abbrev pub row_verdict_text : RowVerdict → List ℕ
+row_verdict_text (Shortest length listed agrees) = shortest_text length listed agrees
+row_verdict_text Unreachable = codes "unreachable" ++ line_feed ∷ []
+
+-- the verdict on the listed length n / 10^decimals, by the length of the shortest walks
+abbrev pub IsRowVerdictOn : ℕ → ℕ → Option Length → RowVerdict → Type 0
+IsRowVerdictOn n decimals shortest (Shortest length listed agrees) =
+    (shortest ≡ Some length) × (listed.n ≡ n) × (listed.d ≡ decimals) × (IsTrue agrees ↔ Agrees n decimals length.straight length.diagonal)
+IsRowVerdictOn n decimals shortest Unreachable = shortest ≡ None
+
+-- The length of the shortest walks of a query, or that there is none: a proposal was certified.
+pub record IsCertified (m : Grid) (q : Query) (shortest : Option Length) : Type 0 where
+  pub proposal : Proposal
+  pub certifies : Certifies m q.start q.goal proposal (Ok shortest)
+  pub least : IsLeast m q.start q.goal shortest
+
+-- the query is for a map of this size
+abbrev pub HasSizeOf : Grid → Query → Type 0
+HasSizeOf m q = (q.width ≡ m.width) × (q.height ≡ m.height)
+
+-- The row with this number, counted from 0, is the query, which is for a map of this size. So its start and goal are on the map.
+pub record IsAsked (m : Grid) (rows : List Query) (number : ℕ) (q : Query) : Type 0 where
+  pub is_row : slice_get rows number ≡ Some q
+  pub has_size : HasSizeOf m q
+  pub on_map : AreOn m q.start q.goal
+
+-- What a row comes to: its verdict; or there is no such row; else its size is another one; else the search was refused memory, or
+-- what it proposed proves nothing.
+abbrev pub JudgesRow : Grid → List Query → ℕ → Result RowVerdict RowFault → Type 0
+JudgesRow m rows number (Ok verdict) =
+    (q : Query) × IsAsked m rows number q × (shortest : Option Length) × IsCertified m q shortest × IsRowVerdictOn q.listed q.decimals shortest verdict
+JudgesRow m rows number (Err NoSuchRow) = length rows ≤ number
+JudgesRow m rows number (Err (SizeDiffers at)) =
+    (at ≡ number) × (q : Query) × (slice_get rows number ≡ Some q) × (HasSizeOf m q → ⊥)
+JudgesRow m rows number (Err OutOfMemory) = (q : Query) × IsAsked m rows number q
+JudgesRow m rows number (Err (Certificate fault)) =
+    (q : Query) × IsAsked m rows number q × (proposal : Proposal) × Certifies m q.start q.goal proposal (Err fault)
+JudgesRow m rows number (Err (Map fault)) = ⊥
+JudgesRow m rows number (Err (Scen fault)) = ⊥
+
+-- a map was read as `read_map` reads it, and a scenario as `read_scen` does, with these answers
+abbrev pub ReadsMap : {R : Type 0} → (R → Option (List ℕ)) → Counted R → Counted R → Result Grid MapFault → Type 0
+ReadsMap remaining old new answer = Reads MapText MapFaultAt remaining old new (map_outcome answer)
+
+abbrev pub ReadsScen : {S : Type 0} → (S → Option (List ℕ)) → Counted S → Counted S → Result (List Query) ScenFault → Type 0
+ReadsScen remaining old new answer = Reads ScenText ScenFaultAt remaining old new (scen_outcome answer)
+
+-- The map was read, and then the scenario, and then the row was judged by the two; a text that could not be read is answered, and
+-- what comes after it isn't touched.
+abbrev pub ReadsAndJudges
+    : {R S : Type 0} → (R → Option (List ℕ)) → (S → Option (List ℕ)) → Counted R → Counted R → Counted S → Counted S → ℕ
+    → Result RowVerdict RowFault → Type 0
+ReadsAndJudges map_left scen_left old_map new_map old_scen new_scen number (Err (Map fault)) =
+    ReadsMap map_left old_map new_map (Err fault) × (new_scen ≡ old_scen)
+ReadsAndJudges map_left scen_left old_map new_map old_scen new_scen number (Err (Scen fault)) =
+    (m : Grid) × ReadsMap map_left old_map new_map (Ok m) × ReadsScen scen_left old_scen new_scen (Err fault)
+ReadsAndJudges map_left scen_left old_map new_map old_scen new_scen number answer =
+    (m : Grid) × (rows : List Query) × ReadsMap map_left old_map new_map (Ok m) × ReadsScen scen_left old_scen new_scen (Ok rows)
+    × JudgesRow m rows number answer
+
+-- The exit status and what the output got: the line of the verdict, or a beginning of it where the output failed; nothing where
+-- there is no verdict.
+abbrev pub EndsByRowVerdict : {W : Type 0} → (W → Option (List ℕ)) → Counted W → Counted W → ℕ → Result RowVerdict RowFault → Type 0
+EndsByRowVerdict contents old new status (Ok verdict) = EndsWriting contents old new status (row_verdict_status verdict) (row_verdict_text verdict)
+EndsByRowVerdict contents old new status (Err fault) = (status ≡ code_of (row_fault_status fault)) × (new ≡ old)
+
+-- The texts were read and the row was judged, and the command ended by that.
+pub record AnswersRow
+    {R S W : Type 0} (map_left : R → Option (List ℕ)) (scen_left : S → Option (List ℕ)) (contents : W → Option (List ℕ))
+    (old_map new_map : Counted R) (old_scen new_scen : Counted S) (number : ℕ) (old_out new_out : Counted W) (status : ℕ) : Type 0 where
+  pub answer : Result RowVerdict RowFault
+  pub judges : ReadsAndJudges map_left scen_left old_map new_map old_scen new_scen number answer
+  pub ends : EndsByRowVerdict contents old_out new_out status answer

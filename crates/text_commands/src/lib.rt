@@ -1,0 +1,16 @@
+//! The commands over maps and scenarios, and how every command ends.
+#![tactic(auto)]
+
+mod map_command;
+mod row_command;
+mod row_fault;
+mod row_verdict;
+mod scen_command;
+mod status;
+mod writing;
+
+pub use map_command::{map_cmd, map_fault_status};
+pub use row_command::row_cmd;
+pub use scen_command::{scen_cmd, scen_fault_status};
+pub use status::{Status, report};
+pub use writing::{finish, write_text};

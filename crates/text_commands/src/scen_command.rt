@@ -1,0 +1,44 @@
+//! `mapf scen`: reads a scenario and writes it in canonical form.
+ghost use Rattle.std.specs.Prelude.{◌≡◌};
+ghost use Rattle.text_commands.specs.Status.{scen_fault_status};
+ghost use Rattle.text_commands.specs.ScenCommand.{RewritesScen};
+
+use crate::writing::finish;
+use crate::{Status, report};
+use grid::Counted;
+use scen::{ScenFault, read_scen, write_scen};
+use std::alloc::Global;
+use std::io::{Read, Write};
+
+/// Reads a scenario from `scen` and writes its canonical text to `out`, with a fault's line on `err`. The answer is the exit status,
+/// which stays where `err` fails.
+pub fn scen_cmd<R: Read, W: Write, E: Write>(
+    alloc: Global,
+    scen: &mut Counted<R>,
+    out: &mut Counted<W>,
+    err: &mut Counted<E>,
+) -> u8
+    ensures rewrites { RewritesScen R.remaining W.contents scen.old scen.new out.old out.new result }
+    ensures quiet { result ≡ 0 → err.new ≡ err.old }
+{
+    match read_scen(alloc, scen) {
+        Ok(scenario) => {
+            let written = write_scen(&scenario, out);
+            finish(written, Status::Done, out, err).code()
+        }
+        Err(fault) => {
+            let _ = report(err, fault);
+            scen_fault_status(fault).code()
+        }
+    }
+}
+
+/// The status that a scenario's fault ends with.
+pub fn scen_fault_status(fault: ScenFault) -> Status
+    ensures { result ≡ scen_fault_status fault }
+{
+    match fault {
+        ScenFault::ReadFailed | ScenFault::OutOfMemory => Status::Failure,
+        _ => Status::Fault,
+    }
+}

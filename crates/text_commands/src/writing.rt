@@ -1,0 +1,45 @@
+//! Ending a command that wrote a text.
+ghost use Rattle.std.specs.Prelude.{◌≡◌, ◌⊎◌, [], is_ok, OnOk, OnErr};
+ghost use Rattle.grid.specs.Counted.{counted_inner, failures_of};
+ghost use Rattle.grid.specs.Sink.{held_back, Puts, Breaks};
+ghost use Rattle.grid.specs.Writing.{WritesText};
+ghost use Rattle.text_commands.specs.Finishing.{Finishes};
+
+use crate::{Status, report};
+use grid::{Counted, Sink, WriteFault};
+use std::io::Write;
+
+/// Writes a text. The writer is not flushed.
+pub fn write_text<W: Write>(text: &[u8], writer: &mut Counted<W>) -> Result<(), WriteFault>
+    ensures { WritesText (is_ok result) (W.contents (counted_inner writer.old)) (W.contents (counted_inner writer.new)) (failures_of writer.old) (failures_of writer.new) text.now }
+{
+    let mut sink = Sink::new(writer);
+    put_text(&mut sink, text)
+}
+
+/// Puts the text, and hands it on.
+fn put_text<W: Write>(sink: &mut Sink<'_, W>, text: &[u8]) -> Result<(), WriteFault>
+    ensures ok { OnOk result (Puts W.contents sink.old sink.new text.now) }
+    ensures none_held { OnOk result (held_back sink.new ≡ []) }
+    ensures err { OnErr result (Breaks W.contents sink.old sink.new text.now) }
+{
+    sink.put(text)?;
+    sink.hand_on()
+}
+
+/// Flushes the output after a write, and says on `err` where either failed. Where neither did, the answer is the status of success.
+pub fn finish<W: Write, E: Write>(
+    written: Result<(), WriteFault>,
+    success: Status,
+    out: &mut Counted<W>,
+    err: &mut Counted<E>,
+) -> Status
+    ensures out { Finishes W.contents (is_ok written) success out.old out.new result }
+    ensures err { (err.new ≡ err.old) ⊎ (result ≡ Status.Failure) }
+{
+    if written.is_ok() && out.flush().is_ok() {
+        return success;
+    }
+    let _ = report(err, WriteFault::WriteFailed);
+    Status::Failure
+}
