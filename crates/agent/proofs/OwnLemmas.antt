@@ -1,0 +1,228 @@
+-- What the tape of an agent keeps, and what a write of the due record does to it.
+use Rattle.std.proofs.Common.{◌≡◌, ℕ, zero, suc, ◌+◌, ◌*◌, ◌/◌, ◌-◌, ◌<◌, ◌≤◌, ◌++◌, Bool, true, false, List, [], ◌∷◌, length, take, drop, Some, None, inl, inr, refl, sym, ap, subst, ◌∙◌, arith}
+use Rattle.std.specs.Prelude.{◌⊎◌, ◌==◌, Option, option_map, slice_get}
+use Rattle.std.specs.List.{AllByRecursion}
+use Rattle.std.proofs.Math.Nat.{mul-div-le, lt-mul-div-succ, mul-add-div, mul-div_cancel_left, div-eq_of_lt}
+use Rattle.std.proofs.Math.Seq.{drop-append_seam}
+use Rattle.std.proofs.lemmas.Bool.{cases_lt, cases_Bool, cond-true, cond-false, eq-eqb, true≢false}
+use Rattle.std.proofs.lemmas.List.{take-append-le, drop-append-le, drop-take, length-drop, length-take-le, length-append, take_all}
+use Rattle.std.proofs.lemmas.Option.{same_Some, none-some, slice_get-get_or}
+use Rattle.grid.specs.declared.cell.Cell.{Cell}
+use Rattle.model.specs.History.{record_length}
+use Rattle.model.specs.Timetable.{Track, Timetable, same_cell, moves_after, moves, path, track_of}
+use Rattle.model.specs.Rules.{path_cell}
+use Rattle.model.proofs.TrackLemmas.{length-path}
+use Rattle.agent.specs.Agents.{AgentOn}
+use Rattle.agent.specs.Owning.{IsOwn, HasSize}
+use Rattle.agent.specs.Records.{due_record, record_at}
+use Rattle.agent.specs.States.{State, done, is_moving, start_refusal}
+use Rattle.agent.specs.Tape.{TapeState, whole_records, MayRead, MayWrite, IsWrite}
+use Rattle.depgraph.specs.Graphs.{IsGraphed}
+
+-- ---- how many moves there are
+
+moves-within : (c : Cell) (cells : List Cell) (t : ℕ) → moves_after c cells t ≤ length cells
+moves-within c [] t = omega arith
+moves-within c (d ∷ cells) zero = omega arith
+moves-within c (d ∷ cells) (suc t) = elim (cases_Bool (same_cell c d)) [
+  | inl same ↦ (let is = cond-true (same_cell c d) (moves_after d cells t) (moves_after d cells t + 1) same in let rest = moves-within d cells t in omega (arith, is, rest))
+  | inr other ↦ (let is = cond-false (same_cell c d) (moves_after d cells t) (moves_after d cells t + 1) other in let rest = moves-within d cells t in omega (arith, is, rest))
+]
+
+few_moves : (tracks : List Track) (i : ℕ) (track : Track) → AllByRecursion (λ t. length t.later ≤ 65535) tracks → slice_get tracks i ≡ Some track → moves track ≤ 65535
+few_moves [] i track all is = absurd (none-some track is)
+few_moves (first ∷ tracks) zero track all is =
+    (let within = moves-within track.start track.later (length track.later) in
+    let most = subst (λ t. length t.later ≤ 65535) (same_Some first track is) all.0 in
+    omega (arith, within, most))
+few_moves (first ∷ tracks) (suc i) track all is = few_moves tracks i track all.1 is
+
+pub moves-most : (tt : Timetable) (i : ℕ) (track : Track) → IsGraphed tt → track_of tt i ≡ Some track → moves track ≤ 65535
+moves-most tt i track graphed is = few_moves tt.tracks i track graphed.step_limit is
+
+-- a graph tells no more moves
+pub told-most : (table : Timetable) (i count : ℕ) → IsGraphed table → Some count ≡ option_map moves (track_of table i) → count ≤ 65535
+told-most table i count graphed is = told (track_of table i) refl is
+  where
+    told : (o : Option Track) → track_of table i ≡ o → Some count ≡ option_map moves o → count ≤ 65535
+    told None known same = absurd (none-some count (sym same))
+    told (Some track) known same =
+        (let most = moves-most table i track graphed known in let one = same_Some count (moves track) same in omega (arith, most, one))
+
+-- a number below twice the moves is small
+pub few_records : {T : Type 0} (inside outside : AgentOn T) (number : ℕ) → inside ≡ outside → IsGraphed inside.timetable → (own : Track) → track_of outside.timetable outside.id ≡ Some own
+    → number < 2 * moves own → number < 2 * 65535
+few_records inside outside number same graphed own is less =
+    let most = moves-most outside.timetable outside.id own (subst (λ a. IsGraphed a.timetable) same graphed) is in
+    omega (arith, most, less)
+
+-- ---- reads and writes that a tape allows
+
+pub may-read : (t : TapeState) (n : ℕ) → n < whole_records t → MayRead t (record_length * n)
+may-read t n less = (let whole = mul-div-le (length t.contents) 10 in omega (arith, less, whole))
+
+pub may-write : (t : TapeState) (track : Track) → HasSize track t → whole_records t < 2 * moves track → MayWrite t (record_length * whole_records t)
+may-write t track size less =
+    let whole = mul-div-le (length t.contents) 10 in
+    let next = lt-mul-div-succ (length t.contents) {b = 10} (omega arith) in
+    let room = size.room in
+    record {
+      within = omega (arith, whole);
+      past = omega (arith, next);
+      room = omega (arith, less, room);
+    }
+
+-- ---- records behind records
+
+take_take : (n m : ℕ) (xs : List ℕ) → n ≤ m → take n (take m xs) ≡ take n xs
+take_take zero m xs most = refl
+take_take (suc n) zero xs most = absurd (omega (arith, most))
+take_take (suc n) (suc m) [] most = refl
+take_take (suc n) (suc m) (x ∷ xs) most = ap (λ r. x ∷ r) (take_take n m xs (omega (arith, most)))
+
+module _ (contents tail : List ℕ) (q : ℕ) (fits : 10 * q ≤ length contents) where
+  front : length (take (10 * q) contents) ≡ 10 * q
+  front = length-take-le (10 * q) contents fits
+
+  -- the earlier records stay
+  pub earlier-stays : (n : ℕ) → n < q → record_at (take (10 * q) contents ++ tail) n ≡ record_at contents n
+  earlier-stays n less =
+      let m = 10 * q - 10 * n in
+      let sum : 10 * q ≡ 10 * n + m = omega (arith, less) in
+      let part : drop (10 * n) (take (10 * q) contents) ≡ take m (drop (10 * n) contents) =
+      ap (λ k. drop (10 * n) (take k contents)) sum ∙ drop-take (10 * n) m contents in
+      let count = length-drop (10 * n) (take (10 * q) contents) in
+      let many = front in
+      ap (take 10) (drop-append-le (10 * n) (take (10 * q) contents) tail (omega (arith, less, many)))
+      ∙ take-append-le 10 (drop (10 * n) (take (10 * q) contents)) tail (omega (arith, count, many, less))
+      ∙ ap (take 10) part
+      ∙ take_take 10 m (drop (10 * n) contents) (omega (arith, less))
+
+  -- a whole record behind them is the next
+  pub next-is : length tail ≡ 10 → record_at (take (10 * q) contents ++ tail) q ≡ tail
+  next-is ten =
+      ap (λ k. take 10 (drop k (take (10 * q) contents ++ tail))) (sym front)
+      ∙ ap (take 10) (drop-append_seam (take (10 * q) contents) tail)
+      ∙ take_all 10 tail (omega (arith, ten))
+
+  pub count-after : length (take (10 * q) contents ++ tail) ≡ 10 * q + length tail
+  count-after = length-append (take (10 * q) contents) tail ∙ ap (λ n. n + length tail) front
+
+-- ---- a write of the due record
+
+module _ (tt : Timetable) (i : ℕ) (t u : TapeState) (own : IsOwn tt i t) (track : Track) (is_track : track_of tt i ≡ Some track)
+    (succeeds : Bool) (write : IsWrite t u (record_length * whole_records t) (due_record tt.number i (whole_records t)) succeeds) where
+  abbrev q : ℕ
+  q = whole_records t
+
+  abbrev due : List ℕ
+  due = due_record tt.number i q
+
+  same_track : own.track ≡ track
+  same_track = same_Some own.track track (sym own.is_track ∙ is_track)
+
+  fits : 10 * q ≤ length t.contents
+  fits = mul-div-le (length t.contents) 10
+
+  -- with so many bytes behind the old records there is none more
+  count-short : (tail : List ℕ) → u.contents ≡ take (10 * q) t.contents ++ tail → length tail < 10 → whole_records u ≡ q
+  count-short tail is less =
+      ap (λ c. length c / 10) is ∙ ap (λ n. n / 10) (count-after t.contents tail q fits) ∙ mul-add-div {m = 10} (omega arith) q (length tail)
+      ∙ (let none = div-eq_of_lt less in omega (arith, none))
+
+  count-due : u.contents ≡ take (10 * q) t.contents ++ due → whole_records u ≡ q + 1
+  count-due is =
+      ap (λ c. length c / 10) is ∙ ap (λ n. n / 10) (count-after t.contents due q fits) ∙ mul-add-div {m = 10} (omega arith) q 10
+
+  earlier-due : (tail : List ℕ) → u.contents ≡ take (10 * q) t.contents ++ tail → (n : ℕ) → n < q → record_at u.contents n ≡ due_record tt.number i n
+  earlier-due tail is n less = ap (λ c. record_at c n) is ∙ earlier-stays t.contents tail q fits n less ∙ own.due n less
+
+  own-short : (tail : List ℕ) → u.contents ≡ take (10 * q) t.contents ++ tail → length tail < 10 → IsOwn tt i u
+  own-short tail is less = record {
+    track = own.track;
+    is_track = own.is_track;
+    size = record {
+      room = subst (λ r. 2 * record_length * moves own.track ≤ r) (sym write.room) own.size.room;
+      limit = subst (λ n. n ≤ 2 * moves own.track) (sym (count-short tail is less)) own.size.limit;
+    };
+    due = λ n within. earlier-due tail is n (subst (λ m. n < m) (count-short tail is less) within);
+  }
+
+  own-due : q < 2 * moves track → u.contents ≡ take (10 * q) t.contents ++ due → IsOwn tt i u
+  own-due less is = record {
+    track = own.track;
+    is_track = own.is_track;
+    size = record {
+      room = subst (λ r. 2 * record_length * moves own.track ≤ r) (sym write.room) own.size.room;
+      limit = (let count = count-due is in let same = ap moves same_track in omega (arith, count, less, same));
+    };
+    due = λ n within. elim (cases_lt n q) [
+      | inl before ↦ earlier-due due is n before
+      | inr not_before ↦ (
+          let count = count-due is in
+          let last : q ≡ n = omega (arith, count, within, not_before) in
+          subst (λ m. record_at u.contents m ≡ due_record tt.number i m) last (ap (λ c. record_at c q) is ∙ next-is t.contents due q fits refl)
+          )
+    ];
+  }
+
+  -- the tape is still the agent's, and has one record more or the same
+  pub own-after : q < 2 * moves track → IsOwn tt i u
+  own-after less = elim (cases_Bool succeeds) [
+    | inl good ↦ own-due less (write.stores good)
+    | inr bad ↦ (let torn = write.tears bad in elim torn.2 [
+      | inl short ↦ own-short torn.0 torn.1 short
+      | inr all ↦ own-due less (torn.1 ∙ ap (λ r. take (10 * q) t.contents ++ r) all)
+    ])
+  ]
+
+  pub count-stored : succeeds ≡ true → whole_records u ≡ q + 1
+  count-stored good = count-due (write.stores good)
+
+  pub count-torn : succeeds ≡ false → (whole_records u ≡ q) ⊎ (whole_records u ≡ q + 1)
+  count-torn bad = (let torn = write.tears bad in elim torn.2 [
+    | inl short ↦ inl (count-short torn.0 torn.1 short)
+    | inr all ↦ inr (count-due (torn.1 ∙ ap (λ r. take (10 * q) t.contents ++ r) all))
+  ])
+
+-- the same over a tape, for the write that the code makes
+pub own-written : {T : Type 0} (seen : T → TapeState) (may_write : T → ℕ → List ℕ → Bool → T → Type 0)
+    → ((t u : T) (at : ℕ) (bytes : List ℕ) (succeeds : Bool) → MayWrite (seen t) at → length bytes ≡ record_length → may_write t at bytes succeeds u → IsWrite (seen t) (seen u) at bytes succeeds)
+    → (tt : Timetable) (i : ℕ) (tape after : T) → IsOwn tt i (seen tape) → (track : Track) → track_of tt i ≡ Some track → whole_records (seen tape) < 2 * moves track
+    → (plan number : ℕ) (bytes : List ℕ) (succeeds : Bool) → plan ≡ tt.number → number ≡ whole_records (seen tape) → bytes ≡ due_record plan i number
+    → may_write tape (record_length * number) bytes succeeds after → IsOwn tt i (seen after)
+own-written seen may_write writes tt i tape after own track is_track less plan number bytes succeeds is_plan is_number is_bytes written =
+    let due = due_record tt.number i (whole_records (seen tape)) in
+    let size = subst (λ k. HasSize k (seen tape)) (same_Some own.track track (sym own.is_track ∙ is_track)) own.size in
+    let same = is_bytes ∙ ap (λ p. due_record p i number) is_plan ∙ ap (due_record tt.number i) is_number in
+    let whole = subst (λ n. may_write tape (record_length * n) due succeeds after) is_number (subst (λ b. may_write tape (record_length * number) b succeeds after) same written) in
+    own-after tt i (seen tape) (seen after) own track is_track succeeds
+    (writes tape after (record_length * whole_records (seen tape)) due succeeds (may-write (seen tape) track size less) refl whole) less
+
+-- ---- cells of a path
+
+pub cell-there : (track : Track) (cells : List Cell) (k : ℕ) → cells ≡ path track → k ≤ moves track → slice_get cells k ≡ Some (path_cell track k)
+cell-there track cells k is most =
+    let count = length-path track.start track.later in
+    ap (λ l. slice_get l k) is ∙ slice_get-get_or (path track) k track.start (omega (arith, count, most))
+
+-- ---- a start that is not refused
+
+-- an agent that is not at its end has room for a record
+pub start-room : (tt : Timetable) (i : ℕ) (track : Track) (s : State) → start_refusal tt i track s ≡ None → s.records ≤ 2 * moves track → s.records < 2 * moves track
+start-room tt i track s none limit = elim (cases_Bool s.broken) [
+  | inl broken ↦ absurd (none-some _ (sym none ∙ cond-true s.broken _ _ broken))
+  | inr whole ↦ elim (cases_Bool (is_moving s)) [
+    | inl moving ↦ absurd (none-some _ (sym none ∙ cond-false s.broken _ _ whole ∙ cond-true (is_moving s) _ _ moving))
+    | inr still ↦ elim (cases_Bool (done s == moves track)) [
+      | inl end ↦ absurd (none-some _ (sym none ∙ cond-false s.broken _ _ whole ∙ cond-false (is_moving s) _ _ still ∙ cond-true (done s == moves track) _ _ end))
+      | inr more ↦ elim (cases_lt s.records (2 * moves track)) [
+        | inl less ↦ less
+        | inr not_less ↦ (
+            let all : s.records ≡ 2 * moves track = omega (arith, limit, not_less) in
+            absurd (true≢false (sym (eq-eqb (done s) (moves track) (ap (λ n. n / 2) all ∙ mul-div_cancel_left (moves track) (omega arith))) ∙ more))
+            )
+      ]
+    ]
+  ]
+]

@@ -1,0 +1,62 @@
+-- An agent over a tape.
+use Rattle.std.specs.Prelude.{◌≡◌, ℕ, ◌*◌, Bool, List, is_ok, Option, None, Some, Result, Err}
+use Rattle.grid.specs.declared.cell.Cell.{Cell}
+use Rattle.model.specs.declared.held.Held.{Held}
+use Rattle.model.specs.History.{record_length}
+use Rattle.model.specs.Timetable.{Track, Timetable, track_of}
+use Rattle.agent.specs.declared.counters.Counter.{Counter}
+use Rattle.agent.specs.declared.refusal.HearFault.{HearFault}
+use Rattle.agent.specs.declared.refusal.Refusal.{Refusal}
+use Rattle.agent.specs.declared.refusal.Refusal.TheVariants.{StoreFailed}
+use Rattle.agent.specs.Records.{due_record}
+use Rattle.agent.specs.States.{State, held, start_refusal, finish_refusal, next_cell, Answers, IsSaid, IsHeard}
+use Rattle.agent.specs.Tape.{TapeState, whole_records, HasFailed}
+
+-- the timetable of its graph, its number in it, its tape, what it has heard, and whether a write has failed
+pub record AgentOn (T : Type 0) : Type 0 where
+  pub timetable : Timetable
+  pub id : ℕ
+  pub tape : T
+  pub heard : List Counter
+  pub broken : Bool
+
+-- its state, by what its tape has
+abbrev pub state_of : {T : Type 0} → (T → TapeState) → AgentOn T → State
+state_of seen a = record { records = whole_records (seen a.tape); heard = a.heard; broken = a.broken }
+
+-- ---- calls
+
+-- the call on the tape: none where the agent refuses, else a write of the due record behind the whole records
+abbrev pub Writes : {T : Type 0} → (T → TapeState) → (T → ℕ → List ℕ → Bool → T → Type 0) → Option Refusal → AgentOn T → AgentOn T → Bool → Type 0
+Writes seen may_write None old new succeeds =
+    may_write old.tape (record_length * whole_records (seen old.tape)) (due_record old.timetable.number old.id (whole_records (seen old.tape))) succeeds new.tape
+Writes seen may_write (Some why) old new succeeds = new.tape ≡ old.tape
+
+-- an agent with a track goes on along it, unless it refuses
+pub record Moves {T : Type 0} (seen : T → TapeState) (may_write : T → ℕ → List ℕ → Bool → T → Type 0) (track : Track) (refusal : Option Refusal) (old new : AgentOn T) (answer : Result Cell Refusal) : Type 0 where
+  pub is_track : track_of old.timetable old.id ≡ Some track
+  pub timetable : new.timetable ≡ old.timetable
+  pub id : new.id ≡ old.id
+  pub state : Answers refusal (state_of seen old) (state_of seen new) (next_cell track (state_of seen old)) answer
+  pub tape : Writes seen may_write refusal old new (is_ok answer)
+  pub failure : answer ≡ Err StoreFailed → HasFailed (seen old.tape).failures (seen new.tape).failures
+
+abbrev pub Starts : {T : Type 0} → (T → TapeState) → (T → ℕ → List ℕ → Bool → T → Type 0) → AgentOn T → AgentOn T → Result Cell Refusal → Type 0
+Starts seen may_write old new answer =
+    (track : Track) × Moves seen may_write track (start_refusal old.timetable old.id track (state_of seen old)) old new answer
+
+abbrev pub Finishes : {T : Type 0} → (T → TapeState) → (T → ℕ → List ℕ → Bool → T → Type 0) → AgentOn T → AgentOn T → Result Cell Refusal → Type 0
+Finishes seen may_write old new answer = (track : Track) × Moves seen may_write track (finish_refusal (state_of seen old)) old new answer
+
+-- what is heard changes the counters at the most
+pub record Hears {T : Type 0} (seen : T → TapeState) (old new : AgentOn T) (bytes : List ℕ) (answer : Result (ℕ × ℕ) HearFault) : Type 0 where
+  pub state : IsHeard old.timetable (state_of seen old) (state_of seen new) bytes answer
+  pub same : new ≡ record old { heard = new.heard }
+
+-- what it holds
+abbrev pub Holds : {T : Type 0} → (T → TapeState) → AgentOn T → Held → Type 0
+Holds seen a answer = (track : Track) × (track_of a.timetable a.id ≡ Some track) × (answer ≡ held track (state_of seen a))
+
+-- what it says
+abbrev pub Says : {T : Type 0} → (T → TapeState) → AgentOn T → Result (List ℕ) Refusal → Type 0
+Says seen a answer = IsSaid a.timetable a.id (state_of seen a) answer

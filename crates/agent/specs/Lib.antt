@@ -1,0 +1,22 @@
+-- What has to be believed of the crate, beside the definitions of `model` and `depgraph`, in the order in which to read it.
+
+-- which bytes are no message, and why
+pub mod Decoding
+-- what a tape is, and what its reads and writes may come to
+pub mod Tape
+-- the records of a tape
+pub mod Records
+-- the tape in memory
+pub mod MemTape
+-- what an agent has heard
+pub mod Counters
+-- what an agent's state is, and what each call answers and leaves
+pub mod States
+-- what the tape of an agent keeps
+pub mod Owning
+-- an agent over a tape
+pub mod Agents
+-- which tapes are opened, and why the others are not
+pub mod Opening
+-- the code's own words
+pub mod Code

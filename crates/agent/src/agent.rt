@@ -1,0 +1,279 @@
+//! An agent: what it may do next, by its tape and by what it has heard.
+ghost use Rattle.std.specs.Prelude.{◌≡◌, ◌*◌, ◌<◌, ◌≤◌, true, false, option_map, IfSome, IfOk, IfErr, MatchOption};
+ghost use Rattle.model.specs.History.{record_length};
+ghost use Rattle.model.specs.Timetable.{Track, moves, track_of};
+
+use crate::counters::Counters;
+use crate::finished::{Finished, decode, encode};
+use crate::opening::read_records;
+use crate::record::due_record;
+use crate::refusal::{HearFault, OpenFault, Refusal};
+use crate::tape::{Scripted, Tape};
+use depgraph::{Graph, Route};
+use grid::Cell;
+use model::Held;
+use std::alloc::Global;
+use std::marker::Model;
+
+/// An agent of a graph, over its tape.
+#[derive(Drop)]
+pub struct Agent<'g, T: Tape> {
+    graph: &'g Graph,
+    id: u16,
+    tape: T,
+    counters: Counters,
+    broken: bool,
+}
+
+impl<'g, T: Tape> Model for Agent<'g, T> {
+    ghost use Rattle.agent.specs.Agents.{AgentOn};
+    ghost use Rattle.agent.specs.Owning.{IsOwn};
+
+    ghost Value = { AgentOn T };
+
+    ghost view = { λ a. record { timetable = a.graph.now; id = a.id; tape = a.tape; heard = a.counters; broken = a.broken } };
+
+    ghost invariant = { λ a. IsOwn a.graph.now a.id (T.state a.tape) };
+}
+
+impl<'g, T: Tape> Agent<'g, T> {
+    ghost use Rattle.std.specs.Prelude.{None};
+    ghost use Rattle.model.specs.Rules.{path_cell};
+    ghost use Rattle.agent.specs.Agents.{AgentOn, state_of, Starts, Finishes, Hears, Holds, Says};
+    ghost use Rattle.agent.specs.Counters.{known_in};
+    ghost use Rattle.agent.specs.Opening.{IsOpened, IsRefused, Restarts};
+    ghost use Rattle.agent.specs.Owning.{IsOwn};
+    ghost use Rattle.agent.specs.States.{done, is_moving, start_refusal, finish_refusal, waits_for};
+    ghost use Rattle.agent.specs.Tape.{IsKept, whole_records};
+    ghost use Rattle.agent.specs.Code.Stores.{Stored, HasRouteOf};
+
+    /// Opens the tape of an agent, which has then heard nothing. A tape that is refused comes back with what it had.
+    pub fn open(
+        alloc: Global,
+        graph: &'g Graph,
+        id: u16,
+        tape: T,
+    ) -> Result<Agent<'g, T>, (OpenFault, T)>
+        ensures opened { IfOk result (IsOpened T.state T.may_read graph.now id tape) }
+        ensures refused { IfErr result (λ e. IsRefused T.state T.may_read graph.now id tape e.1 e.0) }
+        ensures kept { IfErr result (λ e. IsKept (T.state tape) (T.state e.1)) }
+    {
+        let Some(moves) = graph.moves(u32::from(id)) else {
+            return Err((OpenFault::NoSuchAgent, tape));
+        };
+        if tape.room() < 20 * moves {
+            return Err((OpenFault::NoRoom, tape));
+        }
+        let records = tape.len() / 10;
+        if records > 2 * moves {
+            return Err((OpenFault::TooLong, tape));
+        }
+        let mut tape = tape;
+        if let Err(fault) = read_records(&mut tape, graph.number(), id, records) {
+            return Err((fault, tape));
+        }
+        Ok(Agent {
+            graph,
+            id,
+            tape,
+            counters: Counters::new(alloc),
+            broken: false,
+        })
+    }
+
+    /// Opens the agent's own tape again, as after a restart. A tape that is refused leaves the agent as it was.
+    pub fn restart(&mut self) -> Result<(), OpenFault>
+        ensures { Restarts T.state T.may_read self.old self.new result }
+    {
+        let records = self.records();
+        let plan = self.graph.number();
+        read_records(&mut self.tape, plan, self.id, records)?;
+        self.counters.clear();
+        self.broken = false;
+        Ok(())
+    }
+
+    /// Begins the next move, and answers the cell that the agent enters.
+    pub fn start(&mut self) -> Result<Cell, Refusal>
+        ensures { Starts T.state T.may_write self.old self.new result }
+    {
+        match self.start_refusal() {
+            Some(why) => Err(why),
+            None => self.store(),
+        }
+    }
+
+    /// Ends the move that was begun, and answers the cell that the agent reached.
+    pub fn finish(&mut self) -> Result<Cell, Refusal>
+        ensures { Finishes T.state T.may_write self.old self.new result }
+    {
+        if self.broken {
+            return Err(Refusal::Broken);
+        }
+        if !self.is_moving() {
+            return Err(Refusal::NotMoving);
+        }
+        self.store()
+    }
+
+    /// The message that says how many moves are stored as finished.
+    pub fn say(&self) -> Result<[u8; 12], Refusal>
+        ensures { Says T.state self.now result }
+    {
+        if self.broken {
+            return Err(Refusal::Broken);
+        }
+        Ok(encode(Finished {
+            from: self.id,
+            plan: self.graph.number(),
+            done: self.done(),
+        }))
+    }
+
+    /// Hears a message: answers its sender, and how many moves of that one are known to be finished now. It takes memory only for a
+    /// sender not heard of before.
+    pub fn hear(&mut self, bytes: &[u8]) -> Result<(u16, u32), HearFault>
+        ensures { Hears T.state self.old self.new bytes.now result }
+    {
+        if self.broken {
+            return Err(HearFault::Broken);
+        }
+        let finished = decode(bytes)?;
+        if finished.plan != self.graph.number() {
+            return Err(HearFault::WrongPlan);
+        }
+        let Some(moves) = self.graph.moves(u32::from(finished.from)) else {
+            return Err(HearFault::NoSuchAgent);
+        };
+        if finished.done > moves {
+            return Err(HearFault::TooMany);
+        }
+        let kept = self.counters.raise(finished.from, finished.done)?;
+        Ok((finished.from, kept))
+    }
+
+    /// How many moves of an agent are known to be finished; `None` where there is no such agent.
+    pub fn known(&self, agent: u16) -> Option<u32>
+        ensures { result ≡ option_map (λ _. known_in self.now.heard agent) (track_of self.now.timetable agent) }
+    {
+        if u32::from(agent) < self.graph.agents() {
+            Some(self.counters.known(agent))
+        } else {
+            None
+        }
+    }
+
+    /// The cells that the agent holds, by its whole records.
+    pub fn held(&self) -> Held
+        ensures { Holds T.state self.now result }
+    {
+        let records = self.records();
+        let at = self.path_cell(records / 2);
+        if records % 2 == 1 {
+            Held::Between(at, self.path_cell(records / 2 + 1))
+        } else {
+            Held::At(at)
+        }
+    }
+
+    /// How many moves are finished, by the whole records.
+    pub fn done(&self) -> u32
+        ensures done { result ≡ done (state_of T.state self.now) }
+        ensures within { IsOwn self.now.timetable self.now.id (T.state self.now.tape) }
+    {
+        self.records() / 2
+    }
+
+    /// The tape.
+    pub fn into_tape(self) -> T
+        ensures { result ≡ self.entry.tape }
+    {
+        self.tape
+    }
+
+    /// Why the next move may not begin now.
+    fn start_refusal(&self) -> Option<Refusal>
+        ensures within { IsOwn self.now.timetable self.now.id (T.state self.now.tape) }
+        ensures refusal { (track : Track) × (track_of self.now.timetable self.now.id ≡ Some track)
+            × (result ≡ start_refusal self.now.timetable self.now.id track (state_of T.state self.now)) }
+    {
+        if self.broken {
+            return Some(Refusal::Broken);
+        }
+        if self.is_moving() {
+            return Some(Refusal::AlreadyMoving);
+        }
+        let done = self.done();
+        let route = self.route();
+        if done == self.moves() {
+            return Some(Refusal::AtEnd);
+        }
+        match route.need(done) {
+            Some((agent, count)) if self.counters.known(agent) < count => {
+                Some(Refusal::Waits { agent, count })
+            }
+            _ => None,
+        }
+    }
+
+    /// Stores the due record, and answers the cell of the move at hand.
+    fn store(&mut self) -> Result<Cell, Refusal>
+        requires { (track : Track) → track_of self.old.timetable self.old.id ≡ Some track → whole_records (T.state self.old.tape) < 2 * moves track }
+        ensures { Stored T.state T.may_write self.old self.new result }
+    {
+        let number = self.records();
+        let cell = self.path_cell(number / 2 + 1);
+        let record = due_record(self.graph.number(), self.id, number);
+        if self.tape.write_at(10 * number, &record).is_err() {
+            self.broken = true;
+            return Err(Refusal::StoreFailed);
+        }
+        Ok(cell)
+    }
+
+    fn is_moving(&self) -> bool
+        ensures { result ≡ is_moving (state_of T.state self.now) }
+    {
+        self.records() % 2 == 1
+    }
+
+    /// How many whole records there are.
+    fn records(&self) -> u32
+        ensures records { result ≡ whole_records (T.state self.now.tape) }
+        ensures within { IsOwn self.now.timetable self.now.id (T.state self.now.tape) }
+    {
+        self.tape.len() / 10
+    }
+
+    fn moves(&self) -> u32
+        ensures { (track : Track) × (track_of self.now.timetable self.now.id ≡ Some track) × (result ≡ moves track) }
+    {
+        self.graph.moves(u32::from(self.id)).unwrap()
+    }
+
+    fn route(&self) -> Route<'_>
+        ensures { HasRouteOf self.now.timetable self.now.id result }
+    {
+        self.graph.route(u32::from(self.id)).unwrap()
+    }
+
+    /// A cell of the path.
+    fn path_cell(&self, index: u32) -> Cell
+        requires { (track : Track) → track_of self.now.timetable self.now.id ≡ Some track → index ≤ moves track }
+        ensures { (track : Track) × (track_of self.now.timetable self.now.id ≡ Some track) × (result ≡ path_cell track index) }
+    {
+        self.route().cell(index).unwrap()
+    }
+}
+
+impl<'g, T: Scripted> Agent<'g, T> {
+    /// Arms the tape: the next write stores so many bytes and fails, or it succeeds.
+    pub fn arm(&mut self, tear: Option<u8>)
+        requires { IfSome tear (λ n. n ≤ record_length) }
+        ensures armed { T.armed self.new.tape ≡ tear }
+        ensures state { T.state self.new.tape ≡ T.state self.old.tape }
+        ensures same { self.new ≡ record self.old { tape = self.new.tape } }
+    {
+        self.tape.arm(tear);
+    }
+}

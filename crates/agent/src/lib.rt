@@ -1,0 +1,19 @@
+//! The part that runs on a robot: messages, the tape of an agent's progress, and the agent itself.
+#![tactic(auto)]
+
+mod agent;
+mod counters;
+mod finished;
+pub mod laws;
+mod mem_tape;
+mod opening;
+mod record;
+mod refusal;
+mod tape;
+
+pub use agent::Agent;
+pub use finished::{Finished, decode, encode};
+pub use mem_tape::{MemTape, TapeMakeFault};
+pub use model::{Held, MsgFault};
+pub use refusal::{HearFault, OpenFault, Refusal};
+pub use tape::{Scripted, Tape, TapeError};

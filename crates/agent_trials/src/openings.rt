@@ -1,0 +1,151 @@
+//! Which tapes are opened.
+use crate::texts::one_behind;
+use agent::{Agent, Held, MemTape, OpenFault, Refusal, Tape, TapeMakeFault};
+use depgraph::Graph;
+use fake_tapes::FailTape;
+use grid::Cell;
+use std::alloc::Global;
+use std::process::Abort;
+use std::test::Fail;
+
+const MOVING: [u8; 10] = [0x50, 1, 0, 0, 0, 7, 0, 0, 0, 0];
+
+const STANDING: [u8; 10] = [0x50, 2, 0, 0, 0, 7, 0, 0, 0, 1];
+
+/// What agent 0 answers to a tape of these records.
+fn refusal(
+    rt: &impl Abort,
+    alloc: Global,
+    graph: &Graph,
+    records: &[[u8; 10]],
+    room: u32,
+) -> Result<Option<OpenFault>, Fail> {
+    let bytes = records.concat(alloc)?;
+    let tape = MemTape::from_bytes(alloc, &bytes, room)?;
+    match Agent::open(alloc, graph, 0, tape) {
+        Ok(_) => Ok(None),
+        Err((fault, tape)) => {
+            assert_eq!(rt; tape.bytes(), bytes.as_slice());
+            Ok(Some(fault))
+        }
+    }
+}
+
+/// What agent 0 answers to a tape of these records, of which the second read fails; so many calls of it have failed before.
+fn refusal_where_reads_fail(
+    rt: &impl Abort,
+    alloc: Global,
+    graph: &Graph,
+    records: &[[u8; 10]],
+    failures: u64,
+) -> Result<Option<OpenFault>, Fail> {
+    let bytes = records.concat(alloc)?;
+    let mut tape = FailTape::new(MemTape::from_bytes(alloc, &bytes, 20)?, failures);
+    tape.fail_after(1, 0);
+    match Agent::open(alloc, graph, 0, tape) {
+        Ok(_) => Ok(None),
+        Err((fault, tape)) => {
+            assert_eq!(rt; tape.into_tape().bytes(), bytes.as_slice());
+            Ok(Some(fault))
+        }
+    }
+}
+
+#[test]
+fn refused_tapes(rt: HostRuntime) -> Result<(), Fail> {
+    let graph = one_behind(rt.alloc())?;
+    let other_plan = [0x50, 1, 0, 0, 0, 8, 0, 0, 0, 0];
+    let other_agent = [0x50, 1, 0, 0, 0, 7, 0, 1, 0, 0];
+    let other_plan_and_agent = [0x50, 1, 0, 0, 0, 8, 0, 1, 0, 0];
+    for (records, room, fault) in [
+        ([STANDING].as_slice(), 20, Some(OpenFault::Damaged(0))),
+        ([other_plan].as_slice(), 20, Some(OpenFault::WrongPlan(0))),
+        ([other_agent].as_slice(), 20, Some(OpenFault::WrongAgent(0))),
+        (
+            [other_plan_and_agent].as_slice(),
+            20,
+            Some(OpenFault::WrongPlan(0)),
+        ),
+        ([MOVING, MOVING].as_slice(), 20, Some(OpenFault::Damaged(1))),
+        (
+            [MOVING, STANDING, MOVING].as_slice(),
+            30,
+            Some(OpenFault::TooLong),
+        ),
+        ([MOVING].as_slice(), 19, Some(OpenFault::NoRoom)),
+        ([MOVING].as_slice(), 20, None),
+        ([MOVING, STANDING].as_slice(), 20, None),
+    ] {
+        assert_eq!(rt; refusal(&rt, rt.alloc(), &graph, records, room)?, fault);
+    }
+    Ok(())
+}
+
+#[test]
+fn no_such_agent(rt: HostRuntime) -> Result<(), Fail> {
+    let graph = one_behind(rt.alloc())?;
+    let tape = MemTape::new(rt.alloc(), 0)?;
+    match Agent::open(rt.alloc(), &graph, 2, tape) {
+        Ok(_) => Err("agent 2 was opened")?,
+        Err((fault, _)) => assert_eq!(rt; fault, OpenFault::NoSuchAgent),
+    }
+    Ok(())
+}
+
+#[test]
+fn a_tail_counts_as_nothing(rt: HostRuntime) -> Result<(), Fail> {
+    let graph = one_behind(rt.alloc())?;
+    let tape = MemTape::from_bytes(rt.alloc(), &MOVING[..9], 20)?;
+    let Ok(mut agent) = Agent::open(rt.alloc(), &graph, 0, tape) else {
+        return Err("the tape was refused")?;
+    };
+    assert_eq!(rt; agent.held(), Held::At(Cell { x: 1, y: 0 }));
+    assert_eq!(rt; agent.done(), 0);
+    assert_eq!(rt; agent.start(), Ok(Cell { x: 2, y: 0 }));
+    assert_eq!(rt; agent.into_tape().bytes(), MOVING.as_slice());
+    Ok(())
+}
+
+#[test]
+fn failing_reads(rt: HostRuntime) -> Result<(), Fail> {
+    let graph = one_behind(rt.alloc())?;
+    let other_plan = [0x50, 1, 0, 0, 0, 8, 0, 0, 0, 0];
+    for (first, fault) in [
+        (MOVING, OpenFault::TapeFailed),
+        (other_plan, OpenFault::WrongPlan(0)),
+    ] {
+        for failures in [0, u64::MAX] {
+            let found = refusal_where_reads_fail(
+                &rt,
+                rt.alloc(),
+                &graph,
+                &[first, STANDING],
+                failures,
+            )?;
+            assert_eq!(rt; found, Some(fault));
+        }
+    }
+    Ok(())
+}
+
+#[test]
+fn tapes_in_memory(rt: HostRuntime) -> Result<(), Fail> {
+    let tape = MemTape::new(rt.alloc(), 20)?;
+    assert_eq!(rt; (tape.room(), tape.len(), tape.failures()), (20, 0, 0));
+    let made = MemTape::from_bytes(rt.alloc(), &MOVING, 9);
+    assert_eq!(rt; made.map(|tape| tape.len()), Err(TapeMakeFault::TooLong));
+    let made = MemTape::from_bytes(rt.alloc(), &MOVING, 10);
+    assert_eq!(rt; made.map(|tape| tape.len()), Ok(10));
+    Ok(())
+}
+
+#[test]
+fn refusals_as_text(rt: HostRuntime) -> Result<(), Fail> {
+    let text = format!(in rt.alloc();
+        "{} {}",
+        OpenFault::Damaged(1),
+        Refusal::Waits { agent: 0, count: 1 }
+    )?;
+    assert_eq!(rt; text.as_str(), "Damaged 1 Waits 0 1");
+    Ok(())
+}

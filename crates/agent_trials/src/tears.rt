@@ -1,0 +1,86 @@
+//! A run of two agents, torn at each of its writes.
+use crate::texts::one_behind;
+use crate::walks::opened;
+use agent::{Agent, Held, MemTape, Refusal};
+use depgraph::Graph;
+use fake_tapes::FailTape;
+use grid::Cell;
+use std::alloc::Global;
+use std::test::Fail;
+
+/// An agent whose write with this number, if there is one, stores so many bytes and fails.
+fn torn(
+    alloc: Global,
+    graph: &Graph,
+    id: u16,
+    tear: Option<(u32, u8)>,
+) -> Result<Agent<'_, FailTape>, Fail> {
+    let mut tape = FailTape::new(MemTape::new(alloc, 20)?, u64::MAX);
+    if let Some((write, stored)) = tear {
+        tape.fail_after(write, stored.min(10));
+    }
+    opened(alloc, graph, id, tape)
+}
+
+/// The agent after its move has begun, and after a restart where its write was torn.
+fn begun<'g>(
+    alloc: Global,
+    graph: &'g Graph,
+    id: u16,
+    mut agent: Agent<'g, FailTape>,
+    heard: &[u8],
+) -> Result<Agent<'g, FailTape>, Fail> {
+    agent.hear(heard)?;
+    if agent.start() != Err(Refusal::StoreFailed) {
+        return Ok(agent);
+    }
+    let mut agent = opened(alloc, graph, id, agent.into_tape())?;
+    if matches!(agent.held(), Held::At(_)) {
+        agent.hear(heard)?;
+        agent.start()?;
+    }
+    Ok(agent)
+}
+
+/// The agent after its move has ended.
+fn ended<'g>(
+    alloc: Global,
+    graph: &'g Graph,
+    id: u16,
+    mut agent: Agent<'g, FailTape>,
+) -> Result<Agent<'g, FailTape>, Fail> {
+    if agent.finish() != Err(Refusal::StoreFailed) {
+        return Ok(agent);
+    }
+    let mut agent = opened(alloc, graph, id, agent.into_tape())?;
+    if agent.done() == 0 {
+        agent.finish()?;
+    }
+    Ok(agent)
+}
+
+#[test]
+fn each_write_is_torn(rt: HostRuntime) -> Result<(), Fail> {
+    let alloc = rt.alloc();
+    let graph = one_behind(alloc)?;
+    let nothing_yet = [0x46, 1, 0, 1, 0, 0, 0, 7, 0, 0, 0, 0];
+    for stored in 0..11 {
+        for write in 0..2 {
+            for (front_tear, back_tear) in [
+                (Some((write, stored)), None),
+                (None, Some((write, stored))),
+            ] {
+                let front = torn(alloc, &graph, 0, front_tear)?;
+                let back = torn(alloc, &graph, 1, back_tear)?;
+                let front = begun(alloc, &graph, 0, front, &nothing_yet)?;
+                let front = ended(alloc, &graph, 0, front)?;
+                let message = front.say()?;
+                let back = begun(alloc, &graph, 1, back, &message)?;
+                let back = ended(alloc, &graph, 1, back)?;
+                assert_eq!(rt; front.held(), Held::At(Cell { x: 2, y: 0 }));
+                assert_eq!(rt; back.held(), Held::At(Cell { x: 1, y: 0 }));
+            }
+        }
+    }
+    Ok(())
+}

@@ -1,0 +1,2 @@
+-- a tape that fails once
+pub mod FailTape
