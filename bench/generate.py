@@ -7,6 +7,7 @@ The text goes to standard output; `scen` makes a scenario of so many rows for a 
 make a valid plan of so many agents with so many acts each on an open map of that size, none a wait but in `crowd`.
 """
 import argparse
+import itertools
 import random
 import sys
 
@@ -214,6 +215,72 @@ def with_late_fault(text):
     other = {"n": "s", "s": "n", "e": "w", "w": "e", "-": "n"}
     lines[-2] = line[:-2] + other[line[-2]] + line[-1]
     return "\n".join(lines)
+
+
+def moves_of(text):
+    """The starts of a plan's agents, and for each step who moves in it and into which cell."""
+    steps = {"n": (0, -1), "e": (1, 0), "s": (0, 1), "w": (-1, 0)}
+    starts, courses = [], []
+    for line in text.split("\n")[3:-1]:
+        _, x, y, acts = line.split(" ")
+        starts.append((int(x), int(y)))
+        courses.append(acts.strip("="))
+    now, moves = list(starts), []
+    for step in range(max(map(len, courses), default=0)):
+        moves.append([])
+        for agent, acts in enumerate(courses):
+            if acts[step : step + 1] in steps:
+                dx, dy = steps[acts[step]]
+                now[agent] = (now[agent][0] + dx, now[agent][1] + dy)
+                moves[-1].append((agent, now[agent]))
+    return starts, moves
+
+
+def event_lines(text, seed, mishaps):
+    """Events that bring a plan without rotations to its end: each move after the message that it waits for. `mishaps` is the share of the
+    moves before which a write is torn, the agent restarts and hears again, and another agent hears an old message."""
+    rng = random.Random(f"events {seed} {mishaps}")
+    starts, moves = moves_of(text)
+    last = {cell: (agent, 0) for agent, cell in enumerate(starts)}
+    done, said = [0] * len(starts), 0
+    for entered in moves:
+        needs = {}
+        for agent, cell in entered:
+            needs[agent] = last.get(cell)
+        for agent, cell in entered:
+            last[cell] = (agent, done[agent] + 1)
+        # who enters a cell that another leaves in the same step moves after that one
+        waiting = [agent for agent, _ in entered]
+        while waiting:
+            agent = waiting[-1]
+            other = needs.get(agent)
+            if agent not in needs:
+                waiting.pop()
+                continue
+            if other and other[0] != agent and other[1] >= done[other[0]]:
+                waiting.append(other[0])
+                continue
+            waiting.pop()
+            del needs[agent]
+            message = None
+            if other and other[0] != agent:
+                yield f"say {other[0]}"
+                message, said = said, said + 1
+                yield f"deliver {agent} {message}"
+            if rng.random() < mishaps:
+                stored = rng.randrange(10)
+                yield from (f"tear {agent} {stored}", f"start {agent}", f"restart {agent}")
+                if message is not None:
+                    yield f"deliver {agent} {message}"
+                if said:
+                    yield f"deliver {rng.randrange(len(starts))} {rng.randrange(said)}"
+            yield from (f"start {agent}", f"finish {agent}")
+            done[agent] += 1
+
+
+def events_text(text, seed, count, mishaps=0.0):
+    """The text of the first so many of these events."""
+    return "\n".join(["mapf-events 1", *itertools.islice(event_lines(text, seed, mishaps), count), ""])
 
 
 def main():

@@ -126,13 +126,27 @@ def measure_deps(programs, kind, side, agents, acts, folder, rounds):
     report(f"deps {kind} {acts}", best, [whole_peak_memory(program, words) for program in programs])
 
 
+def measure_run(programs, name, events, mishaps, folder, rounds):
+    """Measures programs that answer events which bring a dense plan of 1,000 agents to its end, or so many of them."""
+    map_path, plan_path, events_path = (folder / f"{name}.{kind}" for kind in ("map", "plan", "events"))
+    plan = generate.plan_text("crowd", 48, 48, 1, 1_000, 400)
+    map_path.write_text(generate.map_text("open", 48, 48, 1))
+    plan_path.write_text(plan)
+    events_path.write_text(generate.events_text(plan, 1, events, mishaps))
+    words = ["run", str(map_path), str(plan_path), str(events_path)]
+    best, written = measure(programs, words, folder, rounds)
+    if written[0] != written[1]:
+        sys.exit(f"the two programs wrote other replies for {name}")
+    report(f"run {name} {events}", best, [whole_peak_memory(program, words) for program in programs])
+
+
 def main():
     parser = argparse.ArgumentParser()
     parser.add_argument("--program", default=str(BENCH.parent / "crates/mapf/out/mapf"))
     parser.add_argument("--rounds", type=int, default=60)
     parser.add_argument("--side", type=int, default=2048)
     parser.add_argument("--rows", type=int, default=100_000)
-    parser.add_argument("--only", choices=("map", "scen", "row", "check", "deps"))
+    parser.add_argument("--only", choices=("map", "scen", "row", "check", "deps", "run"))
     given = parser.parse_args()
     programs = [str(pathlib.Path(given.program).resolve()), str(build_peer())]
     shared = pathlib.Path("/dev/shm")
@@ -160,6 +174,10 @@ def main():
                 for kind in ("boxes", "blocks", "trains"):
                     measure_deps(programs, kind, given.side, 10_000, acts, folder, given.rounds)
             measure_deps(programs, "crowd", 128, 1_000, 400, folder, given.rounds)
+        if given.only in (None, "run"):
+            for events in (100_000, 1_000_000):
+                measure_run(programs, "plain", events, 0.0, folder, given.rounds)
+            measure_run(programs, "mishaps", 100_000, 0.2, folder, given.rounds)
 
 
 if __name__ == "__main__":

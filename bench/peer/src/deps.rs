@@ -1,10 +1,11 @@
 //! What the moves of a plan wait for, and its rotations.
+use crate::output::Output;
 use crate::plan::{self, Plan};
-use crate::source::{Fault, PIECE};
+use crate::source::Fault;
 use std::fs::File;
-use std::io::{self, Write};
+use std::io;
 
-const NOBODY: u16 = u16::MAX;
+pub const NOBODY: u16 = u16::MAX;
 const FOR_EVER: u32 = u32::MAX;
 
 /// A cell of an agent's path: when the agent comes into it, and when it is in the next.
@@ -17,10 +18,10 @@ struct Visit {
 }
 
 /// The paths of all agents, one after another: their cells, when each is entered, and where each agent's begin.
-struct Paths {
-    cells: Vec<u32>,
+pub struct Paths {
+    pub cells: Vec<u32>,
     times: Vec<u32>,
-    begins: Vec<usize>,
+    pub begins: Vec<usize>,
 }
 
 impl Paths {
@@ -111,14 +112,14 @@ impl Visits {
 /// What a move waits for: that an agent, or nobody, has finished so many moves. `is_tight`: with the last of these that agent
 /// leaves the cell in the very step in which the move enters it.
 #[derive(Clone, Copy)]
-struct Need {
-    agent: u16,
-    count: u16,
+pub struct Need {
+    pub agent: u16,
+    pub count: u16,
     is_tight: bool,
 }
 
-struct Graph {
-    paths: Paths,
+pub struct Graph {
+    pub paths: Paths,
     #[expect(dead_code, reason = "a graph keeps them")]
     visits: Visits,
     /// For each entry of the paths.
@@ -127,7 +128,7 @@ struct Graph {
 }
 
 impl Graph {
-    fn of(plan: &Plan, width: usize, height: usize) -> Graph {
+    pub fn of(plan: &Plan, width: usize, height: usize) -> Graph {
         let paths = Paths::of(plan, width);
         let visits = Visits::of(&paths, width * height);
         let mut needs = needs(&paths, &visits);
@@ -136,7 +137,7 @@ impl Graph {
     }
 
     /// The needs of an agent's moves, from the first move on.
-    fn needs_of(&self, agent: usize) -> &[Need] {
+    pub fn needs_of(&self, agent: usize) -> &[Need] {
         &self.needs[self.paths.begins[agent] + 1..self.paths.begins[agent + 1]]
     }
 }
@@ -183,60 +184,8 @@ fn rotations(paths: &Paths, needs: &mut [Need]) -> Vec<(u32, Vec<u16>)> {
     rotations
 }
 
-/// Two digits for each number below 100.
-const PAIRS: [[u8; 2]; 100] = {
-    let mut pairs = [[0; 2]; 100];
-    let mut n = 0;
-    while n < 100 {
-        pairs[n] = [b'0' + (n / 10) as u8, b'0' + (n % 10) as u8];
-        n += 1;
-    }
-    pairs
-};
-
-/// Collects text for a file.
-struct Output {
-    file: File,
-    text: Vec<u8>,
-}
-
-impl Output {
-    fn put(&mut self, bytes: &[u8]) {
-        self.text.extend_from_slice(bytes);
-    }
-
-    fn put_number(&mut self, word: &[u8], mut number: u32) {
-        self.put(word);
-        let mut digits = [0; 10];
-        let mut at = digits.len();
-        while number >= 100 {
-            at -= 2;
-            digits[at..at + 2].copy_from_slice(&PAIRS[(number % 100) as usize]);
-            number /= 100;
-        }
-        at -= 2;
-        digits[at..at + 2].copy_from_slice(&PAIRS[number as usize]);
-        at += usize::from(number < 10);
-        self.put(&digits[at..]);
-    }
-
-    fn end_line(&mut self) -> io::Result<()> {
-        self.put(b"\n");
-        if self.text.len() >= PIECE {
-            self.hand_on()?;
-        }
-        Ok(())
-    }
-
-    fn hand_on(&mut self) -> io::Result<()> {
-        self.file.write_all(&self.text)?;
-        self.text.clear();
-        Ok(())
-    }
-}
-
 fn write(graph: &Graph, file: File) -> io::Result<()> {
-    let mut out = Output { file, text: Vec::with_capacity(2 * PIECE) };
+    let mut out = Output::new(file);
     let agents = graph.paths.begins.len() - 1;
     let needs = graph.needs.iter().filter(|need| need.agent != NOBODY).count();
     out.put_number(b"agents ", agents as u32);

@@ -1,9 +1,11 @@
-//! A plain Rust program that does the work of `mapf map`, `mapf scen`, `mapf row`, `mapf check` and `mapf deps`, to measure it beside: it reads a text, checks it and
+//! A plain Rust program that does the work of `mapf map`, `mapf scen`, `mapf row`, `mapf check`, `mapf deps` and `mapf run`, to measure it beside: it reads a text, checks it and
 //! writes it in canonical form, with the same faults, or solves a row of a scenario, with no certificate.
 mod deps;
 mod map;
+mod output;
 mod plan;
 mod row;
+mod run;
 mod scen;
 mod search;
 mod source;
@@ -49,6 +51,10 @@ fn run(words: &[&str]) -> Result<Option<bool>, Fault> {
         }
         ["deps", map, plan] => {
             deps::tell(open(map)?, open(plan)?, output)?;
+            Ok(Some(true))
+        }
+        ["run", map, plan, events] => {
+            run::replay(open(map)?, open(plan)?, open(events)?, output)?;
             Ok(Some(true))
         }
         _ => Ok(None),

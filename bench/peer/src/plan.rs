@@ -11,6 +11,7 @@ const LONGEST_LINE: usize = 65_553;
 const NOBODY: u16 = u16::MAX;
 
 pub struct Plan {
+    pub number: u32,
     pub starts: Vec<(u16, u16)>,
     /// The acts of all agents, as their characters, and where each agent's end.
     pub acts: Vec<u8>,
@@ -64,9 +65,9 @@ fn read_plan<R: Read>(reader: R) -> Result<Plan, Fault> {
     let Some(digits) = line.strip_prefix(b"number ") else {
         return fault("BadHeader", &[2]);
     };
-    if numeral(digits).filter(|&n| n < 1 << 32).is_none() {
+    let Some(plan_number) = numeral(digits).and_then(|n| u32::try_from(n).ok()) else {
         return fault("BadNumber", &[2]);
-    }
+    };
     take_line(&mut source, &mut line, 3)?;
     let Some(digits) = line.strip_prefix(b"agents ") else {
         return fault("BadHeader", &[3]);
@@ -77,7 +78,7 @@ fn read_plan<R: Read>(reader: R) -> Result<Plan, Fault> {
     if count > MOST_AGENTS {
         return fault("TooMany", &[3]);
     }
-    let mut plan = Plan { starts: Vec::new(), acts: Vec::new(), ends: Vec::new() };
+    let mut plan = Plan { number: plan_number, starts: Vec::new(), acts: Vec::new(), ends: Vec::new() };
     for agent in 0..count {
         let number = agent + 4;
         take_line(&mut source, &mut line, number)?;

@@ -7,7 +7,8 @@ ghost use Rattle.model.specs.declared.plan_fault.PlanFault.{PlanFault};
 ghost use Rattle.model.specs.Timetable.{Track, Timetable, moves, moves_before, track_of, Stands, IsConflictFree, IsSwapFree};
 ghost use Rattle.model.specs.Plan.{Course, Plan, HasPlanFault, IsValid, key_of, IsLeastFault, longest_of, IsTrackOf, IsTimetableOf};
 ghost use Rattle.model.specs.Dependency.{last_stand, need, IsLastStand, IsNeed, IsVisit, HasEnded, IsRotation};
-ghost use Rattle.model.specs.History.{History, kept_starts, done, is_moving, known};
+ghost use Rattle.model.specs.History.{History, kept_starts, done, is_moving, messages, known};
+ghost use Rattle.model.specs.Messages.{Message, own_message};
 ghost use Rattle.model.specs.Rules.{IsRun};
 ghost use Rattle.model.specs.Safety.{IsSafe};
 ghost use Rattle.model.specs.Costs.{cost, IsCost, AllEndAtRest, Task, FitsFirst, SolvesAt};
@@ -50,6 +51,12 @@ pub fn counters()
     ensures known { (h : History) (i j : ℕ) → known h i j ≤ done h j }
     ensures in_step { (tt : Timetable) (h : History) (i : ℕ) → IsRun tt h → (done h i ≤ kept_starts h i) × (kept_starts h i ≤ done h i + 1) }
     ensures still { (tt : Timetable) (h : History) (i : ℕ) → IsRun tt h → is_moving h i ≡ false → kept_starts h i ≡ done h i }
+{}
+
+/// Each message of a run is of an agent, and tells of that one alone: how many moves it had finished, and no more than it has.
+pub fn messages_of_runs()
+    ensures { (tt : Timetable) (h : History) (m : ℕ) (message : Message) → IsRun tt h → slice_get (messages h) m ≡ Some message
+        → (i done : ℕ) × (track : Track) × (message ≡ own_message i done) × (track_of tt i ≡ Some track) × (done ≤ moves track) }
 {}
 
 /// A move of a rotation is never begun: its number is not among those of the begun moves.

@@ -1,0 +1,215 @@
+-- What is said line by line are the events that a text spells, or its first fault.
+use Rattle.std.proofs.Common.{◌≡◌, ℕ, ◌+◌, ◌<◌, ◌≤◌, ◌⊎◌, inl, inr, Bool, true, false, List, [], ◌∷◌, ◌++◌, length, take, drop, Option, Some, None, refl, sym, ap, ◌∙◌, subst, arith, append_assoc, append-nil, length-take}
+use Rattle.std.proofs.lemmas.Bool.{cases_lt}
+use Rattle.std.proofs.lemmas.List.{take-append-drop, nil_from_length}
+use Rattle.grid.specs.Text.{lines_of, ended, ends_in_line_feed}
+use Rattle.grid.specs.Reading.{by_line_feed, Place, at_line_feed, at_byte, StandsIn, StopsIn, IsByte, IsFirstFault, line_number}
+use Rattle.grid.proofs.LineLemmas.{ends_in_line_feed-ended}
+use Rattle.grid.proofs.PlaceLemmas.{found, last, cut}
+use Rattle.model.specs.declared.event.Event.{Event}
+use Rattle.plan_text.proofs.LineDecisions.{same_or_not}
+use Rattle.event_text.specs.declared.event_fault.EventFault.{EventFault}
+use Rattle.event_text.specs.declared.event_fault.EventFault.TheVariants.{NoHeader, BadEvent, Unfinished}
+use Rattle.event_text.specs.EventText.{event_header, SpellsEvent, AreEvents, EventText}
+use Rattle.event_text.specs.EventFault.{event_header_due, event_due, longest_event_line, HasOtherForm, HasEventFault, EventFaultAt}
+use Rattle.event_text.specs.Taking.{SayEvents}
+use Rattle.event_text.specs.Code.EventLines.{event_of, EventLeads}
+use Rattle.event_text.proofs.EventLemmas.{event_of-says, none-spells}
+use Rattle.event_text.proofs.FirstLemmas.{due_of}
+use Rattle.event_text.proofs.TextScanned.{header_leads}
+
+-- ---- one more right line
+
+AreEvents-push : (events : List Event) (lines : List (List ℕ)) (event : Event) (line : List ℕ) → AreEvents events lines → SpellsEvent event line
+    → AreEvents (events ++ event ∷ []) (lines ++ line ∷ [])
+AreEvents-push events [] event line h k = (event, [], ap (λ es. es ++ event ∷ []) h, k, refl)
+AreEvents-push events (l ∷ lines) event line h k =
+    (h.0, h.1 ++ event ∷ [], ap (λ es. es ++ event ∷ []) h.2, h.3, AreEvents-push h.1 lines event line h.4 k)
+
+-- the header is read
+pub SayEvents-header : (events : List Event) (lines : List (List ℕ)) (line : List ℕ) → SayEvents false events lines → line ≡ event_header
+    → SayEvents true events (lines ++ line ∷ [])
+SayEvents-header events lines line said is = ([], ap (λ ls. ls ++ line ∷ []) said.0 ∙ ap (λ l. l ∷ []) is, said.1)
+
+-- and one more event
+pub SayEvents-push : (events : List Event) (lines : List (List ℕ)) (event : Event) (line : List ℕ) → SayEvents true events lines → SpellsEvent event line
+    → SayEvents true (events ++ event ∷ []) (lines ++ line ∷ [])
+SayEvents-push events lines event line said spells =
+    (said.0 ++ line ∷ [], ap (λ ls. ls ++ line ∷ []) said.1, AreEvents-push events said.0 event line said.2 spells)
+
+-- lines that say events are right
+pub SayEvents-leads : (read : Bool) (events : List Event) (lines : List (List ℕ)) → SayEvents read events lines → EventLeads event_header_due lines (due_of read)
+SayEvents-leads false events lines said = subst (λ ls. EventLeads event_header_due ls event_header_due) (sym said.0) refl
+SayEvents-leads true events lines said =
+    subst (λ ls. EventLeads event_header_due ls event_due) (sym said.1) (header_leads events said.0 said.2)
+
+-- a text of nothing else spells them
+pub EventText-said : (events : List Event) (lines : List (List ℕ)) (text : List ℕ) → SayEvents true events lines → text ≡ ended lines → EventText events text
+EventText-said events lines text said is = record { event_lines = said.0; lines = is ∙ ap ended said.1; are_events = said.2 }
+
+-- the fault of a line of another form
+abbrev pub wrong_here : Bool → ℕ → EventFault
+wrong_here false number = NoHeader
+wrong_here true number = BadEvent number
+
+pub has_other : (read : Bool) (number : ℕ) (line : List ℕ) → length line ≤ longest_event_line → HasOtherForm (due_of read) line
+    → HasEventFault (wrong_here read number) at_line_feed (due_of read) number line
+has_other false number line short other = inl (short, other)
+has_other true number line short other = (refl, (short, other))
+
+pub has_long : (read : Bool) (number : ℕ) (line : List ℕ) → length line ≡ longest_event_line + 1
+    → HasEventFault (wrong_here read number) at_byte (due_of read) number line
+has_long false number line long = inl long
+has_long true number line long = (refl, long)
+
+-- ---- a whole text
+
+-- what a text is: it spells events, or has a first fault
+pub data Reading (text : List ℕ) : Type 0 where
+  spelled : (events : List Event) (spells : EventText events text) → Reading text
+  faulty : (fault : EventFault) (first : IsFirstFault EventFaultAt fault text) → Reading text
+
+module _ (text tail : List ℕ) (all : List (List ℕ)) (stops : StopsIn by_line_feed all tail text) where
+  -- a fault that stands at a byte is the first
+  decided : (read : Bool) (events : List Event) (fault : EventFault) (place : Place) (before : List (List ℕ)) (line : List ℕ) → IsByte place
+      → StandsIn by_line_feed place before line text → SayEvents read events before → HasEventFault fault place (due_of read) (line_number before) line
+      → Reading text
+  decided read events fault place before line byte stands said h =
+      let at = found by_line_feed text place before line byte stands in
+      faulty fault
+      (inl (
+        at.0,
+        at.1,
+        place,
+        at.2,
+        byte,
+        record {
+          before = before;
+          line = line;
+          due = due_of read;
+          judged = at.3;
+          right = SayEvents-leads read events before said;
+          faulty = h;
+        },
+      ))
+
+  -- what follows lines of the text
+  data Behind (before : List (List ℕ)) (line : List ℕ) : Type 0 where
+    behind : (after : List (List ℕ)) (lines : lines_of text ≡ before ++ line ∷ after) (feed : after ≡ [] → ends_in_line_feed text ≡ true) → Behind before line
+
+  behind_line : (before : List (List ℕ)) (line : List ℕ) (rest : List (List ℕ)) → all ≡ before ++ line ∷ rest → Behind before line
+  behind_line before line rest parts = go (last by_line_feed text all tail stops)
+    where
+      ends : (lines : List (List ℕ)) → all ≡ lines → lines ≡ [] → ⊥
+      ends [] e k = bad before (sym parts ∙ e)
+        where
+          bad : (ls : List (List ℕ)) → ls ++ line ∷ rest ≡ [] → ⊥
+          bad [] e = cc
+          bad (l ∷ ls) e = cc
+      ends (l ∷ lines) e k = cc
+
+      written : (lines : List (List ℕ)) → all ≡ lines → tail ≡ [] → ends_in_line_feed text ≡ true
+      written [] e k = absurd (ends [] e refl)
+      written (l ∷ lines) e k =
+          ap ends_in_line_feed (stops.0 ∙ (ap (λ t. ended all ++ t) k ∙ (append-nil (ended all) ∙ ap ended e))) ∙ ends_in_line_feed-ended l lines
+
+      go : ((tail ≡ []) × (lines_of text ≡ all)) ⊎ ((0 < length tail) × (lines_of text ≡ all ++ tail ∷ [])) → Behind before line
+      go (inl (none, lines)) = behind rest (lines ∙ parts) (λ _. written all refl none)
+      go (inr (some, lines)) =
+          behind (rest ++ tail ∷ []) (lines ∙ (ap (λ ls. ls ++ tail ∷ []) parts ∙ append_assoc before (line ∷ rest) (tail ∷ [])))
+          (λ e. absurd (bad rest e))
+        where
+          bad : (ls : List (List ℕ)) → ls ++ tail ∷ [] ≡ [] → ⊥
+          bad [] e = cc
+          bad (l ∷ ls) e = cc
+
+  -- a line with its LF
+  whole_line : (before : List (List ℕ)) (line : List ℕ) (rest : List (List ℕ)) → all ≡ before ++ line ∷ rest → StandsIn by_line_feed at_line_feed before line text
+  whole_line before line rest parts = elim (behind_line before line rest parts) [ behind after lines feed ↦ (after, lines, feed) ]
+
+  -- a beginning of a line with its LF
+  line_begun : (before : List (List ℕ)) (line : List ℕ) (rest : List (List ℕ)) (n : ℕ) → all ≡ before ++ line ∷ rest → 0 < length (take n line)
+      → StandsIn by_line_feed at_byte before (take n line) text
+  line_begun before line rest n parts some = elim (behind_line before line rest parts) [
+    | behind after lines feed ↦ (some, drop n line, after, lines ∙ ap (λ l. before ++ l ∷ after) (sym (take-append-drop n line)))
+  ]
+
+  -- a beginning of what follows the last LF
+  tail_begun : (n : ℕ) → 0 < length (take n tail) → StandsIn by_line_feed at_byte all (take n tail) text
+  tail_begun n some = go (last by_line_feed text all tail stops)
+    where
+      go : ((tail ≡ []) × (lines_of text ≡ all)) ⊎ ((0 < length tail) × (lines_of text ≡ all ++ tail ∷ [])) → StandsIn by_line_feed at_byte all (take n tail) text
+      go (inl (none, lines)) = absurd (omega (arith, length-take n tail, ap length none))
+      go (inr (any, lines)) = (some, drop n tail, [], lines ∙ ap (λ l. all ++ l ∷ []) (sym (take-append-drop n tail)))
+
+  -- a line that is too long
+  too_long : (read : Bool) (events : List Event) (before : List (List ℕ)) (line : List ℕ) → longest_event_line < length line
+      → (0 < length (take (longest_event_line + 1) line) → StandsIn by_line_feed at_byte before (take (longest_event_line + 1) line) text)
+      → SayEvents read events before → Reading text
+  too_long read events before line long stands said =
+      let count : length (take (longest_event_line + 1) line) ≡ longest_event_line + 1 = omega (arith, length-take (longest_event_line + 1) line, long) in
+      decided read events (wrong_here read (line_number before)) at_byte before (take (longest_event_line + 1) line) tt (stands (omega (arith, count))) said
+      (has_long read (line_number before) (take (longest_event_line + 1) line) count)
+
+  -- a line of another form
+  other_form : (read : Bool) (events : List Event) (before : List (List ℕ)) (line : List ℕ) → length line ≤ longest_event_line
+      → HasOtherForm (due_of read) line → StandsIn by_line_feed at_line_feed before line text → SayEvents read events before → Reading text
+  other_form read events before line short other stands said =
+      decided read events (wrong_here read (line_number before)) at_line_feed before line tt stands said
+      (has_other read (line_number before) line short other)
+
+  -- behind all lines that have an LF
+  at_tail : (read : Bool) (events : List Event) → SayEvents read events all → Reading text
+  at_tail read events said = go read said (cases_lt longest_event_line (length tail)) (cases_lt 0 (length tail))
+    where
+      go : (read : Bool) → SayEvents read events all → (longest_event_line < length tail) ⊎ (length tail ≤ longest_event_line)
+          → (0 < length tail) ⊎ (length tail ≤ 0) → Reading text
+      go read said (inl long) some = too_long read events all tail long (tail_begun (longest_event_line + 1)) said
+      go false said (inr short) some =
+          faulty NoHeader
+          (inr (record {
+            before = all;
+            line = tail;
+            due = event_header_due;
+            judged = stops;
+            right = SayEvents-leads false events all said;
+            faulty = inr short;
+          }))
+      go true said (inr short) (inl some) =
+          faulty (Unfinished (line_number all))
+          (inr (record {
+            before = all;
+            line = tail;
+            due = event_due;
+            judged = stops;
+            right = SayEvents-leads true events all said;
+            faulty = (refl, short, some);
+          }))
+      go true said (inr short) (inr empty) =
+          let nothing : tail ≡ [] = nil_from_length tail (omega (arith, empty)) in
+          spelled events (EventText-said events all text said (stops.0 ∙ (ap (λ t. ended all ++ t) nothing ∙ append-nil (ended all))))
+
+  -- behind right lines
+  read_on : (before : List (List ℕ)) (rest : List (List ℕ)) → all ≡ before ++ rest → (read : Bool) (events : List Event) → SayEvents read events before
+      → Reading text
+  read_on before [] parts read events said = at_tail read events (subst (SayEvents read events) (sym (parts ∙ append-nil before)) said)
+  read_on before (line ∷ rest) parts read events said =
+      go read said (cases_lt longest_event_line (length line)) (same_or_not line event_header) (event_of line) refl
+      (λ now more k. read_on (before ++ line ∷ []) rest (parts ∙ sym (append_assoc before (line ∷ []) rest)) now more k)
+    where
+      go : (read : Bool) → SayEvents read events before → (longest_event_line < length line) ⊎ (length line ≤ longest_event_line)
+          → (line ≡ event_header) ⊎ (line ≡ event_header → ⊥) → (r : Option Event) → event_of line ≡ r
+          → ((now : Bool) (more : List Event) → SayEvents now more (before ++ line ∷ []) → Reading text) → Reading text
+      go read said (inl long) header r e on =
+          too_long read events before line long (line_begun before line rest (longest_event_line + 1) parts) said
+      go false said (inr short) (inl is) r e on = on true events (SayEvents-header events before line said is)
+      go false said (inr short) (inr other) r e on =
+          other_form false events before line short other (whole_line before line rest parts) said
+      go true said (inr short) header (Some event) e on =
+          on true (events ++ event ∷ []) (SayEvents-push events before event line said (event_of-says event line e))
+      go true said (inr short) header None e on =
+          other_form true events before line short (none-spells line e) (whole_line before line rest parts) said
+
+-- each text has a reading
+pub reading_of : (text : List ℕ) → Reading text
+reading_of text = let parts = cut text in read_on text parts.1 parts.0 parts.2 [] parts.0 refl false [] (refl, refl)

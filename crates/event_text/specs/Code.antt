@@ -1,0 +1,6 @@
+-- The code's own words: what bodies and proofs speak of, and no promise.
+
+-- how an event is told from its line
+pub mod EventLines
+-- what taking the header's line leaves
+pub mod HeaderTaking

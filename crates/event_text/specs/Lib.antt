@@ -1,0 +1,14 @@
+-- What has to be believed, in the order in which to read it: each promise of the crate is made in these words, and in those of `model`.
+
+-- the grammar of a text of events
+pub mod EventText
+-- the faults of a text of events, and where each stands
+pub mod EventFault
+-- the events of a text up to its first fault
+pub mod FirstEvents
+-- what reading a text event by event leaves
+pub mod Taking
+-- the text that is written for replies
+pub mod ReplyText
+-- The code's own words, of which no promise speaks.
+pub mod Code

@@ -1,0 +1,13 @@
+//! The texts of a run: events are read one by one, and replies written.
+#![tactic(auto)]
+
+mod event_fault;
+mod event_line;
+mod event_reader;
+pub mod laws;
+mod numerals;
+mod reply_writer;
+
+pub use event_fault::EventFault;
+pub use event_reader::{EventReader, read_events};
+pub use reply_writer::{put_reply, write_replies};

@@ -1,0 +1,11 @@
+//! Tests of the crate event_text: event texts cut at every place, failing readers and writers, and the lines of replies.
+#![tactic(auto)]
+
+#[cfg(test)]
+mod answers;
+#[cfg(test)]
+mod event_texts;
+#[cfg(test)]
+mod event_trouble;
+#[cfg(test)]
+mod reply_texts;

@@ -1,0 +1,13 @@
+-- Lemmas that several proofs share.
+pub mod SimLemmas
+pub mod OtherLemmas
+pub mod RuleLemmas
+pub mod StoreLemmas
+pub mod RestartLemmas
+pub mod MessageLemmas
+pub mod GoesLemmas
+pub mod ReopenLemmas
+pub mod SayLemmas
+pub mod DeliverLemmas
+pub mod SafeLemmas
+pub mod CrewLemmas

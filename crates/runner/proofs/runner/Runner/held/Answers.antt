@@ -1,0 +1,16 @@
+use Rattle.std.proofs.Common.{Some, sym, ap, subst, ◌∙◌}
+use Rattle.std.specs.Prelude.{option_map, slice_get}
+use Rattle.std.proofs.lemmas.Option.{slice_get-get_or}
+use Rattle.model.specs.Safety.{held}
+use Rattle.model.specs.Timetable.{track_of}
+use Rattle.runner.specs.Standing.{StandsAt}
+use Rattle.runner.proofs.GoesLemmas.{held-on}
+use Rattle.runner.proofs.runner.Runner.held.Goals as goal
+
+pub returns-clause-held : goal.returns-clause-held
+returns-clause-held c h stands =
+    let inside = subst (λ r. StandsAt r h) (sym c.self.view_is) stands in
+    let found = c.in_ok-get.ensures.lookup in
+    let listed = slice_get-get_or c.deref.result.now c.args.agent c.in_ok-get.field-0.now found.3.0 ∙ ap (λ a. Some a) (sym found.1) in
+    let there = ap (λ l. slice_get l c.args.agent) (sym c.deref.ensures.value) ∙ listed in
+    held-on _ h inside c.args.agent c.in_ok-get.field-0.now c.held.result there c.held.ensures ∙ ap (λ r. option_map (λ track. held track h c.args.agent) (track_of r.timetable c.args.agent)) c.self.view_is

@@ -1,0 +1,10 @@
+-- What has to be believed of the crate, beside the definitions of `model` and `agent`, in the order in which to read it.
+
+-- the tape that tears where it is told to
+pub mod SimTape
+-- what a runner is, and at which history it stands
+pub mod Standing
+-- what is promised of every run
+pub mod SafeRuns
+-- the code's own words
+pub mod Code

@@ -1,0 +1,26 @@
+//! Runs of whole lists of events.
+ghost use Rattle.std.specs.Prelude.{map, IfOk};
+ghost use Rattle.model.specs.Replies.{answer_of};
+ghost use Rattle.runner.specs.SafeRuns.{AreAnswered};
+
+use crate::Runner;
+use depgraph::{Graph, OutOfMemory};
+use model::{Event, Reply};
+use std::alloc::Global;
+
+/// The replies to events, one for each, when all agents of a graph begin at their starts.
+pub fn run(alloc: Global, graph: &Graph, events: &[Event]) -> Result<Vec<Reply>, OutOfMemory>
+    ensures { IfOk result (λ replies. AreAnswered graph.now events.now (map answer_of replies.items)) }
+{
+    model::laws::every_run_is_safe();
+    model::laws::rotations_never_begin();
+    let mut runner = Runner::new(alloc, graph)?;
+    let mut replies = Vec::with_capacity(alloc, events.len())?;
+    'events: for event in events {
+        let reply = runner.step(*event)?;
+        let Ok(()) = replies.push(reply) else {
+            return Err(OutOfMemory);
+        };
+    }
+    Ok(replies)
+}

@@ -1,0 +1,21 @@
+//! Tests of the crate runner: whole runs, stops at each write, events at random, memory that is refused, and a long line of agents.
+#![tactic(auto)]
+
+#[cfg(test)]
+mod holdings;
+#[cfg(test)]
+mod lines;
+#[cfg(test)]
+mod long_line;
+#[cfg(test)]
+mod random_runs;
+#[cfg(test)]
+mod refused_memory;
+#[cfg(test)]
+mod small_runs;
+#[cfg(test)]
+mod stops;
+#[cfg(test)]
+mod texts;
+#[cfg(test)]
+mod watch;

@@ -1,0 +1,49 @@
+//! Replies as lines of text.
+use runner::{Event, Reply, Runner, Why};
+use std::alloc::{AllocError, Global};
+use std::process::Abort;
+use std::test::Fail;
+
+/// The reply in words and numbers; bytes are two digits each.
+pub fn line(alloc: Global, reply: &Reply) -> Result<String, AllocError> {
+    match reply {
+        Reply::Moving(cell) => format!(in alloc; "moving {} {}", cell.x, cell.y),
+        Reply::Arrived(cell) => format!(in alloc; "arrived {} {}", cell.x, cell.y),
+        Reply::Said(number, bytes) => said(alloc, *number, bytes.as_slice()),
+        Reply::Heard(sender, known) => format!(in alloc; "heard {sender} {known}"),
+        Reply::At(cell, done) => format!(in alloc; "at {} {} done {done}", cell.x, cell.y),
+        Reply::Between(from, to, done) => {
+            format!(in alloc;
+                "between {} {} {} {} done {done}",
+                from.x, from.y, to.x, to.y
+            )
+        }
+        Reply::Armed => format!(in alloc; "armed"),
+        Reply::Refused(Why::Waits(agent, count)) => {
+            format!(in alloc; "refused Waits {agent} {count}")
+        }
+        Reply::Refused(why) => format!(in alloc; "refused {why:?}"),
+    }
+}
+
+fn said(alloc: Global, number: u64, bytes: &[u8]) -> Result<String, AllocError> {
+    let mut text = format!(in alloc; "said {number} ")?;
+    for byte in bytes {
+        text.push_str(format!(in alloc; "{byte:02x}")?.as_str())?;
+    }
+    Ok(text)
+}
+
+/// Answers events, and compares each reply with its line.
+pub fn expect(
+    rt: &impl Abort,
+    alloc: Global,
+    runner: &mut Runner<'_>,
+    rows: &[(Event, &str)],
+) -> Result<(), Fail> {
+    for (event, expected) in rows {
+        let reply = line(alloc, &runner.step(*event)?)?;
+        assert_eq!(rt; reply.as_str(), *expected, "after {event:?}");
+    }
+    Ok(())
+}
