@@ -5,6 +5,7 @@ use depgraph::Graph;
 use fake_tapes::FailTape;
 use grid::Cell;
 use std::alloc::Global;
+use std::process::Abort;
 use std::test::Fail;
 
 const LEFT: Cell = Cell { x: 0, y: 0 };
@@ -23,106 +24,185 @@ pub fn opened<T: Tape + Drop>(
     Agent::open(alloc, graph, id, tape).map_err(|refused| refused.0.into())
 }
 
+/// What an agent is asked, with what it has to answer.
+#[derive(Clone, Copy)]
+enum Row {
+    Start(Result<Cell, Refusal>),
+    Finish(Result<Cell, Refusal>),
+    Say(Result<[u8; 12], Refusal>),
+    Hear([u8; 12], Result<(u16, u32), HearFault>),
+    Known(u16, Option<u32>),
+    Held(Held),
+    Done(u32),
+}
+
+/// Asks an agent, and compares its answer.
+fn expect<T: Tape>(rt: &impl Abort, agent: &mut Agent<'_, T>, row: Row) {
+    match row {
+        Row::Start(answer) => assert_eq!(rt; agent.start(), answer),
+        Row::Finish(answer) => assert_eq!(rt; agent.finish(), answer),
+        Row::Say(answer) => assert_eq!(rt; agent.say(), answer),
+        Row::Hear(message, answer) => assert_eq!(rt; agent.hear(&message), answer),
+        Row::Known(id, answer) => assert_eq!(rt; agent.known(id), answer),
+        Row::Held(answer) => assert_eq!(rt; agent.held(), answer),
+        Row::Done(answer) => assert_eq!(rt; agent.done(), answer),
+    }
+}
+
+/// Asks one agent after another, agent 0 or 1.
+fn expect_all<T: Tape>(
+    rt: &impl Abort,
+    first: &mut Agent<'_, T>,
+    second: &mut Agent<'_, T>,
+    rows: &[(u16, Row)],
+) {
+    for &(id, row) in rows {
+        if id == 0 {
+            expect(rt, first, row);
+        } else {
+            expect(rt, second, row);
+        }
+    }
+}
+
+/// Messages of agent 0 under the number 7, of no, of one and of two moves.
+const NONE_DONE: [u8; 12] = [0x46, 1, 0, 0, 0, 0, 0, 7, 0, 0, 0, 0];
+
+const ONE_DONE: [u8; 12] = [0x46, 1, 0, 0, 0, 0, 0, 7, 0, 0, 0, 1];
+
+const TWO_DONE: [u8; 12] = [0x46, 1, 0, 0, 0, 0, 0, 7, 0, 0, 0, 2];
+
+const WAITS: Row = Row::Start(Err(Refusal::Waits { agent: 0, count: 1 }));
+
+static ONE_BEHIND_ANOTHER: [(u16, Row); 15] = [
+    (1, WAITS),
+    (1, Row::Finish(Err(Refusal::NotMoving))),
+    (0, Row::Start(Ok(RIGHT))),
+    (0, Row::Start(Err(Refusal::AlreadyMoving))),
+    (0, Row::Held(Held::Between(MIDDLE, RIGHT))),
+    (0, Row::Say(Ok(NONE_DONE))),
+    (0, Row::Finish(Ok(RIGHT))),
+    (0, Row::Start(Err(Refusal::AtEnd))),
+    (1, WAITS),
+    (0, Row::Say(Ok(ONE_DONE))),
+    (1, Row::Hear(ONE_DONE, Ok((0, 1)))),
+    (1, Row::Known(0, Some(1))),
+    (1, Row::Known(1, Some(0))),
+    (1, Row::Known(2, None)),
+    (1, Row::Start(Ok(MIDDLE))),
+];
+
+/// What was heard is forgotten then, and what is stored is not.
+static OPENED_AGAIN: [(u16, Row); 5] = [
+    (1, Row::Held(Held::Between(LEFT, MIDDLE))),
+    (1, Row::Done(0)),
+    (1, Row::Known(0, Some(0))),
+    (1, Row::Finish(Ok(MIDDLE))),
+    (1, Row::Done(1)),
+];
+
 #[test]
 fn one_behind_another(rt: HostRuntime) -> Result<(), Fail> {
     let graph = one_behind(rt.alloc())?;
     let mut front = opened(rt.alloc(), &graph, 0, MemTape::new(rt.alloc(), 20)?)?;
     let mut back = opened(rt.alloc(), &graph, 1, MemTape::new(rt.alloc(), 20)?)?;
-    let waits = Err(Refusal::Waits { agent: 0, count: 1 });
-    assert_eq!(rt; back.start(), waits);
-    assert_eq!(rt; back.finish(), Err(Refusal::NotMoving));
-    assert_eq!(rt; front.start(), Ok(RIGHT));
-    assert_eq!(rt; front.start(), Err(Refusal::AlreadyMoving));
-    assert_eq!(rt; front.held(), Held::Between(MIDDLE, RIGHT));
-    assert_eq!(rt; front.say(), Ok([0x46, 1, 0, 0, 0, 0, 0, 7, 0, 0, 0, 0]));
-    assert_eq!(rt; front.finish(), Ok(RIGHT));
-    assert_eq!(rt; front.start(), Err(Refusal::AtEnd));
-    assert_eq!(rt; back.start(), waits);
-    let message = front.say()?;
-    assert_eq!(rt; message, [0x46, 1, 0, 0, 0, 0, 0, 7, 0, 0, 0, 1]);
-    assert_eq!(rt; back.hear(&message), Ok((0, 1)));
-    assert_eq!(rt;
-        (back.known(0), back.known(1), back.known(2)),
-        (Some(1), Some(0), None)
-    );
-    assert_eq!(rt; back.start(), Ok(MIDDLE));
-    // What was heard is forgotten, and what is stored is not.
+    expect_all(&rt, &mut front, &mut back, &ONE_BEHIND_ANOTHER);
     let mut back = opened(rt.alloc(), &graph, 1, back.into_tape())?;
-    assert_eq!(rt; back.held(), Held::Between(LEFT, MIDDLE));
-    assert_eq!(rt; (back.done(), back.known(0)), (0, Some(0)));
-    assert_eq!(rt; back.finish(), Ok(MIDDLE));
-    assert_eq!(rt; back.done(), 1);
+    expect_all(&rt, &mut front, &mut back, &OPENED_AGAIN);
     Ok(())
 }
+
+static OUT_OF_ORDER: [(u16, Row); 10] = [
+    (0, Row::Start(Ok(RIGHT))),
+    (0, Row::Finish(Ok(RIGHT))),
+    (0, Row::Say(Ok(ONE_DONE))),
+    (0, Row::Start(Ok(MIDDLE))),
+    (0, Row::Finish(Ok(MIDDLE))),
+    (0, Row::Say(Ok(TWO_DONE))),
+    (1, Row::Hear(TWO_DONE, Ok((0, 2)))),
+    (1, Row::Hear(ONE_DONE, Ok((0, 2)))),
+    (1, Row::Hear(ONE_DONE, Ok((0, 2)))),
+    (1, Row::Start(Err(Refusal::AtEnd))),
+];
 
 #[test]
 fn messages_out_of_order(rt: HostRuntime) -> Result<(), Fail> {
     let graph = graph_of(rt.alloc(), "agent 1 0 ew\nagent 0 0 =\n")?;
     let mut goer = opened(rt.alloc(), &graph, 0, MemTape::new(rt.alloc(), 40)?)?;
     let mut stayer = opened(rt.alloc(), &graph, 1, MemTape::new(rt.alloc(), 0)?)?;
-    assert_eq!(rt; (goer.start(), goer.finish()), (Ok(RIGHT), Ok(RIGHT)));
-    let first = goer.say()?;
-    assert_eq!(rt; (goer.start(), goer.finish()), (Ok(MIDDLE), Ok(MIDDLE)));
-    let second = goer.say()?;
-    assert_eq!(rt; second, [0x46, 1, 0, 0, 0, 0, 0, 7, 0, 0, 0, 2]);
-    for message in [&second, &first, &first] {
-        assert_eq!(rt; stayer.hear(message), Ok((0, 2)));
-    }
-    assert_eq!(rt; stayer.start(), Err(Refusal::AtEnd));
+    expect_all(&rt, &mut goer, &mut stayer, &OUT_OF_ORDER);
     Ok(())
 }
+
+/// The last is of itself, of which an agent hears as of any other.
+static HEARD_OR_NOT: [Row; 5] = [
+    Row::Hear(
+        [0x46, 1, 0, 1, 0, 0, 0, 7, 0, 0, 0, 2],
+        Err(HearFault::TooMany),
+    ),
+    Row::Hear(
+        [0x46, 1, 0, 1, 0, 0, 0, 8, 0, 0, 0, 2],
+        Err(HearFault::WrongPlan),
+    ),
+    Row::Hear(
+        [0x46, 1, 0, 9, 0, 0, 0, 7, 0, 0, 0, 1],
+        Err(HearFault::NoSuchAgent),
+    ),
+    Row::Hear(
+        [0x46, 2, 0, 1, 0, 0, 0, 7, 0, 0, 0, 1],
+        Err(HearFault::Message(MsgFault::BadVersion)),
+    ),
+    Row::Hear(ONE_DONE, Ok((0, 1))),
+];
 
 #[test]
 fn messages_that_are_not_heard(rt: HostRuntime) -> Result<(), Fail> {
     let graph = one_behind(rt.alloc())?;
     let mut agent = opened(rt.alloc(), &graph, 0, MemTape::new(rt.alloc(), 20)?)?;
-    for (message, fault) in [
-        ([0x46, 1, 0, 1, 0, 0, 0, 7, 0, 0, 0, 2], HearFault::TooMany),
-        (
-            [0x46, 1, 0, 1, 0, 0, 0, 8, 0, 0, 0, 2],
-            HearFault::WrongPlan,
-        ),
-        (
-            [0x46, 1, 0, 9, 0, 0, 0, 7, 0, 0, 0, 1],
-            HearFault::NoSuchAgent,
-        ),
-        (
-            [0x46, 2, 0, 1, 0, 0, 0, 7, 0, 0, 0, 1],
-            HearFault::Message(MsgFault::BadVersion),
-        ),
-    ] {
-        assert_eq!(rt; agent.hear(&message), Err(fault));
+    for &row in &HEARD_OR_NOT {
+        expect(&rt, &mut agent, row);
     }
-    // Of itself it hears as of any other.
-    assert_eq!(rt;
-        agent.hear(&[0x46, 1, 0, 0, 0, 0, 0, 7, 0, 0, 0, 1]),
-        Ok((0, 1))
-    );
     Ok(())
+}
+
+static BROKEN: [Row; 7] = [
+    Row::Start(Err(Refusal::StoreFailed)),
+    Row::Start(Err(Refusal::Broken)),
+    Row::Finish(Err(Refusal::Broken)),
+    Row::Say(Err(Refusal::Broken)),
+    Row::Hear([0; 12], Err(HearFault::Broken)),
+    Row::Done(0),
+    Row::Known(1, Some(0)),
+];
+
+/// The tape of agent 0 after a start that was torn after so many bytes, when the agent holds this.
+fn torn_start(
+    rt: &impl Abort,
+    alloc: Global,
+    graph: &Graph,
+    stored: u8,
+    held: Held,
+) -> Result<FailTape, Fail> {
+    let mut tape = FailTape::new(MemTape::new(alloc, 20)?, 0);
+    tape.fail_after(0, stored.min(10));
+    let mut agent = opened(alloc, graph, 0, tape)?;
+    for &row in &BROKEN {
+        expect(rt, &mut agent, row);
+    }
+    expect(rt, &mut agent, Row::Held(held));
+    Ok(agent.into_tape())
 }
 
 #[test]
 fn a_torn_start(rt: HostRuntime) -> Result<(), Fail> {
     let graph = one_behind(rt.alloc())?;
     for (stored, held) in [(9, Held::At(MIDDLE)), (10, Held::Between(MIDDLE, RIGHT))] {
-        let mut tape = FailTape::new(MemTape::new(rt.alloc(), 20)?, 0);
-        tape.fail_after(0, stored);
-        let mut agent = opened(rt.alloc(), &graph, 0, tape)?;
-        assert_eq!(rt; agent.start(), Err(Refusal::StoreFailed));
-        assert_eq!(rt; agent.start(), Err(Refusal::Broken));
-        assert_eq!(rt; agent.finish(), Err(Refusal::Broken));
-        assert_eq!(rt; agent.say(), Err(Refusal::Broken));
-        assert_eq!(rt; agent.hear(&[]), Err(HearFault::Broken));
-        assert_eq!(rt;
-            (agent.held(), agent.done(), agent.known(1)),
-            (held, 0, Some(0))
-        );
-        let tape = agent.into_tape();
+        let tape = torn_start(&rt, rt.alloc(), &graph, stored, held)?;
         assert_eq!(rt; tape.failures(), 1);
         let mut agent = opened(rt.alloc(), &graph, 0, tape)?;
-        assert_eq!(rt; (agent.held(), agent.done()), (held, 0));
+        expect(&rt, &mut agent, Row::Held(held));
         if stored < 10 {
-            assert_eq!(rt; agent.start(), Ok(RIGHT));
+            expect(&rt, &mut agent, Row::Start(Ok(RIGHT)));
         }
         let tape = agent.into_tape().into_tape();
         assert_eq!(rt; tape.bytes(), [0x50, 1, 0, 0, 0, 7, 0, 0, 0, 0].as_slice());

@@ -7,7 +7,7 @@ use Rattle.clap.specs.declared.builder.action.ArgAction.TheVariants.{SetTrue}
 use Rattle.clap.specs.declared.error.kind.ErrorKind.{ErrorKind}
 use Rattle.clap.specs.declared.error.kind.ErrorKind.TheVariants as kind
 use Rattle.command_line.specs.declared.command_line.Line.{Line}
-use Rattle.command_line.specs.declared.command_line.Line.TheVariants.{Map, Scen, Row as row_line, Check, Deps}
+use Rattle.command_line.specs.declared.command_line.Line.TheVariants.{Map, Scen, Row as row_line, Check, Deps, Run}
 use Rattle.command_line.specs.declared.command_line.LineFault.{LineFault}
 use Rattle.command_line.specs.declared.command_line.LineFault.TheVariants.{Help, BadCommand, OutOfMemory}
 
@@ -58,9 +58,17 @@ deps_command = record {
   flags = [];
 }
 
+abbrev pub run_command : Usage
+run_command = record {
+  name = codes "run";
+  required = codes "map" ∷ codes "plan" ∷ codes "events" ∷ [];
+  options = [];
+  flags = [];
+}
+
 -- all commands
 abbrev pub commands : List Usage
-commands = map_command ∷ scen_command ∷ row_command ∷ check_command ∷ deps_command ∷ []
+commands = map_command ∷ scen_command ∷ row_command ∷ check_command ∷ deps_command ∷ run_command ∷ []
 
 -- one required word
 abbrev pub required_word : Text → Rule
@@ -120,6 +128,9 @@ IsCommand name rows (Check map_file plan_file scen_file json) =
 IsCommand name rows (Deps map_file plan_file) =
     (name ≡ codes "deps") × (first_of (codes "map") rows ≡ Some (string_bytes map_file))
     × (first_of (codes "plan") rows ≡ Some (string_bytes plan_file))
+IsCommand name rows (Run map_file plan_file events_file) =
+    (name ≡ codes "run") × (first_of (codes "map") rows ≡ Some (string_bytes map_file))
+    × (first_of (codes "plan") rows ≡ Some (string_bytes plan_file)) × (first_of (codes "events") rows ≡ Some (string_bytes events_file))
 
 -- the line is the command that clap's definition of the program gives for the words
 abbrev pub IsLineOf : List Text → Line → Type 0

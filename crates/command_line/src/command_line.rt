@@ -37,6 +37,12 @@ pub enum Line {
         map: String,
         plan: String,
     },
+    /// Runs a plan on the events of a text.
+    Run {
+        map: String,
+        plan: String,
+        events: String,
+    },
 }
 
 /// Why the words are no command.

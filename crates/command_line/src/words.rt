@@ -4,7 +4,7 @@ ghost use Rattle.std.specs.Char.{is_ascii_digit};
 ghost use Rattle.std.specs.List.{list_all};
 ghost use Rattle.clap.specs.Words.{app_of, with_subcommand, first_of, found_of, rows_of, rule_of, takes, fault_of};
 ghost use Rattle.grid.specs.Text.{SpellsNumber};
-ghost use Rattle.command_line.specs.Words.{program_app, file_command, row_command, check_command, deps_command, command_of, required_word, named_option, named_flag, IsFlagGiven, HasRowNumber, GivesNumber, GiveNumber, IsCommand, IsLineOf, IsFaultOf};
+ghost use Rattle.command_line.specs.Words.{program_app, file_command, row_command, check_command, deps_command, run_command, command_of, required_word, named_option, named_flag, IsFlagGiven, HasRowNumber, GivesNumber, GiveNumber, IsCommand, IsLineOf, IsFaultOf};
 ghost use Rattle.command_line.specs.Code.Parts.{HasWords, IsRefusal};
 
 use crate::{Line, LineFault};
@@ -35,7 +35,8 @@ fn program<'a>(alloc: Global) -> Result<Command<'a>, AllocError>
     let program = with_file_command(alloc, program, "scen")?;
     let program = with_row_command(alloc, program)?;
     let program = with_check_command(alloc, program)?;
-    with_deps_command(alloc, program)
+    let program = with_deps_command(alloc, program)?;
+    with_run_command(alloc, program)
 }
 
 /// The program with one more command, of a file.
@@ -80,6 +81,17 @@ fn with_deps_command<'a>(alloc: Global, program: Command<'a>) -> Result<Command<
     let command = Command::new(alloc, "deps")
         .arg(required(alloc, "map"))?
         .arg(required(alloc, "plan"))?;
+    program.subcommand(command)
+}
+
+/// The program with the command that runs a plan.
+fn with_run_command<'a>(alloc: Global, program: Command<'a>) -> Result<Command<'a>, AllocError>
+    ensures { IfOk result (λ c. app_of c ≡ with_subcommand (app_of program.entry) (command_of run_command).top) }
+{
+    let command = Command::new(alloc, "run")
+        .arg(required(alloc, "map"))?
+        .arg(required(alloc, "plan"))?
+        .arg(required(alloc, "events"))?;
     program.subcommand(command)
 }
 
@@ -141,6 +153,11 @@ fn read_command(alloc: Global, name: &str, given: &ArgMatches<'_>) -> Result<Lin
         "deps" => Ok(Line::Deps {
             map: word(alloc, given, "map")?,
             plan: word(alloc, given, "plan")?,
+        }),
+        "run" => Ok(Line::Run {
+            map: word(alloc, given, "map")?,
+            plan: word(alloc, given, "plan")?,
+            events: word(alloc, given, "events")?,
         }),
         _ => Err(LineFault::BadCommand),
     }

@@ -155,6 +155,26 @@ fn deps_lines(rt: HostRuntime) -> Result<(), Fail> {
 }
 
 #[test]
+fn run_lines(rt: HostRuntime) -> Result<(), Fail> {
+    for &(text, want_map, want_plan, want_events) in &[
+        ("mapf run M P E", "M", "P", "E"),
+        ("mapf run run map run", "run", "map", "run"),
+        ("mapf run M P -- -h", "M", "P", "-h"),
+        ("mapf run -- --json P -", "--json", "P", "-"),
+    ] {
+        let words = words(rt.alloc(), text)?;
+        let Line::Run { map, plan, events } = line(rt.alloc(), words.as_slice())? else {
+            assert!(rt; false, "another command at {text:?}");
+            return Ok(());
+        };
+        assert_eq!(rt; map.as_str(), want_map, "at {text:?}");
+        assert_eq!(rt; plan.as_str(), want_plan, "at {text:?}");
+        assert_eq!(rt; events.as_str(), want_events, "at {text:?}");
+    }
+    Ok(())
+}
+
+#[test]
 fn numbers_that_are_none(rt: HostRuntime) -> Result<(), Fail> {
     for &number in &[
         "4294967296",
@@ -219,6 +239,12 @@ fn refused_lines(rt: HostRuntime) -> Result<(), Fail> {
         ("mapf deps M P X", LineFault::BadCommand),
         ("mapf deps M P --json", LineFault::BadCommand),
         ("mapf deps M P --scen S", LineFault::BadCommand),
+        ("mapf run", LineFault::BadCommand),
+        ("mapf run M", LineFault::BadCommand),
+        ("mapf run M P", LineFault::BadCommand),
+        ("mapf run M P E X", LineFault::BadCommand),
+        ("mapf run M P E --json", LineFault::BadCommand),
+        ("mapf run M P E --complete", LineFault::BadCommand),
         ("mapf map -x", LineFault::BadCommand),
         ("mapf nosuch", LineFault::BadCommand),
         ("mapf -x", LineFault::BadCommand),
@@ -237,6 +263,10 @@ fn refused_lines(rt: HostRuntime) -> Result<(), Fail> {
         ("mapf help deps", LineFault::Help),
         ("mapf deps --help", LineFault::Help),
         ("mapf deps M P -h", LineFault::Help),
+        ("mapf help run", LineFault::Help),
+        ("mapf run --help", LineFault::Help),
+        ("mapf run M P -h", LineFault::Help),
+        ("mapf run M P E --help", LineFault::Help),
         ("mapf check --help", LineFault::Help),
         ("mapf check -h", LineFault::Help),
         ("mapf check M P --json --scen S -h", LineFault::Help),

@@ -12,10 +12,14 @@ const FILES: &[(&str, &str)] = &[
     ("corner.map", CORNER),
     ("corner.scen", ROW),
     ("corner.plan", PLAN),
+    ("corner.events", EVENTS),
 ];
 
 /// A plan that solves the scenario's only row.
 const PLAN: &str = "mapf-plan 1\nnumber 0\nagents 1\nagent 0 1 ne\n";
+
+/// The plan's only agent goes its first cell.
+const EVENTS: &str = "mapf-events 1\nstart 0\nfinish 0\n";
 
 /// What the program does on its words: its status, both outputs, and the names that it opens.
 #[derive(Clone, Copy)]
@@ -108,6 +112,27 @@ fn commands_open_their_files_in_order(rt: HostRuntime) -> Result<(), Fail> {
             err: "mapf: BadHeader 1\n",
             opened: "corner.plan\ncorner.map\n",
         },
+        Done {
+            words: "mapf run corner.map corner.plan corner.events",
+            status: 0,
+            out: "moving 0 0\narrived 0 0\n",
+            err: "",
+            opened: "corner.map\ncorner.plan\ncorner.events\n",
+        },
+        Done {
+            words: "mapf run corner.plan corner.map corner.events",
+            status: 1,
+            out: "",
+            err: "mapf: BadHeader 1\n",
+            opened: "corner.plan\ncorner.map\ncorner.events\n",
+        },
+        Done {
+            words: "mapf run corner.map corner.plan corner.plan",
+            status: 1,
+            out: "",
+            err: "mapf: NoHeader\n",
+            opened: "corner.map\ncorner.plan\ncorner.plan\n",
+        },
     ] {
         does(&rt, rt.alloc(), want)?;
     }
@@ -137,6 +162,18 @@ fn files_that_are_not_there(rt: HostRuntime) -> Result<(), Fail> {
             "mapf deps corner.map other.plan",
             "corner.map\nother.plan\n",
         ),
+        (
+            "mapf run other.map corner.plan corner.events",
+            "other.map\n",
+        ),
+        (
+            "mapf run corner.map other.plan corner.events",
+            "corner.map\nother.plan\n",
+        ),
+        (
+            "mapf run corner.map corner.plan other.events",
+            "corner.map\ncorner.plan\nother.events\n",
+        ),
     ] {
         let want = Done {
             words,
@@ -160,6 +197,8 @@ fn words_that_are_no_command(rt: HostRuntime) -> Result<(), Fail> {
         "mapf check corner.map",
         "mapf check corner.map corner.plan --scen",
         "mapf deps corner.map",
+        "mapf run corner.map corner.plan",
+        "mapf run corner.map corner.plan corner.events corner.events",
     ] {
         let files = FakeFiles::new(rt.alloc(), FILES);
         let (mut out, mut err) = (Keeper::of_size(2048), Keeper::of_size(2048));
@@ -180,7 +219,13 @@ fn words_that_are_no_command(rt: HostRuntime) -> Result<(), Fail> {
 
 #[test]
 fn help(rt: HostRuntime) -> Result<(), Fail> {
-    for &text in &["mapf help", "mapf -h", "mapf --help", "mapf row --help"] {
+    for &text in &[
+        "mapf help",
+        "mapf -h",
+        "mapf --help",
+        "mapf row --help",
+        "mapf run --help",
+    ] {
         let files = FakeFiles::new(rt.alloc(), FILES);
         let (mut out, mut err) = (Keeper::of_size(2048), Keeper::of_size(2048));
         let words = words(rt.alloc(), text)?;

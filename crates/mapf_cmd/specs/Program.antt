@@ -3,12 +3,13 @@ use Rattle.std.specs.Prelude.{◌≡◌, ℕ, ◌⊎◌, List, Option, Some, Non
 use Rattle.grid.specs.declared.counted.Counted.{Counted}
 use Rattle.clap.specs.Words.{Text}
 use Rattle.command_line.specs.declared.command_line.Line.{Line}
-use Rattle.command_line.specs.declared.command_line.Line.TheVariants.{Map, Scen, Row, Check, Deps}
+use Rattle.command_line.specs.declared.command_line.Line.TheVariants.{Map, Scen, Row, Check, Deps, Run}
 use Rattle.command_line.specs.declared.command_line.LineFault.{LineFault}
 use Rattle.command_line.specs.declared.command_line.LineFault.TheVariants.{Help, BadCommand, OutOfMemory}
 use Rattle.text_commands.specs.declared.status.Status.TheVariants as status
 use Rattle.plan_commands.specs.CheckCommand.{AnswersCheck, AnswersCheckFit}
 use Rattle.plan_commands.specs.DepsCommand.{AnswersDeps}
+use Rattle.run_commands.specs.RunCommand.{AnswersRun}
 use Rattle.text_commands.specs.MapCommand.{RewritesMap}
 use Rattle.text_commands.specs.RowCommand.{AnswersRow}
 use Rattle.text_commands.specs.Rewriting.{EndsWriting}
@@ -29,6 +30,9 @@ PerformsOn {F} remaining contents (Check map_file plan_file (Some scen_file) jso
     × AnswersCheckFit remaining remaining remaining contents m n p q s t json old new code
 PerformsOn {F} remaining contents (Deps map_file plan_file) old new code =
     (m n : Counted F) × (p q : Counted F) × AnswersDeps remaining remaining contents m n p q old new code
+PerformsOn {F} remaining contents (Run map_file plan_file events_file) old new code =
+    (m n : Counted F) × (p q : Counted F) × (s t : Counted F)
+    × AnswersRun remaining remaining remaining contents m n p q s t old new code
 
 -- the command was performed, or a file of it could not be opened, and nothing was written
 abbrev pub Performs : {F W : Type 0} → (F → Option (List ℕ)) → (W → Option (List ℕ)) → Line → Counted W → Counted W → ℕ → Type 0

@@ -5,6 +5,7 @@ ghost use Rattle.mapf_cmd.specs.Program.{PerformsOn, Performs, EndsRefused, Answ
 use command_line::{Line, LineFault, line};
 use grid::Counted;
 use plan_commands::{check_cmd, check_fit_cmd, deps_cmd};
+use run_commands::run_cmd;
 use std::io::Write;
 use std::rt::Files;
 use std::{fs, io};
@@ -22,11 +23,13 @@ Commands:
   check MAP PLAN [--scen SCEN] [--json]
                     checks a plan on a map, and that it solves the first rows of a scenario
   deps MAP PLAN     checks a plan on a map, and says which move waits for which
+  run MAP PLAN EVENTS
+                    checks a plan on a map, and answers the events of a run of it
   help              shows this text
 ";
 
 const USAGE: &str =
-    "usage: mapf map FILE | mapf scen FILE | mapf row MAP SCEN N | mapf check MAP PLAN [--scen SCEN] [--json] | mapf deps MAP PLAN (mapf help says more)\n";
+    "usage: mapf map FILE | mapf scen FILE | mapf row MAP SCEN N | mapf check MAP PLAN [--scen SCEN] [--json] | mapf deps MAP PLAN | mapf run MAP PLAN EVENTS (mapf help says more)\n";
 
 /// Why a command was not performed.
 #[derive(Clone, Copy, Debug, PartialEq, Eq, Error)]
@@ -112,6 +115,12 @@ fn perform_on_files<R: Files + AllocGlobal, W: Write, E: Write>(
             let mut map = Counted::new(fs::open(rt, &map)?);
             let mut plan = Counted::new(fs::open(rt, &plan)?);
             Ok(deps_cmd(rt.alloc(), &mut map, &mut plan, out, err))
+        }
+        Line::Run { map, plan, events } => {
+            let mut map = Counted::new(fs::open(rt, &map)?);
+            let mut plan = Counted::new(fs::open(rt, &plan)?);
+            let mut events = Counted::new(fs::open(rt, &events)?);
+            Ok(run_cmd(rt.alloc(), &mut map, &mut plan, &mut events, out, err))
         }
     }
 }

@@ -49,7 +49,7 @@ impl CheckFault {
 }
 
 /// The status that a fault of a plan's text ends with.
-fn plan_text_fault_status(fault: PlanTextFault) -> Status
+pub fn plan_text_fault_status(fault: PlanTextFault) -> Status
     ensures { result ≡ plan_text_fault_status fault }
 {
     match fault {

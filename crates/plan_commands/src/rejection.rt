@@ -10,7 +10,7 @@ use std::fmt;
 
 /// Why a plan is rejected. It is shown by its fault's name and numbers.
 #[derive(Clone, Copy, Debug, PartialEq, Eq)]
-pub(crate) enum Rejection {
+pub enum Rejection {
     /// The plan is not valid on the map.
     Invalid(PlanFault),
     /// The plan does not solve the first rows of the scenario.

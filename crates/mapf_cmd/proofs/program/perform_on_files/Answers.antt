@@ -41,7 +41,20 @@ returns-in-Check g c =
       c.check_fit_cmd.ensures.answers,
     ))
 
-pub returns : goal.returns
-returns g c =
+pub returns-in-Deps : goal.returns-in-Deps
+returns-in-Deps g c =
     let Ends : Line → Type 0 = λ line. PerformsOn g.R.File.Read.remaining g.W.Write.contents line c.args.out.now c.deps_cmd.new.out c.deps_cmd.result in
     subst Ends (sym c.in-Deps.is) (c.new-map-in-Deps.result, c.deps_cmd.new.map, c.new-plan-in-Deps.result, c.deps_cmd.new.plan, c.deps_cmd.ensures.answers)
+
+pub returns : goal.returns
+returns g c =
+    let Ends : Line → Type 0 = λ line. PerformsOn g.R.File.Read.remaining g.W.Write.contents line c.args.out.now c.run_cmd.new.out c.run_cmd.result in
+    subst Ends (sym c.in-Run.is) (
+      c.new-map-in-Run.result,
+      c.run_cmd.new.map,
+      c.new-plan-in-Run.result,
+      c.run_cmd.new.plan,
+      c.new-events.result,
+      c.run_cmd.new.events,
+      c.run_cmd.ensures.answers,
+    )

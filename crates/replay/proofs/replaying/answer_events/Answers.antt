@@ -1,0 +1,121 @@
+-- Each event is answered at the end of the run so far, and its reply is put behind those before it.
+use Rattle.std.proofs.Common.{◌≡◌, ◌∙◌, [], ◌∷◌, ◌++◌, Ok, inl, refl, subst}
+use Rattle.std.proofs.lemmas.Result.{err_from_is_err_and}
+use Rattle.grid.specs.Source.{source_reader}
+use Rattle.grid.proofs.SinkLemmas.{Puts-same}
+use Rattle.event_text.specs.Taking.{EventTaken}
+use Rattle.replay.proofs.AnswerLemmas.{answered-so-far, break-more, fewer, none-answered, none-so-far, put-more}
+use Rattle.replay.proofs.replaying.answer_events.Goals as goal
+
+pub returns-in_err-runner-clause-answers : goal.returns-in_err-runner-clause-answers
+returns-in_err-runner-clause-answers g c =
+    let p = err_from_is_err_and c.from_residual.result c.from_residual.ensures.1 in
+    rw (p.1, p.2) (record {
+      events = [];
+      delivered = c.requires.delivered;
+      consumed = c.requires.consumed;
+      begins = inl refl;
+      replies = none-answered c.args.graph.now _ c.in_err-runner.ensures.safe (Puts-same g.W.Write.contents c.args.sink.now);
+    })
+
+pub events-init : goal.events-init
+events-init g c =
+    let first = source_reader c.args.source.now in
+    record {
+      same_reader = refl;
+      same_writer = refl;
+      events = [];
+      read = c.none_read.ensures first c.args.source.now c.new-reader.result c.requires c.new-reader.ensures;
+      so_far =
+          none-so-far c.args.graph.now c.in_ok-runner.runner _ c.in_ok-runner.ensures.timetable c.in_ok-runner.ensures.stands
+          (Puts-same g.W.Write.contents c.args.sink.now);
+    }
+
+pub returns-in_err-event-clause-answers : goal.returns-in_err-event-clause-answers
+returns-in_err-event-clause-answers g c =
+    let p = err_from_is_err_and c.from_residual-in_err-event.result c.from_residual-in_err-event.ensures.1 in
+    let before = c.events.invariant in
+    rw (p.1, p.2) (record {
+      events = before.events;
+      read = c.in_err-event.ensures.next (source_reader c.args.source.now) before.events before.read;
+      replies =
+          answered-so-far c.every_run_is_safe.ensures c.rotations_never_begin.ensures c.args.graph.now c.events.runner before.events _ before.so_far;
+    })
+
+pub returns-in_err-reply-clause-answers : goal.returns-in_err-reply-clause-answers
+returns-in_err-reply-clause-answers g c =
+    let p = err_from_is_err_and c.from_residual-in_err-reply.result c.from_residual-in_err-reply.ensures.1 in
+    let before = c.events.invariant in
+    let first = source_reader c.args.source.now in
+    let read = subst (λ r. EventTaken g.E.Read.remaining first c.next_event.new.source c.next_event.new.self before.events (Ok r)) c.in-Some.is
+    (c.in_ok-event.ensures.next first before.events before.read) in
+    rw (p.1, p.2) (record {
+      events = before.events;
+      delivered = read.taken.delivered;
+      consumed = read.taken.consumed;
+      begins = fewer before.events c.in-Some.event read.taken.delivered read.begins;
+      replies =
+          answered-so-far c.every_run_is_safe.ensures c.rotations_never_begin.ensures c.args.graph.now c.events.runner before.events _ before.so_far;
+    })
+
+pub returns-in_err-put_reply-clause-answers : goal.returns-in_err-put_reply-clause-answers
+returns-in_err-put_reply-clause-answers g c =
+    let p = err_from_is_err_and c.from_residual-in_err-put_reply.result c.from_residual-in_err-put_reply.ensures.1 in
+    let before = c.events.invariant in
+    let first = source_reader c.args.source.now in
+    let read = subst (λ r. EventTaken g.E.Read.remaining first c.next_event.new.source c.next_event.new.self before.events (Ok r)) c.in-Some.is
+    (c.in_ok-event.ensures.next first before.events before.read) in
+    let now = break-more g.W.Write.contents c.args.sink.now c.events.sink c.put_reply.new.sink c.args.graph.now c.events.runner c.step.new.self before.events
+    c.in-Some.event _ before.so_far c.in_ok-reply.ensures.answered c.in_ok-reply.ensures.same_graph c.in_err-put_reply.ensures.err in
+    rw (p.1, p.2) (record {
+      events = before.events ++ c.in-Some.event ∷ [];
+      delivered = read.taken.delivered;
+      consumed = read.taken.consumed;
+      begins = read.begins;
+      replies = answered-so-far c.every_run_is_safe.ensures c.rotations_never_begin.ensures c.args.graph.now c.step.new.self _ _ now;
+    })
+
+pub events-preserved-in_ok-put_reply : goal.events-preserved-in_ok-put_reply
+events-preserved-in_ok-put_reply g c =
+    let before = c.events.invariant in
+    let first = source_reader c.args.source.now in
+    record {
+      same_reader = c.in_ok-event.ensures.same_reader ∙ before.same_reader;
+      same_writer = c.in_ok-put_reply.ensures.ok.same_writer ∙ before.same_writer;
+      events = before.events ++ c.in-Some.event ∷ [];
+      read =
+          subst (λ r. EventTaken g.E.Read.remaining first c.next_event.new.source c.next_event.new.self before.events (Ok r)) c.in-Some.is
+          (c.in_ok-event.ensures.next first before.events before.read);
+      so_far =
+          put-more g.W.Write.contents c.args.sink.now c.events.sink c.put_reply.new.sink c.args.graph.now c.events.runner c.step.new.self before.events
+          c.in-Some.event _ before.so_far c.in_ok-reply.ensures.answered c.in_ok-reply.ensures.same_graph c.in_ok-put_reply.ensures.ok;
+    }
+
+pub events-preserved : goal.events-preserved
+events-preserved g c =
+    let before = c.events.invariant in
+    let first = source_reader c.args.source.now in
+    record {
+      same_reader = c.in_ok-event.ensures.same_reader ∙ before.same_reader;
+      same_writer = c.in_ok-put_reply.ensures.ok.same_writer ∙ before.same_writer;
+      events = before.events ++ c.in-Some.event ∷ [];
+      read =
+          subst (λ r. EventTaken g.E.Read.remaining first c.next_event.new.source c.next_event.new.self before.events (Ok r)) c.in-Some.is
+          (c.in_ok-event.ensures.next first before.events before.read);
+      so_far =
+          put-more g.W.Write.contents c.args.sink.now c.events.sink c.put_reply.new.sink c.args.graph.now c.events.runner c.step.new.self before.events
+          c.in-Some.event _ before.so_far c.in_ok-reply.ensures.answered c.in_ok-reply.ensures.same_graph c.in_ok-put_reply.ensures.ok;
+    }
+
+pub returns-clause-answers : goal.returns-clause-answers
+returns-clause-answers g c =
+    let before = c.events.invariant in
+    let first = source_reader c.args.source.now in
+    record {
+      events = before.events;
+      read =
+          subst (λ r. EventTaken g.E.Read.remaining first c.next_event.new.source c.next_event.new.self before.events (Ok r)) c.in_default.is
+          (c.in_ok-event.ensures.next first before.events before.read);
+      replies =
+          answered-so-far c.every_run_is_safe.ensures c.rotations_never_begin.ensures c.args.graph.now c.events.runner before.events _ before.so_far;
+    }

@@ -1,0 +1,121 @@
+-- What the texts of a map, a plan and events come to: the text of the replies.
+use Rattle.std.specs.Prelude.{◌≡◌, ℕ, Bool, true, false, List, Option, Result, Ok, Err, MatchResult}
+use Rattle.std.specs.Io.KnownBytes.{Consumes}
+use Rattle.grid.specs.declared.counted.Counted.{Counted}
+use Rattle.grid.specs.declared.map_fault.MapFault.{MapFault}
+use Rattle.grid.specs.Counted.{counted_inner, failures_of}
+use Rattle.grid.specs.Map.{Grid}
+use Rattle.grid.specs.MapFault.{MapFaultAt, map_outcome}
+use Rattle.grid.specs.MapText.{MapText}
+use Rattle.grid.specs.Reading.{Outcome, is_value, ReadsText}
+use Rattle.grid.specs.Writing.{WritesText}
+use Rattle.model.specs.declared.event.Event.{Event}
+use Rattle.model.specs.History.{Answer}
+use Rattle.model.specs.Plan.{Plan, IsValid, IsTimetableOf}
+use Rattle.model.specs.Timetable.{Timetable}
+use Rattle.plan_text.specs.declared.plan_text_fault.PlanTextFault.{PlanTextFault}
+use Rattle.plan_text.specs.PlanText.{PlanText}
+use Rattle.plan_text.specs.PlanTextFault.{PlanTextFaultAt, plan_outcome}
+use Rattle.plan.specs.Checking.{IsRefusedFor}
+use Rattle.event_text.specs.declared.event_fault.EventFault.{EventFault}
+use Rattle.event_text.specs.EventFault.{event_outcome}
+use Rattle.event_text.specs.FirstEvents.{BeginsWithEvents}
+use Rattle.event_text.specs.ReplyText.{replies_text}
+use Rattle.event_text.specs.Taking.{NoMoreEvents}
+use Rattle.runner.specs.SafeRuns.{AreAnswered}
+use Rattle.replay.specs.declared.run_fault.RunFault.{RunFault}
+use Rattle.replay.specs.declared.run_fault.RunFault.TheVariants as run_fault
+
+-- the map's text was read as `read_map` reads it, with this answer
+abbrev pub ReadsMap : {M : Type 0} → (M → Option (List ℕ)) → Counted M → Counted M → Result Grid MapFault → Type 0
+ReadsMap remaining old new answer =
+    ReadsText MapText MapFaultAt (remaining (counted_inner old)) (remaining (counted_inner new)) (failures_of old) (failures_of new) (map_outcome answer)
+
+-- the plan's text was read as `read_plan` reads it, with this answer
+abbrev pub ReadsPlan : {P : Type 0} → (P → Option (List ℕ)) → Counted P → Counted P → Result Plan PlanTextFault → Type 0
+ReadsPlan remaining old new answer =
+    ReadsText PlanText PlanTextFaultAt (remaining (counted_inner old)) (remaining (counted_inner new)) (failures_of old) (failures_of new) (plan_outcome answer)
+
+-- a map and a plan were read, in this order
+abbrev pub ReadsMapAndPlan
+    : {M P : Type 0} → (M → Option (List ℕ)) → (P → Option (List ℕ)) → Counted M → Counted M → Counted P → Counted P → Grid → Plan → Type 0
+ReadsMapAndPlan map_left plan_left old_map new_map old_plan new_plan m p =
+    ReadsMap map_left old_map new_map (Ok m) × ReadsPlan plan_left old_plan new_plan (Ok p)
+
+-- The map was read and then the plan, the plan is valid on the map, and this is its timetable. Else the first fault is answered, the
+-- least of a plan that is not valid, or that memory was refused for the graph of a valid one.
+abbrev pub ReadsTimetable
+    : {M P : Type 0} → (M → Option (List ℕ)) → (P → Option (List ℕ)) → Counted M → Counted M → Counted P → Counted P
+    → Result Timetable RunFault → Type 0
+ReadsTimetable map_left plan_left old_map new_map old_plan new_plan (Ok tt) =
+    (m : Grid) × (p : Plan) × ReadsMapAndPlan map_left plan_left old_map new_map old_plan new_plan m p × IsValid m p × IsTimetableOf p tt
+ReadsTimetable map_left plan_left old_map new_map old_plan new_plan (Err (run_fault.Map fault)) =
+    ReadsMap map_left old_map new_map (Err fault) × (new_plan ≡ old_plan)
+ReadsTimetable map_left plan_left old_map new_map old_plan new_plan (Err (run_fault.PlanText fault)) =
+    (m : Grid) × ReadsMap map_left old_map new_map (Ok m) × ReadsPlan plan_left old_plan new_plan (Err fault)
+ReadsTimetable map_left plan_left old_map new_map old_plan new_plan (Err (run_fault.Plan fault)) =
+    (m : Grid) × (p : Plan) × ReadsMapAndPlan map_left plan_left old_map new_map old_plan new_plan m p × IsRefusedFor m p fault
+ReadsTimetable map_left plan_left old_map new_map old_plan new_plan (Err run_fault.OutOfMemory) =
+    (m : Grid) × (p : Plan) × ReadsMapAndPlan map_left plan_left old_map new_map old_plan new_plan m p × IsValid m p
+ReadsTimetable map_left plan_left old_map new_map old_plan new_plan (Err (run_fault.Events fault)) = ⊥
+ReadsTimetable map_left plan_left old_map new_map old_plan new_plan (Err run_fault.WriteFailed) = ⊥
+
+-- Events are answered in a safe run, and this is what came of the text of their replies.
+pub record Answered (tt : Timetable) (events : List Event) (CameOf : List ℕ → Type 0) : Type 0 where
+  pub answers : List Answer
+  pub answered : AreAnswered tt events answers
+  pub came : CameOf (replies_text answers)
+
+-- The text of events was read up to its end, its first fault or the failure of its reader, and all its events up to there were answered.
+pub record AnswersAll
+    {E : Type 0} (events_left : E → Option (List ℕ)) (tt : Timetable) (old new : Counted E)
+    (outcome : List Event → Outcome (List Event) EventFault) (CameOf : List ℕ → Type 0) : Type 0 where
+  pub events : List Event
+  pub read : NoMoreEvents events_left old new events (outcome events)
+  pub replies : Answered tt events CameOf
+
+-- Some of the first events of the text were answered.
+pub record AnswersSome
+    {E : Type 0} (events_left : E → Option (List ℕ)) (tt : Timetable) (old new : Counted E) (CameOf : List ℕ → Type 0) : Type 0 where
+  pub events : List Event
+  pub delivered : List ℕ
+  pub consumed : Consumes (events_left (counted_inner old)) (events_left (counted_inner new)) delivered
+  pub begins : BeginsWithEvents events delivered
+  pub replies : Answered tt events CameOf
+
+-- What the events of a text come to, by what came of the text of the replies: all of it is there, or it was broken off.
+abbrev pub AnswersEvents
+    : {E : Type 0} → (E → Option (List ℕ)) → Timetable → Counted E → Counted E → (List ℕ → Type 0) → (List ℕ → Type 0)
+    → Result Unit RunFault → Type 0
+AnswersEvents events_left tt old new Whole Broken (Ok done) = AnswersAll events_left tt old new (λ events. is_value events) Whole
+AnswersEvents events_left tt old new Whole Broken (Err (run_fault.Events fault)) =
+    AnswersAll events_left tt old new (λ events. event_outcome (Err fault)) Whole
+AnswersEvents events_left tt old new Whole Broken (Err run_fault.WriteFailed) = AnswersSome events_left tt old new Broken
+AnswersEvents events_left tt old new Whole Broken (Err run_fault.OutOfMemory) = AnswersSome events_left tt old new Whole
+AnswersEvents events_left tt old new Whole Broken (Err (run_fault.Map fault)) = ⊥
+AnswersEvents events_left tt old new Whole Broken (Err (run_fault.PlanText fault)) = ⊥
+AnswersEvents events_left tt old new Whole Broken (Err (run_fault.Plan fault)) = ⊥
+
+-- whether no write failed
+abbrev pub was_written : Result Unit RunFault → Bool
+was_written (Err run_fault.WriteFailed) = false
+was_written _ = true
+
+-- The events are answered, and the text of the replies is written, or a beginning of it where the writer failed.
+abbrev pub Replays
+    : {E W : Type 0} → (E → Option (List ℕ)) → (W → Option (List ℕ)) → Timetable → Counted E → Counted E → Counted W → Counted W
+    → Result Unit RunFault → Type 0
+Replays events_left contents tt old_events new_events old_out new_out =
+    AnswersEvents events_left tt old_events new_events
+    (WritesText true (contents (counted_inner old_out)) (contents (counted_inner new_out)) (failures_of old_out) (failures_of new_out))
+    (WritesText false (contents (counted_inner old_out)) (contents (counted_inner new_out)) (failures_of old_out) (failures_of new_out))
+
+-- The map and the plan were read; where the plan is valid, the events were replayed on it, and else neither events nor output were touched.
+pub record RunsText
+    {M P E W : Type 0} (map_left : M → Option (List ℕ)) (plan_left : P → Option (List ℕ)) (events_left : E → Option (List ℕ))
+    (contents : W → Option (List ℕ)) (old_map new_map : Counted M) (old_plan new_plan : Counted P) (old_events new_events : Counted E)
+    (old_out new_out : Counted W) (result : Result Unit RunFault) : Type 0 where
+  pub answer : Result Timetable RunFault
+  pub reads : ReadsTimetable map_left plan_left old_map new_map old_plan new_plan answer
+  pub ends : MatchResult answer (λ tt. Replays events_left contents tt old_events new_events old_out new_out result)
+      (λ fault. (result ≡ Err fault) × (new_events ≡ old_events) × (new_out ≡ old_out))

@@ -1,0 +1,113 @@
+//! Replaying runs that are given as texts.
+ghost use Rattle.std.specs.Prelude.{◌≡◌, []};
+ghost use Rattle.grid.specs.Lines.{HasTaken};
+ghost use Rattle.grid.specs.Sink.{held_back, sink_writer, Puts, Breaks};
+ghost use Rattle.grid.specs.Source.{source_reader};
+ghost use Rattle.replay.specs.Replaying.{ReadsTimetable, AnswersEvents, Replays, RunsText, was_written};
+
+use crate::RunFault;
+use depgraph::Graph;
+use event_text::{EventReader, put_reply};
+use grid::{Counted, Sink, Source, read_map};
+use plan::{check, read_plan};
+use runner::Runner;
+use std::alloc::Global;
+use std::io::{Read, Write};
+
+/// Reads a map and then a plan, checks the plan on the map, and then answers one event after another: the reply to each is put into the
+/// output before the next line of the events is looked at. All replies so far are in the output when a fault is answered. The
+/// output is not flushed.
+pub fn run_text<M: Read, P: Read, E: Read, W: Write>(
+    alloc: Global,
+    map: &mut Counted<M>,
+    plan: &mut Counted<P>,
+    events: &mut Counted<E>,
+    out: &mut Counted<W>,
+) -> Result<(), RunFault>
+    ensures { RunsText M.remaining P.remaining E.remaining W.contents map.old map.new plan.old plan.new events.old events.new out.old out.new result }
+{
+    let graph = read_graph(alloc, map, plan)?;
+    replay(alloc, &graph, events, out)
+}
+
+/// Reads the map and then the plan, checks the plan, and builds its graph.
+fn read_graph<M: Read, P: Read>(
+    alloc: Global,
+    map: &mut Counted<M>,
+    plan: &mut Counted<P>,
+) -> Result<Graph, RunFault>
+    ensures { ReadsTimetable M.remaining P.remaining map.old map.new plan.old plan.new result }
+{
+    let map = read_map(alloc, map)?;
+    let plan = read_plan(alloc, plan)?;
+    match check(alloc, &map, plan) {
+        Ok(checked) => Ok(Graph::build(alloc, &checked)?),
+        Err(rejected) => Err(RunFault::Plan(rejected.fault)),
+    }
+}
+
+/// Answers the events on the graph.
+fn replay<E: Read, W: Write>(
+    alloc: Global,
+    graph: &Graph,
+    events: &mut Counted<E>,
+    out: &mut Counted<W>,
+) -> Result<(), RunFault>
+    ensures { Replays E.remaining W.contents graph.now events.old events.new out.old out.new result }
+{
+    let mut source = Source::new(events);
+    let mut sink = Sink::new(out);
+    answer_all(alloc, graph, &mut source, &mut sink)
+}
+
+/// Answers the events, and hands on all replies.
+fn answer_all<E: Read, W: Write>(
+    alloc: Global,
+    graph: &Graph,
+    source: &mut Source<'_, E>,
+    sink: &mut Sink<'_, W>,
+) -> Result<(), RunFault>
+    requires none_taken { HasTaken E.remaining (source_reader source.old) source.old [] }
+    requires none_held { held_back sink.old ≡ [] }
+    ensures same_reader { source.new.reader.ghost_name ≡ source.old.reader.ghost_name }
+    ensures same_writer { sink.new.writer.ghost_name ≡ sink.old.writer.ghost_name }
+    ensures answers { Replays E.remaining W.contents graph.now (source_reader source.old) (source_reader source.new) (sink_writer sink.old) (sink_writer sink.new) result }
+{
+    let answer = answer_events(alloc, graph, source, sink);
+    if was_written(&answer) {
+        sink.hand_on()?;
+    }
+    answer
+}
+
+/// Whether no reply could not be written.
+pub fn was_written(answer: &Result<(), RunFault>) -> bool
+    ensures { result ≡ was_written answer.now }
+{
+    !matches!(answer, Err(RunFault::WriteFailed))
+}
+
+/// Answers one event after another.
+fn answer_events<E: Read, W: Write>(
+    alloc: Global,
+    graph: &Graph,
+    source: &mut Source<'_, E>,
+    sink: &mut Sink<'_, W>,
+) -> Result<(), RunFault>
+    requires { HasTaken E.remaining (source_reader source.old) source.old [] }
+    ensures same_reader { source.new.reader.ghost_name ≡ source.old.reader.ghost_name }
+    ensures same_writer { sink.new.writer.ghost_name ≡ sink.old.writer.ghost_name }
+    ensures answers { AnswersEvents E.remaining graph.now (source_reader source.old) (source_reader source.new)
+        (Puts W.contents sink.old sink.new) (Breaks W.contents sink.old sink.new) result }
+{
+    model::laws::every_run_is_safe();
+    model::laws::rotations_never_begin();
+    event_text::laws::none_read::<E>();
+    let mut runner = Runner::new(alloc, graph)?;
+    let mut reader = EventReader::new();
+    'events: while let Some(event) = reader.next_event(source)? {
+        let reply = runner.step(event)?;
+        put_reply(sink, &reply)?;
+    }
+    Ok(())
+}

@@ -1,0 +1,11 @@
+-- How a run is ended.
+use Rattle.std.specs.Prelude.{ℕ, List, Option, Result}
+use Rattle.grid.specs.declared.counted.Counted.{Counted}
+use Rattle.replay.specs.Replaying.{was_written}
+use Rattle.replay.specs.declared.run_fault.RunFault.{RunFault}
+use Rattle.text_commands.specs.Finishing.{Finishes}
+use Rattle.run_commands.specs.RunStatus.{run_status}
+
+-- the replies were flushed, if they were written, and the second answer says whether that failed
+abbrev pub IsFlushed : {W : Type 0} → (W → Option (List ℕ)) → Result Unit RunFault → Counted W → Counted W → Result Unit RunFault → Type 0
+IsFlushed contents answer old new flushed = Finishes contents (was_written answer) (run_status answer) old new (run_status flushed)

@@ -1,0 +1,9 @@
+-- What has to be believed, in the order in which to read it: each promise of the crate is made in these words, and in those of `replay`
+-- and of the command crates below.
+
+-- which exit status a run ends with
+pub mod RunStatus
+-- what `mapf run` does and answers
+pub mod RunCommand
+-- The code's own words, of which no promise speaks.
+pub mod Code
