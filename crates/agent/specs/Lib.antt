@@ -18,5 +18,7 @@ pub mod Owning
 pub mod Agents
 -- which tapes are opened, and why the others are not
 pub mod Opening
+-- what an agent answers, as replies to events
+pub mod Replies
 -- the code's own words
 pub mod Code

@@ -9,6 +9,7 @@ mod mem_tape;
 mod opening;
 mod record;
 mod refusal;
+pub mod replies;
 mod tape;
 
 pub use agent::Agent;

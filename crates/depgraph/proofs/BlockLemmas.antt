@@ -1,9 +1,9 @@
--- The visits of a cell stand together, by time, and the cells stand in order of first visit.
-use Rattle.std.proofs.Common.{◌≡◌, ℕ, zero, suc, ◌+◌, ◌-◌, ◌<◌, ◌≤◌, List, [], ◌∷◌, length, get_or, take, drop, Some, inl, inr, arith, refl, sym, ap, subst, ◌∙◌}
-use Rattle.std.specs.Prelude.{slice_get}
+-- The visits of a cell stand together, by time, and the cells are listed in order of first visit.
+use Rattle.std.proofs.Common.{◌≡◌, ℕ, zero, suc, ◌+◌, ◌-◌, ◌<◌, ◌≤◌, List, length, get_or, take, drop, Some, inl, inr, arith, refl, sym, ap, subst, ◌∙◌}
+use Rattle.std.specs.Prelude.{slice_get, option_map}
 use Rattle.std.proofs.lemmas.Bool.{cases_lt}
-use Rattle.std.proofs.lemmas.List.{get_or-take, get_or-drop, length-take-le, length-drop}
-use Rattle.std.proofs.lemmas.Option.{slice_get-get_or, slice_get_within, get_or_from_slice_get, same_Some}
+use Rattle.std.proofs.lemmas.List.{get_or-take, get_or-drop, length-take-le, length-drop, length-map}
+use Rattle.std.proofs.lemmas.Option.{slice_get-get_or, slice_get-map, slice_get_within, get_or_from_slice_get, same_Some}
 use Rattle.grid.specs.declared.cell.Cell.{Cell}
 use Rattle.model.specs.declared.visit.Visit.{Visit}
 use Rattle.model.specs.Timetable.{Track, IsConflictFree}
@@ -12,7 +12,8 @@ use Rattle.depgraph.specs.Visits.{IsVisitTo, AreVisitsTo, ComesBefore, Visited, 
 use Rattle.depgraph.specs.Code.Entries.{begin_in}
 use Rattle.depgraph.specs.Code.Waits.{no_visit}
 use Rattle.depgraph.specs.Code.Numbers.{no_cell}
-use Rattle.depgraph.specs.Code.Placing.{IsTimeline, IsPlacing, listing}
+use Rattle.depgraph.specs.Code.Orders.{IsOrder}
+use Rattle.depgraph.specs.Code.Placing.{IsTimeline, IsPlacing, part_of, visited, listing}
 use Rattle.depgraph.specs.Code.Ranks.{tally, below, rank}
 use Rattle.depgraph.proofs.PositionLemmas.{table, visit_at, cell_of, arrival-visit, visit-arrival, arrivals-rise, times-rise}
 use Rattle.depgraph.proofs.RankLemmas.{tally-same, tally-up_to, tally-within, rank-is, occurs, IsOccurrence, below-all, below-up_to}
@@ -28,38 +29,9 @@ part-get xs begin count k d most less =
     slice_get-get_or (take count (drop begin xs)) k d (omega (arith, less, long)) ∙ ap Some (get_or-take count (drop begin xs) k d less ∙ get_or-drop begin xs k d)
     ∙ sym (slice_get-get_or xs (begin + k) d (omega (arith, most, less)))
 
--- where a part begins: at the end of the one before
-abbrev begin_from : ℕ → List ℕ → ℕ → ℕ
-begin_from begin ends zero = begin
-begin_from begin ends (suc n) = get_or ends n 0
-
-listing-from : (begin : ℕ) (names : List Cell) (ends : List ℕ) (visits : List Visit) (n : ℕ) → length ends ≡ length names → n < length names
-    → slice_get (listing begin names ends visits) n
-    ≡ Some (record { cell = get_or names n no_cell; visits = take (get_or ends n 0 - begin_from begin ends n) (drop (begin_from begin ends n) visits) })
-listing-from begin [] ends visits n same less = absurd (omega (arith, less))
-listing-from begin (c ∷ names) [] visits n same less = absurd (omega (arith, same))
-listing-from begin (c ∷ names) (end ∷ ends) visits zero same less = refl
-listing-from begin (c ∷ names) (end ∷ ends) visits (suc zero) same less = listing-from end names ends visits zero (omega (arith, same)) (omega (arith, less))
-listing-from begin (c ∷ names) (end ∷ ends) visits (suc (suc n)) same less = listing-from end names ends visits (suc n) (omega (arith, same)) (omega (arith, less))
-
-pub listing-count : (begin : ℕ) (names : List Cell) (ends : List ℕ) (visits : List Visit) → length ends ≡ length names → length (listing begin names ends visits) ≡ length names
-listing-count begin [] ends visits same = refl
-listing-count begin (c ∷ names) [] visits same = absurd (omega (arith, same))
-listing-count begin (c ∷ names) (end ∷ ends) visits same = ap suc (listing-count end names ends visits (omega (arith, same)))
-
-begin-same : (ends : List ℕ) (n : ℕ) → begin_from 0 ends n ≡ begin_in ends n
-begin-same ends zero = refl
-begin-same ends (suc n) = refl
-
--- the visits of the cell with a number
-abbrev pub part_of : List ℕ → List Visit → ℕ → List Visit
-part_of ends visits n = take (get_or ends n 0 - begin_in ends n) (drop (begin_in ends n) visits)
-
-pub listing-get : (names : List Cell) (ends : List ℕ) (visits : List Visit) (n : ℕ) → length ends ≡ length names → n < length names
-    → slice_get (listing 0 names ends visits) n ≡ Some (record { cell = get_or names n no_cell; visits = part_of ends visits n })
-listing-get names ends visits n same less =
-    listing-from 0 names ends visits n same less
-    ∙ ap (λ b. Some (record { cell = get_or names n no_cell; visits = take (get_or ends n 0 - b) (drop b visits) })) (begin-same ends n)
+pub listing-get : (order : List ℕ) (names : List Cell) (ends : List ℕ) (visits : List Visit) (m n : ℕ) → slice_get order m ≡ Some n
+    → slice_get (listing order names ends visits) m ≡ Some (visited names ends visits n)
+listing-get order names ends visits m n at = slice_get-map (visited names ends visits) order m ∙ ap (option_map (visited names ends visits)) at
 
 module _ (number : ℕ) (tracks : List Track) (ends : List ℕ) (arrivals : List Arrival) (step_ends : List ℕ) (line : IsTimeline tracks ends arrivals step_ends)
     (visits : List Visit) (visit_ends : List ℕ) (h : IsPlacing tracks ends arrivals visits visit_ends) where
@@ -71,7 +43,7 @@ module _ (number : ℕ) (tracks : List Track) (ends : List ℕ) (arrivals : List
   end-below n less = (let count = h.end_count in h.visit_end n (omega (arith, less, count)))
 
   pub number-within : (p : ℕ) → p < length arrivals → get_or h.listed p 0 < length h.names
-  number-within p less = (let all = h.all in let known = h.numbered.known p (omega (arith, less, all)) in let count = h.numbered.count in omega (arith, known, count))
+  number-within p less = (let all = h.all in h.numbered.known p (omega (arith, less, all)))
 
   pub name-of : (p : ℕ) → p < length arrivals → get_or h.names (get_or h.listed p 0) no_cell ≡ cell_of number tracks ends arrivals step_ends line p
   name-of p less = (let all = h.all in get_or_from_slice_get h.names (get_or h.listed p 0) (cell_of number tracks ends arrivals step_ends line p) no_cell (h.numbered.named p (omega (arith, less, all))))
@@ -86,9 +58,8 @@ module _ (number : ℕ) (tracks : List Track) (ends : List ℕ) (arrivals : List
 
   pub part-within : (n : ℕ) → n < length h.names → below h.listed (suc n) ≤ length visits
   part-within n less =
-      let count = h.numbered.count in
-      let rises = below-up_to h.listed (suc n) (length h.counts) (omega (arith, less, count)) in
-      let whole = below-all h.listed (length h.counts) h.numbered.known in
+      let rises = below-up_to h.listed (suc n) (length h.names) (omega (arith, less)) in
+      let whole = below-all h.listed (length h.names) h.numbered.known in
       let all = h.all in
       let long = h.visit_count in
       omega (arith, rises, whole, all, long)
@@ -152,8 +123,7 @@ module _ (number : ℕ) (tracks : List Track) (ends : List ℕ) (arrivals : List
     pub part-visits : (n : ℕ) → n < length h.names → AreVisitsTo (table number tracks ends arrivals step_ends line) (get_or h.names n no_cell) (part_of visit_ends visits n)
     part-visits n less = record {
       some = (
-          let count = h.numbered.count in
-          let found = h.numbered.occurs n (omega (arith, less, count)) in
+          let found = h.numbered.occurs n less in
           let some = tally-within h.listed found.0 n found.1 found.2 in
           let long = part-count n less in
           omega (arith, some, long)
@@ -202,50 +172,61 @@ module _ (number : ℕ) (tracks : List Track) (ends : List ℕ) (arrivals : List
             let b = second.before in
             omega (arith, more, rises, a, b)
 
-    pub all_visits : AreAllVisits (table number tracks ends arrivals step_ends line) (listing 0 h.names visit_ends visits)
-    all_visits = record {
-      sound = λ n at there.
-          let less = within n at there in
-          let is = same_Some at (record { cell = get_or h.names n no_cell; visits = part_of visit_ends visits n }) (sym there ∙ listing-get h.names visit_ends visits n h.end_count less) in
-          subst (λ x. AreVisitsTo (table number tracks ends arrivals step_ends line) x.cell x.visits) (sym is) (part-visits n less);
-      whole = λ c v is.
-          let found = visit-arrival number tracks ends arrivals step_ends line v c is in
-          let less = number-within found.0 found.1 in (
-            get_or h.listed found.0 0,
-            record { cell = get_or h.names (get_or h.listed found.0 0) no_cell; visits = part_of visit_ends visits (get_or h.listed found.0 0) },
-            listing-get h.names visit_ends visits (get_or h.listed found.0 0) h.end_count less,
-            name-of found.0 found.1 ∙ found.3,
-          );
-      rising = λ n m at later v w less at_n at_m at_v at_w.
-          let in_n = within n at at_n in
-          let in_m = within m later at_m in
-          let is = same_Some at (record { cell = get_or h.names n no_cell; visits = part_of visit_ends visits n }) (sym at_n ∙ listing-get h.names visit_ends visits n h.end_count in_n) in
-          let also = same_Some later (record { cell = get_or h.names m no_cell; visits = part_of visit_ends visits m }) (sym at_m ∙ listing-get h.names visit_ends visits m h.end_count in_m) in
-          let first = part-arrival n 0 v in_n (sym (ap (λ x. slice_get x.visits 0) is) ∙ at_v) in
-          let second = part-arrival m 0 w in_m (sym (ap (λ x. slice_get x.visits 0) also) ∙ at_w) in
-          let sooner = first_number n m first.0 second.0 less first.1 second.1 in
-          subst (λ x. ComesBefore x w) first.3 (subst (ComesBefore (visit_at number tracks ends arrivals step_ends line first.0)) second.3
-          (arrivals-rise number tracks ends arrivals step_ends line first.0 second.0 sooner second.2));
-    } where
-      within : (n : ℕ) (at : Visited) → slice_get (listing 0 h.names visit_ends visits) n ≡ Some at → n < length h.names
-      within n at there =
-          let inside = slice_get_within (listing 0 h.names visit_ends visits) n at there in
-          let long = listing-count 0 h.names visit_ends visits h.end_count in
-          omega (arith, inside, long)
+    module _ (order : List ℕ) (first : IsOrder h.listed order) where
+      -- a listed cell's number
+      number-at : (m : ℕ) (at : Visited) → slice_get (listing order h.names visit_ends visits) m ≡ Some at
+          → (n : ℕ) × (slice_get order m ≡ Some n) × (n < length h.names) × (m < length order) × (at ≡ visited h.names visit_ends visits n)
+      number-at m at there =
+          let inside = slice_get_within (listing order h.names visit_ends visits) m at there in
+          let long = length-map order (visited h.names visit_ends visits) in
+          let less : m < length order = omega (arith, inside, long) in
+          let is = slice_get-get_or order m 0 less in
+          let found = first.sound m less in
+          let known = h.numbered.known found.0 found.1 in (
+            get_or order m 0,
+            is,
+            subst (λ k. k < length h.names) found.2 known,
+            less,
+            same_Some at (visited h.names visit_ends visits (get_or order m 0)) (sym there ∙ listing-get order h.names visit_ends visits m (get_or order m 0) is),
+          )
 
-      -- a lesser number came first before
-      first_number : (n m p q : ℕ) → n < m → IsOccurrence h.listed n 0 p → IsOccurrence h.listed m 0 q → p < q
-      first_number n m p q less first second =
-          let key = second.key in
-          let earlier = h.numbered.first q n second.within (omega (arith, less, key)) in
-          let before = earlier.1 in
-          elim (cases_lt earlier.0 p) [
-            | inl sooner ↦ (
-                let inside = first.within in
-                let more = tally-same h.listed earlier.0 n (omega (arith, sooner, inside)) earlier.2 in
-                let rises = tally-up_to h.listed (earlier.0 + 1) p n (omega (arith, sooner)) (omega (arith, inside)) in
-                let none = first.before in
-                absurd (omega (arith, more, rises, none))
-                )
-            | inr not_sooner ↦ omega (arith, not_sooner, before)
-          ]
+      pub all_visits : AreAllVisits (table number tracks ends arrivals step_ends line) (listing order h.names visit_ends visits)
+      all_visits = record {
+        sound = λ m at there.
+            let n = number-at m at there in
+            subst (λ x. AreVisitsTo (table number tracks ends arrivals step_ends line) x.cell x.visits) (sym n.4) (part-visits n.0 n.2);
+        whole = λ c v is.
+            let found = visit-arrival number tracks ends arrivals step_ends line v c is in
+            let all = h.all in
+            let inside = found.1 in
+            let at = first.whole found.0 (omega (arith, inside, all)) in (
+              at.0,
+              visited h.names visit_ends visits (get_or h.listed found.0 0),
+              listing-get order h.names visit_ends visits at.0 (get_or h.listed found.0 0) at.1,
+              name-of found.0 found.1 ∙ found.3,
+            );
+        rising = λ m l at later v w less at_m at_l at_v at_w.
+            let a = number-at m at at_m in
+            let b = number-at l later at_l in
+            let p = part-arrival a.0 0 v a.2 (sym (ap (λ x. slice_get x.visits 0) a.4) ∙ at_v) in
+            let q = part-arrival b.0 0 w b.2 (sym (ap (λ x. slice_get x.visits 0) b.4) ∙ at_w) in
+            let all = h.all in
+            let in_q = q.2 in
+            let sooner = first.rising m l q.0 less b.3 (omega (arith, in_q, all)) (q.1.key ∙ sym (get_or_from_slice_get order l b.0 0 b.1)) in
+            let earlier = sooner.1 in
+            let before = not_later a.0 p.0 sooner.0 p.1 (sooner.2 ∙ get_or_from_slice_get order m a.0 0 a.1) in
+            subst (λ x. ComesBefore x w) p.3 (subst (ComesBefore (visit_at number tracks ends arrivals step_ends line p.0)) q.3
+            (arrivals-rise number tracks ends arrivals step_ends line p.0 q.0 (omega (arith, earlier, before)) q.2));
+      } where
+        -- nobody has the number before its first
+        not_later : (n p r : ℕ) → IsOccurrence h.listed n 0 p → get_or h.listed r 0 ≡ n → p ≤ r
+        not_later n p r occurs key = elim (cases_lt r p) [
+          | inl sooner ↦ (
+              let inside = occurs.within in
+              let more = tally-same h.listed r n (omega (arith, sooner, inside)) key in
+              let rises = tally-up_to h.listed (r + 1) p n (omega (arith, sooner)) (omega (arith, inside)) in
+              let none = occurs.before in
+              absurd (omega (arith, more, rises, none))
+              )
+          | inr not_sooner ↦ not_sooner
+        ]

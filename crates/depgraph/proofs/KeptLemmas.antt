@@ -1,8 +1,9 @@
 -- What a graph keeps tells its timetable, its routes and its visits.
-use Rattle.std.proofs.Common.{◌≡◌, ℕ, suc, ◌+◌, ◌-◌, ◌^◌, ◌<◌, ◌≤◌, List, length, get_or, map, take, Some, None, inl, inr, arith, refl, sym, ap, subst, ◌∙◌}
+use Rattle.std.proofs.Common.{◌≡◌, ℕ, suc, ◌+◌, ◌-◌, ◌^◌, ◌<◌, ◌≤◌, List, length, get_or, map, take, drop, Some, None, inl, inr, arith, refl, sym, ap, subst, ◌∙◌}
 use Rattle.std.specs.Prelude.{◌⊎◌, Option, ◌==◌, slice_get}
 use Rattle.std.specs.List.{range_with_len}
 use Rattle.std.proofs.lemmas.Bool.{cases_lt, cases_Bool, cond-true, cond-false, eq-eqb, ne_eqb}
+use Rattle.std.proofs.lemmas.List.{length-map}
 use Rattle.std.proofs.lemmas.List.FromFn.{get_or-map-range_with_len, length-map-range_with_len}
 use Rattle.std.proofs.lemmas.Option.{slice_get-get_or, slice_get_past, get_or_from_slice_get}
 use Rattle.grid.specs.declared.cell.Cell.{Cell}
@@ -11,40 +12,27 @@ use Rattle.model.specs.Dependency.{need}
 use Rattle.model.specs.Timetable.{Track, Timetable, cell_at, moves, path, step_of, track_of}
 use Rattle.model.proofs.TrackLemmas.{length-path}
 use Rattle.depgraph.specs.Routes.{IsRouteOf, asked_by}
-use Rattle.depgraph.specs.Visits.{AreAllVisits}
+use Rattle.depgraph.specs.Visits.{Visited, AreAllVisits}
 use Rattle.depgraph.specs.declared.waiting.Wait.{Wait}
 use Rattle.depgraph.specs.Code.Entries.{begin_in, IsEntry, arrival_time}
 use Rattle.depgraph.specs.Code.Keeping.{IsKept, route_by, route_in, need_of, asked_of}
 use Rattle.depgraph.specs.Code.Numbers.{no_cell}
+use Rattle.depgraph.specs.Code.Orders.{IsOrder}
 use Rattle.depgraph.specs.Code.Paths.{all_entered, all_times}
-use Rattle.depgraph.specs.Code.Placing.{listing}
+use Rattle.depgraph.specs.Code.Placing.{part_of, visited, listing}
 use Rattle.depgraph.specs.Code.Ranks.{tally, below, rank}
-use Rattle.depgraph.specs.Code.Schedules.{no_arrival, entry_in}
+use Rattle.depgraph.specs.Code.Schedules.{entry_in}
 use Rattle.depgraph.specs.Code.Waits.{no_visit, no_wait, entry_for, wait_of, before_at}
-use Rattle.depgraph.proofs.BlockLemmas.{name-of, occurrences-rise, part_of, listing-get, listing-count, number-within, part-visit, begin-below, end-below, part-within, at-cell, all_visits}
+use Rattle.depgraph.proofs.BlockLemmas.{name-of, occurrences-rise, listing-get, number-within, part-visit, begin-below, end-below, part-within, at-cell, all_visits}
 use Rattle.depgraph.proofs.PositionLemmas.{visit_at, cell_of}
 use Rattle.depgraph.proofs.NoteLemmas.{later-is}
-use Rattle.depgraph.proofs.RankLemmas.{occurs, occurrence-rank, rank-is, rank-least, rank-most, rank-one, rank-within, ranked, tally-within, below-all}
-use Rattle.depgraph.proofs.ScheduleLemmas.{same_count, begin_most}
+use Rattle.depgraph.proofs.RankLemmas.{occurs, occurrence-rank, rank-is, rank-least, rank-most, ranked, tally-within, below-all}
+use Rattle.depgraph.proofs.ScheduleLemmas.{same_count, begin_most, position}
 use Rattle.depgraph.proofs.TrackLemmas.{no_track}
 use Rattle.depgraph.proofs.VisitLemmas.{begin_is, end_is, IsArrival, arrives, arrival-cell, entry_own, entry_track, entry_at, entry-one, entry-within}
 use Rattle.depgraph.proofs.WaitLemmas.{IsJustBefore, need_none, need_some}
 
 module _ (tt : Timetable) (cells : List Cell) (times ends : List ℕ) (needs : List Wait) (visits : List Visit) (visit_ends : List ℕ) (h : IsKept tt cells times ends needs visits visit_ends) where
-  -- the arrival of an entry
-  position : (e : ℕ) → e < length (all_entered tt.tracks) → (p : ℕ) × (p < length h.arrivals) × (entry_in ends h.arrivals p ≡ e)
-  position e less =
-      let times = all_times tt.tracks in
-      let same = same_count tt.tracks (all_entered tt.tracks) times ends h.line.paths in
-      let within : e < length times = omega (arith, less, same) in
-      let p = rank times e in
-      let place = rank-within times (length h.step_ends) e h.line.within within in
-      let count = h.line.schedule.count in
-      let inside : p < length h.arrivals = omega (arith, place, count) in
-      let entry = h.line.schedule.entries p inside in
-      let there = entry-within tt.tracks (all_entered tt.tracks) times ends h.line.paths (get_or h.arrivals p no_arrival).agent (get_or h.arrivals p no_arrival).index (entry_in ends h.arrivals p) entry in
-      (p, inside, rank-one times (entry_in ends h.arrivals p) e (omega (arith, there, same)) within (h.line.schedule.places p inside))
-
   -- ---- routes
 
   -- what an entry of an agent's path tells
@@ -73,7 +61,7 @@ module _ (tt : Timetable) (cells : List Cell) (times ends : List ℕ) (needs : L
   before_time track k = (let next : k + 1 ≡ suc k = omega arith in ap (arrival_time track) next)
 
   entry_visit_at : (i k e : ℕ) → IsEntry ends i k e → (p : ℕ) × (p < length h.arrivals) × (entry_in ends h.arrivals p ≡ e)
-  entry_visit_at i k e entry = position e (entry-within tt.tracks (all_entered tt.tracks) (all_times tt.tracks) ends h.line.paths i k e entry)
+  entry_visit_at i k e entry = position tt.tracks (all_entered tt.tracks) (all_times tt.tracks) ends h.arrivals (length h.step_ends) h.line.paths h.line.schedule h.line.within e (entry-within tt.tracks (all_entered tt.tracks) (all_times tt.tracks) ends h.line.paths i k e entry)
 
   -- the time of an entry past the first is one behind the step of the move
   pub kept_time : (i k e : ℕ) → IsEntry ends i (k + 1) e → (track : Track) × (track_of tt i ≡ Some track) × (k < moves track) × (get_or times e 0 ≡ step_of track k + 1)
@@ -267,8 +255,8 @@ module _ (tt : Timetable) (cells : List Cell) (times ends : List ℕ) (needs : L
   visit_inside n less =
       let all = h.placing.all in
       let count = h.placing.visit_count in
-      let whole = below-all h.placing.listed (length h.placing.counts) h.placing.numbered.known in
-      let found = ranked h.placing.listed (length h.placing.counts) n (omega (arith, less, count, all, whole)) in
+      let whole = below-all h.placing.listed (length h.placing.names) h.placing.numbered.known in
+      let found = ranked h.placing.listed (length h.placing.names) n (omega (arith, less, count, all, whole)) in
       let p = found.0 in
       let inside = found.1 in
       let in_p : p < length h.arrivals = omega (arith, inside, all) in
@@ -315,32 +303,14 @@ module _ (tt : Timetable) (cells : List Cell) (times ends : List ℕ) (needs : L
 
   -- ---- the visits
 
-  pub kept_visits : AreAllVisits tt (listing 0 h.placing.names visit_ends visits)
-  kept_visits = all_visits tt.number tt.tracks ends h.arrivals h.step_ends h.line visits visit_ends h.placing h.graphed.conflict_free
-
-  pub kept_count : length visit_ends ≡ length (listing 0 h.placing.names visit_ends visits)
-  kept_count = h.placing.end_count ∙ sym (listing-count 0 h.placing.names visit_ends visits h.placing.end_count)
-
-  pub few_visited : length visit_ends < 2 ^ 32
-  few_visited =
-      let held = h.placing.end_count in
-      let count = h.placing.numbered.count in
-      let few = h.placing.numbered.few in
-      let all = h.placing.all in
-      let scheduled = h.line.schedule.count in
-      let times = same_count tt.tracks (all_entered tt.tracks) (all_times tt.tracks) ends h.line.paths in
-      let limit = h.line.few.all in
-      omega (arith, held, count, few, all, scheduled, times, limit)
-
   -- the part of a visited cell, and its first visit
   pub kept_part : (n : ℕ) → n < length visit_ends → (begin_in visit_ends n < get_or visit_ends n 0) × (get_or visit_ends n 0 ≤ length visits)
-      × (slice_get (listing 0 h.placing.names visit_ends visits) n ≡ Some (record { cell = get_or cells (begin_in ends (get_or visits (begin_in visit_ends n) no_visit).agent + (get_or visits (begin_in visit_ends n) no_visit).index) no_cell; visits = part_of visit_ends visits n }))
+      × (get_or h.placing.names n no_cell ≡ get_or cells (begin_in ends (get_or visits (begin_in visit_ends n) no_visit).agent + (get_or visits (begin_in visit_ends n) no_visit).index) no_cell)
   kept_part n less =
       let held = h.placing.end_count in
       let within : n < length h.placing.names = omega (arith, less, held) in
       let listed = h.placing.listed in
-      let count = h.placing.numbered.count in
-      let found = h.placing.numbered.occurs n (omega (arith, within, count)) in
+      let found = h.placing.numbered.occurs n within in
       let some = tally-within listed found.0 n found.1 found.2 in
       let first = part-visit tt.number tt.tracks ends h.arrivals h.step_ends h.line visits visit_ends h.placing n 0 within (omega (arith, some)) in
       let q = first.0 in
@@ -349,14 +319,78 @@ module _ (tt : Timetable) (cells : List Cell) (times ends : List ℕ) (needs : L
       let next : below listed (suc n) ≡ below listed n + tally listed n = refl in
       let most = part-within tt.number tt.tracks ends h.arrivals h.step_ends h.line visits visit_ends h.placing n within in
       let place = occurrence-rank listed n 0 q first.1 in
-      let is : get_or visits (begin_in visit_ends n) no_visit ≡ arrives_at q = ap (λ k. get_or visits k no_visit) (omega (arith, begin, place)) ∙ rank-visit q first.2 in
-      let cell : get_or h.placing.names n no_cell ≡ get_or cells (begin_in ends (get_or visits (begin_in visit_ends n) no_visit).agent + (get_or visits (begin_in visit_ends n) no_visit).index) no_cell =
-      sym (at-cell tt.number tt.tracks ends h.arrivals h.step_ends h.line visits visit_ends h.placing n 0 q first.2 first.1) ∙ sym (visit_cell q first.2)
-      ∙ ap (λ v. get_or cells (begin_in ends v.agent + v.index) no_cell) (sym is) in (
+      let is : get_or visits (begin_in visit_ends n) no_visit ≡ arrives_at q = ap (λ k. get_or visits k no_visit) (omega (arith, begin, place)) ∙ rank-visit q first.2 in (
         omega (arith, begin, end, next, some),
         omega (arith, end, most),
-        listing-get h.placing.names visit_ends visits n held within ∙ ap (λ x. Some (record { cell = x; visits = part_of visit_ends visits n })) cell,
+        sym (at-cell tt.number tt.tracks ends h.arrivals h.step_ends h.line visits visit_ends h.placing n 0 q first.2 first.1) ∙ sym (visit_cell q first.2)
+            ∙ ap (λ v. get_or cells (begin_in ends v.agent + v.index) no_cell) (sym is),
       )
 
-  pub past_visits : (n : ℕ) → length visit_ends ≤ n → slice_get (listing 0 h.placing.names visit_ends visits) n ≡ None
-  past_visits n past = (let count = kept_count in slice_get_past (listing 0 h.placing.names visit_ends visits) n (omega (arith, past, count)))
+  module _ (order : List ℕ) (first : IsOrder h.placing.listed order) where
+    abbrev pub visited_cells : List Visited
+    visited_cells = listing order h.placing.names visit_ends visits
+
+    pub kept_visits : AreAllVisits tt visited_cells
+    kept_visits = all_visits tt.number tt.tracks ends h.arrivals h.step_ends h.line visits visit_ends h.placing h.graphed.conflict_free order first
+
+    pub kept_count : length order ≡ length visited_cells
+    kept_count = sym (length-map order (visited h.placing.names visit_ends visits))
+
+    pub few_visited : length order < 2 ^ 32
+    few_visited =
+        let few = first.few in
+        let all = h.placing.all in
+        let scheduled = h.line.schedule.count in
+        let times = same_count tt.tracks (all_entered tt.tracks) (all_times tt.tracks) ends h.line.paths in
+        let limit = h.line.few.all in
+        omega (arith, few, all, scheduled, times, limit)
+
+    -- the number of a cell in the order is one
+    pub kept_number : (m : ℕ) → m < length order → get_or order m 0 < length visit_ends
+    kept_number m less =
+        let found = first.sound m less in
+        let known = h.placing.numbered.known found.0 found.1 in
+        let is = found.2 in
+        let held = h.placing.end_count in
+        omega (arith, known, is, held)
+
+    -- The visits of the cell at a place of the order stand between two places.
+    pub record IsBlock (m begin end : ℕ) : Type 0 where
+      pub some : begin < end
+      pub most : end ≤ length visits
+      pub few : begin < 2 ^ 32
+      pub agent : (get_or visits begin no_visit).agent < length ends
+      pub entry : begin_in ends (get_or visits begin no_visit).agent + (get_or visits begin no_visit).index < length cells
+      pub listed : slice_get visited_cells m
+          ≡ Some (record {
+            cell = get_or cells (begin_in ends (get_or visits begin no_visit).agent + (get_or visits begin no_visit).index) no_cell;
+            visits = take (end - begin) (drop begin visits);
+          })
+
+    pub kept_block : (m n begin end : ℕ) → m < length order → n ≡ get_or order m 0 → begin ≡ begin_in visit_ends n → end ≡ get_or visit_ends n 0 → IsBlock m begin end
+    kept_block m n begin end less is begins ends_at =
+        subst (λ k. IsBlock m k end) (sym (begins ∙ ap (begin_in visit_ends) is)) (subst (IsBlock m (begin_in visit_ends (get_or order m 0))) (sym (ends_at ∙ ap (λ k. get_or visit_ends k 0) is)) own) where
+          own : IsBlock m (begin_in visit_ends (get_or order m 0)) (get_or visit_ends (get_or order m 0) 0)
+          own =
+              let part = kept_part (get_or order m 0) (kept_number m less) in
+              let some = part.0 in
+              let most = part.1 in
+              let first_visit = visit_inside (begin_in visit_ends (get_or order m 0)) (omega (arith, some, most)) in
+              record {
+                some = part.0;
+                most = part.1;
+                few = (
+                    let count = h.placing.visit_count in
+                    let scheduled = h.line.schedule.count in
+                    let times = same_count tt.tracks (all_entered tt.tracks) (all_times tt.tracks) ends h.line.paths in
+                    let limit = h.line.few.all in
+                    omega (arith, some, most, count, scheduled, times, limit)
+                    );
+                agent = first_visit.0;
+                entry = first_visit.1;
+                listed = listing-get order h.placing.names visit_ends visits m (get_or order m 0) (slice_get-get_or order m 0 less)
+                    ∙ ap (λ x. Some (record { cell = x; visits = part_of visit_ends visits (get_or order m 0) })) part.2;
+              }
+
+    pub past_visits : (m : ℕ) → length order ≤ m → slice_get visited_cells m ≡ None
+    past_visits m past = (let count = kept_count in slice_get_past visited_cells m (omega (arith, past, count)))

@@ -7,6 +7,7 @@ pub mod RankLemmas
 pub mod VisitLemmas
 pub mod ScheduleLemmas
 pub mod NumberLemmas
+pub mod OrderLemmas
 pub mod PlacingLemmas
 pub mod PositionLemmas
 pub mod BlockLemmas

@@ -132,8 +132,8 @@ module _ (number : ℕ) (tracks : List Track) (ends : List ℕ) (arrivals : List
   at_place k less =
       let all = h.all in
       let count = h.visit_count in
-      let whole = below-all h.listed (length h.counts) h.numbered.known in
-      let found = ranked h.listed (length h.counts) k (omega (arith, less, count, all, whole)) in
+      let whole = below-all h.listed (length h.names) h.numbered.known in
+      let found = ranked h.listed (length h.names) k (omega (arith, less, count, all, whole)) in
       let inside = found.1 in
       let within : found.0 < length arrivals = omega (arith, inside, all) in
       (found.0, within, found.2, sym (ap (λ n. get_or visits n no_visit) found.2) ∙ rank-came found.0 within)

@@ -14,6 +14,8 @@ pub mod Entries
 pub mod Schedules
 -- numbers of cells
 pub mod Numbers
+-- their order of first visit
+pub mod Orders
 -- visits in their places
 pub mod Placing
 -- what the moves wait for

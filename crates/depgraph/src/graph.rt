@@ -8,10 +8,11 @@ ghost use Rattle.depgraph.specs.Visits.{Visited, AreAllVisits};
 ghost use Rattle.depgraph.specs.Code.Keeping.{route_in};
 
 use crate::entries::{begin_in, entry_at};
-use crate::numbering::numbering_of;
+use crate::numbering::{Numbering, numbering_of};
+use crate::order::order_of;
 use crate::out_of_memory::OutOfMemory;
 use crate::paths::{Paths, paths_of};
-use crate::placing::{Placed, place_visits};
+use crate::placing::{Placed, bounds_in, place_visits};
 use crate::rotations::find_rotations;
 use crate::schedule::schedule_of;
 use crate::waiting::{Wait, waits_of};
@@ -32,7 +33,10 @@ pub struct Graph {
     /// What the move into each waits for.
     needs: Vec<Wait>,
     visits: Vec<Visit>,
+    /// The visits of each cell stand together. Where those of the cell with each number end.
     visit_ends: Vec<u32>,
+    /// The numbers of the cells, in order of first visit.
+    order: Vec<u32>,
     rotations: Vec<Rotation>,
 }
 
@@ -40,14 +44,16 @@ impl Model for Graph {
     ghost use Rattle.model.specs.Timetable.{Timetable};
     ghost use Rattle.depgraph.specs.Rotations.{AreRotations, turns_of};
     ghost use Rattle.depgraph.specs.Code.Keeping.{IsKept};
+    ghost use Rattle.depgraph.specs.Code.Orders.{IsOrder};
     ghost use Rattle.depgraph.specs.Code.Tracks.{timetable_by};
 
     ghost Value = { Timetable };
 
     ghost view = { λ g. timetable_by g.number g.cells.items g.times.items g.ends.items };
 
-    ghost invariant = { λ g. IsKept (timetable_by g.number g.cells.items g.times.items g.ends.items) g.cells.items g.times.items g.ends.items g.needs.items g.visits.items
-        g.visit_ends.items
+    ghost invariant = { λ g. (kept : IsKept (timetable_by g.number g.cells.items g.times.items g.ends.items) g.cells.items g.times.items g.ends.items g.needs.items
+        g.visits.items g.visit_ends.items)
+        × IsOrder kept.placing.listed g.order.items
         × AreRotations (timetable_by g.number g.cells.items g.times.items g.ends.items) (turns_of g.rotations.items) };
 }
 
@@ -58,13 +64,15 @@ impl Graph {
     {
         let number = plan.number();
         let paths = paths_of(alloc, plan)?;
-        let (schedule, came) = schedule_of(alloc, &paths)?;
+        let Numbering { numbers, count } = numbering_of(alloc, &paths.cells)?;
+        let (schedule, taken) = schedule_of(alloc, &paths, &numbers)?;
+        drop(numbers);
         let Paths { cells, times, ends } = paths;
         // Both are found again in the end: to hold them all along would take more memory than the graph.
         drop(cells);
         drop(times);
-        let numbering = numbering_of(alloc, plan, &ends, &schedule, came)?;
-        let placed = place_visits(alloc, plan, &ends, &schedule, numbering)?;
+        let order = order_of(alloc, &taken, count)?;
+        let placed = place_visits(alloc, plan, &ends, &schedule, taken, count)?;
         let Placed { visits, next } = placed;
         let needs = waits_of(alloc, &ends, &visits, &next.next)?;
         let rotations = find_rotations(alloc, plan, &ends, &schedule, &needs)?;
@@ -78,6 +86,7 @@ impl Graph {
             needs,
             visits,
             visit_ends: next.next,
+            order,
             rotations,
         })
     }
@@ -126,26 +135,19 @@ impl Graph {
     pub fn cell_count(&self) -> u32
         ensures { (cells : List Visited) × AreAllVisits self.now cells × (result ≡ length cells) }
     {
-        self.visit_ends.len() as u32
+        self.order.len() as u32
     }
 
     /// The n-th visited cell, in order of first visit by time and then by agent, and its visits by time; `None` past the last.
     pub fn visits(&self, n: u32) -> Option<(Cell, &[Visit])>
         ensures { (cells : List Visited) × AreAllVisits self.now cells × (option_map (λ at. record { cell = at.0; visits = at.1.now }) result ≡ slice_get cells n) }
     {
-        let n = n as usize;
-        if n >= self.visit_ends.len() {
-            return None;
-        }
-        let begin = if n == 0 {
-            0
-        } else {
-            self.visit_ends[n - 1] as usize
-        };
+        let number = *self.order.get(n as usize)? as usize;
+        let (begin, end) = bounds_in(&self.visit_ends, number);
         let first = self.visits[begin];
         let cell = self.cells[begin_in(&self.ends, usize::from(first.agent))
             + first.index as usize];
-        Some((cell, &self.visits[begin..self.visit_ends[n] as usize]))
+        Some((cell, &self.visits[begin..end]))
     }
 
     /// All rotations, by step and then by least agent.

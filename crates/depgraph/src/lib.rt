@@ -6,6 +6,7 @@ mod entries;
 mod graph;
 pub mod laws;
 mod numbering;
+mod order;
 mod out_of_memory;
 mod paths;
 mod placing;

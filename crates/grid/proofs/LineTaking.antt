@@ -1,6 +1,6 @@
 -- How a line is taken part by part, and what its end leaves.
 use Rattle.std.proofs.Common.{◌≡◌, ℕ, ◌+◌, ◌-◌, ◌<◌, ◌≤◌, false, List, [], ◌∷◌, ◌++◌, length, take, drop, refl, sym, ap, subst, ◌∙◌, inl, inr, arith, append_assoc, append-nil, length-append, length-take, length-take-le}
-use Rattle.std.specs.Prelude.{Option, slice_set, ◌&&◌}
+use Rattle.std.specs.Prelude.{Option, Err, slice_set, ◌&&◌}
 use Rattle.std.specs.List.{list_all, prefix_len, AllByRecursion}
 use Rattle.std.specs.Io.KnownBytes.{Consumes}
 use Rattle.std.proofs.KnownBytes.{Consumes-nil, Consumes-trans}
@@ -18,9 +18,9 @@ use Rattle.grid.specs.Counted.{counted_inner, failures_of, Rises}
 use Rattle.grid.specs.Text.{line_feed, is_line_byte, IsLine, lines_of, ended}
 use Rattle.grid.specs.Source.{at_hand, source_reader, has_ended, has_failed, GoesOn, Takes, StopsBy}
 use Rattle.grid.specs.Reading.{LineEnds, by_input, by_line_feed, at_end, JudgedAt}
-use Rattle.grid.specs.Lines.{HasTaken, HasCome, LineEnded, InputEnded, LineTooLong, ReaderFailed}
+use Rattle.grid.specs.Lines.{HasTaken, HasBegun, HasCome, LineEnded, InputEnded, LineTooLong, ReaderFailed, LinePassed}
 use Rattle.grid.proofs.LineLemmas.{lines_of-whole, lines_of-open, lines_of-all, ends_in_line_feed-whole, ends_in_line_feed-open, ended_push, AllByRecursion_push}
-use Rattle.grid.proofs.SourceLemmas.{Takes-trans, Takes-then_none, spent, same_failures, more_failures, not_ended}
+use Rattle.grid.proofs.SourceLemmas.{Takes-same, Takes-trans, Takes-then_none, spent, same_failures, more_failures, not_ended}
 use Rattle.grid.proofs.FollowLemmas.{IsLine-push, IsAtEnd-from, has_failed-from, has_failed-goes_on, has_failed-at_end}
 use Rattle.grid.proofs.RunLemmas.{take-front, run_passes}
 
@@ -53,6 +53,12 @@ pub record HasPart {R : Type 0} (remaining : R → Option (List ℕ)) (old new :
   pub in_room : count ≤ length room
   pub is_line : IsLine (take count room)
   pub taken : Takes remaining old new (take count room)
+
+-- Bytes of one line were taken.
+pub record HasPassed {R : Type 0} (remaining : R → Option (List ℕ)) (old new : Source R) : Type 0 where
+  pub bytes : List ℕ
+  pub is_line : IsLine bytes
+  pub taken : Takes remaining old new bytes
 
 -- where no more came after lines and the beginning of one
 judged_at_end : (before : List (List ℕ)) (line : List ℕ) → AllByRecursion IsLine before → IsLine line
@@ -194,9 +200,19 @@ module _ {R : Type 0} (remaining : R → Option (List ℕ)) where
       let some : 0 < length line = omega (arith, long) in
       let taken = Takes-trans remaining old mid new (take count room) (b ∷ []) p.taken byte in
       let since = delivered_since first old new before line h taken in
+      let failures = failures_stay first old new before line h taken (has_failed-goes_on remaining new goes_on) in
       record {
         line = line;
         length_is = long;
+        begun = record {
+          delivered = since.0;
+          consumed = since.1;
+          in_order = since.2;
+          are_lines = h.are_lines;
+          is_line = is_line;
+          failures = failures;
+          goes_on = goes_on;
+        };
         come = record {
           delivered = since.0;
           consumed = since.1;
@@ -206,7 +222,7 @@ module _ {R : Type 0} (remaining : R → Option (List ℕ)) where
           judged = λ ends. (lines_of-open before line h.are_lines is_line some, ends_in_line_feed-open (ended before) line is_line some);
           whole = λ e. absurd (cc);
         };
-        failures = failures_stay first old new before line h taken (has_failed-goes_on remaining new goes_on);
+        failures = failures;
       }
 
   -- the reader failed
@@ -225,3 +241,101 @@ module _ {R : Type 0} (remaining : R → Option (List ℕ)) where
             let rises = more_failures (has_failed old) (has_failed new) _ _ (has_failed-goes_on remaining old h.goes_on) failed taken.fails in
             subst (λ n. Rises n (failures_of (source_reader new))) h.failures rises;
       }
+
+  -- ---- passing over a line
+
+  -- nothing is passed yet
+  pub HasPassed-none : (s : Source R) → HasPassed remaining s s
+  HasPassed-none s = record { bytes = []; is_line = refl; taken = Takes-same remaining s }
+
+  -- what is at hand before an LF
+  pub HasPassed-part : (old mid new : Source R) (count : ℕ) → HasPassed remaining old mid → count ≡ prefix_len is_line_byte (at_hand mid)
+      → Takes remaining mid new (take count (at_hand mid)) → HasPassed remaining old new
+  HasPassed-part old mid new count p count_is taken =
+      let part = ap (λ n. list_all is_line_byte (take n (at_hand mid))) count_is ∙ run_passes is_line_byte (at_hand mid) in
+      record {
+        bytes = p.bytes ++ take count (at_hand mid);
+        is_line = IsLine-append p.bytes (take count (at_hand mid)) p.is_line part;
+        taken = Takes-trans remaining old mid new _ _ p.taken taken;
+      }
+
+  -- one more byte
+  pub HasPassed-byte : (old mid new : Source R) (b : ℕ) → HasPassed remaining old mid → (b ≡ line_feed → ⊥) → Takes remaining mid new (b ∷ [])
+      → HasPassed remaining old new
+  HasPassed-byte old mid new b p other taken = record {
+    bytes = p.bytes ++ b ∷ [];
+    is_line = IsLine-push p.bytes b p.is_line other;
+    taken = Takes-trans remaining old mid new _ _ p.taken taken;
+  }
+
+  -- what was delivered since first, behind the front of a line
+  begun_since : (first : Counted R) (old new : Source R) (before : List (List ℕ)) (front taken : List ℕ) → HasBegun remaining first old before front
+      → Takes remaining old new taken
+      → (delivered : List ℕ) × Consumes (remaining (counted_inner first)) (remaining (counted_inner (source_reader new))) delivered
+      × (delivered ≡ (ended before ++ (front ++ taken)) ++ at_hand new)
+  begun_since first old new before front taken h p = (
+    h.delivered ++ p.read,
+    Consumes-trans _ _ _ h.delivered p.read h.consumed p.delivered,
+    ap (λ l. l ++ p.read) h.in_order ∙ append_assoc (ended before ++ front) (at_hand old) p.read ∙ ap (λ l. (ended before ++ front) ++ l) p.in_order
+        ∙ sym (append_assoc (ended before ++ front) taken (at_hand new)) ∙ ap (λ l. l ++ at_hand new) (append_assoc (ended before) front taken),
+  )
+
+  begun_failures : (first : Counted R) (old new : Source R) (before : List (List ℕ)) (front taken : List ℕ) → HasBegun remaining first old before front
+      → Takes remaining old new taken → has_failed new ≡ false → failures_of (source_reader new) ≡ failures_of first
+  begun_failures first old new before front taken h p well =
+      same_failures (has_failed old) (has_failed new) _ _ (has_failed-goes_on remaining old h.goes_on) well p.fails ∙ h.failures
+
+  -- the LF came
+  pub line_passed : (first : Counted R) (old mid new : Source R) (before : List (List ℕ)) (front : List ℕ) → HasPassed remaining old mid
+      → Takes remaining mid new (line_feed ∷ []) → GoesOn new → HasBegun remaining first old before front
+      → (more : List ℕ) × HasTaken remaining first new (before ++ (front ++ more) ∷ [])
+  line_passed first old mid new before front p feed goes_on h =
+      let more = p.bytes in
+      let taken = Takes-trans remaining old mid new more (line_feed ∷ []) p.taken feed in
+      let since = begun_since first old new before front (more ++ line_feed ∷ []) h taken in (
+        more,
+        record {
+          delivered = since.0;
+          consumed = since.1;
+          in_order = since.2 ∙ ap (λ l. (ended before ++ l) ++ at_hand new) (sym (append_assoc front more (line_feed ∷ [])))
+              ∙ ap (λ l. l ++ at_hand new) (sym (ended_push before (front ++ more)));
+          are_lines = AllByRecursion_push IsLine before (front ++ more) h.are_lines (IsLine-append front more h.is_line p.is_line);
+          failures = begun_failures first old new before front (more ++ line_feed ∷ []) h taken (has_failed-goes_on remaining new goes_on);
+          goes_on = goes_on;
+        },
+      )
+
+  -- no more came
+  passed_to_end : (first : Counted R) (old new : Source R) (before : List (List ℕ)) (front more : List ℕ) → Takes remaining old new more → IsLine more
+      → at_hand new ≡ [] → HasBegun remaining first old before front → HasCome remaining first new at_end before (front ++ more)
+  passed_to_end first old new before front more taken is_line none h =
+      let since = begun_since first old new before front more h taken in
+      record {
+        delivered = since.0;
+        consumed = since.1;
+        front = ended before ++ (front ++ more);
+        rest = at_hand new;
+        bytes = since.2;
+        judged = judged_at_end before (front ++ more) h.are_lines (IsLine-append front more h.is_line is_line);
+        whole = λ e. none;
+      }
+
+  -- the LF did not come
+  pub line_not_passed : (first : Counted R) (old mid new : Source R) (before : List (List ℕ)) (front : List ℕ) (stop : Stop) → HasPassed remaining old mid
+      → StopsBy remaining mid new stop → HasBegun remaining first old before front → LinePassed remaining first new before front (Err stop)
+  line_not_passed first old mid new before front End p stopped h =
+      let taken = Takes-then_none remaining old mid new p.bytes p.taken stopped.0 in
+      let end = IsAtEnd-from remaining mid new End refl stopped in (
+        p.bytes,
+        passed_to_end first old new before front p.bytes taken p.is_line stopped.2 h,
+        spent (has_ended old) (has_ended new) _ _ (not_ended old.stop h.goes_on) end.0 taken.ends,
+        begun_failures first old new before front p.bytes h taken (has_failed-at_end remaining new end),
+      )
+  line_not_passed first old mid new before front Failure p stopped h =
+      let taken = Takes-then_none remaining old mid new p.bytes p.taken stopped.0 in
+      let failed = has_failed-from remaining mid new Failure refl stopped in
+      let rises = more_failures (has_failed old) (has_failed new) _ _ (has_failed-goes_on remaining old h.goes_on) failed taken.fails in (
+        p.bytes,
+        passed_to_end first old new before front p.bytes taken p.is_line stopped.2 h,
+        subst (λ n. Rises n (failures_of (source_reader new))) h.failures rises,
+      )

@@ -23,7 +23,7 @@ pub enum TakenLine {
 }
 
 impl<R: Read> Source<'_, R> {
-    ghost use Rattle.grid.specs.Lines.{HasTaken, LineTaken, LeavesLess};
+    ghost use Rattle.grid.specs.Lines.{HasTaken, HasBegun, LineTaken, LinePassed, LeavesLess, PassesLess};
 
     /// Takes a line into the front of `room`, without the LF that ends it.
     pub fn take_line(&mut self, room: &mut [u8]) -> TakenLine
@@ -46,6 +46,24 @@ impl<R: Read> Source<'_, R> {
                 }
                 Err(Stop::End) => return TakenLine::AtEnd(count),
                 Err(Stop::Failure) => return TakenLine::Failed,
+            }
+        }
+    }
+
+    /// Takes what is left of a line up to and with its LF, without keeping it, or says why the LF didn't come.
+    pub fn pass_line(&mut self) -> Result<(), Stop>
+        ensures same_reader { self.new.reader.ghost_name ≡ self.old.reader.ghost_name }
+        ensures passed { (first : Counted R) (before : List (List ℕ)) (front : List ℕ) → HasBegun R.remaining first self.old before front
+            → LinePassed R.remaining first self.new before front result }
+        ensures less_left { PassesLess result (most_left self.old) (most_left self.new) }
+    {
+        'parts: loop {
+            let count = line_len(self.at_hand());
+            self.take(count);
+            match self.next_byte() {
+                Ok(b'\n') => return Ok(()),
+                Ok(_) => {}
+                Err(stop) => return Err(stop),
             }
         }
     }

@@ -111,6 +111,19 @@ impl<'a, W: Write> Sink<'a, W> {
         self.piece.clear();
         Ok(())
     }
+
+    /// Hands on all that is held back, and flushes the writer.
+    pub fn flush(&mut self) -> Result<(), WriteFault>
+        ensures ok { OnOk result (Puts W.contents self.old self.new []) }
+        ensures none_held { OnOk result (held_back self.new ≡ []) }
+        ensures err { OnErr result (Breaks W.contents self.old self.new []) }
+    {
+        self.hand_on()?;
+        match self.writer.flush() {
+            Ok(()) => Ok(()),
+            Err(_) => Err(WriteFault::WriteFailed),
+        }
+    }
 }
 
 /// Gives a writer all of the bytes, up to its first failure.

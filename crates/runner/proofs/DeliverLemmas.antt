@@ -20,7 +20,7 @@ use Rattle.agent.specs.declared.refusal.HearFault.{HearFault}
 use Rattle.agent.specs.declared.refusal.HearFault.TheVariants as fault
 use Rattle.runner.specs.declared.note.Note.{Note}
 use Rattle.runner.specs.declared.sim_tape.SimTape.{SimTape}
-use Rattle.runner.specs.Code.Refusals.{delivered}
+use Rattle.agent.specs.Replies.{delivered}
 use Rattle.runner.specs.SimTape.{sim_state}
 use Rattle.runner.specs.Standing.{RunnerState, IsMember, StandsAt, message_of}
 use Rattle.runner.proofs.GoesLemmas.{no_track, one-agent}

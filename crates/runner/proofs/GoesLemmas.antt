@@ -22,7 +22,7 @@ use Rattle.agent.specs.States.{State, start_refusal}
 use Rattle.agent.specs.Tape.{whole_records}
 use Rattle.agent.specs.declared.refusal.Refusal.{Refusal}
 use Rattle.runner.specs.declared.sim_tape.SimTape.{SimTape}
-use Rattle.runner.specs.Code.Refusals.{answered, stood}
+use Rattle.agent.specs.Replies.{answered, stood}
 use Rattle.runner.specs.Code.Reopening.{Reopens}
 use Rattle.runner.specs.SimTape.{sim_state, sim_armed, sim_writes}
 use Rattle.runner.specs.Standing.{RunnerState, IsMember, StandsAt}

@@ -15,7 +15,7 @@ use Rattle.agent.specs.Counters.{known_in}
 use Rattle.agent.specs.States as states
 use Rattle.agent.specs.Tape.{whole_records}
 use Rattle.runner.specs.declared.sim_tape.SimTape.{SimTape}
-use Rattle.runner.specs.Code.Refusals.{stood}
+use Rattle.agent.specs.Replies.{stood}
 use Rattle.runner.specs.SimTape.{sim_state, sim_armed}
 use Rattle.runner.specs.Standing.{IsMember}
 use Rattle.runner.proofs.RuleLemmas.{done-is, moving-is}

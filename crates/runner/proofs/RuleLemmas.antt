@@ -16,7 +16,7 @@ use Rattle.agent.specs.States.{State, waits_for, start_refusal, finish_refusal, 
 use Rattle.agent.specs.declared.refusal.Refusal.{Refusal}
 use Rattle.agent.specs.declared.refusal.Refusal.TheVariants.{Broken, AlreadyMoving, AtEnd, Waits, NotMoving}
 use Rattle.runner.specs.declared.sim_tape.SimTape.{SimTape}
-use Rattle.runner.specs.Code.Refusals.{why_of, unless}
+use Rattle.agent.specs.Replies.{why_of, unless}
 use Rattle.runner.specs.SimTape.{sim_state}
 use Rattle.runner.specs.Standing.{IsMember}
 

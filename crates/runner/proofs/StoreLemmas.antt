@@ -22,7 +22,7 @@ use Rattle.agent.specs.declared.counters.Counter.{Counter}
 use Rattle.agent.specs.declared.refusal.Refusal.{Refusal}
 use Rattle.agent.specs.declared.refusal.Refusal.TheVariants.{Broken, AlreadyMoving, AtEnd, Waits, NotMoving, StoreFailed}
 use Rattle.runner.specs.declared.sim_tape.SimTape.{SimTape}
-use Rattle.runner.specs.Code.Refusals.{why_of, unless, answered}
+use Rattle.agent.specs.Replies.{why_of, unless, answered}
 use Rattle.runner.specs.SimTape.{sim_state, sim_armed, sim_writes}
 use Rattle.runner.specs.Standing.{IsMember}
 use Rattle.runner.proofs.RuleLemmas.{start-rule, finish-rule}

@@ -2,7 +2,6 @@
 #![tactic(auto)]
 
 mod note;
-mod refusals;
 mod runner;
 mod runs;
 mod sim_tape;

@@ -9,10 +9,10 @@ ghost use Rattle.runner.specs.Code.Reopening.{Reopens};
 
 use crate::SimTape;
 use crate::note::{self, Note};
-use crate::refusals::{
+use agent::Agent;
+use agent::replies::{
     reply_to_delivery, reply_to_finish, reply_to_restart, reply_to_start, why_of,
 };
-use agent::Agent;
 use depgraph::{Graph, OutOfMemory};
 use model::{Event, Held, Reply, Why};
 use std::alloc::{AllocError, Global};

@@ -10,17 +10,19 @@ use Rattle.depgraph.specs.Graphs.{IsGraphed}
 use Rattle.depgraph.specs.Rotations.{AreRotations, turns_of}
 use Rattle.depgraph.specs.Code.Entries.{AreFew}
 use Rattle.depgraph.specs.Code.Keeping.{IsKept}
-use Rattle.depgraph.specs.Code.Numbers.{AreCellsOf}
+use Rattle.depgraph.specs.Code.Numbers.{AreNumbersOf, AreListed}
+use Rattle.depgraph.specs.Code.Orders.{IsOrder}
 use Rattle.depgraph.specs.Code.Paths.{all_entered, ArePaths}
-use Rattle.depgraph.specs.Code.Placing.{IsTimeline, AreNumbersOf, IsPlacing}
+use Rattle.depgraph.specs.Code.Placing.{IsTimeline, AreCellNumbers, IsPlacing}
 use Rattle.depgraph.specs.Code.Ranks.{below}
-use Rattle.depgraph.specs.Code.Schedules.{IsSchedule}
+use Rattle.depgraph.specs.Code.Schedules.{IsSchedule, AreTaken}
 use Rattle.depgraph.specs.Code.Turning.{AreLaid}
 use Rattle.depgraph.specs.Code.Waits.{AreWaits, AreBlocks}
 use Rattle.depgraph.specs.Code.Tracks.{timetable_by, tracks_by}
 use Rattle.depgraph.proofs.FewLemmas.{are_few}
 use Rattle.depgraph.proofs.NoteLemmas.{are_blocks}
-use Rattle.depgraph.proofs.ScheduleLemmas.{same_count}
+use Rattle.depgraph.proofs.NumberLemmas.{are_listed}
+use Rattle.depgraph.proofs.ScheduleLemmas.{arrival-within, position}
 use Rattle.depgraph.proofs.TrackLemmas.{tracks_told}
 use Rattle.depgraph.proofs.graph.Graph.build.Goals as goal
 
@@ -63,7 +65,7 @@ laid checked ends arrivals step_ends visits visit_ends needs is line placing wai
   are_waits = waits;
 }
 
-kept : (checked : Checked) (cells : List Cell) (times ends : List ℕ) (arrivals : List Arrival) (step_ends : List ℕ) (needs : List Wait) (visits : List Visit) (visit_ends : List ℕ) → IsChecked checked
+abbrev kept : (checked : Checked) (cells : List Cell) (times ends : List ℕ) (arrivals : List Arrival) (step_ends : List ℕ) (needs : List Wait) (visits : List Visit) (visit_ends : List ℕ) → IsChecked checked
     → ArePaths checked.timetable.tracks cells times ends → IsTimeline checked.timetable.tracks ends arrivals step_ends
     → IsPlacing checked.timetable.tracks ends arrivals visits visit_ends → AreWaits ends visits visit_ends needs → IsKept checked.timetable cells times ends needs visits visit_ends
 kept checked cells times ends arrivals step_ends needs visits visit_ends is h line placing waits = record {
@@ -88,34 +90,64 @@ schedule_of-requires-clause-limits c =
     let p = c.in_ok-paths.paths in
     few c.args.plan.now p.cells.items p.times.items p.ends.items c.number-number.ensures.within c.in_ok-paths.ensures
 
-pub numbering_of-requires-clause-limit : goal.numbering_of-requires-clause-limit
-numbering_of-requires-clause-limit c =
+pub numbering_of-requires : goal.numbering_of-requires
+numbering_of-requires c =
     let p = c.in_ok-paths.paths in
-    let count = c.in_ok-schedule.ensures.arrivals.count in
-    let same = same_count c.args.plan.now.timetable.tracks p.cells.items p.times.items p.ends.items c.in_ok-paths.ensures in
     let limit = (few c.args.plan.now p.cells.items p.times.items p.ends.items c.number-number.ensures.within c.in_ok-paths.ensures).all in
-    omega (arith, count, same, limit)
+    let long = ap length c.deref.ensures.value in
+    omega (arith, limit, long)
 
-pub numbering_of-requires-clause-cells : goal.numbering_of-requires-clause-cells
-numbering_of-requires-clause-cells c =
+-- the numbers of the paths' cells, of the list that was lent
+numbers_given : (cells given : List Cell) (numbers lent : List ℕ) (count : ℕ) → given ≡ cells → lent ≡ numbers → AreNumbersOf given numbers count → AreNumbersOf cells lent count
+numbers_given cells given numbers lent count same also h = subst (λ l. AreNumbersOf cells l count) (sym also) (subst (λ l. AreNumbersOf l numbers count) same h)
+
+pub schedule_of-requires-clause-numbers : goal.schedule_of-requires-clause-numbers
+schedule_of-requires-clause-numbers c =
+    let n = c.in_ok-numbers.ensures in
+    ap length c.deref-2.ensures.value ∙ n.2 ∙ ap length c.deref.ensures.value
+
+-- each arrival has the number of its cell
+listed_by : (checked : Checked) (cells : List Cell) (times ends numbers : List ℕ) (arrivals : List Arrival) (step_ends taken : List ℕ) (count : ℕ) → ArePaths checked.timetable.tracks cells times ends
+    → IsSchedule times ends arrivals → ((e : ℕ) → e < length times → get_or times e 0 < length step_ends) → AreNumbersOf cells numbers count → AreTaken numbers ends arrivals taken
+    → AreCellNumbers checked.timetable.tracks ends arrivals taken count
+listed_by checked cells times ends numbers arrivals step_ends taken count h is within n t =
+    let tracks = checked.timetable.tracks in (
+      n.0,
+      subst (λ l. AreListed l ends arrivals n.0 taken) h.are_cells (are_listed cells n.0 numbers ends arrivals taken n.1 n.2 t (λ p less. arrival-within tracks cells times ends arrivals p h is less)
+          (position tracks cells times ends arrivals (length step_ends) h is within)),
+      t.count,
+      n.3,
+    )
+
+pub order_of-requires : goal.order_of-requires
+order_of-requires c =
     let p = c.in_ok-paths.paths in
-    let arrivals = c.in_ok-schedule.schedule.arrivals.items in
-    let came = c.in_ok-schedule.came.items in
-    subst (λ l. AreCellsOf (all_entered c.args.plan.now.timetable.tracks) l arrivals came) (sym c.deref.ensures.value)
-    (subst (λ l. AreCellsOf l p.ends.items arrivals came) c.in_ok-paths.ensures.are_cells c.in_ok-schedule.ensures.cells)
+    let s = c.in_ok-schedule.schedule in
+    let did = c.in_ok-schedule.ensures in
+    let n = numbers_given p.cells.items c.deref.result.now c.in_ok-numbers.field-0.numbers.items c.deref-2.result.now c.in_ok-numbers.field-0.count c.deref.ensures.value c.deref-2.ensures.value
+    c.in_ok-numbers.ensures in
+    let listed = listed_by c.args.plan.now p.cells.items p.times.items p.ends.items c.deref-2.result.now s.arrivals.items s.ends.items c.in_ok-schedule.taken.items c.in_ok-numbers.field-0.count
+    c.in_ok-paths.ensures did.arrivals did.within n did.taken in
+    subst (λ l. (q : ℕ) → q < length l → get_or l q 0 < c.in_ok-numbers.field-0.count) (sym c.deref-3.ensures.value)
+    (λ q less. let known = listed.1.known q less in let names = listed.3 in omega (arith, known, names))
 
 pub place_visits-requires-clause-numbers : goal.place_visits-requires-clause-numbers
 place_visits-requires-clause-numbers c =
-    let n = c.in_ok-numbering.numbering in
-    subst (λ l. AreNumbersOf c.args.plan.now.timetable.tracks l c.in_ok-schedule.schedule.arrivals.items n.numbers.items n.counts.items) (c.deref.ensures.value ∙ sym c.deref-2.ensures.value)
-    c.in_ok-numbering.ensures
+    let p = c.in_ok-paths.paths in
+    let s = c.in_ok-schedule.schedule in
+    let did = c.in_ok-schedule.ensures in
+    let n = numbers_given p.cells.items c.deref.result.now c.in_ok-numbers.field-0.numbers.items c.deref-2.result.now c.in_ok-numbers.field-0.count c.deref.ensures.value c.deref-2.ensures.value
+    c.in_ok-numbers.ensures in
+    subst (λ l. AreCellNumbers c.args.plan.now.timetable.tracks l s.arrivals.items c.in_ok-schedule.taken.items c.in_ok-numbers.field-0.count) (sym c.deref-4.ensures.value)
+    (listed_by c.args.plan.now p.cells.items p.times.items p.ends.items c.deref-2.result.now s.arrivals.items s.ends.items c.in_ok-schedule.taken.items c.in_ok-numbers.field-0.count
+    c.in_ok-paths.ensures did.arrivals did.within n did.taken)
 
 pub place_visits-requires-clause-timeline : goal.place_visits-requires-clause-timeline
 place_visits-requires-clause-timeline c =
     let p = c.in_ok-paths.paths in
     let s = c.in_ok-schedule.schedule in
     let did = c.in_ok-schedule.ensures in
-    subst (λ l. IsTimeline c.args.plan.now.timetable.tracks l s.arrivals.items s.ends.items) (sym c.deref-2.ensures.value)
+    subst (λ l. IsTimeline c.args.plan.now.timetable.tracks l s.arrivals.items s.ends.items) (sym c.deref-4.ensures.value)
     (timeline c.args.plan.now p.cells.items p.times.items p.ends.items s.arrivals.items s.ends.items c.number-number.ensures.within c.in_ok-paths.ensures did.arrivals did.few did.within did.ends)
 
 -- the lists that were lent are those that are kept
@@ -132,10 +164,10 @@ waits_of-requires c =
     let did = c.in_ok-schedule.ensures in
     let d = c.in_ok-placed.placed in
     let line = timeline checked p.cells.items p.times.items p.ends.items s.arrivals.items s.ends.items c.number-number.ensures.within c.in_ok-paths.ensures did.arrivals did.few did.within did.ends in
-    let placing = subst (λ l. IsPlacing checked.timetable.tracks l s.arrivals.items d.visits.items d.next.next.items) c.deref-2.ensures.value c.in_ok-placed.ensures in
+    let placing = subst (λ l. IsPlacing checked.timetable.tracks l s.arrivals.items d.visits.items d.next.next.items) c.deref-4.ensures.value c.in_ok-placed.ensures.0 in
     let blocks = are_blocks checked.timetable.number checked.timetable.tracks p.ends.items s.arrivals.items s.ends.items line d.visits.items d.next.next.items placing c.number-number.ensures.within.conflict_free in
-    subst (λ l. AreBlocks l c.deref-4.result.now c.deref-5.result.now) (sym c.deref-3.ensures.value)
-    (subst (λ l. AreBlocks p.ends.items l c.deref-5.result.now) (sym c.deref-4.ensures.value) (subst (AreBlocks p.ends.items d.visits.items) (sym c.deref-5.ensures.value) blocks))
+    subst (λ l. AreBlocks l c.deref-6.result.now c.deref-7.result.now) (sym c.deref-5.ensures.value)
+    (subst (λ l. AreBlocks p.ends.items l c.deref-7.result.now) (sym c.deref-6.ensures.value) (subst (AreBlocks p.ends.items d.visits.items) (sym c.deref-7.ensures.value) blocks))
 
 pub find_rotations-requires : goal.find_rotations-requires
 find_rotations-requires c =
@@ -145,13 +177,13 @@ find_rotations-requires c =
     let did = c.in_ok-schedule.ensures in
     let d = c.in_ok-placed.placed in
     let line = timeline checked p.cells.items p.times.items p.ends.items s.arrivals.items s.ends.items c.number-number.ensures.within c.in_ok-paths.ensures did.arrivals did.few did.within did.ends in
-    let placing = subst (λ l. IsPlacing checked.timetable.tracks l s.arrivals.items d.visits.items d.next.next.items) c.deref-2.ensures.value c.in_ok-placed.ensures in
+    let placing = subst (λ l. IsPlacing checked.timetable.tracks l s.arrivals.items d.visits.items d.next.next.items) c.deref-4.ensures.value c.in_ok-placed.ensures.0 in
     let needs = c.in_ok-needs.needs.items in
-    let waits = noted p.ends.items c.deref-3.result.now d.visits.items c.deref-4.result.now d.next.next.items c.deref-5.result.now needs c.deref-3.ensures.value c.deref-4.ensures.value c.deref-5.ensures.value
+    let waits = noted p.ends.items c.deref-5.result.now d.visits.items c.deref-6.result.now d.next.next.items c.deref-7.result.now needs c.deref-5.ensures.value c.deref-6.ensures.value c.deref-7.ensures.value
     c.in_ok-needs.ensures in
     let lays = laid checked p.ends.items s.arrivals.items s.ends.items d.visits.items d.next.next.items needs c.number-number.ensures.within line placing waits in
-    subst (λ l. AreLaid checked.timetable l s.arrivals.items s.ends.items c.deref-7.result.now) (sym c.deref-6.ensures.value)
-    (subst (AreLaid checked.timetable p.ends.items s.arrivals.items s.ends.items) (sym c.deref-7.ensures.value) lays)
+    subst (λ l. AreLaid checked.timetable l s.arrivals.items s.ends.items c.deref-9.result.now) (sym c.deref-8.ensures.value)
+    (subst (AreLaid checked.timetable p.ends.items s.arrivals.items s.ends.items) (sym c.deref-9.ensures.value) lays)
 
 -- the paths that were found again end where those before did
 same_ends : (tracks : List Track) (cells again : List Cell) (times more : List ℕ) (ends others : List ℕ) → ArePaths tracks cells times ends → ArePaths tracks again more others
@@ -166,15 +198,20 @@ invariant_of-result c =
     let did = c.in_ok-schedule.ensures in
     let d = c.in_ok-placed.placed in
     let line = timeline checked p.cells.items p.times.items p.ends.items s.arrivals.items s.ends.items c.number-number.ensures.within c.in_ok-paths.ensures did.arrivals did.few did.within did.ends in
-    let placing = subst (λ l. IsPlacing checked.timetable.tracks l s.arrivals.items d.visits.items d.next.next.items) c.deref-2.ensures.value c.in_ok-placed.ensures in
+    let taken = c.in_ok-schedule.taken.items in
+    let placed = subst (λ l. (h : IsPlacing checked.timetable.tracks l s.arrivals.items d.visits.items d.next.next.items) × (h.listed ≡ taken)) c.deref-4.ensures.value c.in_ok-placed.ensures in
+    let placing = placed.0 in
+    let order = subst (λ l. IsOrder l c.in_ok-order.order.items) (c.deref-3.ensures.value ∙ sym placed.1) c.in_ok-order.ensures in
     let needs = c.in_ok-needs.needs.items in
-    let waits = noted p.ends.items c.deref-3.result.now d.visits.items c.deref-4.result.now d.next.next.items c.deref-5.result.now needs c.deref-3.ensures.value c.deref-4.ensures.value c.deref-5.ensures.value
+    let waits = noted p.ends.items c.deref-5.result.now d.visits.items c.deref-6.result.now d.next.next.items c.deref-7.result.now needs c.deref-5.ensures.value c.deref-6.ensures.value c.deref-7.ensures.value
     c.in_ok-needs.ensures in
     let q = c.in_ok-again.again in
     let paths = same_ends checked.timetable.tracks p.cells.items q.cells.items p.times.items q.times.items p.ends.items q.ends.items c.in_ok-paths.ensures c.in_ok-again.ensures in
     let keeps = kept checked q.cells.items q.times.items p.ends.items s.arrivals.items s.ends.items needs d.visits.items d.next.next.items c.number-number.ensures.within paths line placing waits in
-    let is = sym (told checked c.number-number.result q.cells.items q.times.items p.ends.items c.number-number.ensures.within c.number-number.ensures.number paths) in (
-      subst (λ tt. IsKept tt q.cells.items q.times.items p.ends.items needs d.visits.items d.next.next.items) is keeps,
+    let is = sym (told checked c.number-number.result q.cells.items q.times.items p.ends.items c.number-number.ensures.within c.number-number.ensures.number paths) in
+    let ordered = subst (λ tt. (k : IsKept tt q.cells.items q.times.items p.ends.items needs d.visits.items d.next.next.items) × IsOrder k.placing.listed c.in_ok-order.order.items) is (keeps, order) in (
+      ordered.0,
+      ordered.1,
       subst (λ tt. AreRotations tt (turns_of c.in_ok-rotations.rotations.items)) is c.in_ok-rotations.ensures,
     )
 

@@ -5,7 +5,7 @@ use Rattle.model.specs.Rules.{answer}
 use Rattle.model.specs.Timetable.{track_of}
 use Rattle.agent.specs.States.{Tells}
 use Rattle.model.specs.Replies.{answer_of}
-use Rattle.runner.specs.Code.Refusals.{delivered}
+use Rattle.agent.specs.Replies.{delivered}
 use Rattle.runner.specs.Standing.{StandsAt}
 use Rattle.runner.proofs.GoesLemmas.{no-agent}
 use Rattle.runner.proofs.DeliverLemmas.{no-message-on, each-ok, gives, noted-within, said-note, delivered-on}

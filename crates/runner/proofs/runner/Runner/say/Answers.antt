@@ -6,7 +6,7 @@ use Rattle.model.specs.History.{refused, said}
 use Rattle.model.specs.Messages.{message_bytes}
 use Rattle.runner.specs.declared.note.Note.{Note}
 use Rattle.model.specs.Rules.{answer}
-use Rattle.runner.specs.Code.Refusals.{why_of}
+use Rattle.agent.specs.Replies.{why_of}
 use Rattle.runner.specs.Standing.{StandsAt}
 use Rattle.runner.proofs.GoesLemmas.{no-agent}
 use Rattle.runner.proofs.SayLemmas.{say-refused-on, say-on}

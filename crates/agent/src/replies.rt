@@ -2,15 +2,15 @@
 ghost use Rattle.std.specs.Prelude.{◌≡◌, None, Some, MatchResult};
 ghost use Rattle.model.specs.History.{moving, arrived};
 ghost use Rattle.model.specs.Replies.{answer_of};
-ghost use Rattle.runner.specs.Code.Refusals.{why_of, answered, delivered, stood};
+ghost use Rattle.agent.specs.Replies.{why_of, answered, delivered, stood};
 
-use agent::{HearFault, Refusal};
+use crate::refusal::{HearFault, Refusal};
 use grid::Cell;
 use model::{Held, MsgFault, Reply, Why};
 use std::alloc::AllocError;
 
 /// The reply to a start.
-pub(crate) fn reply_to_start(answer: Result<Cell, Refusal>) -> Reply
+pub fn reply_to_start(answer: Result<Cell, Refusal>) -> Reply
     ensures { answer_of result ≡ answered moving answer }
 {
     match answer {
@@ -20,7 +20,7 @@ pub(crate) fn reply_to_start(answer: Result<Cell, Refusal>) -> Reply
 }
 
 /// The reply to a finish.
-pub(crate) fn reply_to_finish(answer: Result<Cell, Refusal>) -> Reply
+pub fn reply_to_finish(answer: Result<Cell, Refusal>) -> Reply
     ensures { answer_of result ≡ answered arrived answer }
 {
     match answer {
@@ -30,7 +30,7 @@ pub(crate) fn reply_to_finish(answer: Result<Cell, Refusal>) -> Reply
 }
 
 /// The reply to a delivery, unless memory was refused.
-pub(crate) fn reply_to_delivery(answer: Result<(u16, u32), HearFault>) -> Result<Reply, AllocError>
+pub fn reply_to_delivery(answer: Result<(u16, u32), HearFault>) -> Result<Reply, AllocError>
     ensures { MatchResult result (λ reply. delivered answer ≡ Some (answer_of reply)) (λ _. delivered answer ≡ None) }
 {
     let why = match answer {
@@ -48,7 +48,7 @@ pub(crate) fn reply_to_delivery(answer: Result<(u16, u32), HearFault>) -> Result
 }
 
 /// The reply to a restart.
-pub(crate) fn reply_to_restart(held: Held, done: u32) -> Reply
+pub fn reply_to_restart(held: Held, done: u32) -> Reply
     ensures { answer_of result ≡ stood held done }
 {
     match held {
@@ -57,7 +57,8 @@ pub(crate) fn reply_to_restart(held: Held, done: u32) -> Reply
     }
 }
 
-pub(crate) fn why_of(refusal: Refusal) -> Why
+/// The reason of a refusal.
+pub fn why_of(refusal: Refusal) -> Why
     ensures { result ≡ why_of refusal }
 {
     match refusal {

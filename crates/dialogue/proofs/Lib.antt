@@ -1,0 +1,2 @@
+mod DialogueLemmas
+mod InputLemmas

@@ -1,0 +1,11 @@
+-- Flushing puts nothing.
+use Rattle.std.proofs.Common.{[], ◌∷◌, ◌++◌, append-nil}
+use Rattle.grid.specs.Text.{line_feed}
+use Rattle.grid.proofs.SinkLemmas.{Breaks-then}
+use Rattle.dialogue.specs.Code.Answering.{answer_line}
+use Rattle.dialogue.proofs.line_answer.send_answer.Goals as goal
+
+pub returns-clause-err : goal.returns-clause-err
+returns-clause-err g c =
+    Breaks-then g.W.Write.contents _ _ _ (answer_line c.args.answer.now ++ line_feed ∷ []) [] _ c.flush.result (append-nil _)
+    c.in_ok-put_answer.ensures.ok c.flush.ensures.err

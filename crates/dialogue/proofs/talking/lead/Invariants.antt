@@ -1,0 +1,14 @@
+use Rattle.std.proofs.Common.{◌≡◌}
+use Rattle.grid.specs.Source.{source_reader, most_left}
+use Rattle.dialogue.proofs.DialogueLemmas.{SoFar}
+use Rattle.dialogue.proofs.talking.lead.Given as goal
+
+-- the lines so far were read and answered
+abbrev pub invariant-lines : goal.invariant-lines
+invariant-lines g l = record {
+  same_reader : l.source.reader.ghost_name ≡ l.fn.source.reader.ghost_name;
+  so_far : SoFar g.R.Read.remaining g.W.Write.contents g.T.Tape.state (source_reader l.fn.source) l.source l.fn.sink l.sink l.fn.agent l.agent;
+}
+
+abbrev pub decreases-lines : goal.decreases-lines
+decreases-lines g l = most_left l.source

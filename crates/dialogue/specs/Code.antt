@@ -1,0 +1,6 @@
+-- The code's own words: what bodies and proofs speak of, and no promise.
+
+-- what was taken of the input, and what it asks for
+pub mod Reading
+-- the line of an answer, and sending it
+pub mod Answering

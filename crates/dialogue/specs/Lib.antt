@@ -1,0 +1,10 @@
+-- What has to be believed of the crate, beside the definitions of the crates below it, in the order in which to read it.
+
+-- what an input line asks of an agent
+pub mod Requests
+-- how an agent answers a line
+pub mod Turns
+-- what a whole dialogue comes to
+pub mod Dialogue
+-- the code's own words
+pub mod Code

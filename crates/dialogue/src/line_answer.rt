@@ -1,0 +1,79 @@
+//! The answers to input lines, and writing them.
+ghost use Rattle.std.specs.Prelude.{◌≡◌, ◌++◌, [], ◌∷◌, ◌↔◌, IsTrue, OnOk, OnErr, Ok};
+ghost use Rattle.hex.specs.Hex.{encode_lower};
+ghost use Rattle.grid.specs.Text.{line_feed};
+ghost use Rattle.grid.specs.Sink.{held_back, Puts, Breaks};
+ghost use Rattle.dialogue.specs.Turns.{said_line, store_failed};
+ghost use Rattle.dialogue.specs.Code.Answering.{answer_line};
+
+use event_text::put_reply;
+use grid::{Sink, WriteFault};
+use hex::encode_to_slice;
+use model::{Reply, Why};
+use std::io::Write;
+
+/// The answer to an input line.
+#[derive(Debug, Drop)]
+pub(crate) enum LineAnswer {
+    Reply(Reply),
+    /// The message that was said.
+    Said([u8; 12]),
+    /// Memory is wanting for what was heard.
+    OutOfMemory,
+    /// The line is not understood.
+    BadLine,
+}
+
+impl LineAnswer {
+    /// Whether it says that a store failed.
+    pub(crate) fn says_store_failed(&self) -> bool
+        ensures { IsTrue result ↔ (answer_line self.now ≡ store_failed) }
+    {
+        matches!(self, LineAnswer::Reply(Reply::Refused(Why::StoreFailed)))
+    }
+}
+
+/// Puts the line of an answer, and sees that it leaves the writer.
+pub(crate) fn send_answer<W: Write>(
+    sink: &mut Sink<'_, W>,
+    answer: &LineAnswer,
+) -> Result<(), WriteFault>
+    ensures ok { OnOk result (Puts W.contents sink.old sink.new (answer_line answer.now ++ line_feed ∷ [])) }
+    ensures none_held { OnOk result (held_back sink.new ≡ []) }
+    ensures err { OnErr result (Breaks W.contents sink.old sink.new (answer_line answer.now ++ line_feed ∷ [])) }
+{
+    put_answer(sink, answer)?;
+    sink.flush()
+}
+
+fn put_answer<W: Write>(sink: &mut Sink<'_, W>, answer: &LineAnswer) -> Result<(), WriteFault>
+    ensures ok { OnOk result (Puts W.contents sink.old sink.new (answer_line answer.now ++ line_feed ∷ [])) }
+    ensures err { OnErr result (Breaks W.contents sink.old sink.new (answer_line answer.now ++ line_feed ∷ [])) }
+{
+    match answer {
+        LineAnswer::Reply(reply) => put_reply(sink, reply),
+        LineAnswer::Said(message) => put_said(sink, message),
+        LineAnswer::OutOfMemory => sink.put(b"refused OutOfMemory\n"),
+        LineAnswer::BadLine => sink.put(b"refused BadLine\n"),
+    }
+}
+
+fn put_said<W: Write>(sink: &mut Sink<'_, W>, message: &[u8; 12]) -> Result<(), WriteFault>
+    ensures ok { OnOk result (Puts W.contents sink.old sink.new (said_line (Ok message.now) ++ line_feed ∷ [])) }
+    ensures err { OnErr result (Breaks W.contents sink.old sink.new (said_line (Ok message.now) ++ line_feed ∷ [])) }
+{
+    let digits = digits_of(message);
+    sink.put(b"said ")?;
+    sink.put(&digits)?;
+    sink.put(b"\n")
+}
+
+/// Two digits for each byte.
+fn digits_of(message: &[u8; 12]) -> [u8; 24]
+    ensures { result ≡ encode_lower message.now }
+{
+    let mut digits = [0; 24];
+    // There is room for just so many digits, so nothing can be refused.
+    let _ = encode_to_slice(message.as_slice(), &mut digits);
+    digits
+}

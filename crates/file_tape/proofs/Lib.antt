@@ -1,0 +1,2 @@
+-- Lemmas of several files.
+pub mod ReadLemmas

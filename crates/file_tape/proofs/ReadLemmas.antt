@@ -1,0 +1,49 @@
+-- How a file is read piece by piece.
+use Rattle.std.proofs.Common.{◌≡◌, ℕ, ◌+◌, ◌-◌, ◌≤◌, List, ◌++◌, length, take, drop, sym, ap, subst, ◌∙◌, arith, length-append}
+use Rattle.std.specs.Prelude.{Option, min}
+use Rattle.std.specs.Io.KnownBytes.{Consumes}
+use Rattle.std.proofs.KnownBytes.{Consumes-trans}
+use Rattle.std.proofs.Math.Seq.{take-append-add, take-append_seam}
+use Rattle.std.proofs.lemmas.List.{length-take-le, take-append-le, take-take, take_min}
+use borrow.Rule.Slice.PartMut.{put_mid, post_of}
+use Rattle.agent.specs.Tape.{TapeState}
+
+-- the front of a buffer of which a later part was written
+take-part : (count more : ℕ) (room part : List ℕ) → count ≤ length room → more ≤ length part
+    → take (count + more) (put_mid count (length room - count) room part) ≡ take count room ++ take more part
+take-part count more room part in_room fits =
+    let rest = drop (length room - count) (drop count room) in
+    ap (λ n. take (n + more) (take count room ++ (part ++ rest))) (sym (length-take-le count room in_room))
+    ∙ take-append-add (take count room) (part ++ rest) more ∙ ap (λ l. take count room ++ l) (take-append-le more part rest fits)
+
+-- a piece is read behind those before it
+pub reads_more : (old mid new : Option (List ℕ)) (count more : ℕ) (room part : List ℕ) → count ≤ length room → more ≤ length part
+    → Consumes old mid (take count room) → Consumes mid new (take more part)
+    → Consumes old new (take (count + more) (put_mid count (length room - count) room part))
+reads_more old mid new count more room part in_room fits before now =
+    subst (Consumes old new) (sym (take-part count more room part in_room fits)) (Consumes-trans old mid new _ _ before now)
+
+-- so many bytes are in the buffer
+pub within_more : (count more : ℕ) (room part : List ℕ) → count ≤ length room → more ≤ length part
+    → count + more ≤ length (put_mid count (length room - count) room part)
+within_more count more room part in_room fits =
+    let rest = post_of count (length room - count) room in
+    omega (arith, length-append (take count room) (part ++ rest), length-append part rest, length-take-le count room in_room, fits)
+
+-- the part of what was read that there is room for, in a buffer that has its vector's length
+pub read_front : (room len size : ℕ) (bytes rest : List ℕ) → len ≤ length bytes → size ≡ length bytes
+    → take (min room len) (take size (bytes ++ rest)) ≡ take room (take len bytes)
+read_front room len size bytes rest within whole =
+    let some : min room len ≤ len = omega arith in
+    ap (take (min room len)) (ap (λ n. take n (bytes ++ rest)) whole ∙ take-append_seam bytes rest)
+    ∙ sym (take-take (min room len) len bytes some)
+    ∙ ap (λ n. take (min room n) (take len bytes)) (sym (length-take-le len bytes within))
+    ∙ take_min room (take len bytes)
+
+-- a tape that was made of the front of the bytes
+pub made_of : (made : TapeState) (front bytes : List ℕ) (room : ℕ) → made ≡ record { contents = front; room = room; failures = 0 } → front ≡ take room bytes
+    → record made { failures = 0 } ≡ record { contents = take room bytes; room = room; failures = 0 }
+made_of made front bytes room is same =
+    let without : TapeState → TapeState = λ s. record s { failures = 0 } in
+    let of : List ℕ → TapeState = λ l. record { contents = l; room = room; failures = 0 } in
+    ap without is ∙ ap of same

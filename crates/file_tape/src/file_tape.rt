@@ -1,0 +1,135 @@
+//! A tape in a file, behind an image of it in memory.
+ghost use Rattle.std.specs.Prelude.{◌≡◌, ◌+◌, ◌<◌, ◌≤◌, length, IfOk, IfSome, IsErrOf};
+ghost use Rattle.file_tape.specs.declared.file_tape.FileTapeFault.TheVariants.{TapeFailed as tape_failed, OutOfMemory as out_of_memory};
+ghost use Rattle.file_tape.specs.FileTape.{file_fault_of};
+
+use crate::disk::{Disk, read_up_to};
+use agent::{MemTape, Tape, TapeError, TapeMakeFault};
+use std::alloc::{AllocError, Global};
+use std::fs::OpenFile;
+use std::io;
+use std::io::{Read, Seek, Write};
+use thiserror::Error;
+
+/// How many bytes at the most stand behind the whole records of a file.
+const TAIL: usize = 9;
+
+/// Why a file was not opened as a tape.
+#[derive(Clone, Copy, Debug, PartialEq, Eq, Error)]
+pub enum FileTapeFault {
+    /// Behind the room there are ten bytes or more.
+    #[error("TooLong")]
+    TooLong,
+    /// The file could not be read or synced.
+    #[error("TapeFailed")]
+    TapeFailed,
+    #[error("OutOfMemory")]
+    OutOfMemory,
+}
+
+impl From<io::Error> for FileTapeFault {
+    ghost from_gives = { λ _ e. e ≡ tape_failed };
+
+    fn from(_: io::Error) -> FileTapeFault {
+        FileTapeFault::TapeFailed
+    }
+}
+
+impl From<AllocError> for FileTapeFault {
+    ghost from_gives = { λ _ e. e ≡ out_of_memory };
+
+    fn from(_: AllocError) -> FileTapeFault {
+        FileTapeFault::OutOfMemory
+    }
+}
+
+impl From<TapeMakeFault> for FileTapeFault {
+    ghost from_gives = { λ fault e. e ≡ file_fault_of fault };
+
+    fn from(fault: TapeMakeFault) -> FileTapeFault {
+        match fault {
+            TapeMakeFault::TooLong => FileTapeFault::TooLong,
+            TapeMakeFault::OutOfMemory => FileTapeFault::OutOfMemory,
+        }
+    }
+}
+
+/// A tape in a file. Reads come from an image in memory, which takes a record once the file has it and is synced. A write that fails leaves
+/// the image as it was; what the file has at that place is then not known, until a write there succeeds or the file is opened again.
+///
+/// What is proved is proved of the image. That the file has what was written to it, that a sync brings it to the disk with its length and its
+/// name, and that nothing else writes to it, are premises.
+#[derive(Drop)]
+pub struct FileTape<F> {
+    disk: Disk<F>,
+    image: MemTape,
+    failures: u64,
+}
+
+impl<F: Read + Write + Seek + OpenFile + Drop> FileTape<F> {
+    ghost use Rattle.file_tape.specs.FileTape.{IsImage};
+
+    /// Opens a file as a tape with room for so many bytes. The file was just opened by the caller, to be read and written, and made where
+    /// there was none. Fewer than ten bytes behind the room count as nothing. Nothing is written to it here: a tail of fewer than ten bytes
+    /// stays until a record is written over it.
+    pub fn open(alloc: Global, mut file: F, room: u32) -> Result<FileTape<F>, FileTapeFault>
+        ensures image { IfOk result (IsImage F.remaining file room) }
+        ensures too_long { IsErrOf result FileTapeFault.TooLong → IfSome (F.remaining file) (λ bytes. room + 10 ≤ length bytes) }
+    {
+        let room_len = room as usize;
+        let mut bytes = vec![in alloc; 0u8; room_len + TAIL + 1]?;
+        let len = read_up_to(&mut file, &mut bytes)?;
+        if len > room_len + TAIL {
+            return Err(FileTapeFault::TooLong);
+        }
+        let image = MemTape::from_bytes(alloc, &bytes[..room_len.min(len)], room)?;
+        // The image is relied on from here on, and a program that was stopped may have left it unsynced.
+        let mut disk = Disk::new(file);
+        disk.sync()?;
+        Ok(FileTape {
+            disk,
+            image,
+            failures: 0,
+        })
+    }
+}
+
+impl<F: Read + Write + Seek + OpenFile> Tape for FileTape<F> {
+    ghost use Rattle.file_tape.specs.FileTape.{file_state, IsFileRead, IsFileWrite, file_within, file_is_read, file_is_write};
+
+    ghost state = { file_state };
+
+    ghost may_read = { IsFileRead };
+
+    ghost may_write = { IsFileWrite F.stream_position F.contents };
+
+    fn room(&self) -> u32 {
+        self.image.room()
+    }
+
+    fn len(&self) -> u32 {
+        self.image.len()
+    }
+
+    fn read_at(&mut self, at: u32, out: &mut [u8; 10]) -> Result<(), TapeError> {
+        self.image.read_at(at, out)
+    }
+
+    fn write_at(&mut self, at: u32, bytes: &[u8; 10]) -> Result<(), TapeError> {
+        if self.disk.store(at, bytes).is_err() {
+            self.failures = self.failures.saturating_add(1);
+            return Err(TapeError);
+        }
+        self.image.write_at(at, bytes)
+    }
+
+    fn failures(&self) -> u64 {
+        self.failures
+    }
+
+    ghost within = { file_within };
+
+    ghost reads = { file_is_read };
+
+    ghost writes = { file_is_write F.stream_position F.contents };
+}

@@ -1,0 +1,11 @@
+//! Tests of the crate file_tape: tapes in files that are read and written, fail, or are cut off.
+#![tactic(auto)]
+
+#[cfg(test)]
+mod agents_on_files;
+#[cfg(test)]
+mod fake_disk;
+#[cfg(test)]
+mod real_files;
+#[cfg(test)]
+mod tape_files;

@@ -1,0 +1,128 @@
+//! Files that are opened as tapes, and written.
+use crate::fake_disk::{Call, FakeDisk};
+use agent::{Tape, TapeError};
+use file_tape::{FileTape, FileTapeFault};
+use std::test::Fail;
+
+pub const MOVING: [u8; 10] = [0x50, 1, 0, 0, 0, 7, 0, 0, 0, 0];
+
+pub const STANDING: [u8; 10] = [0x50, 2, 0, 0, 0, 7, 0, 0, 0, 1];
+
+/// The bytes of these records, and a tail.
+pub fn bytes_of(rt: &impl AllocGlobal, records: &[[u8; 10]], tail: &[u8]) -> Result<Vec<u8>, Fail> {
+    let mut bytes = records.concat(rt.alloc())?;
+    bytes.extend_from_slice(tail)?;
+    Ok(bytes)
+}
+
+/// The record at a place, if there is one.
+pub fn read<T: Tape>(tape: &mut T, at: u32) -> Result<[u8; 10], TapeError> {
+    let mut record = [0; 10];
+    if u64::from(at) + 10 > u64::from(tape.len()) {
+        return Err(TapeError);
+    }
+    tape.read_at(at, &mut record)?;
+    Ok(record)
+}
+
+/// Writes a record behind the whole ones, if there is room.
+pub fn add<T: Tape>(tape: &mut T, record: &[u8; 10]) -> Result<(), TapeError> {
+    let at = tape.len() / 10 * 10;
+    if u64::from(at) + 10 > u64::from(tape.room()) {
+        return Err(TapeError);
+    }
+    tape.write_at(at, record)
+}
+
+#[test]
+fn records_are_read_back(rt: HostRuntime) -> Result<(), Fail> {
+    let bytes = bytes_of(&rt, &[MOVING, STANDING], &[])?;
+    let disk = FakeDisk::new(rt.alloc(), &bytes)?;
+    let mut tape = FileTape::open(rt.alloc(), disk.file(), 40)?;
+    assert_eq!(rt; (tape.room(), tape.len(), tape.failures()), (40, 20, 0));
+    assert_eq!(rt; read(&mut tape, 0), Ok(MOVING));
+    assert_eq!(rt; read(&mut tape, 10), Ok(STANDING));
+    assert!(rt; disk.has(&bytes) && disk.keeps(&bytes));
+    Ok(())
+}
+
+#[test]
+fn tails_and_rooms(rt: HostRuntime) -> Result<(), Fail> {
+    for (records, tail, room, opened) in [
+        ([MOVING, STANDING].as_slice(), 9usize, 20, Ok(20)),
+        (&[MOVING, STANDING], 10, 20, Err(FileTapeFault::TooLong)),
+        (&[MOVING], 9, 20, Ok(19)),
+        (&[MOVING], 10, 20, Ok(20)),
+        (&[MOVING], 9, 10, Ok(10)),
+        (&[], 9, 0, Ok(0)),
+        (&[], 10, 0, Err(FileTapeFault::TooLong)),
+        (&[], 0, 0, Ok(0)),
+    ] {
+        let bytes = bytes_of(&rt, records, &[0xff; 10][..tail.min(10)])?;
+        let disk = FakeDisk::new(rt.alloc(), &bytes)?;
+        let len = FileTape::open(rt.alloc(), disk.file(), room).map(|tape| tape.len());
+        assert_eq!(rt; len, opened);
+        assert!(rt; disk.has(&bytes));
+        assert!(rt; opened.is_err() || disk.keeps(&bytes));
+    }
+    Ok(())
+}
+
+#[test]
+fn files_that_fail_to_open(rt: HostRuntime) -> Result<(), Fail> {
+    let bytes = bytes_of(&rt, &[MOVING, STANDING], &[])?;
+    for (call, calls) in [
+        (Call::Read, 0),
+        (Call::Read, 3),
+        (Call::Flush, 0),
+        (Call::Sync, 0),
+    ] {
+        let disk = FakeDisk::new(rt.alloc(), &bytes)?;
+        disk.fail(call, calls);
+        let opened = FileTape::open(rt.alloc(), disk.file(), 20).map(|tape| tape.len());
+        assert_eq!(rt; opened, Err(FileTapeFault::TapeFailed), "{call:?}");
+        assert!(rt; disk.has(&bytes));
+    }
+    Ok(())
+}
+
+#[test]
+fn records_are_written_over_tails(rt: HostRuntime) -> Result<(), Fail> {
+    let written = bytes_of(&rt, &[MOVING, STANDING], &[])?;
+    for tail in [0usize, 1, 9] {
+        let bytes = bytes_of(&rt, &[MOVING], &[0xff; 10][..tail.min(10)])?;
+        let disk = FakeDisk::new(rt.alloc(), &bytes)?;
+        let mut tape = FileTape::open(rt.alloc(), disk.file(), 20)?;
+        add(&mut tape, &STANDING)?;
+        assert_eq!(rt; (tape.len(), tape.failures()), (20, 0));
+        assert_eq!(rt; read(&mut tape, 10), Ok(STANDING));
+        assert!(rt; disk.has(&written) && disk.keeps(&written));
+    }
+    Ok(())
+}
+
+/// Where a write fails the tape is as before, and the next one may succeed.
+#[test]
+fn writes_that_fail(rt: HostRuntime) -> Result<(), Fail> {
+    let written = bytes_of(&rt, &[MOVING, STANDING], &[])?;
+    for (call, calls) in [
+        (Call::Seek, 0),
+        (Call::Write, 0),
+        (Call::Write, 1),
+        (Call::Write, 2),
+        (Call::Flush, 0),
+        (Call::Sync, 0),
+    ] {
+        let disk = FakeDisk::new(rt.alloc(), &MOVING)?;
+        let mut tape = FileTape::open(rt.alloc(), disk.file(), 20)?;
+        disk.fail(call, calls);
+        assert_eq!(rt; add(&mut tape, &STANDING), Err(TapeError), "{call:?}");
+        assert_eq!(rt; (tape.len(), tape.failures()), (10, 1));
+        assert_eq!(rt; read(&mut tape, 0), Ok(MOVING));
+        assert!(rt; disk.keeps(&MOVING));
+        add(&mut tape, &STANDING)?;
+        assert_eq!(rt; (tape.len(), tape.failures()), (20, 1));
+        assert!(rt; disk.has(&written) && disk.keeps(&written));
+    }
+    Ok(())
+}
