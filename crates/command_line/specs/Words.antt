@@ -1,5 +1,6 @@
 -- The command line of `mapf`, in the words of clap.
-use Rattle.std.specs.Prelude.{◌≡◌, ◌↔◌, ℕ, ◌^◌, ◌<◌, ◌⊎◌, true, List, [], ◌∷◌, ◌++◌, map, option_map, fold, codes, Some, string_bytes}
+use Rattle.std.specs.Prelude.{◌≡◌, ◌↔◌, ℕ, ◌^◌, ◌<◌, ◌⊎◌, true, List, [], ◌∷◌, ◌++◌, map, option_map, fold, codes, Some, String, string_bytes}
+use Rattle.std.specs.Global.{Global}
 use Rattle.grid.specs.Text.{SpellsNumber}
 use Rattle.clap.specs.Kinds.{IsAmong}
 use Rattle.clap.specs.Words.{App, fault_of, Row, Rule, Text, first_of, new_app, new_rule, one_of, subcommand_of, with_subcommand}
@@ -7,15 +8,20 @@ use Rattle.clap.specs.declared.builder.action.ArgAction.TheVariants.{SetTrue}
 use Rattle.clap.specs.declared.error.kind.ErrorKind.{ErrorKind}
 use Rattle.clap.specs.declared.error.kind.ErrorKind.TheVariants as kind
 use Rattle.command_line.specs.declared.command_line.Line.{Line}
-use Rattle.command_line.specs.declared.command_line.Line.TheVariants.{Map, Scen, Row as row_line, Check, Deps, Run}
+use Rattle.command_line.specs.declared.command_line.Line.TheVariants.{Map, Scen, Row as row_line, Check, Deps, Run, Agent}
 use Rattle.command_line.specs.declared.command_line.LineFault.{LineFault}
 use Rattle.command_line.specs.declared.command_line.LineFault.TheVariants.{Help, BadCommand, OutOfMemory}
 
--- what a refusal of clap comes to
-abbrev pub fault_of_kind : ErrorKind → LineFault
-fault_of_kind kind.DisplayHelp = Help
-fault_of_kind kind.OutOfMemory = OutOfMemory
-fault_of_kind _ = BadCommand
+-- What a refusal of clap comes to, with some text: clap's clauses say nothing of its texts.
+abbrev pub ComesTo : ErrorKind → LineFault → Type 0
+ComesTo kind.DisplayHelp fault = (text : String Global) × (fault ≡ Help text)
+ComesTo kind.DisplayVersion fault = (text : String Global) × (fault ≡ Help text)
+ComesTo kind.OutOfMemory fault = fault ≡ OutOfMemory
+ComesTo _ fault = (text : String Global) × (fault ≡ BadCommand text)
+
+-- the fault is a bad command line with this text, or memory was refused
+abbrev pub SaysBad : Text → LineFault → Type 0
+SaysBad said fault = (fault ≡ OutOfMemory) ⊎ ((text : String Global) × (fault ≡ BadCommand text) × (string_bytes text ≡ said))
 
 -- a command: its name, the names of the words that it requires, and the long names of its options, which take one value, and of its flags
 pub record Usage : Type 0 where
@@ -66,9 +72,17 @@ run_command = record {
   flags = [];
 }
 
+abbrev pub agent_command : Usage
+agent_command = record {
+  name = codes "agent";
+  required = codes "map" ∷ codes "plan" ∷ codes "id" ∷ codes "tape" ∷ [];
+  options = [];
+  flags = [];
+}
+
 -- all commands
 abbrev pub commands : List Usage
-commands = map_command ∷ scen_command ∷ row_command ∷ check_command ∷ deps_command ∷ run_command ∷ []
+commands = map_command ∷ scen_command ∷ row_command ∷ check_command ∷ deps_command ∷ run_command ∷ agent_command ∷ []
 
 -- one required word
 abbrev pub required_word : Text → Rule
@@ -90,9 +104,9 @@ rules_of_usage u = map required_word u.required ++ (map named_option u.options +
 abbrev pub command_of : Usage → App
 command_of u = record (new_app u.name) { top = record (new_app u.name).top { rules = rules_of_usage u } }
 
--- the program without its commands: one of them is required
+-- the program without its commands, one of which is required: it has a version
 abbrev pub bare_program : App
-bare_program = record (new_app (codes "mapf")) { top = record (new_app (codes "mapf")).top { subcommand_required = true } }
+bare_program = record (new_app (codes "mapf")) { top = record (new_app (codes "mapf")).top { has_version = true; subcommand_required = true } }
 
 -- the program with all its commands
 abbrev pub program_app : App
@@ -102,13 +116,18 @@ program_app = fold (λ app c. with_subcommand app (command_of c).top) bare_progr
 abbrev pub GivesNumber : Text → List Row → ℕ → Type 0
 GivesNumber word rows n = (digits : Text) × (first_of word rows ≡ Some digits) × SpellsNumber n digits
 
--- the number that the command with this name wants, if it wants one, is spelled, and below 2^32
-abbrev pub HasRowNumber : Text → List Row → Type 0
-HasRowNumber name rows = name ≡ codes "row" → (n : ℕ) × (n < 2 ^ 32) × GivesNumber (codes "row") rows n
+-- the rows give this word a number below the limit
+abbrev pub GivesNumberBelow : ℕ → Text → List Row → Type 0
+GivesNumberBelow limit word rows = (n : ℕ) × (n < limit) × GivesNumber word rows n
+
+-- the number that the command with this name wants, if it wants one, is spelled: that of a row below 2^32, that of an agent below 2^16
+abbrev pub HasNumbers : Text → List Row → Type 0
+HasNumbers name rows =
+    (name ≡ codes "row" → GivesNumberBelow (2 ^ 32) (codes "row") rows) × (name ≡ codes "agent" → GivesNumberBelow (2 ^ 16) (codes "id") rows)
 
 -- the same of the words of the command line
-abbrev pub GiveNumber : List Text → Type 0
-GiveNumber words = (name : Text) (rows : List Row) → subcommand_of program_app words ≡ Some (name, rows) → HasRowNumber name rows
+abbrev pub GiveNumbers : List Text → Type 0
+GiveNumbers words = (name : Text) (rows : List Row) → subcommand_of program_app words ≡ Some (name, rows) → HasNumbers name rows
 
 -- the rows show this flag as given: clap puts down `true` where it is, and `false` where it is not
 abbrev pub IsFlagGiven : Text → List Row → Type 0
@@ -131,6 +150,10 @@ IsCommand name rows (Deps map_file plan_file) =
 IsCommand name rows (Run map_file plan_file events_file) =
     (name ≡ codes "run") × (first_of (codes "map") rows ≡ Some (string_bytes map_file))
     × (first_of (codes "plan") rows ≡ Some (string_bytes plan_file)) × (first_of (codes "events") rows ≡ Some (string_bytes events_file))
+IsCommand name rows (Agent map_file plan_file id tape_file) =
+    (name ≡ codes "agent") × (first_of (codes "map") rows ≡ Some (string_bytes map_file))
+    × (first_of (codes "plan") rows ≡ Some (string_bytes plan_file)) × GivesNumber (codes "id") rows id
+    × (first_of (codes "tape") rows ≡ Some (string_bytes tape_file))
 
 -- the line is the command that clap's definition of the program gives for the words
 abbrev pub IsLineOf : List Text → Line → Type 0
@@ -141,5 +164,5 @@ IsLineOf words line = (name : Text) × (rows : List Row) × (subcommand_of progr
 abbrev pub IsFaultOf : List Text → LineFault → Type 0
 IsFaultOf words fault =
     (fault ≡ OutOfMemory)
-    ⊎ (((refusal : ErrorKind) × IsAmong refusal (fault_of program_app words) × (fault ≡ fault_of_kind refusal))
-    ⊎ ((fault_of program_app words ≡ []) × (fault ≡ BadCommand)))
+    ⊎ (((refusal : ErrorKind) × IsAmong refusal (fault_of program_app words) × ComesTo refusal fault)
+    ⊎ ((fault_of program_app words ≡ []) × ((text : String Global) × (fault ≡ BadCommand text))))

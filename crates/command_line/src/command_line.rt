@@ -1,11 +1,11 @@
 //! A command line as a value.
-ghost use Rattle.std.specs.Prelude.{◌≡◌};
+ghost use Rattle.std.specs.Prelude.{◌≡◌, ◌⊎◌, String, string_bytes};
 ghost use Rattle.clap.specs.Words.{kind_of};
-ghost use Rattle.command_line.specs.Words.{fault_of_kind};
+ghost use Rattle.command_line.specs.Words.{ComesTo, SaysBad};
 ghost use Rattle.command_line.specs.declared.command_line.LineFault.TheVariants.{OutOfMemory as out_of_memory};
 
 use clap::error::{Error as ClapError, ErrorKind};
-use std::alloc::AllocError;
+use std::alloc::{AllocError, Global};
 use thiserror::Error;
 
 /// A command with what its words say.
@@ -43,17 +43,39 @@ pub enum Line {
         plan: String,
         events: String,
     },
+    /// Answers for one agent of a plan, by its tape.
+    Agent {
+        map: String,
+        plan: String,
+        id: u16,
+        tape: String,
+    },
 }
 
-/// Why the words are no command.
-#[derive(Clone, Copy, Debug, PartialEq, Eq, Error)]
+/// Why the words are no command, with the text that the user is shown. Each text ends with an LF.
+#[derive(Debug, Drop, PartialEq, Eq, Error)]
 pub enum LineFault {
-    #[error("Help")]
-    Help,
-    #[error("BadCommand")]
-    BadCommand,
+    /// Help or the version was asked for.
+    #[error("{0}")]
+    Help(String),
+    /// The words are no command.
+    #[error("{0}")]
+    BadCommand(String),
+    /// Memory was refused.
     #[error("OutOfMemory")]
     OutOfMemory,
+}
+
+impl LineFault {
+    /// A bad command line with this text, or `OutOfMemory` where memory is refused.
+    pub fn bad_command(alloc: Global, text: &str) -> LineFault
+        ensures { SaysBad text.now result }
+    {
+        match String::from_str(alloc, text) {
+            Ok(text) => LineFault::BadCommand(text),
+            Err(_) => LineFault::OutOfMemory,
+        }
+    }
 }
 
 impl From<AllocError> for LineFault {
@@ -64,14 +86,16 @@ impl From<AllocError> for LineFault {
     }
 }
 
-impl From<ClapError> for LineFault {
-    ghost from_gives = { λ e f. f ≡ fault_of_kind (kind_of e) };
-
-    fn from(e: ClapError) -> LineFault {
-        match e.kind() {
-            ErrorKind::DisplayHelp => LineFault::Help,
-            ErrorKind::OutOfMemory => LineFault::OutOfMemory,
-            _ => LineFault::BadCommand,
-        }
+/// What a refusal of `clap` comes to, with its own text.
+pub(crate) fn refused(alloc: Global, error: &ClapError) -> LineFault
+    ensures { (result ≡ LineFault.OutOfMemory) ⊎ ComesTo (kind_of error.now) result }
+{
+    let Ok(text) = format!(in alloc; "{error}") else {
+        return LineFault::OutOfMemory;
+    };
+    match error.kind() {
+        ErrorKind::DisplayHelp | ErrorKind::DisplayVersion => LineFault::Help(text),
+        ErrorKind::OutOfMemory => LineFault::OutOfMemory,
+        _ => LineFault::BadCommand(text),
     }
 }

@@ -2,6 +2,7 @@
 #![tactic(auto)]
 
 mod command_line;
+mod help;
 mod words;
 
 pub use command_line::{Line, LineFault};

@@ -4,9 +4,11 @@ ghost use Rattle.std.specs.Char.{is_ascii_digit};
 ghost use Rattle.std.specs.List.{list_all};
 ghost use Rattle.clap.specs.Words.{app_of, with_subcommand, first_of, found_of, rows_of, rule_of, takes, fault_of};
 ghost use Rattle.grid.specs.Text.{SpellsNumber};
-ghost use Rattle.command_line.specs.Words.{program_app, file_command, row_command, check_command, deps_command, run_command, command_of, required_word, named_option, named_flag, IsFlagGiven, HasRowNumber, GivesNumber, GiveNumber, IsCommand, IsLineOf, IsFaultOf};
-ghost use Rattle.command_line.specs.Code.Parts.{HasWords, IsRefusal};
+ghost use Rattle.command_line.specs.Words.{program_app, IsFlagGiven, HasNumbers, GivesNumber, GivesNumberBelow, GiveNumbers, IsCommand, IsLineOf, IsFaultOf};
+ghost use Rattle.command_line.specs.Code.Parts.{HasWords, IsRefusal, rule_of_word, shape_of_text};
 
+use crate::command_line::refused;
+use crate::help::{self, CommandText, NumberText, Word};
 use crate::{Line, LineFault};
 use clap::{Arg, ArgAction, ArgMatches, Command};
 use std::alloc::{AllocError, Global};
@@ -16,13 +18,17 @@ pub fn line(alloc: Global, words: &[String]) -> Result<Line, LineFault>
     ensures command { IfOk result (IsLineOf (map string_bytes words.now)) }
     ensures taken { OnOk result (fault_of program_app (map string_bytes words.now) ≡ []) }
     ensures refused { IfErr result (λ e. takes program_app (map string_bytes words.now) ≡ true
-        → GiveNumber (map string_bytes words.now) → e ≡ LineFault.OutOfMemory) }
+        → GiveNumbers (map string_bytes words.now) → e ≡ LineFault.OutOfMemory) }
     ensures fault { IfErr result (IsFaultOf (map string_bytes words.now)) }
 {
-    let matches = program(alloc)?.try_get_matches_from(words)?;
+    let program = program(alloc)?;
+    let matches = match program.try_get_matches_from(words) {
+        Ok(matches) => matches,
+        Err(error) => return Err(refused(alloc, &error)),
+    };
     match matches.subcommand() {
         Some((name, given)) => read_command(alloc, name, given),
-        None => Err(LineFault::BadCommand),
+        None => Err(no_command(alloc)),
     }
 }
 
@@ -30,99 +36,56 @@ pub fn line(alloc: Global, words: &[String]) -> Result<Line, LineFault>
 fn program<'a>(alloc: Global) -> Result<Command<'a>, AllocError>
     ensures { IfOk result (λ c. app_of c ≡ program_app) }
 {
-    let program = Command::new(alloc, "mapf").subcommand_required(true);
-    let program = with_file_command(alloc, program, "map")?;
-    let program = with_file_command(alloc, program, "scen")?;
-    let program = with_row_command(alloc, program)?;
-    let program = with_check_command(alloc, program)?;
-    let program = with_deps_command(alloc, program)?;
-    with_run_command(alloc, program)
+    let program = Command::new(alloc, "mapf")
+        .version("0.1.0")
+        .about(help::PROGRAM_ABOUT)
+        .after_help(help::PROGRAM_AFTER_HELP)
+        .subcommand_required(true);
+    let program = with_command(alloc, program, &help::MAP)?;
+    let program = with_command(alloc, program, &help::SCEN)?;
+    let program = with_command(alloc, program, &help::ROW)?;
+    let program = with_command(alloc, program, &help::CHECK)?;
+    let program = with_command(alloc, program, &help::DEPS)?;
+    let program = with_command(alloc, program, &help::RUN)?;
+    with_command(alloc, program, &help::AGENT)
 }
 
-/// The program with one more command, of a file.
-fn with_file_command<'a>(
+/// The program with one more command.
+fn with_command<'a>(
     alloc: Global,
     program: Command<'a>,
-    name: &'a str,
+    text: &CommandText<'a>,
 ) -> Result<Command<'a>, AllocError>
-    ensures { IfOk result (λ c. app_of c ≡ with_subcommand (app_of program.entry) (command_of (file_command name.entry.now)).top) }
+    ensures { IfOk result (λ c. app_of c ≡ with_subcommand (app_of program.entry) (shape_of_text text.now)) }
 {
-    let command = Command::new(alloc, name).arg(required(alloc, "file"))?;
+    let mut command = Command::new(alloc, text.name)
+        .about(text.about)
+        .after_help(text.after_help);
+    for word in text.words {
+        command = command.arg(argument(alloc, word))?;
+    }
     program.subcommand(command)
 }
 
-/// The program with the command that judges a row.
-fn with_row_command<'a>(alloc: Global, program: Command<'a>) -> Result<Command<'a>, AllocError>
-    ensures { IfOk result (λ c. app_of c ≡ with_subcommand (app_of program.entry) (command_of row_command).top) }
-{
-    let command = Command::new(alloc, "row")
-        .arg(required(alloc, "map"))?
-        .arg(required(alloc, "scen"))?
-        .arg(required(alloc, "row"))?;
-    program.subcommand(command)
-}
-
-/// The program with the command that checks a plan.
-fn with_check_command<'a>(alloc: Global, program: Command<'a>) -> Result<Command<'a>, AllocError>
-    ensures { IfOk result (λ c. app_of c ≡ with_subcommand (app_of program.entry) (command_of check_command).top) }
-{
-    let command = Command::new(alloc, "check")
-        .arg(required(alloc, "map"))?
-        .arg(required(alloc, "plan"))?
-        .arg(option(alloc, "scen"))?
-        .arg(flag(alloc, "json"))?;
-    program.subcommand(command)
-}
-
-/// The program with the command that tells a plan's dependencies.
-fn with_deps_command<'a>(alloc: Global, program: Command<'a>) -> Result<Command<'a>, AllocError>
-    ensures { IfOk result (λ c. app_of c ≡ with_subcommand (app_of program.entry) (command_of deps_command).top) }
-{
-    let command = Command::new(alloc, "deps")
-        .arg(required(alloc, "map"))?
-        .arg(required(alloc, "plan"))?;
-    program.subcommand(command)
-}
-
-/// The program with the command that runs a plan.
-fn with_run_command<'a>(alloc: Global, program: Command<'a>) -> Result<Command<'a>, AllocError>
-    ensures { IfOk result (λ c. app_of c ≡ with_subcommand (app_of program.entry) (command_of run_command).top) }
-{
-    let command = Command::new(alloc, "run")
-        .arg(required(alloc, "map"))?
-        .arg(required(alloc, "plan"))?
-        .arg(required(alloc, "events"))?;
-    program.subcommand(command)
-}
-
-/// A word that a command requires.
-fn required<'a>(alloc: Global, name: &'a str) -> Arg<'a>
-    ensures rule { rule_of result ≡ required_word name.entry.now }
+/// A word of a command, as `clap` takes it.
+fn argument<'a>(alloc: Global, word: &Word<'a>) -> Arg<'a>
+    ensures rule { rule_of result ≡ rule_of_word word.now }
     ensures local { result.global ≡ false }
 {
-    Arg::new(alloc, name).required(true)
-}
-
-/// An option with a value, as `--name VALUE`.
-fn option<'a>(alloc: Global, name: &'a str) -> Arg<'a>
-    ensures rule { rule_of result ≡ named_option name.entry.now }
-    ensures local { result.global ≡ false }
-{
-    Arg::new(alloc, name).long(name)
-}
-
-/// A flag, as `--name`.
-fn flag<'a>(alloc: Global, name: &'a str) -> Arg<'a>
-    ensures rule { rule_of result ≡ named_flag name.entry.now }
-    ensures local { result.global ≡ false }
-{
-    option(alloc, name).action(ArgAction::SetTrue)
+    match *word {
+        Word::Required(name, text) => Arg::new(alloc, name).required(true).help(text),
+        Word::Named(name, text) => Arg::new(alloc, name).long(name).help(text),
+        Word::Flag(name, text) => Arg::new(alloc, name)
+            .long(name)
+            .action(ArgAction::SetTrue)
+            .help(text),
+    }
 }
 
 /// Reads the command with this name, by the words that it was given.
 fn read_command(alloc: Global, name: &str, given: &ArgMatches<'_>) -> Result<Line, LineFault>
     ensures ok { IfOk result (IsCommand name.now (rows_of (found_of given.now))) }
-    ensures err { IfErr result (λ e. HasWords name.now (rows_of (found_of given.now)) → HasRowNumber name.now (rows_of (found_of given.now))
+    ensures err { IfErr result (λ e. HasWords name.now (rows_of (found_of given.now)) → HasNumbers name.now (rows_of (found_of given.now))
         → e ≡ LineFault.OutOfMemory) }
     ensures refusal { IfErr result IsRefusal }
 {
@@ -136,7 +99,7 @@ fn read_command(alloc: Global, name: &str, given: &ArgMatches<'_>) -> Result<Lin
         "row" => Ok(Line::Row {
             map: word(alloc, given, "map")?,
             scen: word(alloc, given, "scen")?,
-            row: number(given, "row")?,
+            row: row_number(alloc, given)?,
         }),
         "check" => {
             let map = word(alloc, given, "map")?;
@@ -159,20 +122,76 @@ fn read_command(alloc: Global, name: &str, given: &ArgMatches<'_>) -> Result<Lin
             plan: word(alloc, given, "plan")?,
             events: word(alloc, given, "events")?,
         }),
-        _ => Err(LineFault::BadCommand),
+        "agent" => Ok(Line::Agent {
+            map: word(alloc, given, "map")?,
+            plan: word(alloc, given, "plan")?,
+            id: agent_id(alloc, given)?,
+            tape: word(alloc, given, "tape")?,
+        }),
+        _ => Err(no_command(alloc)),
     }
 }
 
-/// The number that an argument was given.
-fn number(given: &ArgMatches<'_>, name: &str) -> Result<u32, LineFault>
-    ensures ok { IfOk result (GivesNumber name.now (rows_of (found_of given.now))) }
-    ensures none { OnErr result ((n : ℕ) → n < 2 ^ 32 → GivesNumber name.now (rows_of (found_of given.now)) n → ⊥) }
-    ensures err { IfErr result (λ e. e ≡ LineFault.BadCommand) }
+/// The number of the row that was given.
+fn row_number(alloc: Global, given: &ArgMatches<'_>) -> Result<u32, LineFault>
+    ensures ok { IfOk result (GivesNumber (codes "row") (rows_of (found_of given.now))) }
+    ensures none { OnErr result (GivesNumberBelow (2 ^ 32) (codes "row") (rows_of (found_of given.now)) → ⊥) }
+    ensures err { IfErr result IsRefusal }
 {
-    match given.get_str(name) {
-        Some(digits) => spelled(digits).ok_or(LineFault::BadCommand),
-        None => Err(LineFault::BadCommand),
+    match number(given, "row") {
+        Some(row) => Ok(row),
+        None => Err(no_number(alloc, given, "row", &help::ROW_NUMBER)),
     }
+}
+
+/// The number of the agent that was given.
+fn agent_id(alloc: Global, given: &ArgMatches<'_>) -> Result<u16, LineFault>
+    ensures ok { IfOk result (GivesNumber (codes "id") (rows_of (found_of given.now))) }
+    ensures none { OnErr result (GivesNumberBelow (2 ^ 16) (codes "id") (rows_of (found_of given.now)) → ⊥) }
+    ensures err { IfErr result IsRefusal }
+{
+    match short_number(given, "id") {
+        Some(id) => Ok(id),
+        None => Err(no_number(alloc, given, "id", &help::AGENT_ID)),
+    }
+}
+
+/// Says that the word that was given is no number of the kind that is wanted.
+fn no_number(alloc: Global, given: &ArgMatches<'_>, name: &str, text: &NumberText) -> LineFault
+    ensures { IsRefusal result }
+{
+    let word = given.get_str(name).unwrap_or("");
+    let wanted = text.wanted;
+    let usage = text.usage;
+    match format!(in alloc;
+        "error: invalid value '{word}' for '<{name}>': {wanted}, in digits alone\n\nUsage: {usage}\n\nFor more information, try '--help'.\n"
+    ) {
+        Ok(text) => LineFault::BadCommand(text),
+        Err(_) => LineFault::OutOfMemory,
+    }
+}
+
+/// Says that the words are no command.
+fn no_command(alloc: Global) -> LineFault
+    ensures { IsRefusal result }
+{
+    LineFault::bad_command(alloc, help::NO_COMMAND)
+}
+
+/// The number below 2^16 that an argument was given, if that is one.
+fn short_number(given: &ArgMatches<'_>, name: &str) -> Option<u16>
+    ensures { MatchOption result (GivesNumberBelow (2 ^ 16) name.now (rows_of (found_of given.now)) → ⊥)
+        (GivesNumber name.now (rows_of (found_of given.now))) }
+{
+    u16::try_from(number(given, name)?).ok()
+}
+
+/// The number that an argument was given, if that is one.
+fn number(given: &ArgMatches<'_>, name: &str) -> Option<u32>
+    ensures { MatchOption result (GivesNumberBelow (2 ^ 32) name.now (rows_of (found_of given.now)) → ⊥)
+        (GivesNumber name.now (rows_of (found_of given.now))) }
+{
+    spelled(given.get_str(name)?)
 }
 
 /// The number that digits spell, if there is nothing but digits.
@@ -200,7 +219,7 @@ fn word(alloc: Global, given: &ArgMatches<'_>, name: &str) -> Result<String, Lin
 {
     match given.get_str(name) {
         Some(text) => Ok(String::from_str(alloc, text)?),
-        None => Err(LineFault::BadCommand),
+        None => Err(no_command(alloc)),
     }
 }
 

@@ -12,6 +12,36 @@ pub fn words(alloc: Global, text: &str) -> Result<Vec<String>, AllocError> {
     Ok(words)
 }
 
+/// Which fault it is, whatever its text says.
+#[derive(Clone, Copy, Debug, PartialEq, Eq)]
+enum FaultKind {
+    Help,
+    BadCommand,
+    OutOfMemory,
+}
+
+fn kind_of(fault: &LineFault) -> FaultKind {
+    match fault {
+        LineFault::Help(_) => FaultKind::Help,
+        LineFault::BadCommand(_) => FaultKind::BadCommand,
+        LineFault::OutOfMemory => FaultKind::OutOfMemory,
+    }
+}
+
+/// What the user is shown.
+fn shown(fault: &LineFault) -> &str {
+    match fault {
+        LineFault::Help(text) | LineFault::BadCommand(text) => text.as_str(),
+        LineFault::OutOfMemory => "",
+    }
+}
+
+/// Why the words of this text are no command.
+fn fault_of(alloc: Global, text: &str) -> Result<Option<LineFault>, AllocError> {
+    let words = words(alloc, text)?;
+    Ok(line(alloc, words.as_slice()).err())
+}
+
 #[test]
 fn map_lines(rt: HostRuntime) -> Result<(), Fail> {
     for &(text, want) in &[
@@ -175,6 +205,34 @@ fn run_lines(rt: HostRuntime) -> Result<(), Fail> {
 }
 
 #[test]
+fn agent_lines(rt: HostRuntime) -> Result<(), Fail> {
+    for &(text, want) in &[
+        ("mapf agent M P 0 T", 0),
+        ("mapf agent M P 007 T", 7),
+        ("mapf agent M P 65535 T", 65535),
+        ("mapf agent M P 00065535 T", 65535),
+        ("mapf agent -- M P 12 T", 12),
+    ] {
+        let words = words(rt.alloc(), text)?;
+        let Line::Agent {
+            map,
+            plan,
+            id,
+            tape,
+        } = line(rt.alloc(), words.as_slice())?
+        else {
+            assert!(rt; false, "another command at {text:?}");
+            return Ok(());
+        };
+        assert_eq!(rt; map.as_str(), "M", "at {text:?}");
+        assert_eq!(rt; plan.as_str(), "P", "at {text:?}");
+        assert_eq!(rt; id, want, "at {text:?}");
+        assert_eq!(rt; tape.as_str(), "T", "at {text:?}");
+    }
+    Ok(())
+}
+
+#[test]
 fn numbers_that_are_none(rt: HostRuntime) -> Result<(), Fail> {
     for &number in &[
         "4294967296",
@@ -192,8 +250,39 @@ fn numbers_that_are_none(rt: HostRuntime) -> Result<(), Fail> {
     ] {
         let mut words = words(rt.alloc(), "mapf row M S")?;
         words.push(String::from_str(rt.alloc(), number)?)?;
-        let got = line(rt.alloc(), words.as_slice());
-        assert_eq!(rt; got.err(), Some(LineFault::BadCommand), "at {number:?}");
+        let got = line(rt.alloc(), words.as_slice()).err();
+        assert_eq!(rt;
+            got.as_ref().map(kind_of),
+            Some(FaultKind::BadCommand),
+            "at {number:?}"
+        );
+    }
+    Ok(())
+}
+
+#[test]
+fn ids_that_are_none(rt: HostRuntime) -> Result<(), Fail> {
+    for &id in &[
+        "65536",
+        "131072",
+        "4294967295",
+        "4294967296",
+        "18446744073709551616",
+        "-1",
+        "+1",
+        "1x",
+        "",
+        "1 ",
+    ] {
+        let mut words = words(rt.alloc(), "mapf agent M P")?;
+        words.push(String::from_str(rt.alloc(), id)?)?;
+        words.push(String::from_str(rt.alloc(), "T")?)?;
+        let got = line(rt.alloc(), words.as_slice()).err();
+        assert_eq!(rt;
+            got.as_ref().map(kind_of),
+            Some(FaultKind::BadCommand),
+            "at {id:?}"
+        );
     }
     Ok(())
 }
@@ -201,84 +290,275 @@ fn numbers_that_are_none(rt: HostRuntime) -> Result<(), Fail> {
 #[test]
 fn refused_lines(rt: HostRuntime) -> Result<(), Fail> {
     for &(text, want) in &[
-        ("mapf", LineFault::BadCommand),
-        ("mapf map", LineFault::BadCommand),
-        ("mapf map a b", LineFault::BadCommand),
-        ("mapf scen", LineFault::BadCommand),
-        ("mapf scen a b", LineFault::BadCommand),
-        ("mapf map scen F", LineFault::BadCommand),
-        ("mapf row", LineFault::BadCommand),
-        ("mapf row M", LineFault::BadCommand),
-        ("mapf row M S", LineFault::BadCommand),
-        ("mapf row M S 0 1", LineFault::BadCommand),
-        ("mapf row M 0 S", LineFault::BadCommand),
-        ("mapf check", LineFault::BadCommand),
-        ("mapf check M", LineFault::BadCommand),
-        ("mapf check M P X", LineFault::BadCommand),
-        ("mapf check M --scen S", LineFault::BadCommand),
-        ("mapf check M --json", LineFault::BadCommand),
-        ("mapf check M P --scen", LineFault::BadCommand),
-        ("mapf check M P --scen --json", LineFault::BadCommand),
-        ("mapf check M P --scen -x", LineFault::BadCommand),
-        ("mapf check M P --scen S T", LineFault::BadCommand),
-        ("mapf check M P --scen S --scen S", LineFault::BadCommand),
-        ("mapf check --scen=S M P --scen=T", LineFault::BadCommand),
-        ("mapf check M P --json --json", LineFault::BadCommand),
-        ("mapf check --json M P --json", LineFault::BadCommand),
-        ("mapf check M P --json=x", LineFault::BadCommand),
-        ("mapf check M P --json=true", LineFault::BadCommand),
-        ("mapf check M P --other", LineFault::BadCommand),
-        ("mapf check M P --js", LineFault::BadCommand),
-        ("mapf check M P -j", LineFault::BadCommand),
-        ("mapf check M P -s S", LineFault::BadCommand),
-        ("mapf --json check M P", LineFault::BadCommand),
-        ("mapf map F --json", LineFault::BadCommand),
-        ("mapf row M S 0 --scen S", LineFault::BadCommand),
-        ("mapf deps", LineFault::BadCommand),
-        ("mapf deps M", LineFault::BadCommand),
-        ("mapf deps M P X", LineFault::BadCommand),
-        ("mapf deps M P --json", LineFault::BadCommand),
-        ("mapf deps M P --scen S", LineFault::BadCommand),
-        ("mapf run", LineFault::BadCommand),
-        ("mapf run M", LineFault::BadCommand),
-        ("mapf run M P", LineFault::BadCommand),
-        ("mapf run M P E X", LineFault::BadCommand),
-        ("mapf run M P E --json", LineFault::BadCommand),
-        ("mapf run M P E --complete", LineFault::BadCommand),
-        ("mapf map -x", LineFault::BadCommand),
-        ("mapf nosuch", LineFault::BadCommand),
-        ("mapf -x", LineFault::BadCommand),
-        ("mapf Map F", LineFault::BadCommand),
-        ("mapf -h", LineFault::Help),
-        ("mapf --help", LineFault::Help),
-        ("mapf help", LineFault::Help),
-        ("mapf help map", LineFault::Help),
-        ("mapf scen --help", LineFault::Help),
-        ("mapf map -h", LineFault::Help),
-        ("mapf map --help", LineFault::Help),
-        ("mapf map F --help", LineFault::Help),
-        ("mapf row --help", LineFault::Help),
-        ("mapf row M S x --help", LineFault::Help),
-        ("mapf help check", LineFault::Help),
-        ("mapf help deps", LineFault::Help),
-        ("mapf deps --help", LineFault::Help),
-        ("mapf deps M P -h", LineFault::Help),
-        ("mapf help run", LineFault::Help),
-        ("mapf run --help", LineFault::Help),
-        ("mapf run M P -h", LineFault::Help),
-        ("mapf run M P E --help", LineFault::Help),
-        ("mapf check --help", LineFault::Help),
-        ("mapf check -h", LineFault::Help),
-        ("mapf check M P --json --scen S -h", LineFault::Help),
+        ("mapf", FaultKind::BadCommand),
+        ("mapf map", FaultKind::BadCommand),
+        ("mapf map a b", FaultKind::BadCommand),
+        ("mapf scen", FaultKind::BadCommand),
+        ("mapf scen a b", FaultKind::BadCommand),
+        ("mapf map scen F", FaultKind::BadCommand),
+        ("mapf row", FaultKind::BadCommand),
+        ("mapf row M", FaultKind::BadCommand),
+        ("mapf row M S", FaultKind::BadCommand),
+        ("mapf row M S 0 1", FaultKind::BadCommand),
+        ("mapf row M 0 S", FaultKind::BadCommand),
+        ("mapf check", FaultKind::BadCommand),
+        ("mapf check M", FaultKind::BadCommand),
+        ("mapf check M P X", FaultKind::BadCommand),
+        ("mapf check M --scen S", FaultKind::BadCommand),
+        ("mapf check M --json", FaultKind::BadCommand),
+        ("mapf check M P --scen", FaultKind::BadCommand),
+        ("mapf check M P --scen --json", FaultKind::BadCommand),
+        ("mapf check M P --scen -x", FaultKind::BadCommand),
+        ("mapf check M P --scen S T", FaultKind::BadCommand),
+        ("mapf check M P --scen S --scen S", FaultKind::BadCommand),
+        ("mapf check --scen=S M P --scen=T", FaultKind::BadCommand),
+        ("mapf check M P --json --json", FaultKind::BadCommand),
+        ("mapf check --json M P --json", FaultKind::BadCommand),
+        ("mapf check M P --json=x", FaultKind::BadCommand),
+        ("mapf check M P --json=true", FaultKind::BadCommand),
+        ("mapf check M P --other", FaultKind::BadCommand),
+        ("mapf check M P --js", FaultKind::BadCommand),
+        ("mapf check M P -j", FaultKind::BadCommand),
+        ("mapf check M P -s S", FaultKind::BadCommand),
+        ("mapf --json check M P", FaultKind::BadCommand),
+        ("mapf map F --json", FaultKind::BadCommand),
+        ("mapf row M S 0 --scen S", FaultKind::BadCommand),
+        ("mapf deps", FaultKind::BadCommand),
+        ("mapf deps M", FaultKind::BadCommand),
+        ("mapf deps M P X", FaultKind::BadCommand),
+        ("mapf deps M P --json", FaultKind::BadCommand),
+        ("mapf deps M P --scen S", FaultKind::BadCommand),
+        ("mapf run", FaultKind::BadCommand),
+        ("mapf run M", FaultKind::BadCommand),
+        ("mapf run M P", FaultKind::BadCommand),
+        ("mapf run M P E X", FaultKind::BadCommand),
+        ("mapf run M P E --json", FaultKind::BadCommand),
+        ("mapf run M P E --complete", FaultKind::BadCommand),
+        ("mapf agent", FaultKind::BadCommand),
+        ("mapf agent M P 0", FaultKind::BadCommand),
+        ("mapf agent M P 0 T X", FaultKind::BadCommand),
+        ("mapf agent M P T 0", FaultKind::BadCommand),
+        ("mapf agent M P 0 T --json", FaultKind::BadCommand),
+        ("mapf check M P --version", FaultKind::BadCommand),
+        ("mapf version", FaultKind::BadCommand),
+        ("mapf map -x", FaultKind::BadCommand),
+        ("mapf nosuch", FaultKind::BadCommand),
+        ("mapf -x", FaultKind::BadCommand),
+        ("mapf Map F", FaultKind::BadCommand),
+        ("mapf -h", FaultKind::Help),
+        ("mapf --help", FaultKind::Help),
+        ("mapf help", FaultKind::Help),
+        ("mapf help map", FaultKind::Help),
+        ("mapf scen --help", FaultKind::Help),
+        ("mapf map -h", FaultKind::Help),
+        ("mapf map --help", FaultKind::Help),
+        ("mapf map F --help", FaultKind::Help),
+        ("mapf row --help", FaultKind::Help),
+        ("mapf row M S x --help", FaultKind::Help),
+        ("mapf help check", FaultKind::Help),
+        ("mapf help deps", FaultKind::Help),
+        ("mapf deps --help", FaultKind::Help),
+        ("mapf deps M P -h", FaultKind::Help),
+        ("mapf help run", FaultKind::Help),
+        ("mapf run --help", FaultKind::Help),
+        ("mapf run M P -h", FaultKind::Help),
+        ("mapf run M P E --help", FaultKind::Help),
+        ("mapf help agent", FaultKind::Help),
+        ("mapf agent --help", FaultKind::Help),
+        ("mapf agent M P x T -h", FaultKind::Help),
+        ("mapf --version", FaultKind::Help),
+        ("mapf -V", FaultKind::Help),
+        ("mapf check --help", FaultKind::Help),
+        ("mapf check -h", FaultKind::Help),
+        ("mapf check M P --json --scen S -h", FaultKind::Help),
     ] {
-        let words = words(rt.alloc(), text)?;
-        let got = line(rt.alloc(), words.as_slice());
-        assert_eq!(rt; got.err(), Some(want), "at {text:?}");
+        let got = fault_of(rt.alloc(), text)?;
+        assert_eq!(rt; got.as_ref().map(kind_of), Some(want), "at {text:?}");
     }
     let none: [String; 0] = [];
+    let got = line(rt.alloc(), none.as_slice()).err();
+    assert_eq!(rt; got.as_ref().map(kind_of), Some(FaultKind::BadCommand));
+    Ok(())
+}
+
+#[test]
+fn versions(rt: HostRuntime) -> Result<(), Fail> {
+    for &text in &["mapf --version", "mapf -V"] {
+        let Some(fault) = fault_of(rt.alloc(), text)? else {
+            assert!(rt; false, "a command at {text:?}");
+            return Ok(());
+        };
+        assert_eq!(rt; kind_of(&fault), FaultKind::Help, "at {text:?}");
+        assert_eq!(rt; shown(&fault), "mapf 0.1.0\n", "at {text:?}");
+    }
+    Ok(())
+}
+
+/// A bad command line is told with the word that is wrong or missing, and with what the command takes.
+#[test]
+fn texts_of_bad_commands(rt: HostRuntime) -> Result<(), Fail> {
+    for &(text, named, usage) in &[
+        ("mapf", "subcommand", "Usage: mapf <COMMAND>"),
+        ("mapf chek", "'chek'", "Usage: mapf <COMMAND>"),
+        ("mapf chek", "'check'", "Usage: mapf <COMMAND>"),
+        ("mapf --nope", "'--nope'", "Usage: mapf <COMMAND>"),
+        ("mapf map", "<file>", "Usage: mapf map <file>"),
+        ("mapf map A B", "'B'", "Usage: mapf map <file>"),
+        (
+            "mapf row M S x",
+            "'x'",
+            "Usage: mapf row <map> <scen> <row>",
+        ),
+        (
+            "mapf row M S x",
+            "a number from 0 to 4294967295",
+            "Usage: mapf row",
+        ),
+        ("mapf row M S", "<row>", "Usage: mapf row"),
+        ("mapf check M P --nope", "--nope", "Usage: mapf check"),
+        ("mapf check M P --scen", "--scen", "--help"),
+        ("mapf deps M", "<plan>", "Usage: mapf deps <map> <plan>"),
+        ("mapf run M P", "<events>", "Usage: mapf run"),
+        (
+            "mapf agent M P 65536 T",
+            "'65536' for '<id>'",
+            "Usage: mapf agent <map> <plan> <id> <tape>",
+        ),
+        (
+            "mapf agent M P 0",
+            "<tape>",
+            "Usage: mapf agent <map> <plan> <id> <tape>",
+        ),
+    ] {
+        let Some(fault) = fault_of(rt.alloc(), text)? else {
+            assert!(rt; false, "a command at {text:?}");
+            return Ok(());
+        };
+        let told = shown(&fault);
+        assert_eq!(rt; kind_of(&fault), FaultKind::BadCommand, "at {text:?}");
+        assert!(rt; told.starts_with("error: "), "at {text:?}: {told}");
+        assert!(rt; told.contains(named), "at {text:?}: {told}");
+        assert!(rt; told.contains(usage), "at {text:?}: {told}");
+        assert!(rt; told.contains("--help"), "at {text:?}: {told}");
+        assert!(rt; told.ends_with('\n'), "at {text:?}: {told}");
+    }
+    Ok(())
+}
+
+#[test]
+fn whole_texts_of_numbers_that_are_none(rt: HostRuntime) -> Result<(), Fail> {
+    for &(text, want) in &[
+        (
+            "mapf row M S 1x",
+            "error: invalid value '1x' for '<row>': a number from 0 to 4294967295 is wanted, in digits alone
+
+Usage: mapf row <map> <scen> <row>
+
+For more information, try '--help'.
+",
+        ),
+        (
+            "mapf agent M P 65536 T",
+            "error: invalid value '65536' for '<id>': the number of an agent, from 0 to 65535, is wanted, in digits alone
+
+Usage: mapf agent <map> <plan> <id> <tape>
+
+For more information, try '--help'.
+",
+        ),
+    ] {
+        let got = fault_of(rt.alloc(), text)?;
+        assert_eq!(rt; got.as_ref().map(shown), Some(want), "at {text:?}");
+    }
+    Ok(())
+}
+
+/// Help on a command is the same text however it is asked for, and shows a call of the command.
+#[test]
+fn texts_of_help(rt: HostRuntime) -> Result<(), Fail> {
+    for &(command, usage, example) in &[
+        (
+            "map",
+            "Usage: mapf map <file>",
+            "mapf map examples/corner.map\n",
+        ),
+        (
+            "scen",
+            "Usage: mapf scen <file>",
+            "mapf scen examples/corner.scen\n",
+        ),
+        (
+            "row",
+            "Usage: mapf row <map> <scen> <row>",
+            "mapf row examples/corner.map examples/corner.scen 0\n",
+        ),
+        (
+            "check",
+            "Usage: mapf check [OPTIONS] <map> <plan>",
+            "mapf check examples/corner.map examples/corner.plan --scen examples/corner.scen\n",
+        ),
+        (
+            "deps",
+            "Usage: mapf deps <map> <plan>",
+            "mapf deps examples/turn.map examples/turn.plan\n",
+        ),
+        (
+            "run",
+            "Usage: mapf run <map> <plan> <events>",
+            "mapf run examples/plain.map examples/behind.plan examples/behind.events\n",
+        ),
+        (
+            "agent",
+            "Usage: mapf agent <map> <plan> <id> <tape>",
+            "mapf agent examples/plain.map examples/behind.plan 0 robot0.tape\n",
+        ),
+    ] {
+        let by_word = fault_of(rt.alloc(), &format!(in rt.alloc(); "mapf help {command}")?)?;
+        let by_flag = fault_of(
+            rt.alloc(),
+            &format!(in rt.alloc(); "mapf {command} --help")?,
+        )?;
+        let Some(fault) = by_word else {
+            assert!(rt; false, "a command at {command}");
+            return Ok(());
+        };
+        let text = shown(&fault);
+        assert_eq!(rt; kind_of(&fault), FaultKind::Help, "at {command}");
+        assert_eq!(rt; by_flag.as_ref().map(shown), Some(text), "at {command}");
+        assert!(rt; text.contains(usage), "at {command}: {text}");
+        assert!(rt; text.contains("Status:"), "at {command}: {text}");
+        assert!(rt; text.contains("Example:"), "at {command}: {text}");
+        assert!(rt; text.ends_with(example), "at {command}: {text}");
+    }
+    Ok(())
+}
+
+/// Help on the program lists its commands.
+#[test]
+fn text_of_all_commands(rt: HostRuntime) -> Result<(), Fail> {
+    let Some(fault) = fault_of(rt.alloc(), "mapf --help")? else {
+        assert!(rt; false, "a command");
+        return Ok(());
+    };
+    let text = shown(&fault);
     assert_eq!(rt;
-        line(rt.alloc(), none.as_slice()).err(),
-        Some(LineFault::BadCommand)
+        fault_of(rt.alloc(), "mapf help")?.as_ref().map(shown),
+        Some(text)
     );
+    assert!(rt; text.contains("Usage: mapf <COMMAND>"), "{text}");
+    for &command in &[
+        "map", "scen", "row", "check", "deps", "run", "agent", "help",
+    ] {
+        let line = format!(in rt.alloc(); "\n  {command} ")?;
+        assert!(rt; text.contains(&line), "no {command}: {text}");
+    }
+    Ok(())
+}
+
+#[test]
+fn bad_commands_with_a_text(rt: HostRuntime) -> Result<(), Fail> {
+    let fault = LineFault::bad_command(rt.alloc(), "error: the words are no text\n");
+    assert_eq!(rt; kind_of(&fault), FaultKind::BadCommand);
+    assert_eq!(rt; shown(&fault), "error: the words are no text\n");
     Ok(())
 }

@@ -13,6 +13,7 @@ const FILES: &[(&str, &str)] = &[
     ("corner.scen", ROW),
     ("corner.plan", PLAN),
     ("corner.events", EVENTS),
+    ("corner.tape", ""),
 ];
 
 /// A plan that solves the scenario's only row.
@@ -134,9 +135,37 @@ fn commands_open_their_files_in_order(rt: HostRuntime) -> Result<(), Fail> {
             opened: "corner.map\ncorner.plan\ncorner.plan\n",
         },
     ] {
-        does(&rt, rt.alloc(), want)?;
+        does(&rt, rt.alloc(), "start\n", want)?;
     }
     Ok(())
+}
+
+/// The agent begins in the cell `0 1` of the map, and its tape cannot be written.
+#[test]
+fn an_agent_reads_the_input(rt: HostRuntime) -> Result<(), Fail> {
+    let opened = "corner.map\ncorner.plan\ncorner.tape\n";
+    let want = Done {
+        words: "mapf agent corner.map corner.plan 0 corner.tape",
+        status: 0,
+        out: "at 0 1 done 0\nsaid 460100000000000000000000\nat 0 1 done 0\n",
+        err: "",
+        opened,
+    };
+    does(&rt, rt.alloc(), "say\nheld\n", &want)?;
+    let want = Done {
+        status: 3,
+        out: "at 0 1 done 0\nrefused StoreFailed\n",
+        ..want
+    };
+    does(&rt, rt.alloc(), "start\nheld\n", &want)?;
+    let want = Done {
+        words: "mapf agent corner.map corner.plan 1 corner.tape",
+        status: 1,
+        out: "",
+        err: "mapf: NoSuchAgent\n",
+        opened: "corner.map\ncorner.plan\n",
+    };
+    does(&rt, rt.alloc(), "start\n", &want)
 }
 
 #[test]
@@ -174,6 +203,18 @@ fn files_that_are_not_there(rt: HostRuntime) -> Result<(), Fail> {
             "mapf run corner.map corner.plan other.events",
             "corner.map\ncorner.plan\nother.events\n",
         ),
+        (
+            "mapf agent other.map corner.plan 0 corner.tape",
+            "other.map\n",
+        ),
+        (
+            "mapf agent corner.map other.plan 0 corner.tape",
+            "corner.map\nother.plan\n",
+        ),
+        (
+            "mapf agent corner.map corner.plan 0 other.tape",
+            "corner.map\ncorner.plan\nother.tape\n",
+        ),
     ] {
         let want = Done {
             words,
@@ -182,7 +223,7 @@ fn files_that_are_not_there(rt: HostRuntime) -> Result<(), Fail> {
             err: "mapf: OpenFailed\n",
             opened,
         };
-        does(&rt, rt.alloc(), &want)?;
+        does(&rt, rt.alloc(), "start\n", &want)?;
     }
     Ok(())
 }
@@ -199,6 +240,8 @@ fn words_that_are_no_command(rt: HostRuntime) -> Result<(), Fail> {
         "mapf deps corner.map",
         "mapf run corner.map corner.plan",
         "mapf run corner.map corner.plan corner.events corner.events",
+        "mapf agent corner.map corner.plan 0",
+        "mapf agent corner.map corner.plan 65536 corner.tape",
     ] {
         let files = FakeFiles::new(rt.alloc(), FILES);
         let (mut out, mut err) = (Keeper::of_size(2048), Keeper::of_size(2048));
@@ -206,25 +249,30 @@ fn words_that_are_no_command(rt: HostRuntime) -> Result<(), Fail> {
         let status = run(
             &files,
             words.as_slice(),
+            &mut Counted::new(b"".as_slice()),
             &mut Counted::new(&mut out),
             &mut Counted::new(&mut err),
         );
         assert_eq!(rt; status, 2, "at {text:?}");
         assert!(rt; out.kept() == b"".as_slice(), "at {text:?}");
-        assert!(rt; err.kept().starts_with(b"usage: mapf "), "at {text:?}");
+        assert!(rt; err.kept().starts_with(b"error: "), "at {text:?}");
         assert!(rt; files.were_opened(""), "at {text:?}");
     }
     Ok(())
 }
 
+/// Where the help of `mapf row` begins.
+const ABOUT_ROW: &str = "Judges the length that a scenario lists";
+
 #[test]
 fn help(rt: HostRuntime) -> Result<(), Fail> {
-    for &text in &[
-        "mapf help",
-        "mapf -h",
-        "mapf --help",
-        "mapf row --help",
-        "mapf run --help",
+    for &(text, begins) in &[
+        ("mapf help", "Reads maps, scenarios and plans"),
+        ("mapf -h", "Reads maps, scenarios and plans"),
+        ("mapf --help", "Reads maps, scenarios and plans"),
+        ("mapf row --help", ABOUT_ROW),
+        ("mapf help row", ABOUT_ROW),
+        ("mapf --version", "mapf 0.1.0\n"),
     ] {
         let files = FakeFiles::new(rt.alloc(), FILES);
         let (mut out, mut err) = (Keeper::of_size(2048), Keeper::of_size(2048));
@@ -232,14 +280,12 @@ fn help(rt: HostRuntime) -> Result<(), Fail> {
         let status = run(
             &files,
             words.as_slice(),
+            &mut Counted::new(b"".as_slice()),
             &mut Counted::new(&mut out),
             &mut Counted::new(&mut err),
         );
         assert_eq!(rt; status, 0, "at {text:?}");
-        assert!(rt;
-            out.kept().starts_with(b"Reads maps, scenarios and plans"),
-            "at {text:?}"
-        );
+        assert!(rt; out.kept().starts_with(begins.as_bytes()), "at {text:?}");
         assert!(rt; err.kept() == b"".as_slice(), "at {text:?}");
         assert!(rt; files.were_opened(""), "at {text:?}");
     }
@@ -257,6 +303,7 @@ fn help_that_cannot_be_written(rt: HostRuntime) -> Result<(), Fail> {
         let status = run(
             &files,
             words.as_slice(),
+            &mut Counted::new(b"".as_slice()),
             &mut Counted::new(&mut out),
             &mut Counted::new(&mut err),
         );
@@ -269,14 +316,15 @@ fn help_that_cannot_be_written(rt: HostRuntime) -> Result<(), Fail> {
     Ok(())
 }
 
-/// Runs the program over the files, and compares what it did.
-fn does(rt: &impl Abort, alloc: Global, want: &Done) -> Result<(), Fail> {
+/// Runs the program over the files and this input, and compares what it did.
+fn does(rt: &impl Abort, alloc: Global, input: &str, want: &Done) -> Result<(), Fail> {
     let files = FakeFiles::new(alloc, FILES);
     let (mut out, mut err) = (Keeper::of_size(2048), Keeper::of_size(2048));
     let words = words(alloc, want.words)?;
     let status = run(
         &files,
         words.as_slice(),
+        &mut Counted::new(input.as_bytes()),
         &mut Counted::new(&mut out),
         &mut Counted::new(&mut err),
     );

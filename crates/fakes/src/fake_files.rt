@@ -1,16 +1,16 @@
 //! Files of a test's own, in place of those of the system.
+use crate::opened_names::OpenedNames;
 use std::alloc::{Allocator, Global};
-use std::cell::RefCell;
 use std::fs::{Metadata, OpenFile, OpenOptions};
 use std::io;
 use std::io::{ErrorKind, Read, Seek, SeekFrom, Write};
 use std::rt::Files;
 
-/// Some files by their names, which are only read, and the names that were opened, each ended by an LF.
+/// Some files by their names, which are only read, and the names that were opened.
 pub struct FakeFiles<'a> {
     alloc: Global,
     texts: &'a [(&'a str, &'a str)],
-    opened: RefCell<String>,
+    opened: OpenedNames,
 }
 
 impl<'a> FakeFiles<'a> {
@@ -19,27 +19,13 @@ impl<'a> FakeFiles<'a> {
         FakeFiles {
             alloc,
             texts,
-            opened: RefCell::new(String::new(alloc)),
+            opened: OpenedNames::new(alloc),
         }
     }
 
-    /// Whether just these names were asked for, in this order.
+    /// Whether just these names were asked for, in this order, each ended by an LF.
     pub fn were_opened(&self, names: &str) -> bool {
-        match self.opened.try_borrow() {
-            Ok(opened) => opened.as_str() == names,
-            Err(_) => false,
-        }
-    }
-
-    fn note(&self, name: &str) -> io::Result<()> {
-        match self.opened.try_borrow_mut() {
-            Ok(mut opened) => {
-                opened.push_str(name)?;
-                opened.push_str("\n")?;
-                Ok(())
-            }
-            Err(_) => Err(unsupported()),
-        }
+        self.opened.are(names)
     }
 }
 
@@ -61,7 +47,7 @@ impl Alloc for FakeFiles<'_> {
     }
 }
 
-fn unsupported() -> io::Error {
+pub(crate) fn unsupported() -> io::Error {
     io::Error::from(ErrorKind::Unsupported)
 }
 
@@ -71,7 +57,7 @@ impl<'a> Files for FakeFiles<'a> {
     type Dir = FakeFile<'a>;
 
     fn open_file(&self, _how: &OpenOptions, path: &str) -> io::Result<FakeFile<'a>> {
-        self.note(path)?;
+        self.opened.note(path)?;
         for (name, text) in self.texts {
             if *name == path {
                 return Ok(FakeFile {

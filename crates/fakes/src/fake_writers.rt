@@ -5,7 +5,7 @@ use std::io;
 use std::io::{ErrorKind, Write};
 
 /// How many bytes a fake writer keeps.
-const ROOM: usize = 1024;
+const ROOM: usize = 4096;
 
 /// What happens at the call that goes wrong.
 #[derive(Clone, Copy, Debug, PartialEq, Eq)]
@@ -25,7 +25,7 @@ pub struct Keeper {
     most: usize,
     calls: u64,
     trouble: Option<(u64, Trouble)>,
-    ghost in_room: { len ≤ 1024 },
+    ghost in_room: { len ≤ 4096 },
 }
 
 impl Keeper {
@@ -60,7 +60,7 @@ impl Keeper {
     }
 
     fn keep(&mut self, bytes: &[u8])
-        requires { self.old.len + length bytes.now ≤ 1024 }
+        requires { self.old.len + length bytes.now ≤ 4096 }
         ensures { kept_by self.new ≡ kept_by self.old ++ bytes.now }
     {
         let end = self.len + bytes.len();

@@ -22,13 +22,14 @@ file_fault_of made_out_of_memory = OutOfMemory
 abbrev pub file_state : {F : Type 0} → FileTape F → TapeState
 file_state t = record (mem_state t.image) { failures = t.failures }
 
--- The image has what the file had, as far as there is room; fewer than ten bytes are left out. All of it is synced.
+-- The image has what the file had, as far as there is room; fewer than ten bytes are left out. Where there is a whole record, all of it
+-- is synced.
 pub record IsImage {F : Type 0} (remaining : F → Option (List ℕ)) (file : F) (room : ℕ) (t : FileTape F) : Type 0 where
   pub bytes : List ℕ
   pub whole : IfSome (remaining file) (λ all. bytes ≡ all)
   pub no_longer : length bytes < room + record_length
   pub state : file_state t ≡ record { contents = take room bytes; room = room; failures = 0 }
-  pub synced : t.disk.synced ≡ true
+  pub synced : record_length ≤ length (file_state t).contents → t.disk.synced ≡ true
 
 -- a read succeeds, and makes no call on the file
 pub record IsFileRead {F : Type 0} (t : FileTape F) (at : ℕ) (succeeds : Bool) (bytes : List ℕ) (u : FileTape F) : Type 0 where

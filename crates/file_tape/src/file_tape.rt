@@ -83,9 +83,12 @@ impl<F: Read + Write + Seek + OpenFile + Drop> FileTape<F> {
             return Err(FileTapeFault::TooLong);
         }
         let image = MemTape::from_bytes(alloc, &bytes[..room_len.min(len)], room)?;
-        // The image is relied on from here on, and a program that was stopped may have left it unsynced.
         let mut disk = Disk::new(file);
-        disk.sync()?;
+        // Whole records are relied on from here on, and a program that was stopped may have left them unsynced.
+        let has_record = image.len() >= 10;
+        if has_record {
+            disk.sync()?;
+        }
         Ok(FileTape {
             disk,
             image,

@@ -1,8 +1,8 @@
 //! Agents whose tapes are files.
-use crate::fake_disk::{Call, FakeDisk, FakeFile};
 use crate::tape_files::{MOVING, STANDING, bytes_of};
 use agent::{Agent, Held, OpenFault, Refusal};
 use depgraph::Graph;
+use fakes::{Call, DiskFile, FakeDisk};
 use file_tape::FileTape;
 use grid::{Cell, Counted, read_map};
 use plan::{check, read_plan};
@@ -28,7 +28,7 @@ fn opened<'g, 'd>(
     alloc: Global,
     graph: &'g Graph,
     disk: &'d FakeDisk,
-) -> Result<Agent<'g, FileTape<FakeFile<'d>>>, Fail> {
+) -> Result<Agent<'g, FileTape<DiskFile<'d>>>, Fail> {
     let tape = FileTape::open(alloc, disk.file(), 20)?;
     Agent::open(alloc, graph, 0, tape).map_err(|refused| refused.0.into())
 }

@@ -4,8 +4,6 @@
 #[cfg(test)]
 mod agents_on_files;
 #[cfg(test)]
-mod fake_disk;
-#[cfg(test)]
 mod real_files;
 #[cfg(test)]
 mod tape_files;

@@ -1,6 +1,6 @@
 //! Files that are opened as tapes, and written.
-use crate::fake_disk::{Call, FakeDisk};
 use agent::{Tape, TapeError};
+use fakes::{Call, FakeDisk};
 use file_tape::{FileTape, FileTapeFault};
 use std::test::Fail;
 
@@ -63,8 +63,20 @@ fn tails_and_rooms(rt: HostRuntime) -> Result<(), Fail> {
         let len = FileTape::open(rt.alloc(), disk.file(), room).map(|tape| tape.len());
         assert_eq!(rt; len, opened);
         assert!(rt; disk.has(&bytes));
-        assert!(rt; opened.is_err() || disk.keeps(&bytes));
+        let has_record = opened.is_ok_and(|len| len >= 10);
+        assert!(rt; !has_record || disk.keeps(&bytes));
     }
+    Ok(())
+}
+
+#[test]
+fn file_without_a_record_is_not_synced(rt: HostRuntime) -> Result<(), Fail> {
+    let bytes = [0xff; 9];
+    let disk = FakeDisk::new(rt.alloc(), &bytes)?;
+    disk.fail(Call::Sync, 0);
+    let tape = FileTape::open(rt.alloc(), disk.file(), 20)?;
+    assert_eq!(rt; tape.len(), 9);
+    assert!(rt; disk.has(&bytes) && !disk.keeps(&bytes));
     Ok(())
 }
 

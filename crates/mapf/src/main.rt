@@ -3,15 +3,20 @@
 
 use grid::Counted;
 use mapf_cmd::{LineFault, refuse, run};
+use std::alloc::Global;
 use std::io::ErrorKind;
 use std::process::ExitCode;
 use std::{env, io};
 
+const NOT_TEXT: &str =
+    "error: a word of the command line is not UTF-8\n\nFor more information, try '--help'.\n";
+
 fn main(rt: HostRuntime) -> ExitCode {
+    let mut input = Counted::new(rt.stdin());
     let mut out = Counted::new(rt.stdout());
     let mut err = Counted::new(rt.stderr());
     let status = match words(&rt) {
-        Ok(words) => run(&rt, words.as_slice(), &mut out, &mut err),
+        Ok(words) => run(&rt, words.as_slice(), &mut input, &mut out, &mut err),
         Err(fault) => refuse(fault, &mut out, &mut err),
     };
     ExitCode::from(status)
@@ -19,13 +24,15 @@ fn main(rt: HostRuntime) -> ExitCode {
 
 /// The words of the command line, the program's name first. Words that are no text are a bad command line.
 fn words(rt: &HostRuntime) -> Result<Vec<String>, LineFault> {
-    let words = env::args(rt).map_err(fault_of)?;
-    Ok(words.collect(rt.alloc())?)
+    match env::args(rt) {
+        Ok(words) => Ok(words.collect(rt.alloc())?),
+        Err(e) => Err(fault_of(rt.alloc(), e)),
+    }
 }
 
-fn fault_of(e: io::Error) -> LineFault {
+fn fault_of(alloc: Global, e: io::Error) -> LineFault {
     match e.kind() {
         ErrorKind::OutOfMemory => LineFault::OutOfMemory,
-        _ => LineFault::BadCommand,
+        _ => LineFault::bad_command(alloc, NOT_TEXT),
     }
 }

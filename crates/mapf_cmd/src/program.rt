@@ -2,84 +2,71 @@
 ghost use Rattle.std.specs.Prelude.{◌≡◌, MatchResult, map, string_bytes};
 ghost use Rattle.mapf_cmd.specs.Program.{PerformsOn, Performs, EndsRefused, AnswersWords};
 
+use agent_commands::agent_cmd;
 use command_line::{Line, LineFault, line};
 use grid::Counted;
 use plan_commands::{check_cmd, check_fit_cmd, deps_cmd};
 use run_commands::run_cmd;
-use std::io::Write;
+use std::io::{Read, Write};
 use std::rt::Files;
 use std::{fs, io};
 use text_commands::{Status, finish, map_cmd, report, row_cmd, scen_cmd, write_text};
 use thiserror::Error;
 
-const HELP: &str = "Reads maps, scenarios and plans, and answers what they hold.
-
-Usage: mapf COMMAND
-
-Commands:
-  map FILE          reads a map and writes it in canonical form
-  scen FILE         reads a scenario and writes it in canonical form
-  row MAP SCEN N    judges the length that the scenario lists for its row N, from 0 on
-  check MAP PLAN [--scen SCEN] [--json]
-                    checks a plan on a map, and that it solves the first rows of a scenario
-  deps MAP PLAN     checks a plan on a map, and says which move waits for which
-  run MAP PLAN EVENTS
-                    checks a plan on a map, and answers the events of a run of it
-  help              shows this text
-";
-
-const USAGE: &str =
-    "usage: mapf map FILE | mapf scen FILE | mapf row MAP SCEN N | mapf check MAP PLAN [--scen SCEN] [--json] | mapf deps MAP PLAN | mapf run MAP PLAN EVENTS (mapf help says more)\n";
-
-/// Why a command was not performed.
+/// Why there is no command to perform, or none was performed.
 #[derive(Clone, Copy, Debug, PartialEq, Eq, Error)]
-enum OpenFault {
+enum ProgramFault {
     #[error("OpenFailed")]
     OpenFailed,
+    #[error("OutOfMemory")]
+    OutOfMemory,
 }
 
 /// Answers the words of the command line, the program's name first, over the files of `rt`: what a command writes goes to `out`, and
-/// the line of a fault to `err`. The answer is the exit status.
-pub fn run<R: Files + AllocGlobal, W: Write, E: Write>(
+/// the line of a fault to `err`. Only an agent reads `input`. The answer is the exit status.
+pub fn run<R: Files + AllocGlobal, I: Read, W: Write, E: Write>(
     rt: &R,
     words: &[String],
+    input: &mut Counted<I>,
     out: &mut Counted<W>,
     err: &mut Counted<E>,
 ) -> u8
-    ensures { AnswersWords R.File.remaining W.contents (map string_bytes words.now) out.old out.new result }
+    ensures { AnswersWords R.File.remaining I.remaining W.contents (map string_bytes words.now) input.old input.new out.old out.new result }
 {
     match line(rt.alloc(), words) {
-        Ok(line) => perform(rt, line, out, err),
+        Ok(line) => perform(rt, line, input, out, err),
         Err(fault) => refuse(fault, out, err),
     }
 }
 
 /// Performs a command on its files.
-fn perform<R: Files + AllocGlobal, W: Write, E: Write>(
+fn perform<R: Files + AllocGlobal, I: Read, W: Write, E: Write>(
     rt: &R,
     line: Line,
+    input: &mut Counted<I>,
     out: &mut Counted<W>,
     err: &mut Counted<E>,
 ) -> u8
-    ensures { Performs R.File.remaining W.contents line out.old out.new result }
+    ensures { Performs R.File.remaining I.remaining W.contents line input.old input.new out.old out.new result }
 {
-    match perform_on_files(rt, line, out, err) {
+    match perform_on_files(rt, line, input, out, err) {
         Ok(status) => status,
         Err(_) => {
-            let _ = report(err, OpenFault::OpenFailed);
+            let _ = report(err, ProgramFault::OpenFailed);
             Status::Failure.code()
         }
     }
 }
 
 /// Opens the files of a command, in the order of its words, and performs it. An error is that of a file that can't be opened.
-fn perform_on_files<R: Files + AllocGlobal, W: Write, E: Write>(
+fn perform_on_files<R: Files + AllocGlobal, I: Read, W: Write, E: Write>(
     rt: &R,
     line: Line,
+    input: &mut Counted<I>,
     out: &mut Counted<W>,
     err: &mut Counted<E>,
 ) -> io::Result<u8>
-    ensures { MatchResult result (PerformsOn R.File.remaining W.contents line out.old out.new) (λ _. out.new ≡ out.old) }
+    ensures { MatchResult result (PerformsOn R.File.remaining I.remaining W.contents line input.old input.new out.old out.new) (λ _. (input.new ≡ input.old) × (out.new ≡ out.old)) }
 {
     match line {
         Line::Map { file } => {
@@ -122,6 +109,16 @@ fn perform_on_files<R: Files + AllocGlobal, W: Write, E: Write>(
             let mut events = Counted::new(fs::open(rt, &events)?);
             Ok(run_cmd(rt.alloc(), &mut map, &mut plan, &mut events, out, err))
         }
+        Line::Agent {
+            map,
+            plan,
+            id,
+            tape,
+        } => {
+            let mut map = Counted::new(fs::open(rt, &map)?);
+            let mut plan = Counted::new(fs::open(rt, &plan)?);
+            Ok(agent_cmd(rt, &mut map, &mut plan, id, &tape, input, out, err))
+        }
     }
 }
 
@@ -134,16 +131,16 @@ pub fn refuse<W: Write, E: Write>(
     ensures { EndsRefused W.contents fault out.old out.new result }
 {
     match fault {
-        LineFault::Help => {
-            let written = write_text(HELP.as_bytes(), out);
+        LineFault::Help(text) => {
+            let written = write_text(text.as_bytes(), out);
             finish(written, Status::Done, out, err).code()
         }
-        LineFault::BadCommand => {
-            let _ = err.write_all(USAGE.as_bytes());
+        LineFault::BadCommand(text) => {
+            let _ = err.write_all(text.as_bytes());
             Status::BadCommand.code()
         }
         LineFault::OutOfMemory => {
-            let _ = report(err, fault);
+            let _ = report(err, ProgramFault::OutOfMemory);
             Status::Failure.code()
         }
     }

@@ -15,7 +15,7 @@ use thiserror::Error;
 
 /// Why a plan is not accepted.
 #[derive(Clone, Copy, Debug, PartialEq, Eq, Error)]
-pub(crate) enum CheckFault {
+pub enum CheckFault {
     /// The map could not be read.
     #[error("{0}")]
     Map(MapFault),
@@ -35,7 +35,7 @@ pub(crate) enum CheckFault {
 
 impl CheckFault {
     /// The status that it ends with.
-    pub(crate) fn status(self) -> Status
+    pub fn status(self) -> Status
         ensures { result ≡ check_fault_status self }
     {
         match self {

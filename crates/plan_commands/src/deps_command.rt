@@ -23,12 +23,12 @@ pub fn deps_cmd<M: Read, P: Read, W: Write, E: Write>(
     ensures answers { AnswersDeps M.remaining P.remaining W.contents map.old map.new plan.old plan.new out.old out.new result }
     ensures quiet { result ≡ 0 → err.new ≡ err.old }
 {
-    let answer = read_and_build(alloc, map, plan);
+    let answer = read_graph(alloc, map, plan);
     conclude(answer, out, err)
 }
 
 /// Reads the map and then the plan, checks the plan, and builds its graph.
-fn read_and_build<M: Read, P: Read>(
+pub fn read_graph<M: Read, P: Read>(
     alloc: Global,
     map: &mut Counted<M>,
     plan: &mut Counted<P>,

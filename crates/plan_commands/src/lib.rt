@@ -9,7 +9,7 @@ mod rejection;
 mod verdict;
 
 pub use check_command::{check_cmd, check_fit_cmd};
-pub use check_fault::plan_text_fault_status;
-pub use deps_command::deps_cmd;
+pub use check_fault::{CheckFault, plan_text_fault_status};
+pub use deps_command::{deps_cmd, read_graph};
 pub use rejection::Rejection;
 pub use verdict::{Verdict, verdict_json};

@@ -1,6 +1,10 @@
-//! Tests of the crate run_commands: whole runs over readers and writers, failing ones too.
+//! Tests of the crates run_commands and agent_commands: whole runs, and agents, over readers, writers and disks, failing ones too.
 #![tactic(auto)]
 
+#[cfg(test)]
+mod agent_command;
+#[cfg(test)]
+mod agent_trouble;
 #[cfg(test)]
 mod run_command;
 #[cfg(test)]

@@ -153,7 +153,7 @@ static EVENT_FAULTS: [(&str, &str, &str); 8] = [
 ];
 
 /// Maps and plans with a fault: the map, the plan, and the fault's line.
-static PLAN_FAULTS: [(&str, &str, &str); 8] = [
+pub static PLAN_FAULTS: [(&str, &str, &str); 8] = [
     (LANE, SWAP, "mapf: Swap 0 1 0\n"),
     (
         LANE,

@@ -108,7 +108,7 @@ fn full_output(rt: HostRuntime) -> Result<(), Fail> {
         &mut err,
     );
     assert_eq!(rt; status, 3);
-    assert_eq!(rt; out.kept().len(), 1024);
+    assert_eq!(rt; out.kept().len(), 4096);
     assert!(rt; want.as_bytes().starts_with(out.kept()));
     assert!(rt; err.kept() == b"mapf: WriteFailed\n".as_slice());
     Ok(())

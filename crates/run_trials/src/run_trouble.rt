@@ -2,44 +2,13 @@
 use crate::run_command::{
     ASKING, ASKING_REPLIES, FILE, JUMPING, LANE, SWAP, expect, replay, replies_to,
 };
-use fakes::{Keeper, Pieces, Trouble};
+use fakes::{Keeper, Pieces, Record, Trouble};
 use grid::Counted;
 use run_commands::run_cmd;
 use std::alloc::Global;
-use std::cell::RefCell;
-use std::io;
-use std::io::{ErrorKind, Read, Write};
+use std::io::{ErrorKind, Read};
 use std::process::Abort;
 use std::test::Fail;
-
-/// A writer over a record that it shares with others: behind what it takes it notes each flush by a bar.
-#[derive(Clone, Copy)]
-struct Shared<'a> {
-    record: &'a RefCell<Vec<u8>>,
-}
-
-impl Shared<'_> {
-    fn note(&self, bytes: &[u8]) -> io::Result<()> {
-        match self.record.try_borrow_mut() {
-            Ok(mut record) => {
-                record.extend_from_slice(bytes)?;
-                Ok(())
-            }
-            Err(_) => Err(io::Error::from(ErrorKind::Other)),
-        }
-    }
-}
-
-impl Write for Shared<'_> {
-    fn write(&mut self, buf: &[u8]) -> io::Result<usize> {
-        self.note(buf)?;
-        Ok(buf.len())
-    }
-
-    fn flush(&mut self) -> io::Result<()> {
-        self.note(b"|")
-    }
-}
 
 /// Events, the status, and what both outputs take of the plan `FILE` together, in order.
 static TOGETHER: [(&str, u8, &str); 4] = [
@@ -247,22 +216,19 @@ fn failing_outputs(rt: HostRuntime) {
 }
 
 #[test]
-fn replies_are_out_before_a_fault(rt: HostRuntime) {
+fn replies_are_out_before_a_fault(rt: HostRuntime) -> Result<(), Fail> {
     for &(events, status, text) in &TOGETHER {
-        let record = RefCell::new(Vec::new(rt.alloc()));
+        let record = Record::new(rt.alloc())?;
         let got = run_cmd(
             rt.alloc(),
             &mut Counted::new(LANE.as_bytes()),
             &mut Counted::new(FILE.as_bytes()),
             &mut Counted::new(events.as_bytes()),
-            &mut Counted::new(Shared { record: &record }),
-            &mut Counted::new(Shared { record: &record }),
+            &mut Counted::new(record.writer()),
+            &mut Counted::new(record.writer()),
         );
         assert_eq!(rt; got, status, "at {events:?}");
-        let is_text = match record.try_borrow() {
-            Ok(record) => record.as_slice() == text.as_bytes(),
-            Err(_) => false,
-        };
-        assert!(rt; is_text, "at {events:?}");
+        assert!(rt; record.is(text.as_bytes()), "at {events:?}");
     }
+    Ok(())
 }

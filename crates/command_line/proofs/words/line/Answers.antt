@@ -1,4 +1,4 @@
-use Rattle.std.proofs.Common.{◌≡◌, ◌∙◌, ap, ap₂, sym, refl, subst, true, map, string_bytes, List, [], inl, inr, Option, Some, None, option_map, unwrap_or}
+use Rattle.std.proofs.Common.{◌≡◌, ◌∙◌, ◌⊎◌, ap, ap₂, sym, refl, subst, true, map, string_bytes, List, [], inl, inr, Option, Some, None, option_map, unwrap_or}
 use Rattle.std.proofs.lemmas.Result.{IfErr-weaker, IfOk-weaker}
 use Rattle.clap.specs.Matches.{subcommand_name_of}
 use Rattle.clap.specs.Kinds.{HasKind, IsAmong, Kinds}
@@ -6,10 +6,11 @@ use Rattle.clap.specs.Words.{App, kind_of, HasMatchesOf, Row, Text, takes, fault
 use Rattle.clap.specs.declared.parser.matches.ArgMatches.{ArgMatches}
 use Rattle.clap.specs.declared.parser.matches.ArgMatches.TheViews.{out-ArgMatches}
 use Rattle.clap.proofs.OnLiterals.{clap_on_literals}
-use Rattle.clap.proofs.TakesLemmas.{passed_up}
-use Rattle.clap.specs.declared.error.Error.{Error as ClapError}
 use Rattle.command_line.specs.declared.command_line.LineFault.{LineFault}
-use Rattle.command_line.specs.Words.{program_app, fault_of_kind, IsFaultOf}
+use Rattle.clap.specs.declared.error.Error.{Error as ClapError}
+use Rattle.clap.specs.declared.error.kind.ErrorKind.TheVariants as kind
+use Rattle.command_line.specs.declared.command_line.LineFault.TheVariants.{OutOfMemory}
+use Rattle.command_line.specs.Words.{program_app, ComesTo, IsFaultOf}
 use Rattle.command_line.specs.Code.Parts.{IsRefusal}
 use Rattle.command_line.proofs.Taken.{taken_gives, IsGiven}
 use Rattle.command_line.proofs.words.line.Goals as goal
@@ -44,48 +45,55 @@ subcommand_found app words m name rows e matches n r =
     sym same ∙ name_and_rows (subcommand_rows_of m) name rows (n ∙ sym named) r
 
 -- what an error of clap comes to
-fault-from_kind : (words : List Text) (kinds : Kinds) (e : ClapError) → kinds ≡ fault_of program_app words → HasKind kinds e → IsFaultOf words (fault_of_kind (kind_of e))
-fault-from_kind words kinds e is (inl memory) = inl (ap fault_of_kind memory)
-fault-from_kind words kinds e is (inr among) = inr (inl (kind_of e, subst (IsAmong (kind_of e)) is among, refl))
+fault-from_kind : (words : List Text) (kinds : Kinds) (e : ClapError) (fault : LineFault) → kinds ≡ fault_of program_app words → HasKind kinds e
+    → (fault ≡ OutOfMemory) ⊎ ComesTo (kind_of e) fault → IsFaultOf words fault
+fault-from_kind words kinds e fault is has (inl memory) = inl memory
+fault-from_kind words kinds e fault is (inl memory) (inr comes) = inl (subst (λ k. ComesTo k fault) memory comes)
+fault-from_kind words kinds e fault is (inr among) (inr comes) = inr (inl (kind_of e, subst (IsAmong (kind_of e)) is among, comes))
+
+-- where memory was refused, the fault says so
+memory-from_kind : (e : ClapError) (fault : LineFault) → kind_of e ≡ kind.OutOfMemory → (fault ≡ OutOfMemory) ⊎ ComesTo (kind_of e) fault → fault ≡ OutOfMemory
+memory-from_kind e fault memory (inl is) = is
+memory-from_kind e fault memory (inr comes) = subst (λ k. ComesTo k fault) memory comes
 
 -- words that clap takes are refused for memory or a number
 fault-from_refusal : (words : List Text) (fault : LineFault) → fault_of program_app words ≡ [] → IsRefusal fault → IsFaultOf words fault
 fault-from_refusal words fault taken (inl memory) = inl memory
 fault-from_refusal words fault taken (inr number) = inr (inr (taken, number))
 
-pub returns-in_err-matches-clause-fault : goal.returns-in_err-matches-clause-fault
-returns-in_err-matches-clause-fault c =
-    let e = c.in_ok-program.ensures in
-    passed_up _ _ _ c.from_residual-in_err-matches.ensures.1
-    (fault-from_kind (map string_bytes c.args.words.now) _ c.in_err-matches.field-0.0 (ap (λ a. fault_of a (map string_bytes c.args.words.now)) e)
-    (c.in_err-matches.ensures.kinds (ap is_simple_and_free e ∙ is_free_program)))
-
-pub returns-in_err-matches-clause-refused : goal.returns-in_err-matches-clause-refused
-returns-in_err-matches-clause-refused c =
-    let e = c.in_ok-program.ensures in
-    passed_up _ _ _ c.from_residual-in_err-matches.ensures.1
-    (λ t spelled. ap fault_of_kind (c.in_err-matches.ensures.passes (ap (λ a. takes a (map string_bytes c.args.words.now)) e ∙ t)))
-
 pub returns-in-Some-clause-command : goal.returns-in-Some-clause-command
 returns-in-Some-clause-command c =
-    let found = subcommand_found _ _ _ _ _ c.in_ok-program.ensures c.in_ok-matches.ensures.matches c.in-Some.ensures.name c.in-Some.ensures.rows in
+    let found = subcommand_found _ _ _ _ _ c.in_ok-program.ensures c.in-Ok.ensures.matches c.in-Some.ensures.name c.in-Some.ensures.rows in
     IfOk-weaker c.read_command.result _ _ (λ line is. (_, _, found, is)) c.read_command.ensures.ok
 
 pub returns-in-Some-clause-taken : goal.returns-in-Some-clause-taken
 returns-in-Some-clause-taken c =
     let e = c.in_ok-program.ensures in
     let taken = sym (ap (λ a. fault_of a (map string_bytes c.args.words.now)) e)
-    ∙ c.in_ok-matches.ensures.kinds (ap is_simple_and_free e ∙ is_free_program) in
+    ∙ c.in-Ok.ensures.kinds (ap is_simple_and_free e ∙ is_free_program) in
     IfOk-weaker c.read_command.result _ _ (λ line is. taken) c.read_command.ensures.ok
 
 pub returns-in-Some-clause-fault : goal.returns-in-Some-clause-fault
 returns-in-Some-clause-fault c =
     let e = c.in_ok-program.ensures in
     let taken = sym (ap (λ a. fault_of a (map string_bytes c.args.words.now)) e)
-    ∙ c.in_ok-matches.ensures.kinds (ap is_simple_and_free e ∙ is_free_program) in
+    ∙ c.in-Ok.ensures.kinds (ap is_simple_and_free e ∙ is_free_program) in
     IfErr-weaker c.read_command.result _ _ (λ fault refusal. fault-from_refusal (map string_bytes c.args.words.now) fault taken refusal) c.read_command.ensures.refusal
 
 pub returns-in-Some-clause-refused : goal.returns-in-Some-clause-refused
 returns-in-Some-clause-refused c =
-    let found = subcommand_found _ _ _ _ _ c.in_ok-program.ensures c.in_ok-matches.ensures.matches c.in-Some.ensures.name c.in-Some.ensures.rows in
+    let found = subcommand_found _ _ _ _ _ c.in_ok-program.ensures c.in-Ok.ensures.matches c.in-Some.ensures.name c.in-Some.ensures.rows in
     IfErr-weaker c.read_command.result _ _ (λ fault only t spelled. only (subst IsGiven found (taken_gives (map string_bytes c.args.words.now) t)) (spelled _ _ found)) c.read_command.ensures.err
+
+pub returns-in-Err-clause-fault : goal.returns-in-Err-clause-fault
+returns-in-Err-clause-fault c =
+    let e = c.in_ok-program.ensures in
+    let words = map string_bytes c.args.words.now in
+    fault-from_kind words _ c.in-Err.error c.refused.result (ap (λ a. fault_of a words) e)
+    (c.in-Err.ensures.kinds (ap is_simple_and_free e ∙ is_free_program)) c.refused.ensures
+
+pub returns-in-Err-clause-refused : goal.returns-in-Err-clause-refused
+returns-in-Err-clause-refused c =
+    let e = c.in_ok-program.ensures in
+    let words = map string_bytes c.args.words.now in
+    λ t spelled. memory-from_kind c.in-Err.error c.refused.result (c.in-Err.ensures.passes (ap (λ a. takes a words) e ∙ t)) c.refused.ensures

@@ -1,39 +1,29 @@
-use Rattle.std.proofs.Common.{◌≡◌, ◌∙◌, ℕ, ◌^◌, ◌<◌, List, Option, Some, None, IfOk, OnErr, MatchOption, sym, subst}
-use Rattle.std.specs.Option.{ok_or}
+use Rattle.std.proofs.Common.{◌≡◌, ◌∙◌, ℕ, ◌^◌, ◌<◌, List, Option, Some, None, MatchOption, sym, subst, rules}
 use Rattle.clap.specs.Words.{Row, Text, first_of, found_of, rows_of}
 use Rattle.clap.proofs.WalkLemmas.{first_value-rows}
 use Rattle.grid.specs.Text.{SpellsNumber}
-use Rattle.command_line.specs.Words.{GivesNumber}
+use Rattle.command_line.specs.Words.{GivesNumber, GivesNumberBelow}
 use Rattle.command_line.proofs.words.number.Goals as goal
 
-abbrev IsSpelled : List ℕ → Option ℕ → Type 0
-IsSpelled digits o = MatchOption o ((n : ℕ) → n < 2 ^ 32 → SpellsNumber n digits → ⊥) (λ n. SpellsNumber n digits)
+-- what is spelled by the digits that the rows give
+given_number : (word : Text) (rows : List Row) (digits : Text) (o : Option ℕ) → first_of word rows ≡ Some digits
+    → MatchOption o ((n : ℕ) → n < 2 ^ 32 → SpellsNumber n digits → ⊥) (λ n. SpellsNumber n digits)
+    → MatchOption o (GivesNumberBelow (2 ^ 32) word rows → ⊥) (GivesNumber word rows)
+given_number word rows digits (Some n) is spells = (digits, is, spells)
+given_number word rows digits None is none =
+    λ given. let same : given.2.0 ≡ digits = cc in none given.0 given.1 (subst (SpellsNumber given.0) same given.2.2)
 
-given_ok : {E : Type 0} (word : Text) (rows : List Row) (digits : Text) (o : Option ℕ) (e : E) → first_of word rows ≡ Some digits
-    → IsSpelled digits o → IfOk (ok_or o e) (GivesNumber word rows)
-given_ok word rows digits (Some n) e is spells = (digits, is, spells)
-given_ok word rows digits None e is none = tt
+pub returns : goal.returns
+returns c =
+    let word = c.args.name.now in
+    let rows = rows_of (found_of c.args.given.now) in
+    let same = first_value-rows (found_of c.args.given.now) word in
+    let is : first_of word rows ≡ Some c.in_ok-get_str.field-0.now = sym same ∙ sym c.get_str.ensures ∙ search rules in
+    given_number word rows c.in_ok-get_str.field-0.now c.spelled.result is c.spelled.ensures
 
-given_none : {E : Type 0} (word : Text) (rows : List Row) (digits : Text) (o : Option ℕ) (e : E) → first_of word rows ≡ Some digits
-    → IsSpelled digits o → OnErr (ok_or o e) ((n : ℕ) → n < 2 ^ 32 → GivesNumber word rows n → ⊥)
-given_none word rows digits (Some n) e is spells = tt
-given_none word rows digits None e is none =
-    λ n fits gives. let same : gives.0 ≡ digits = cc in none n fits (subst (SpellsNumber n) same gives.2)
-
-pub returns-in-Some-clause-ok : goal.returns-in-Some-clause-ok
-returns-in-Some-clause-ok c =
-    let is = sym (first_value-rows (found_of c.args.given.now) c.args.name.now) ∙ sym c.in-Some.ensures in
-    rw c.ok_or.ensures.value (given_ok c.args.name.now (rows_of (found_of c.args.given.now)) _ c.spelled.result _ is c.spelled.ensures)
-
-pub returns-in-Some-clause-none : goal.returns-in-Some-clause-none
-returns-in-Some-clause-none c =
-    let is = sym (first_value-rows (found_of c.args.given.now) c.args.name.now) ∙ sym c.in-Some.ensures in
-    rw c.ok_or.ensures.value (given_none c.args.name.now (rows_of (found_of c.args.given.now)) _ c.spelled.result _ is c.spelled.ensures)
-
-pub returns-in-None-clause-none : goal.returns-in-None-clause-none
-returns-in-None-clause-none c =
-    λ n fits gives.
-    let none : None ≡ first_of c.args.name.now (rows_of (found_of c.args.given.now))
-    = c.in-None.ensures ∙ first_value-rows (found_of c.args.given.now) c.args.name.now in
-    let bad : None ≡ Some gives.0 = none ∙ gives.1 in
-    cc
+pub returns-in_err-get_str : goal.returns-in_err-get_str
+returns-in_err-get_str c =
+    let word = c.args.name.now in
+    let rows = rows_of (found_of c.args.given.now) in
+    let none : None ≡ first_of word rows = c.in_err-get_str.ensures ∙ first_value-rows (found_of c.args.given.now) word in
+    rw c.from_residual.ensures (λ given. let bad : None ≡ Some given.2.0 = none ∙ given.2.1 in cc)

@@ -1,14 +1,18 @@
-use Rattle.std.proofs.Common.{ℕ, sym, subst}
+use Rattle.std.proofs.Common.{ℕ, List, sym, subst}
 use Rattle.command_line.specs.declared.command_line.LineFault.{LineFault}
 use Rattle.command_line.specs.declared.command_line.LineFault.TheVariants.{Help}
 use Rattle.mapf_cmd.specs.Program.{EndsRefused}
+use Rattle.text_commands.specs.Rewriting.{EndsWriting}
+use Rattle.text_commands.specs.Status.{code_of}
+use Rattle.text_commands.specs.declared.status.Status.TheVariants.{Done}
 use Rattle.text_commands.proofs.Rewriting.{ends_writing}
 use Rattle.mapf_cmd.proofs.program.refuse.Goals as goal
 
 pub returns-in-Help : goal.returns-in-Help
 returns-in-Help g c =
     let Ends : LineFault → Type 0 = λ fault. EndsRefused g.W.Write.contents fault c.args.out.now c.finish.new.out c.code.result in
-    let Coded : ℕ → Type 0 = λ code. EndsRefused g.W.Write.contents Help c.args.out.now c.finish.new.out code in
+    let Coded : ℕ → Type 0 = λ code. EndsRefused g.W.Write.contents (Help c.in-Help.text) c.args.out.now c.finish.new.out code in
+    let Shown : List ℕ → Type 0 = λ bytes. EndsWriting g.W.Write.contents c.args.out.now c.finish.new.out (code_of c.finish.result) Done bytes in
     let shown = ends_writing g.W.Write.contents c.args.out.now c.write_text-written.new.writer c.finish.new.out _ _ _ c.finish.result
     c.write_text-written.ensures c.finish.ensures.out in
-    subst Ends (sym c.in-Help.is) (subst Coded (sym c.code.ensures) (_, shown))
+    subst Ends (sym c.in-Help.is) (subst Coded (sym c.code.ensures) (subst Shown c.as_bytes.ensures.value shown))

@@ -1,7 +1,8 @@
-use Rattle.std.proofs.Common.{◌≡◌, ◌<◌, List, ℕ, [], take, drop, length, refl, ap, ◌∙◌, arith}
+use Rattle.std.proofs.Common.{◌≡◌, ◌<◌, List, ℕ, [], take, drop, length, refl, ap, ◌∙◌, rules, arith}
 use Rattle.std.proofs.KnownBytes.{Consumes-all}
 use Rattle.std.proofs.lemmas.List.{length-take-le}
 use Rattle.file_tape.proofs.ReadLemmas.{read_front, made_of}
+use Rattle.file_tape.proofs.file_tape.FileTape.open.Goals.{then-has_record+in_ok-sync, else-has_record}
 use Rattle.file_tape.proofs.file_tape.FileTape.open.Goals as goal
 
 pub returns-clause-image : goal.returns-clause-image
@@ -25,5 +26,8 @@ returns-clause-image g c =
       whole = Consumes-all _ _ bytes [] bytes read.bytes (read.end more) refl;
       no_longer = let count = length-take-le len buffer read.within in omega (arith, short, count);
       state = made_of _ _ bytes c.args.room c.in_ok-image.ensures.ok front;
-      synced = c.in_ok-sync.ensures.ok;
+      synced = λ whole. elim c.if-has_record.branch [
+        | then-has_record+in_ok-sync w ↦ let is = w.disk-is in let synced = w.in_ok-sync.ensures.ok in search rules
+        | else-has_record w ↦ let short = w.if-has_record in let len = c.len-has_record.ensures in let count = whole in absurd (omega (arith, short, len, count))
+      ];
     }

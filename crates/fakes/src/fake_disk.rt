@@ -1,4 +1,5 @@
 //! A disk of a test's own, with one file.
+use crate::fake_files::unsupported;
 use std::alloc::{AllocError, Global};
 use std::cell::{Cell, RefCell};
 use std::fs::{Metadata, OpenFile};
@@ -8,6 +9,7 @@ use std::io::{ErrorKind, Read, Seek, SeekFrom, Write};
 /// How many bytes a read or a write takes at the most.
 const PIECE: usize = 4;
 
+/// A call of a file.
 #[derive(Clone, Copy, Debug, PartialEq, Eq)]
 pub enum Call {
     Read,
@@ -45,8 +47,8 @@ impl FakeDisk {
     }
 
     /// The file, at its beginning.
-    pub fn file(&self) -> FakeFile<'_> {
-        FakeFile {
+    pub fn file(&self) -> DiskFile<'_> {
+        DiskFile {
             disk: self,
             place: 0,
         }
@@ -65,6 +67,14 @@ impl FakeDisk {
     /// Whether these bytes stay where the power fails.
     pub fn keeps(&self, bytes: &[u8]) -> bool {
         holds(&self.synced, bytes)
+    }
+
+    /// The disk after a power cut: its file has what was synced.
+    pub fn after_power_cut(&self, alloc: Global) -> io::Result<FakeDisk> {
+        match self.synced.try_borrow() {
+            Ok(synced) => Ok(FakeDisk::new(alloc, synced.as_slice())?),
+            Err(_) => Err(unsupported()),
+        }
     }
 
     fn answer(&self, call: Call) -> io::Result<()> {
@@ -115,18 +125,14 @@ fn holds(held: &RefCell<Vec<u8>>, bytes: &[u8]) -> bool {
     }
 }
 
-fn unsupported() -> io::Error {
-    io::Error::from(ErrorKind::Unsupported)
-}
-
 /// The file of a disk, and where it stands.
 #[derive(Clone, Copy)]
-pub struct FakeFile<'a> {
+pub struct DiskFile<'a> {
     disk: &'a FakeDisk,
     place: usize,
 }
 
-impl Read for FakeFile<'_> {
+impl Read for DiskFile<'_> {
     fn read(&mut self, buf: &mut [u8]) -> io::Result<usize> {
         self.disk.answer(Call::Read)?;
         match self.disk.bytes.try_borrow() {
@@ -143,7 +149,7 @@ impl Read for FakeFile<'_> {
     }
 }
 
-impl Write for FakeFile<'_> {
+impl Write for DiskFile<'_> {
     fn write(&mut self, buf: &[u8]) -> io::Result<usize> {
         self.disk.answer(Call::Write)?;
         let count = PIECE.min(buf.len());
@@ -159,7 +165,7 @@ impl Write for FakeFile<'_> {
     }
 }
 
-impl Seek for FakeFile<'_> {
+impl Seek for DiskFile<'_> {
     fn seek(&mut self, to: SeekFrom) -> io::Result<u64> {
         self.disk.answer(Call::Seek)?;
         match to {
@@ -172,7 +178,7 @@ impl Seek for FakeFile<'_> {
     }
 }
 
-impl OpenFile for FakeFile<'_> {
+impl OpenFile for DiskFile<'_> {
     fn metadata(&self) -> io::Result<Metadata> {
         Err(unsupported())
     }

@@ -1,0 +1,2 @@
+-- Lemmas on agents over files.
+mod TapeLemmas

@@ -1,0 +1,16 @@
+use Rattle.std.proofs.Common.{◌∙◌, ℕ, ap, arith}
+use Rattle.std.specs.Prelude.{Err, option_map}
+use Rattle.model.specs.Timetable.{moves, track_of}
+use Rattle.std.proofs.lemmas.Result.{err_from_is_err_and}
+use Rattle.agent.proofs.OwnLemmas.{told-most}
+use Rattle.agent_commands.proofs.TapeLemmas.{no_tape}
+use Rattle.agent_commands.proofs.agent_command.open_tape.Goals as goal
+
+pub overflow_mul-moves : goal.overflow_mul-moves
+overflow_mul-moves g c = (let most = told-most _ _ c.in-Some.moves c.in-Some.ensures.within c.in-Some.ensures.moves in omega (arith, most))
+
+pub returns-in_err-open : goal.returns-in_err-open
+returns-in_err-open g c =
+    let p = err_from_is_err_and c.from_residual.result c.from_residual.ensures.1 in
+    rw (p.1, p.2) (no_tape g.R.File.Read.remaining c.args.graph.now c.args.id c.in-Some.moves c.in-Ok.file c.in_err-open.field-0.0
+    (c.in-Some.ensures.moves ∙ ap (λ (i : ℕ). option_map moves (track_of c.args.graph.now i)) c.from.ensures) (λ is. c.in_err-open.ensures.too_long (ap Err is)))

@@ -1,0 +1,99 @@
+-- What `mapf agent` does and answers.
+use Rattle.std.specs.Prelude.{◌≡◌, ℕ, ◌+◌, ◌*◌, ◌≤◌, ◌⊎◌, true, List, length, Option, None, Some, IfSome, Result, Ok, Err, MatchResult}
+use Rattle.grid.specs.declared.counted.Counted.{Counted}
+use Rattle.model.specs.History.{record_length}
+use Rattle.model.specs.Timetable.{Track, Timetable, moves, track_of}
+use Rattle.agent.specs.declared.refusal.OpenFault.{OpenFault}
+use Rattle.agent.specs.declared.refusal.OpenFault.TheVariants.{NoSuchAgent}
+use Rattle.agent.specs.Agents.{AgentOn}
+use Rattle.agent.specs.Opening.{IsOpened, IsRefused}
+use Rattle.agent.specs.Tape.{IsKept}
+use Rattle.dialogue.specs.Dialogue.{Talks}
+use Rattle.dialogue.specs.declared.talk_fault.TalkFault.{TalkFault}
+use Rattle.file_tape.specs.FileTape.{IsImage, IsFileRead, file_state}
+use Rattle.file_tape.specs.declared.file_tape.FileTape.{FileTape}
+use Rattle.file_tape.specs.declared.file_tape.FileTapeFault.TheVariants.{TooLong}
+use Rattle.plan_commands.specs.DepsCommand.{ReadsTimetable}
+use Rattle.plan_commands.specs.declared.check_fault.CheckFault.{CheckFault}
+use Rattle.text_commands.specs.Status.{code_of}
+use Rattle.agent_commands.specs.AgentStatus.{agent_status, is_silent}
+use Rattle.agent_commands.specs.declared.agent_fault.AgentFault.{AgentFault}
+use Rattle.agent_commands.specs.declared.agent_fault.AgentFault.TheVariants.{Texts, OpenFailed, File, Tape, Dialogue}
+
+-- how long a tape file of an agent may be: two records a move
+abbrev pub room_of : Track → ℕ
+room_of track = 2 * record_length * moves track
+
+-- A tape is the image of some file, as it was opened, with room for two records a move of the agent. Which file was opened no clause can say.
+abbrev pub IsTapeOf : {F : Type 0} → (F → Option (List ℕ)) → Timetable → ℕ → FileTape F → Type 0
+IsTapeOf {F} remaining tt i tape =
+    (track : Track) × (track_of tt i ≡ Some track) × ((file : F) × IsImage remaining file (room_of track) tape)
+
+-- the timetable has the agent
+abbrev pub HasAgent : Timetable → ℕ → Type 0
+HasAgent tt i = (track : Track) × (track_of tt i ≡ Some track)
+
+-- Why there is no tape. Only a file with ten bytes or more behind the room is too long.
+abbrev pub IsNoTape : {F : Type 0} → (F → Option (List ℕ)) → Timetable → ℕ → AgentFault → Type 0
+IsNoTape {F} remaining tt i (Tape NoSuchAgent) = track_of tt i ≡ None
+IsNoTape {F} remaining tt i OpenFailed = HasAgent tt i
+IsNoTape {F} remaining tt i (File TooLong) =
+    (track : Track) × (track_of tt i ≡ Some track) × ((file : F) × IfSome (remaining file) (λ bytes. room_of track + record_length ≤ length bytes))
+IsNoTape {F} remaining tt i (File fault) = HasAgent tt i
+IsNoTape {F} remaining tt i _ = ⊥
+
+-- the agent was opened on such a tape
+abbrev pub IsOnTape : {F : Type 0} → (F → Option (List ℕ)) → Timetable → ℕ → AgentOn (FileTape F) → Type 0
+IsOnTape {F} remaining tt i agent = (tape : FileTape F) × IsTapeOf remaining tt i tape × IsOpened file_state IsFileRead tt i tape agent
+
+-- A tape was opened, and was refused for this fault, with what it had.
+pub record IsRefusedTape {F : Type 0} (remaining : F → Option (List ℕ)) (tt : Timetable) (i : ℕ) (fault : OpenFault) : Type 0 where
+  pub tape : FileTape F
+  pub is_tape : IsTapeOf remaining tt i tape
+  pub after : FileTape F
+  pub refused : IsRefused file_state IsFileRead tt i tape after fault
+  pub kept : IsKept (file_state tape) (file_state after)
+
+-- why the agent was not opened: there is no tape, or it was refused
+abbrev pub IsNotOnTape : {F : Type 0} → (F → Option (List ℕ)) → Timetable → ℕ → AgentFault → Type 0
+IsNotOnTape remaining tt i fault =
+    IsNoTape remaining tt i fault ⊎ ((refusal : OpenFault) × (fault ≡ Tape refusal) × IsRefusedTape remaining tt i refusal)
+
+-- what a dialogue comes to
+abbrev pub told : Result Unit TalkFault → Result Unit AgentFault
+told (Ok done) = Ok done
+told (Err fault) = Err (Dialogue fault)
+
+-- The agent was opened on its tape and then led a dialogue, or it was not opened, and then neither input nor output were touched.
+pub record Converses
+    {F I W : Type 0} (remaining : F → Option (List ℕ)) (input_left : I → Option (List ℕ)) (contents : W → Option (List ℕ))
+    (tt : Timetable) (i : ℕ) (old_in new_in : Counted I) (old_out new_out : Counted W) (result : Result Unit AgentFault) : Type 0 where
+  pub opened : Result (AgentOn (FileTape F)) AgentFault
+  pub opens : MatchResult opened (IsOnTape remaining tt i) (IsNotOnTape remaining tt i)
+  pub ends : MatchResult opened
+      (λ agent. (answer : Result Unit TalkFault) × (after : AgentOn (FileTape F))
+      × Talks input_left contents file_state old_in new_in old_out new_out agent after answer × (result ≡ told answer))
+      (λ fault. (result ≡ Err fault) × (new_in ≡ old_in) × (new_out ≡ old_out))
+
+-- The map and the plan were read and the plan was checked; where it is valid, the agent answered, and else neither input nor output
+-- were touched.
+pub record Serves
+    {F M P I W : Type 0} (remaining : F → Option (List ℕ)) (map_left : M → Option (List ℕ)) (plan_left : P → Option (List ℕ))
+    (input_left : I → Option (List ℕ)) (contents : W → Option (List ℕ)) (i : ℕ) (old_map new_map : Counted M) (old_plan new_plan : Counted P)
+    (old_in new_in : Counted I) (old_out new_out : Counted W) (result : Result Unit AgentFault) : Type 0 where
+  pub read : Result Timetable CheckFault
+  pub reads : ReadsTimetable map_left plan_left old_map new_map old_plan new_plan read
+  pub ends : MatchResult read
+      (λ tt. Converses remaining input_left contents tt i old_in new_in old_out new_out result)
+      (λ fault. (result ≡ Err (Texts fault)) × (new_in ≡ old_in) × (new_out ≡ old_out))
+
+-- The texts were read and the agent answered, and the status is by what that came to. Where the input was answered to its end, or the
+-- last answer was that the tape failed, no fault was said.
+pub record AnswersAgent
+    {F M P I W : Type 0} (remaining : F → Option (List ℕ)) (map_left : M → Option (List ℕ)) (plan_left : P → Option (List ℕ))
+    (input_left : I → Option (List ℕ)) (contents : W → Option (List ℕ)) (i : ℕ) (old_map new_map : Counted M) (old_plan new_plan : Counted P)
+    (old_in new_in : Counted I) (old_out new_out : Counted W) (Quiet : Type 0) (code : ℕ) : Type 0 where
+  pub answer : Result Unit AgentFault
+  pub serves : Serves remaining map_left plan_left input_left contents i old_map new_map old_plan new_plan old_in new_in old_out new_out answer
+  pub is_code : code ≡ code_of (agent_status answer)
+  pub silent : is_silent answer ≡ true → Quiet

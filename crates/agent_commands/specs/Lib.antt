@@ -1,0 +1,7 @@
+-- What has to be believed, in the order in which to read it: each promise of the crate is made in these words, and in those of the crates
+-- below.
+
+-- which exit status an agent ends with
+pub mod AgentStatus
+-- what `mapf agent` does and answers
+pub mod AgentCommand

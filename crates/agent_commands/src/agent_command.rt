@@ -1,0 +1,125 @@
+//! `mapf agent`: answers for one agent of a plan, by its tape.
+ghost use Rattle.std.specs.Prelude.{◌≡◌, true, MatchResult};
+ghost use Rattle.agent_commands.specs.AgentStatus.{agent_status, is_silent};
+ghost use Rattle.agent_commands.specs.AgentCommand.{AnswersAgent, Converses, IsOnTape, IsNotOnTape, IsTapeOf, IsNoTape, Serves};
+
+use crate::agent_fault::AgentFault;
+use agent::{Agent, OpenFault};
+use depgraph::Graph;
+use dialogue::{TalkFault, talk};
+use file_tape::FileTape;
+use grid::Counted;
+use plan_commands::read_graph;
+use std::fs::OpenOptions;
+use std::io::{Read, Write};
+use std::rt::Files;
+use text_commands::{Status, report};
+
+/// Reads a map from `map` and a plan from `plan`, checks the plan on the map, and opens the tape file at `path` for the agent with
+/// this number. Then it answers the lines of `input` on `out`, each before the next is waited for. A fault's line goes to `err`, but
+/// none where the tape failed in the dialogue, which that answered. The tape file is made where there is none, and is not touched before
+/// the plan is known to have the agent. The answer is the exit status, which stays where `err` fails.
+pub fn agent_cmd<R: Files + AllocGlobal, M: Read, P: Read, I: Read, W: Write, E: Write>(
+    rt: &R,
+    map: &mut Counted<M>,
+    plan: &mut Counted<P>,
+    id: u16,
+    path: &str,
+    input: &mut Counted<I>,
+    out: &mut Counted<W>,
+    err: &mut Counted<E>,
+) -> u8
+    ensures { AnswersAgent R.File.remaining M.remaining P.remaining I.remaining W.contents id map.old map.new plan.old plan.new input.old input.new out.old out.new
+        (err.new ≡ err.old) result }
+{
+    let answer = serve(rt, map, plan, id, path, input, out);
+    conclude(answer, err).code()
+}
+
+/// Reads the map and the plan, and answers for the agent.
+fn serve<R: Files + AllocGlobal, M: Read, P: Read, I: Read, W: Write>(
+    rt: &R,
+    map: &mut Counted<M>,
+    plan: &mut Counted<P>,
+    id: u16,
+    path: &str,
+    input: &mut Counted<I>,
+    out: &mut Counted<W>,
+) -> Result<(), AgentFault>
+    ensures { Serves R.File.remaining M.remaining P.remaining I.remaining W.contents id map.old map.new plan.old plan.new input.old input.new out.old out.new
+        result }
+{
+    let graph = read_graph(rt.alloc(), map, plan)?;
+    converse(rt, &graph, id, path, input, out)
+}
+
+/// Answers for an agent of the graph.
+fn converse<R: Files + AllocGlobal, I: Read, W: Write>(
+    rt: &R,
+    graph: &Graph,
+    id: u16,
+    path: &str,
+    input: &mut Counted<I>,
+    out: &mut Counted<W>,
+) -> Result<(), AgentFault>
+    ensures { Converses R.File.remaining I.remaining W.contents graph.now id input.old input.new out.old out.new result }
+{
+    let mut agent = open_agent(rt, graph, id, path)?;
+    talk(rt.alloc(), &mut agent, input, out)?;
+    Ok(())
+}
+
+/// Opens an agent of the graph over its tape file.
+fn open_agent<'g, R: Files + AllocGlobal>(
+    rt: &R,
+    graph: &'g Graph,
+    id: u16,
+    path: &str,
+) -> Result<Agent<'g, FileTape<R::File>>, AgentFault>
+    ensures { MatchResult result (IsOnTape R.File.remaining graph.now id) (IsNotOnTape R.File.remaining graph.now id) }
+{
+    let tape = open_tape(rt, graph, id, path)?;
+    match Agent::open(rt.alloc(), graph, id, tape) {
+        Ok(agent) => Ok(agent),
+        Err((fault, _)) => Err(AgentFault::Tape(fault)),
+    }
+}
+
+/// Opens the tape file of an agent of the graph, with room for two records a move.
+fn open_tape<R: Files + AllocGlobal>(
+    rt: &R,
+    graph: &Graph,
+    id: u16,
+    path: &str,
+) -> Result<FileTape<R::File>, AgentFault>
+    ensures { MatchResult result (IsTapeOf R.File.remaining graph.now id) (IsNoTape R.File.remaining graph.now id) }
+{
+    let Some(moves) = graph.moves(u32::from(id)) else {
+        return Err(AgentFault::Tape(OpenFault::NoSuchAgent));
+    };
+    let opened = OpenOptions::new()
+        .read(true)
+        .write(true)
+        .create(true)
+        .open(rt, path);
+    let Ok(file) = opened else {
+        return Err(AgentFault::OpenFailed);
+    };
+    Ok(FileTape::open(rt.alloc(), file, 20 * moves)?)
+}
+
+/// Says why the input was not answered to its end, if it wasn't.
+fn conclude<E: Write>(answer: Result<(), AgentFault>, err: &mut Counted<E>) -> Status
+    ensures status { result ≡ agent_status answer }
+    ensures silent { is_silent answer ≡ true → err.new ≡ err.old }
+{
+    match answer {
+        Ok(()) => Status::Done,
+        // The answer to the line said so.
+        Err(AgentFault::Dialogue(TalkFault::StoreFailed)) => Status::Failure,
+        Err(fault) => {
+            let _ = report(err, fault);
+            fault.status()
+        }
+    }
+}

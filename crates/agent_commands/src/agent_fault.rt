@@ -1,0 +1,89 @@
+//! Why an agent does not answer its input to the end.
+ghost use Rattle.std.specs.Prelude.{◌≡◌};
+ghost use Rattle.agent_commands.specs.AgentStatus.{agent_fault_status, file_fault_status, tape_fault_status};
+ghost use Rattle.agent_commands.specs.declared.agent_fault.AgentFault.TheVariants as agent_fault;
+
+use agent::OpenFault;
+use dialogue::TalkFault;
+use file_tape::FileTapeFault;
+use plan_commands::CheckFault;
+use text_commands::Status;
+use thiserror::Error;
+
+/// Why an agent does not answer its input to the end.
+#[derive(Clone, Copy, Debug, PartialEq, Eq, Error)]
+pub(crate) enum AgentFault {
+    /// The map or the plan could not be read, or the plan is rejected.
+    #[error("{0}")]
+    Texts(CheckFault),
+    /// The tape file could not be opened or made.
+    #[error("OpenFailed")]
+    OpenFailed,
+    /// The tape file could not be taken for a tape.
+    #[error("{0}")]
+    File(FileTapeFault),
+    /// There is no such agent, or the tape is not the agent's.
+    #[error("{0}")]
+    Tape(OpenFault),
+    /// The dialogue ended early.
+    #[error("{0}")]
+    Dialogue(TalkFault),
+}
+
+impl AgentFault {
+    /// The status that it ends with.
+    pub(crate) fn status(self) -> Status
+        ensures { result ≡ agent_fault_status self }
+    {
+        match self {
+            AgentFault::Texts(fault) => fault.status(),
+            AgentFault::OpenFailed | AgentFault::Dialogue(_) => Status::Failure,
+            AgentFault::File(fault) => file_fault_status(fault),
+            AgentFault::Tape(fault) => tape_fault_status(fault),
+        }
+    }
+}
+
+/// The status that a fault of a tape file ends with.
+fn file_fault_status(fault: FileTapeFault) -> Status
+    ensures { result ≡ file_fault_status fault }
+{
+    match fault {
+        FileTapeFault::TooLong => Status::Fault,
+        FileTapeFault::TapeFailed | FileTapeFault::OutOfMemory => Status::Failure,
+    }
+}
+
+/// The status that a refused tape ends with.
+fn tape_fault_status(fault: OpenFault) -> Status
+    ensures { result ≡ tape_fault_status fault }
+{
+    match fault {
+        OpenFault::TapeFailed => Status::Failure,
+        _ => Status::Fault,
+    }
+}
+
+impl From<CheckFault> for AgentFault {
+    ghost from_gives = { λ e f. f ≡ agent_fault.Texts e };
+
+    fn from(e: CheckFault) -> AgentFault {
+        AgentFault::Texts(e)
+    }
+}
+
+impl From<FileTapeFault> for AgentFault {
+    ghost from_gives = { λ e f. f ≡ agent_fault.File e };
+
+    fn from(e: FileTapeFault) -> AgentFault {
+        AgentFault::File(e)
+    }
+}
+
+impl From<TalkFault> for AgentFault {
+    ghost from_gives = { λ e f. f ≡ agent_fault.Dialogue e };
+
+    fn from(e: TalkFault) -> AgentFault {
+        AgentFault::Dialogue(e)
+    }
+}

@@ -1,0 +1,7 @@
+//! The command that is one agent of a plan.
+#![tactic(auto)]
+
+mod agent_command;
+mod agent_fault;
+
+pub use agent_command::agent_cmd;

@@ -1,0 +1,225 @@
+//! The commands as help shows them.
+
+/// A word of a command: its name and what help says of it.
+pub(crate) enum Word<'a> {
+    /// Stands in its place, and has to be there.
+    Required(&'a str, &'a str),
+    /// Takes a value, as `--name VALUE`.
+    Named(&'a str, &'a str),
+    /// Is there or not, as `--name`.
+    Flag(&'a str, &'a str),
+}
+
+use Word::{Flag, Named, Required};
+
+/// A command with its words. `about` is one line, and `after_help` stands below the words.
+pub(crate) struct CommandText<'a> {
+    pub(crate) name: &'a str,
+    pub(crate) about: &'a str,
+    pub(crate) after_help: &'a str,
+    pub(crate) words: &'a [Word<'a>],
+}
+
+pub(crate) const PROGRAM_ABOUT: &str =
+    "Reads maps, scenarios and plans, answers what they hold, and runs plans";
+
+pub(crate) const PROGRAM_AFTER_HELP: &str = "\
+Answers go to standard output. A fault is one line on standard error.
+
+Status:
+  0  done
+  1  a text or a plan has a fault, or the answer is no
+  2  a bad command line
+  3  a file can't be opened, a device failed, or memory was refused
+
+`mapf help COMMAND` shows the answer, the statuses and an example of a command.";
+
+pub(crate) const MAP: CommandText<'static> = CommandText {
+    name: "map",
+    about: "Reads a map and writes it in canonical form",
+    after_help: "\
+Standard output is the canonical text of the map.
+
+Status:
+  0  the text is written
+  1  the map has a fault: one line on standard error, as `mapf: ShortRow 6`
+  2  a bad command line
+  3  the file can't be opened, a device failed, or memory was refused
+
+Example:
+  mapf map examples/corner.map",
+    words: &[Required("file", "The file of the map")],
+};
+
+pub(crate) const SCEN: CommandText<'static> = CommandText {
+    name: "scen",
+    about: "Reads a scenario and writes it in canonical form",
+    after_help: "\
+Standard output is the canonical text of the scenario.
+
+Status:
+  0  the text is written
+  1  the scenario has a fault: one line on standard error, as `mapf: NoVersion`
+  2  a bad command line
+  3  the file can't be opened, a device failed, or memory was refused
+
+Example:
+  mapf scen examples/corner.scen",
+    words: &[Required("file", "The file of the scenario")],
+};
+
+pub(crate) const ROW: CommandText<'static> = CommandText {
+    name: "row",
+    about: "Judges the length that a scenario lists for one of its rows",
+    after_help: "\
+Standard output is one line. S and D are the straight and the diagonal steps of
+a shortest walk, L is the listed length:
+  shortest S D listed L agrees    the listed length is right
+  shortest S D listed L differs   it isn't
+  unreachable                     no walk leads from the start to the goal
+
+Status:
+  0  the answer is `agrees`
+  1  the answer is `differs` or `unreachable`, a text has a fault, or the row
+     isn't there or lists another size than that of the map
+  2  a bad command line
+  3  a file can't be opened, a device failed, or memory was refused
+
+Example:
+  mapf row examples/corner.map examples/corner.scen 0",
+    words: &[
+        Required("map", "The file of the map"),
+        Required("scen", "The file of the scenario"),
+        Required("row", "The number of the row, counted from 0"),
+    ],
+};
+
+pub(crate) const CHECK: CommandText<'static> = CommandText {
+    name: "check",
+    about: "Checks a plan on a map, and perhaps that it solves a scenario",
+    after_help: "\
+Standard output is one line:
+  accepted agents K cost C makespan M   the plan is valid
+  rejected FAULT                        it isn't, and this is its least fault
+With --scen the plan must also solve the first rows of the scenario.
+
+Status:
+  0  the answer is `accepted`
+  1  the answer is `rejected`, or a text has a fault
+  2  a bad command line
+  3  a file can't be opened, a device failed, or memory was refused
+
+Example:
+  mapf check examples/corner.map examples/corner.plan --scen examples/corner.scen",
+    words: &[
+        Required("map", "The file of the map"),
+        Required("plan", "The file of the plan"),
+        Named("scen", "The file of a scenario that the plan is to solve"),
+        Flag("json", "Writes the answer as JSON"),
+    ],
+};
+
+pub(crate) const DEPS: CommandText<'static> = CommandText {
+    name: "deps",
+    about: "Checks a plan on a map, and says which move waits for which",
+    after_help: "\
+Standard output:
+  agents A moves M needs N rotations R   how many there are
+  need I K J C          move K of agent I waits until agent J has finished C
+                        moves; a line for each move that waits
+  rotation S I J ..     in step S these agents turn round in a circle; a line
+                        for each such circle
+
+Status:
+  0  the lines are written
+  1  a text or the plan has a fault: one line on standard error
+  2  a bad command line
+  3  a file can't be opened, a device failed, or memory was refused
+
+Example:
+  mapf deps examples/turn.map examples/turn.plan",
+    words: &[
+        Required("map", "The file of the map"),
+        Required("plan", "The file of the plan"),
+    ],
+};
+
+pub(crate) const RUN: CommandText<'static> = CommandText {
+    name: "run",
+    about: "Checks a plan on a map, and answers the events of a run of it",
+    after_help: "\
+Standard output is one line for each event, as `moving 2 0`, `arrived 2 0` or
+`refused Waits 0 1`. A refusal is a reply like any other.
+
+Status:
+  0  every event has its reply
+  1  a text or the plan has a fault: one line on standard error, behind the
+     replies to the events before it
+  2  a bad command line
+  3  a file can't be opened, a device failed, or memory was refused
+
+Example:
+  mapf run examples/plain.map examples/behind.plan examples/behind.events",
+    words: &[
+        Required("map", "The file of the map"),
+        Required("plan", "The file of the plan"),
+        Required("events", "The file of the events"),
+    ],
+};
+
+pub(crate) const AGENT: CommandText<'static> = CommandText {
+    name: "agent",
+    about: "Checks a plan on a map, and answers for one of its agents",
+    after_help: "\
+The tape keeps how far the agent has come. The first line of standard output is
+the state of the agent:
+  at X Y done N            it stands in this cell, with N moves finished
+  between X Y U V done N   it is moving from the one cell to the other
+Then each line of standard input is answered by one line:
+  start      moving X Y, or refused and why
+  finish     arrived X Y, or refused and why
+  say        said HEX: the message for the other agents
+  hear HEX   heard J N: agent J has finished N moves; or refused and why
+  held       the state of the agent, as at first
+  any other  refused BadLine
+
+Status:
+  0  the input ended
+  1  a text or the plan has a fault, there is no such agent, or the tape is
+     refused: one line on standard error
+  2  a bad command line
+  3  a file can't be opened, a device failed, memory was refused, or the answer
+     was `refused StoreFailed`: start the agent again
+
+Example:
+  mapf agent examples/plain.map examples/behind.plan 0 robot0.tape",
+    words: &[
+        Required("map", "The file of the map"),
+        Required("plan", "The file of the plan"),
+        Required("id", "The number of the agent, counted from 0"),
+        Required(
+            "tape",
+            "The file of the agent's tape, made where there is none",
+        ),
+    ],
+};
+
+/// What is said of a word that is no number, and of its command.
+pub(crate) struct NumberText {
+    pub(crate) wanted: &'static str,
+    pub(crate) usage: &'static str,
+}
+
+pub(crate) const ROW_NUMBER: NumberText = NumberText {
+    wanted: "a number from 0 to 4294967295 is wanted",
+    usage: "mapf row <map> <scen> <row>",
+};
+
+pub(crate) const AGENT_ID: NumberText = NumberText {
+    wanted: "the number of an agent, from 0 to 65535, is wanted",
+    usage: "mapf agent <map> <plan> <id> <tape>",
+};
+
+/// For words that `clap` takes and that are no command: there are none.
+pub(crate) const NO_COMMAND: &str =
+    "error: the words are no command\n\nFor more information, try '--help'.\n";

@@ -1,0 +1,300 @@
+//! Dialogues from their first line to the end of the input.
+use agent::{Agent, MemTape, Tape};
+use depgraph::Graph;
+use dialogue::{TalkFault, talk};
+use fake_tapes::FailTape;
+use fakes::{Keeper, Pieces, Record};
+use grid::{Counted, read_map};
+use plan::{check, read_plan};
+use std::alloc::{AllocError, Global};
+use std::io::{Read, Write};
+use std::process::Abort;
+use std::test::Fail;
+
+/// Two agents in a row of three cells: the one from the middle to the right, and the other behind it.
+pub const TWO: &str = "agents 2\nagent 1 0 e-\nagent 0 0 e\n";
+
+/// Where agent 0 is before it is asked anything.
+pub const FIRST_LINE: &str = "at 1 0 done 0\n";
+
+/// The tape of agent 0 behind its move.
+pub const MOVED: [u8; 20] = [
+    0x50, 1, 0, 0, 0, 7, 0, 0, 0, 0, 0x50, 2, 0, 0, 0, 7, 0, 0, 0, 1,
+];
+
+/// Lines for agent 0, their answers, and how many bytes its tape has then.
+pub static ROW: [(&str, &str, usize); 11] = [
+    ("start", "moving 2 0", 10),
+    ("say", "said 460100000000000700000000", 10),
+    ("finish", "arrived 2 0", 20),
+    ("say", "said 460100000000000700000001", 20),
+    ("held", "at 2 0 done 1", 20),
+    ("start", "refused AtEnd", 20),
+    ("hear 4601", "refused BadLength", 20),
+    ("hear 4", "refused BadLine", 20),
+    ("hear 460100000000000700000002", "refused TooMany", 20),
+    ("hear 460100000000000800000001", "refused WrongPlan", 20),
+    ("hear 460100090000000700000001", "refused NoSuchAgent", 20),
+];
+
+/// Lines for agent 1, which goes behind agent 0.
+static BEHIND: [(&str, &str, usize); 11] = [
+    ("finish", "refused NotMoving", 0),
+    ("start", "refused Waits 0 1", 0),
+    ("hear 460100000000000700000000", "heard 0 0", 0),
+    ("start", "refused Waits 0 1", 0),
+    ("hear 460100000000000700000001", "heard 0 1", 0),
+    // old news
+    ("hear 460100000000000700000000", "heard 0 1", 0),
+    ("start", "moving 1 0", 10),
+    ("held", "between 0 0 1 0 done 0", 10),
+    ("start", "refused AlreadyMoving", 10),
+    ("finish", "arrived 1 0", 20),
+    ("say", "said 460100010000000700000001", 20),
+];
+
+/// The graph of agents on a row of three cells.
+pub fn graph_of(alloc: Global, number: u32, agents: &str) -> Result<Graph, Fail> {
+    let map = "type octile\nheight 1\nwidth 3\nmap\n...\n";
+    let map = read_map(alloc, &mut Counted::new(map.as_bytes()))?;
+    let text = format!(in alloc; "mapf-plan 1\nnumber {number}\n{agents}")?;
+    let plan = read_plan(alloc, &mut Counted::new(text.as_bytes()))?;
+    let plan = check(alloc, &map, plan).map_err(|rejected| rejected.fault)?;
+    Ok(Graph::build(alloc, &plan)?)
+}
+
+/// The agent over this tape.
+pub fn opened<T: Tape + Drop>(
+    alloc: Global,
+    graph: &Graph,
+    id: u16,
+    tape: T,
+) -> Result<Agent<'_, T>, Fail> {
+    Agent::open(alloc, graph, id, tape).map_err(|refused| refused.0.into())
+}
+
+/// Leads a dialogue for which there has to be memory.
+pub fn lead<R: Read + Drop, W: Write + Drop, T: Tape>(
+    alloc: Global,
+    agent: &mut Agent<'_, T>,
+    input: R,
+    output: W,
+) -> Result<Result<(), TalkFault>, Fail> {
+    match talk(
+        alloc,
+        agent,
+        &mut Counted::new(input),
+        &mut Counted::new(output),
+    ) {
+        Err(TalkFault::OutOfMemory) => Err(TalkFault::OutOfMemory)?,
+        result => Ok(result),
+    }
+}
+
+/// The first so many turns, or all.
+pub fn first<'a>(
+    turns: &'a [(&'a str, &'a str, usize)],
+    count: usize,
+) -> &'a [(&'a str, &'a str, usize)] {
+    &turns[..count.min(turns.len())]
+}
+
+/// The lines of some turns, each ended by an LF.
+pub fn lines_of(alloc: Global, turns: &[(&str, &str, usize)]) -> Result<String, AllocError> {
+    let mut text = String::new(alloc);
+    for &(line, _, _) in turns {
+        text.push_str(line)?;
+        text.push_str("\n")?;
+    }
+    Ok(text)
+}
+
+/// The state at first, and the answers of some turns.
+pub fn answers_of(
+    alloc: Global,
+    state: &str,
+    turns: &[(&str, &str, usize)],
+) -> Result<String, AllocError> {
+    let mut text = String::from_str(alloc, state)?;
+    for &(_, answer, _) in turns {
+        text.push_str(answer)?;
+        text.push_str("\n")?;
+    }
+    Ok(text)
+}
+
+/// How many bytes the tape has behind some turns.
+pub fn stored_by(turns: &[(&str, &str, usize)]) -> usize {
+    match turns.last() {
+        Some(&(_, _, stored)) => stored,
+        None => 0,
+    }
+}
+
+/// Leads a dialogue with agent 0, and compares its end, what it wrote and what is on the tape.
+pub fn expect<R: Read + Drop>(
+    rt: &impl Abort,
+    alloc: Global,
+    graph: &Graph,
+    input: R,
+    want: (Result<(), TalkFault>, &[(&str, &str, usize)]),
+    at: usize,
+) -> Result<(), Fail> {
+    let (result, turns) = want;
+    let mut agent = opened(alloc, graph, 0, MemTape::new(alloc, 20)?)?;
+    let mut out = Keeper::of_size(512);
+    assert_eq!(rt;
+        lead(alloc, &mut agent, input, &mut out)?,
+        result,
+        "at {at}"
+    );
+    let answers = answers_of(alloc, FIRST_LINE, turns)?;
+    assert!(rt; out.kept() == answers.as_bytes(), "at {at}");
+    let tape = agent.into_tape();
+    assert_eq!(rt; tape.bytes().len(), stored_by(turns), "at {at}");
+    assert!(rt; MOVED.as_slice().starts_with(tape.bytes()), "at {at}");
+    Ok(())
+}
+
+/// Whether memory was wanting for something that was heard.
+fn says_out_of_memory(written: &[u8]) -> bool {
+    match str::from_utf8(written) {
+        Ok(text) => text.contains("refused OutOfMemory\n"),
+        Err(_) => false,
+    }
+}
+
+/// Leads a dialogue for which there has to be memory, and compares what it wrote.
+pub fn writes<T: Tape>(
+    rt: &impl Abort,
+    alloc: Global,
+    agent: &mut Agent<'_, T>,
+    asked: &[u8],
+    want: &str,
+) -> Result<(), Fail> {
+    let mut out = Keeper::of_size(512);
+    assert_eq!(rt; lead(alloc, agent, asked, &mut out)?, Ok(()), "at {want:?}");
+    if says_out_of_memory(out.kept()) {
+        Err(TalkFault::OutOfMemory)?;
+    }
+    assert!(rt; out.kept() == want.as_bytes(), "at {want:?}");
+    Ok(())
+}
+
+#[test]
+fn a_row(rt: HostRuntime) -> Result<(), Fail> {
+    let graph = graph_of(rt.alloc(), 7, TWO)?;
+    let mut agent = opened(rt.alloc(), &graph, 0, MemTape::new(rt.alloc(), 20)?)?;
+    let asked = lines_of(rt.alloc(), &ROW)?;
+    let answers = answers_of(rt.alloc(), FIRST_LINE, &ROW)?;
+    writes(
+        &rt,
+        rt.alloc(),
+        &mut agent,
+        asked.as_bytes(),
+        answers.as_str(),
+    )?;
+    let tape = agent.into_tape();
+    assert_eq!(rt; tape.bytes(), MOVED.as_slice());
+    let mut agent = opened(rt.alloc(), &graph, 0, tape)?;
+    writes(&rt, rt.alloc(), &mut agent, b"", "at 2 0 done 1\n")
+}
+
+#[test]
+fn agent_that_goes_behind(rt: HostRuntime) -> Result<(), Fail> {
+    let graph = graph_of(rt.alloc(), 7, TWO)?;
+    let mut agent = opened(rt.alloc(), &graph, 1, MemTape::new(rt.alloc(), 20)?)?;
+    let asked = lines_of(rt.alloc(), &BEHIND)?;
+    let answers = answers_of(rt.alloc(), "at 0 0 done 0\n", &BEHIND)?;
+    writes(
+        &rt,
+        rt.alloc(),
+        &mut agent,
+        asked.as_bytes(),
+        answers.as_str(),
+    )?;
+    assert_eq!(rt; agent.into_tape().bytes().len(), stored_by(&BEHIND));
+    Ok(())
+}
+
+/// What was heard in a dialogue is known in the next one with the same agent, and forgotten with the agent.
+#[test]
+fn dialogues_one_after_another(rt: HostRuntime) -> Result<(), Fail> {
+    let graph = graph_of(rt.alloc(), 7, TWO)?;
+    let mut agent = opened(rt.alloc(), &graph, 1, MemTape::new(rt.alloc(), 20)?)?;
+    let heard = b"hear 460100000000000700000001\n";
+    let want = "at 0 0 done 0\nheard 0 1\n";
+    writes(&rt, rt.alloc(), &mut agent, heard, want)?;
+    let mut again = opened(rt.alloc(), &graph, 1, MemTape::new(rt.alloc(), 20)?)?;
+    let want = "at 0 0 done 0\nrefused Waits 0 1\n";
+    writes(&rt, rt.alloc(), &mut again, b"start\n", want)?;
+    let want = "at 0 0 done 0\nmoving 1 0\n";
+    writes(&rt, rt.alloc(), &mut agent, b"start\n", want)?;
+    let mut again = opened(rt.alloc(), &graph, 1, agent.into_tape())?;
+    let want = "between 0 0 1 0 done 0\narrived 1 0\n";
+    writes(&rt, rt.alloc(), &mut again, b"finish\n", want)
+}
+
+/// A write of the agent failed before the dialogue, and nothing but what it holds is known of it.
+#[test]
+fn broken_agent(rt: HostRuntime) -> Result<(), Fail> {
+    let graph = graph_of(rt.alloc(), 7, TWO)?;
+    let mut tape = FailTape::new(MemTape::new(rt.alloc(), 20)?, 0);
+    tape.fail_after(0, 4);
+    let mut agent = opened(rt.alloc(), &graph, 0, tape)?;
+    assert!(rt; agent.start().is_err());
+    let asked = b"start\nfinish\nsay\nhear 460100010000000700000000\nheld\nstart";
+    let want =
+        "at 1 0 done 0\nrefused Broken\nrefused Broken\nrefused Broken\nrefused Broken\nat 1 0 done 0\nrefused Broken\n";
+    writes(&rt, rt.alloc(), &mut agent, asked, want)
+}
+
+#[test]
+fn lines_in_pieces(rt: HostRuntime) -> Result<(), Fail> {
+    let graph = graph_of(rt.alloc(), 7, TWO)?;
+    let asked = lines_of(rt.alloc(), &ROW)?;
+    let ended = asked.as_bytes();
+    let not_ended = ended.strip_suffix(b"\n").unwrap_or(b"");
+    for text in [ended, not_ended] {
+        for size in 1..=5 {
+            let input = Pieces::of_size(text, size);
+            expect(&rt, rt.alloc(), &graph, input, (Ok(()), &ROW), size)?;
+        }
+        for place in 1..=text.len() {
+            let input = Pieces::cut_at(text, place);
+            expect(&rt, rt.alloc(), &graph, input, (Ok(()), &ROW), place)?;
+        }
+    }
+    Ok(())
+}
+
+/// What is read, written and flushed in some turns, in order; the end of the input is read too.
+fn record_of(alloc: Global, turns: &[(&str, &str, usize)]) -> Result<String, AllocError> {
+    let mut text = format!(in alloc; "{FIRST_LINE}|")?;
+    for &(line, answer, _) in turns {
+        text.push_str("<")?;
+        text.push_str(line)?;
+        text.push_str("\n")?;
+        text.push_str(answer)?;
+        text.push_str("\n|")?;
+    }
+    text.push_str("<")?;
+    Ok(text)
+}
+
+#[test]
+fn answers_are_out_before_the_next_line(rt: HostRuntime) -> Result<(), Fail> {
+    let graph = graph_of(rt.alloc(), 7, TWO)?;
+    let mut agent = opened(rt.alloc(), &graph, 0, MemTape::new(rt.alloc(), 20)?)?;
+    let asked = lines_of(rt.alloc(), &ROW)?;
+    let record = Record::new(rt.alloc())?;
+    let result = lead(
+        rt.alloc(),
+        &mut agent,
+        record.reader(asked.as_bytes()),
+        record.writer(),
+    )?;
+    assert_eq!(rt; result, Ok(()));
+    assert!(rt; record.is(record_of(rt.alloc(), &ROW)?.as_bytes()));
+    Ok(())
+}

@@ -1,0 +1,230 @@
+#!/usr/bin/env python3
+"""Drives a fleet: one process `mapf agent` for each agent of a plan.
+
+Usage: fleet.py [--agents N] [--seed N] [--loss RATE] [--kills RATE] [--quiet] [--program PATH] [--plan FILE --map FILE]
+
+Each robot asks its own process when it may go on, and tells the others what it has finished. The link between them loses messages,
+repeats them and lets them overtake one another; drives take their time; and at any moment a process may be killed (`kill -9`) and
+started again on its tape. What the robots hold is watched from outside: the run ends with status 1 as soon as two of them hold a
+common cell, and with status 0 once all have arrived and each tape, opened once more, says so. The same seed gives the same run, but for what a kill interrupts.
+"""
+import argparse
+import pathlib
+import random
+import subprocess
+import sys
+import tempfile
+import time
+
+HERE = pathlib.Path(__file__).resolve().parent
+STEP_OF = {"n": (0, -1), "s": (0, 1), "e": (1, 0), "w": (-1, 0), "-": (0, 0)}
+NAMES = "0123456789abcdefghijklmnopqrstuvwxyz"
+LONGEST_DRIVE = 4
+LONGEST_DELAY = 8
+SAY_EACH = 5
+
+
+def read_courses(plan):
+    """The first lines of a plan, and each agent's line."""
+    lines = plan.read_text().splitlines()
+    return lines[:2], lines[3:]
+
+
+def goal_of(line):
+    """The cell in which an agent's course ends."""
+    _, x, y, acts = line.split()
+    steps = [STEP_OF[act] for act in acts if act in STEP_OF]
+    return int(x) + sum(dx for dx, _ in steps), int(y) + sum(dy for _, dy in steps)
+
+
+class Killed(Exception):
+    """The process was killed before its answer was read."""
+
+
+class Robot:
+    """A robot: its process, its drive, and what it holds as seen from outside."""
+
+    def __init__(self, words, goal, kills, rng):
+        self.words, self.goal, self.kills, self.rng = words, goal, kills, rng
+        self.process = None
+        self.held = ()
+        self.done = 0
+        self.drives = 0
+        self.deaths = 0
+        self.start()
+
+    def start(self):
+        """Starts the process on the robot's tape. Its first line says where the robot is by what was stored."""
+        self.process = subprocess.Popen(self.words, stdin=subprocess.PIPE, stdout=subprocess.PIPE, text=True)
+        self.stand(self.process.stdout.readline().split())
+
+    def stand(self, answer):
+        """Takes over what an `at` or a `between` line says. Between two cells the drive goes on."""
+        if answer[:1] == ["at"]:
+            self.held, self.done = (cell_of(answer[1:3]),), int(answer[4])
+        elif answer[:1] == ["between"]:
+            self.held, self.done = (cell_of(answer[1:3]), cell_of(answer[3:5])), int(answer[6])
+            self.drives = self.rng.randint(1, LONGEST_DRIVE)
+        else:
+            sys.exit(f"{' '.join(self.words)}: {' '.join(answer) or 'ended without a word'}")
+
+    def die(self):
+        """The process is killed, wherever it is just now, and started again."""
+        self.process.kill()
+        self.process.communicate()
+        self.deaths += 1
+        self.start()
+
+    def ask(self, line):
+        """The words of the answer to a line."""
+        self.process.stdin.write(line + "\n")
+        self.process.stdin.flush()
+        if self.rng.random() < self.kills:
+            time.sleep(self.rng.random() / 500)
+            self.die()
+            raise Killed
+        answer = self.process.stdout.readline().split()
+        if answer in ([], ["refused", "StoreFailed"]):
+            sys.exit(f"{' '.join(self.words)}: the tape failed")
+        return answer
+
+    def go_on(self):
+        """One moment of the robot's life: it drives, says that it has arrived, or asks whether it may go on. Answers whether it is at its end."""
+        if self.drives > 1:
+            self.drives -= 1
+        elif len(self.held) == 2:
+            answer = self.ask("finish")
+            self.held, self.done, self.drives = (cell_of(answer[1:]),), self.done + 1, 0
+        else:
+            answer = self.ask("start")
+            if answer == ["refused", "AtEnd"]:
+                return True
+            if answer[0] == "moving":
+                self.held = (self.held[0], cell_of(answer[1:]))
+                self.drives = self.rng.randint(1, LONGEST_DRIVE)
+        return False
+
+    def is_home(self):
+        """Whether the tape, opened once more, says that the robot stands where its course ends."""
+        self.process.communicate()
+        self.start()
+        self.process.communicate()
+        return self.held == (self.goal,)
+
+
+def cell_of(words):
+    return int(words[0]), int(words[1])
+
+
+class Link:
+    """Carries messages, some never, some twice, each with a delay of its own."""
+
+    def __init__(self, loss, rng):
+        self.loss, self.rng = loss, rng
+        self.under_way = []
+        self.sent = self.lost = self.repeated = 0
+
+    def send(self, now, to, message):
+        self.sent += 1
+        if self.rng.random() < self.loss:
+            self.lost += 1
+            return
+        copies = 2 if self.rng.random() < self.loss else 1
+        self.repeated += copies - 1
+        for _ in range(copies):
+            self.under_way.append((now + self.rng.randint(1, LONGEST_DELAY), to, message))
+
+    def arrived(self, now):
+        """The messages that are due, in any order."""
+        due = [it for it in self.under_way if it[0] <= now]
+        self.under_way = [it for it in self.under_way if it[0] > now]
+        self.rng.shuffle(due)
+        return [(to, message) for _, to, message in due]
+
+
+def meeting(robots):
+    """Two robots that hold a common cell, if there are such."""
+    holders = {}
+    for number, robot in enumerate(robots):
+        for cell in robot.held:
+            if cell in holders:
+                return holders[cell], number, cell
+            holders[cell] = number
+    return None
+
+
+def picture(rows, robots, step):
+    """The map with the robots: a robot that drives is in both of its cells."""
+    shown = [list(row) for row in rows]
+    for number, robot in enumerate(robots):
+        for x, y in robot.held:
+            shown[y][x] = NAMES[number % len(NAMES)]
+    return "\n".join([f"step {step}", *("".join(row) for row in shown), ""])
+
+
+def run(given, folder):
+    rng = random.Random(given.seed)
+    head, courses = read_courses(given.plan)
+    courses = courses[:given.agents]
+    plan = folder / "fleet.plan"
+    plan.write_text("\n".join([*head, f"agents {len(courses)}", *courses, ""]))
+    rows = given.map.read_text().splitlines()[4:]
+    robots = [
+        Robot([given.program, "agent", str(given.map), str(plan), str(n), str(folder / f"{n}.tape")], goal_of(line), given.kills, rng)
+        for n, line in enumerate(courses)
+    ]
+    link = Link(given.loss, rng)
+    step = 0
+    arrived = set()
+    while len(arrived) < len(robots):
+        step += 1
+        for to, message in link.arrived(step):
+            try:
+                robots[to].ask(f"hear {message}")
+            except Killed:
+                pass
+        for number in rng.sample(range(len(robots)), len(robots)):
+            robot = robots[number]
+            try:
+                if number not in arrived and robot.go_on():
+                    arrived.add(number)
+                if (step + number) % SAY_EACH == 0:
+                    message = robot.ask("say")[1]
+                    for other in range(len(robots)):
+                        if other != number:
+                            link.send(step, other, message)
+            except Killed:
+                pass
+            met = meeting(robots)
+            if met:
+                print(picture(rows, robots, step))
+                print(f"step {step}: the robots {met[0]} and {met[1]} hold {met[2]} both")
+                return 1
+        if not given.quiet:
+            print(picture(rows, robots, step))
+    for number, robot in enumerate(robots):
+        if not robot.is_home():
+            print(f"the tape of robot {number} says that it holds {robot.held}")
+            return 1
+    kills = sum(robot.deaths for robot in robots)
+    print(f"seed {given.seed}: {len(robots)} robots arrived after {step} steps; {kills} kills; {link.sent} messages, {link.lost} lost, {link.repeated} repeated")
+    return 0
+
+
+def main():
+    parser = argparse.ArgumentParser(description="Drives a fleet: one process `mapf agent` for each agent of a plan.")
+    parser.add_argument("--agents", type=int, default=12, help="how many of the plan's agents drive (12)")
+    parser.add_argument("--seed", type=int, default=1, help="the seed of all chances (1)")
+    parser.add_argument("--loss", type=float, default=0.2, help="how many messages are lost, and how many come twice (0.2)")
+    parser.add_argument("--kills", type=float, default=0.02, help="how many questions end in a kill of the process (0.02)")
+    parser.add_argument("--quiet", action="store_true", help="shows no map, only how it ended")
+    parser.add_argument("--program", default=str(HERE.parent.parent / "mapf"), help="the program `mapf`")
+    parser.add_argument("--map", type=pathlib.Path, default=HERE / "warehouse.map")
+    parser.add_argument("--plan", type=pathlib.Path, default=HERE / "warehouse.plan")
+    given = parser.parse_args()
+    with tempfile.TemporaryDirectory() as folder:
+        return run(given, pathlib.Path(folder))
+
+
+if __name__ == "__main__":
+    sys.exit(main())
