@@ -19,7 +19,7 @@ fn agrees(row: &Row, (straight, diagonal): (u32, u32)) -> bool {
 /// What `mapf row` writes, but with no certificate of it; whether the length is the listed one.
 pub fn solve(map: File, scen: File, number: &str) -> Result<(String, bool), Fault> {
     let (width, height, cells) = read_map(map)?;
-    let rows = read_scen(scen)?;
+    let rows = read_scen(scen)?.rows;
     let Some(row) = number.parse().ok().and_then(|n: usize| rows.get(n)) else {
         return fault("NoSuchRow", &[]);
     };

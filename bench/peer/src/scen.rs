@@ -6,7 +6,8 @@ const LONGEST_LINE: usize = 4096;
 
 pub struct Row {
     bucket: u32,
-    name: Box<[u8]>,
+    /// The number of its name among those of the scenario.
+    name: u32,
     pub width: u32,
     pub height: u32,
     pub start: (u16, u16),
@@ -15,37 +16,59 @@ pub struct Row {
     pub decimals: u8,
 }
 
-/// Where the first LF stands, by blocks that the compiler compares at once.
-fn line_feed_at(bytes: &[u8]) -> Option<usize> {
-    const BLOCK: usize = 32;
-    let mut at = 0;
-    for block in bytes.chunks_exact(BLOCK) {
-        if block.iter().fold(false, |any, &b| any | (b == b'\n')) {
-            break;
-        }
-        at += BLOCK;
-    }
-    bytes[at..].iter().position(|&b| b == b'\n').map(|rest| at + rest)
+/// Rows, and the names of their maps, each kept once where rows side by side share it.
+pub struct Scenario {
+    pub rows: Vec<Row>,
+    names: Vec<Box<[u8]>>,
 }
 
-/// Puts the next line into `line`, without its LF; the answer is whether an LF ended it.
-fn next_line<R: Read>(source: &mut Source<R>, line: &mut Vec<u8>, number: u64) -> Result<bool, Fault> {
-    line.clear();
-    loop {
-        let bytes = source.fill()?;
-        if bytes.is_empty() {
-            return Ok(false);
+/// The first place of a byte, eight bytes at a time.
+fn place_of(byte: u8, bytes: &[u8]) -> Option<usize> {
+    const LOW: u64 = 0x0101_0101_0101_0101;
+    let wanted = LOW * u64::from(byte);
+    let mut words = bytes.chunks_exact(8);
+    let mut at = 0;
+    for word in &mut words {
+        let apart = u64::from_le_bytes(word.try_into().unwrap()) ^ wanted;
+        let found = apart.wrapping_sub(LOW) & !apart & (LOW << 7);
+        if found != 0 {
+            return Some(at + found.trailing_zeros() as usize / 8);
         }
-        let end = line_feed_at(bytes);
-        let count = end.unwrap_or(bytes.len());
-        if line.len() + count > LONGEST_LINE {
+        at += 8;
+    }
+    words.remainder().iter().position(|&b| b == byte).map(|rest| at + rest)
+}
+
+/// Calls `take` with each line, without its LF and with its number. A line that lies whole in a piece is not copied.
+fn for_each_line<R: Read>(reader: R, mut take: impl FnMut(&[u8], u64) -> Result<(), Fault>) -> Result<(), Fault> {
+    let mut source = Source::new(reader);
+    let mut kept = Vec::with_capacity(LONGEST_LINE);
+    let mut number = 1;
+    loop {
+        let mut rest = source.fill()?;
+        if rest.is_empty() {
+            return take(&kept, number);
+        }
+        let taken = rest.len();
+        while let Some(end) = place_of(b'\n', rest) {
+            if kept.len() + end > LONGEST_LINE {
+                return fault("LineTooLong", &[number]);
+            }
+            if kept.is_empty() {
+                take(&rest[..end], number)?;
+            } else {
+                kept.extend_from_slice(&rest[..end]);
+                take(&kept, number)?;
+                kept.clear();
+            }
+            rest = &rest[end + 1..];
+            number += 1;
+        }
+        if kept.len() + rest.len() > LONGEST_LINE {
             return fault("LineTooLong", &[number]);
         }
-        line.extend_from_slice(&bytes[..count]);
-        source.start += count + usize::from(end.is_some());
-        if end.is_some() {
-            return Ok(true);
-        }
+        kept.extend_from_slice(rest);
+        source.start += taken;
     }
 }
 
@@ -69,7 +92,7 @@ fn is_version(content: &[u8]) -> bool {
 }
 
 fn nine_fields(content: &[u8]) -> Option<[&[u8]; 9]> {
-    let separator = if content.contains(&b'\t') { b'\t' } else { b' ' };
+    let separator = if place_of(b'\t', content).is_some() { b'\t' } else { b' ' };
     let mut fields: [&[u8]; 9] = [&[]; 9];
     let mut rest = content;
     for field in &mut fields {
@@ -77,7 +100,7 @@ fn nine_fields(content: &[u8]) -> Option<[&[u8]; 9]> {
         if rest.is_empty() {
             return None;
         }
-        let end = rest.iter().position(|&b| b == separator).unwrap_or(rest.len());
+        let end = place_of(separator, rest).unwrap_or(rest.len());
         *field = trim_end(&rest[..end]);
         rest = &rest[end..];
     }
@@ -86,24 +109,32 @@ fn nine_fields(content: &[u8]) -> Option<[&[u8]; 9]> {
 
 /// The value of digits alone; one that is too large for all limits is the greatest number.
 fn number(bytes: &[u8]) -> Option<u64> {
-    let mut value = 0u64;
+    let (mut value, mut is_other) = (0u64, bytes.is_empty());
     for b in bytes {
         let digit = b.wrapping_sub(b'0');
-        if digit > 9 {
-            return None;
-        }
+        is_other |= digit > 9;
         value = value.wrapping_mul(10).wrapping_add(u64::from(digit));
     }
-    let digits = bytes.len() - bytes.iter().take_while(|&&b| b == b'0').count();
-    match bytes.len() {
-        0 => None,
-        _ if digits > 19 => Some(u64::MAX),
-        _ => Some(value),
+    if is_other {
+        return None;
     }
+    let is_long = bytes.len() > 19 && bytes.len() - bytes.iter().take_while(|&&b| b == b'0').count() > 19;
+    Some(if is_long { u64::MAX } else { value })
 }
 
+/// The powers of ten.
+const UNITS: [u64; 13] = {
+    let mut units = [1; 13];
+    let mut i = 1;
+    while i < 13 {
+        units[i] = units[i - 1] * 10;
+        i += 1;
+    }
+    units
+};
+
 fn listed(bytes: &[u8]) -> Option<(u64, u8)> {
-    let point = bytes.iter().position(|&b| b == b'.');
+    let point = place_of(b'.', bytes);
     let (whole, decimals) = match point {
         Some(point) => (&bytes[..point], &bytes[point + 1..]),
         None => (bytes, &bytes[bytes.len()..]),
@@ -111,17 +142,12 @@ fn listed(bytes: &[u8]) -> Option<(u64, u8)> {
     if whole.is_empty() || whole.len() > 7 || decimals.len() > 12 || (point.is_some() && decimals.is_empty()) {
         return None;
     }
-    let mut value = 0;
-    for b in whole.iter().chain(decimals) {
-        if !b.is_ascii_digit() {
-            return None;
-        }
-        value = value * 10 + u64::from(b - b'0');
-    }
+    let unit = UNITS[decimals.len()];
+    let value = number(whole)? * unit + if decimals.is_empty() { 0 } else { number(decimals)? };
     Some((value, decimals.len() as u8))
 }
 
-fn read_row(content: &[u8], line: u64) -> Result<Row, Fault> {
+fn read_row(content: &[u8], line: u64, scenario: &mut Scenario) -> Result<(), Fault> {
     let Some(fields) = nine_fields(content) else {
         return fault("FieldCount", &[line]);
     };
@@ -139,42 +165,38 @@ fn read_row(content: &[u8], line: u64) -> Result<Row, Fault> {
     let Some((listed, decimals)) = listed(fields[8]) else {
         return fault("BadLength", &[line]);
     };
-    Ok(Row {
+    if scenario.names.last().is_none_or(|last| **last != *fields[1]) {
+        scenario.names.push(fields[1].into());
+    }
+    scenario.rows.push(Row {
         bucket: bucket as u32,
-        name: fields[1].into(),
+        name: scenario.names.len() as u32 - 1,
         width: width as u32,
         height: height as u32,
         start: (start_x as u16, start_y as u16),
         goal: (goal_x as u16, goal_y as u16),
         listed,
         decimals,
-    })
+    });
+    Ok(())
 }
 
-pub fn read_scen<R: Read>(reader: R) -> Result<Vec<Row>, Fault> {
-    let mut source = Source::new(reader);
-    let mut line = Vec::with_capacity(LONGEST_LINE);
-    let mut rows = Vec::new();
+pub fn read_scen<R: Read>(reader: R) -> Result<Scenario, Fault> {
+    let mut scenario = Scenario { rows: Vec::new(), names: Vec::new() };
     let mut has_version = false;
-    let mut number = 1;
-    loop {
-        let goes_on = next_line(&mut source, &mut line, number)?;
-        let content = line.strip_suffix(b"\r").unwrap_or(&line);
+    for_each_line(reader, |line, number| {
+        let content = line.strip_suffix(b"\r").unwrap_or(line);
         let content = trim_end(trim_start(content));
-        if !content.is_empty() {
-            if has_version {
-                rows.push(read_row(content, number)?);
-            } else if is_version(content) {
-                has_version = true;
-            } else {
-                return fault("NoVersion", &[]);
-            }
+        if content.is_empty() {
+            return Ok(());
         }
-        if !goes_on {
-            return if has_version { Ok(rows) } else { fault("NoVersion", &[]) };
+        if has_version {
+            return read_row(content, number, &mut scenario);
         }
-        number += 1;
-    }
+        has_version = is_version(content);
+        if has_version { Ok(()) } else { fault("NoVersion", &[]) }
+    })?;
+    if has_version { Ok(scenario) } else { fault("NoVersion", &[]) }
 }
 
 /// The digits of 00 to 99.
@@ -210,7 +232,7 @@ fn put_number(piece: &mut Vec<u8>, mut value: u64) {
 }
 
 fn put_listed(piece: &mut Vec<u8>, listed: u64, decimals: u8) {
-    let unit = 10u64.pow(u32::from(decimals));
+    let unit = UNITS[usize::from(decimals)];
     put_number(piece, listed / unit);
     if decimals > 0 {
         // The 1 in front keeps the zeros, and gives way to the point.
@@ -227,13 +249,13 @@ pub fn written_listed(row: &Row) -> String {
     String::from_utf8_lossy(&text).into_owned()
 }
 
-pub fn write_scen<W: Write>(mut writer: W, rows: &[Row]) -> io::Result<()> {
+pub fn write_scen<W: Write>(mut writer: W, scenario: &Scenario) -> io::Result<()> {
     let mut piece = Vec::with_capacity(PIECE + LONGEST_LINE);
     piece.extend_from_slice(b"version 1\n");
-    for row in rows {
+    for row in &scenario.rows {
         put_number(&mut piece, u64::from(row.bucket));
         piece.push(b'\t');
-        piece.extend_from_slice(&row.name);
+        piece.extend_from_slice(&scenario.names[row.name as usize]);
         for value in [row.width, row.height, row.start.0.into(), row.start.1.into(), row.goal.0.into(), row.goal.1.into()] {
             piece.push(b'\t');
             put_number(&mut piece, u64::from(value));

@@ -18,6 +18,8 @@ pub mod Owning
 pub mod Agents
 -- which tapes are opened, and why the others are not
 pub mod Opening
+-- the words in which the refusal of a tape is told
+pub mod FaultWords
 -- what an agent answers, as replies to events
 pub mod Replies
 -- the code's own words

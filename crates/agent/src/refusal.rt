@@ -1,31 +1,53 @@
 //! Why an agent refuses.
-ghost use Rattle.std.specs.Prelude.{◌≡◌};
+ghost use Rattle.std.specs.Prelude.{◌≡◌, Some};
+ghost use Rattle.grid.specs.FaultWords.{words_of, words_text};
+ghost use Rattle.agent.specs.FaultWords.{open_fault_words};
 ghost use Rattle.agent.specs.declared.refusal.HearFault.TheVariants.{Message as message, OutOfMemory as out_of_memory};
 
+use grid::FaultWords;
 use model::MsgFault;
 use std::alloc::AllocError;
+use std::fmt;
 use thiserror::Error;
 
 /// Why a tape is not opened. Records are counted from 0.
 #[derive(Clone, Copy, Debug, PartialEq, Eq, Error)]
 pub enum OpenFault {
-    #[error("NoSuchAgent")]
     NoSuchAgent,
     /// The record says another kind or another number of moves than is due, or begins with another byte.
-    #[error("Damaged {0}")]
     Damaged(u32),
-    #[error("WrongPlan {0}")]
     WrongPlan(u32),
     /// There are more records than two a move.
-    #[error("TooLong")]
     TooLong,
-    #[error("TapeFailed")]
     TapeFailed,
-    #[error("WrongAgent {0}")]
     WrongAgent(u32),
     /// There is no room for two records a move.
-    #[error("NoRoom")]
     NoRoom,
+}
+
+impl OpenFault {
+    /// The words in which it is told.
+    pub fn words(self) -> FaultWords
+        ensures { words_of result ≡ open_fault_words self }
+    {
+        match self {
+            OpenFault::NoSuchAgent => FaultWords::new("NoSuchAgent", &[]),
+            OpenFault::Damaged(record) => FaultWords::new("Damaged", &[u64::from(record)]),
+            OpenFault::WrongPlan(record) => FaultWords::new("WrongPlan", &[u64::from(record)]),
+            OpenFault::TooLong => FaultWords::new("TooLong", &[]),
+            OpenFault::TapeFailed => FaultWords::new("TapeFailed", &[]),
+            OpenFault::WrongAgent(record) => FaultWords::new("WrongAgent", &[u64::from(record)]),
+            OpenFault::NoRoom => FaultWords::new("NoRoom", &[]),
+        }
+    }
+}
+
+impl fmt::Display for OpenFault {
+    ghost output = { λ fault. Some (words_text (open_fault_words fault)) };
+
+    fn fmt<W: fmt::Write>(&self, f: &mut fmt::Formatter<W>) -> fmt::Result {
+        self.words().fmt(f)
+    }
 }
 
 /// Why a call is refused.

@@ -1,5 +1,5 @@
 -- What `mapf agent` does and answers.
-use Rattle.std.specs.Prelude.{◌≡◌, ℕ, ◌+◌, ◌*◌, ◌≤◌, ◌⊎◌, true, List, length, Option, None, Some, IfSome, Result, Ok, Err, MatchResult}
+use Rattle.std.specs.Prelude.{◌≡◌, ℕ, ◌+◌, ◌*◌, ◌≤◌, ◌⊎◌, List, length, Option, None, Some, IfSome, Result, Ok, Err, MatchResult}
 use Rattle.grid.specs.declared.counted.Counted.{Counted}
 use Rattle.model.specs.History.{record_length}
 use Rattle.model.specs.Timetable.{Track, Timetable, moves, track_of}
@@ -16,7 +16,8 @@ use Rattle.file_tape.specs.declared.file_tape.FileTapeFault.TheVariants.{TooLong
 use Rattle.plan_commands.specs.DepsCommand.{ReadsTimetable}
 use Rattle.plan_commands.specs.declared.check_fault.CheckFault.{CheckFault}
 use Rattle.text_commands.specs.Status.{code_of}
-use Rattle.agent_commands.specs.AgentStatus.{agent_status, is_silent}
+use Rattle.agent_commands.specs.AgentStatus.{agent_status}
+use Rattle.agent_commands.specs.FaultWords.{told_of_agent}
 use Rattle.agent_commands.specs.declared.agent_fault.AgentFault.{AgentFault}
 use Rattle.agent_commands.specs.declared.agent_fault.AgentFault.TheVariants.{Texts, OpenFailed, File, Tape, Dialogue}
 
@@ -87,13 +88,12 @@ pub record Serves
       (λ tt. Converses remaining input_left contents tt i old_in new_in old_out new_out result)
       (λ fault. (result ≡ Err (Texts fault)) × (new_in ≡ old_in) × (new_out ≡ old_out))
 
--- The texts were read and the agent answered, and the status is by what that came to. Where the input was answered to its end, or the
--- last answer was that the tape failed, no fault was said.
+-- The texts were read and the agent answered, and the status and the fault that was told are by what that came to.
 pub record AnswersAgent
     {F M P I W : Type 0} (remaining : F → Option (List ℕ)) (map_left : M → Option (List ℕ)) (plan_left : P → Option (List ℕ))
-    (input_left : I → Option (List ℕ)) (contents : W → Option (List ℕ)) (i : ℕ) (old_map new_map : Counted M) (old_plan new_plan : Counted P)
-    (old_in new_in : Counted I) (old_out new_out : Counted W) (Quiet : Type 0) (code : ℕ) : Type 0 where
+    (input_left : I → Option (List ℕ)) (contents : W → Option (List ℕ)) (Told : Option (List (List ℕ)) → Type 0) (i : ℕ)
+    (old_map new_map : Counted M) (old_plan new_plan : Counted P) (old_in new_in : Counted I) (old_out new_out : Counted W) (code : ℕ) : Type 0 where
   pub answer : Result Unit AgentFault
   pub serves : Serves remaining map_left plan_left input_left contents i old_map new_map old_plan new_plan old_in new_in old_out new_out answer
   pub is_code : code ≡ code_of (agent_status answer)
-  pub silent : is_silent answer ≡ true → Quiet
+  pub tells : Told (told_of_agent answer)

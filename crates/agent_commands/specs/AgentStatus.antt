@@ -1,8 +1,7 @@
--- Which exit status an agent ends with, and whether it says why.
-use Rattle.std.specs.Prelude.{Bool, true, false, Result, Ok, Err}
+-- Which exit status an agent ends with.
+use Rattle.std.specs.Prelude.{Result, Ok, Err}
 use Rattle.agent.specs.declared.refusal.OpenFault.{OpenFault}
 use Rattle.agent.specs.declared.refusal.OpenFault.TheVariants as open_fault
-use Rattle.dialogue.specs.declared.talk_fault.TalkFault.TheVariants as talk_fault
 use Rattle.file_tape.specs.declared.file_tape.FileTapeFault.{FileTapeFault}
 use Rattle.file_tape.specs.declared.file_tape.FileTapeFault.TheVariants as file_fault
 use Rattle.plan_commands.specs.CheckStatus.{check_fault_status}
@@ -31,9 +30,3 @@ agent_fault_status (Dialogue f) = Failure
 abbrev pub agent_status : Result Unit AgentFault → Status
 agent_status (Ok done) = Done
 agent_status (Err fault) = agent_fault_status fault
-
--- Nothing is said where the input was answered to its end, or where the last answer was that the tape failed.
-abbrev pub is_silent : Result Unit AgentFault → Bool
-is_silent (Ok done) = true
-is_silent (Err (Dialogue talk_fault.StoreFailed)) = true
-is_silent (Err fault) = false

@@ -3,5 +3,7 @@
 
 -- which exit status an agent ends with
 pub mod AgentStatus
+-- the words of why an agent does not answer its input to the end
+pub mod FaultWords
 -- what `mapf agent` does and answers
 pub mod AgentCommand

@@ -1,12 +1,14 @@
 //! `mapf agent`: answers for one agent of a plan, by its tape.
-ghost use Rattle.std.specs.Prelude.{◌≡◌, true, MatchResult};
-ghost use Rattle.agent_commands.specs.AgentStatus.{agent_status, is_silent};
+ghost use Rattle.std.specs.Prelude.{◌≡◌, MatchResult};
+ghost use Rattle.text_commands.specs.Telling.{Tells};
+ghost use Rattle.agent_commands.specs.AgentStatus.{agent_status};
+ghost use Rattle.agent_commands.specs.FaultWords.{told_of_agent};
 ghost use Rattle.agent_commands.specs.AgentCommand.{AnswersAgent, Converses, IsOnTape, IsNotOnTape, IsTapeOf, IsNoTape, Serves};
 
 use crate::agent_fault::AgentFault;
 use agent::{Agent, OpenFault};
 use depgraph::Graph;
-use dialogue::{TalkFault, talk};
+use dialogue::talk;
 use file_tape::FileTape;
 use grid::Counted;
 use plan_commands::read_graph;
@@ -29,8 +31,8 @@ pub fn agent_cmd<R: Files + AllocGlobal, M: Read, P: Read, I: Read, W: Write, E:
     out: &mut Counted<W>,
     err: &mut Counted<E>,
 ) -> u8
-    ensures { AnswersAgent R.File.remaining M.remaining P.remaining I.remaining W.contents id map.old map.new plan.old plan.new input.old input.new out.old out.new
-        (err.new ≡ err.old) result }
+    ensures { AnswersAgent R.File.remaining M.remaining P.remaining I.remaining W.contents (Tells E.contents err.old err.new) id map.old map.new plan.old plan.new
+        input.old input.new out.old out.new result }
 {
     let answer = serve(rt, map, plan, id, path, input, out);
     conclude(answer, err).code()
@@ -111,14 +113,13 @@ fn open_tape<R: Files + AllocGlobal>(
 /// Says why the input was not answered to its end, if it wasn't.
 fn conclude<E: Write>(answer: Result<(), AgentFault>, err: &mut Counted<E>) -> Status
     ensures status { result ≡ agent_status answer }
-    ensures silent { is_silent answer ≡ true → err.new ≡ err.old }
+    ensures told { Tells E.contents err.old err.new (told_of_agent answer) }
 {
     match answer {
         Ok(()) => Status::Done,
-        // The answer to the line said so.
-        Err(AgentFault::Dialogue(TalkFault::StoreFailed)) => Status::Failure,
+        Err(fault) if fault.is_answered() => fault.status(),
         Err(fault) => {
-            let _ = report(err, fault);
+            report(err, fault.words());
             fault.status()
         }
     }

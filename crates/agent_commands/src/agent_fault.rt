@@ -1,12 +1,16 @@
 //! Why an agent does not answer its input to the end.
-ghost use Rattle.std.specs.Prelude.{◌≡◌};
+ghost use Rattle.std.specs.Prelude.{◌≡◌, Some};
+ghost use Rattle.grid.specs.FaultWords.{words_of, words_text};
 ghost use Rattle.agent_commands.specs.AgentStatus.{agent_fault_status, file_fault_status, tape_fault_status};
+ghost use Rattle.agent_commands.specs.FaultWords.{agent_fault_words, is_answered};
 ghost use Rattle.agent_commands.specs.declared.agent_fault.AgentFault.TheVariants as agent_fault;
 
 use agent::OpenFault;
 use dialogue::TalkFault;
 use file_tape::FileTapeFault;
+use grid::FaultWords;
 use plan_commands::CheckFault;
+use std::fmt;
 use text_commands::Status;
 use thiserror::Error;
 
@@ -14,19 +18,14 @@ use thiserror::Error;
 #[derive(Clone, Copy, Debug, PartialEq, Eq, Error)]
 pub(crate) enum AgentFault {
     /// The map or the plan could not be read, or the plan is rejected.
-    #[error("{0}")]
     Texts(CheckFault),
     /// The tape file could not be opened or made.
-    #[error("OpenFailed")]
     OpenFailed,
     /// The tape file could not be taken for a tape.
-    #[error("{0}")]
     File(FileTapeFault),
     /// There is no such agent, or the tape is not the agent's.
-    #[error("{0}")]
     Tape(OpenFault),
     /// The dialogue ended early.
-    #[error("{0}")]
     Dialogue(TalkFault),
 }
 
@@ -41,6 +40,34 @@ impl AgentFault {
             AgentFault::File(fault) => file_fault_status(fault),
             AgentFault::Tape(fault) => tape_fault_status(fault),
         }
+    }
+
+    /// Whether the last answer of the dialogue said it.
+    pub(crate) fn is_answered(self) -> bool
+        ensures { result ≡ is_answered self }
+    {
+        matches!(self, AgentFault::Dialogue(TalkFault::StoreFailed))
+    }
+
+    /// The words in which it is told.
+    pub(crate) fn words(self) -> FaultWords
+        ensures { words_of result ≡ agent_fault_words self }
+    {
+        match self {
+            AgentFault::Texts(fault) => fault.words(),
+            AgentFault::OpenFailed => FaultWords::new("OpenFailed", &[]),
+            AgentFault::File(fault) => fault.words(),
+            AgentFault::Tape(fault) => fault.words(),
+            AgentFault::Dialogue(fault) => fault.words(),
+        }
+    }
+}
+
+impl fmt::Display for AgentFault {
+    ghost output = { λ fault. Some (words_text (agent_fault_words fault)) };
+
+    fn fmt<W: fmt::Write>(&self, f: &mut fmt::Formatter<W>) -> fmt::Result {
+        self.words().fmt(f)
     }
 }
 

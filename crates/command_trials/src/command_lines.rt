@@ -562,3 +562,26 @@ fn bad_commands_with_a_text(rt: HostRuntime) -> Result<(), Fail> {
     assert_eq!(rt; shown(&fault), "error: the words are no text\n");
     Ok(())
 }
+
+/// A list of many words is a bad command like any other, and a long word is a name like any other.
+#[test]
+fn many_words(rt: HostRuntime) -> Result<(), Fail> {
+    let mut many = words(rt.alloc(), "mapf map")?;
+    for _ in 0..5_000 {
+        many.push(String::from_str(rt.alloc(), "word")?)?;
+    }
+    let fault = line(rt.alloc(), many.as_slice()).err();
+    assert_eq!(rt; fault.as_ref().map(kind_of), Some(FaultKind::BadCommand));
+    let mut name = String::new(rt.alloc());
+    for _ in 0..100_000 {
+        name.push('n')?;
+    }
+    let mut long = words(rt.alloc(), "mapf map")?;
+    long.push(name)?;
+    let Line::Map { file } = line(rt.alloc(), long.as_slice())? else {
+        assert!(rt; false, "another command");
+        return Ok(());
+    };
+    assert_eq!(rt; file.len(), 100_000);
+    Ok(())
+}

@@ -59,7 +59,7 @@ static PLANS: [(&str, &str, &str); 7] = [
 ];
 
 /// Texts and plans with a fault: the map, the plan, and the fault's line.
-static FAULTS: [(&str, &str, &str); 8] = [
+static FAULTS: [(&str, &str, &str); 12] = [
     (LANE, SWAP, "mapf: Swap 0 1 0\n"),
     (
         LANE,
@@ -83,6 +83,22 @@ static FAULTS: [(&str, &str, &str); 8] = [
     ),
     (LANE, "mapf-plan 2\n", "mapf: BadHeader 1\n"),
     (LANE, "mapf-plan 1\nnumber 7\n", "mapf: Unfinished 3\n"),
+    (LANE, "mapf-plan 1\nnumber 07\n", "mapf: BadNumber 2\n"),
+    (
+        LANE,
+        "mapf-plan 1\nnumber 7\nagents 10001\n",
+        "mapf: TooMany 3\n",
+    ),
+    (
+        LANE,
+        "mapf-plan 1\nnumber 7\nagents 1\nagent 0 0\n",
+        "mapf: BadAgent 4\n",
+    ),
+    (
+        LANE,
+        "mapf-plan 1\nnumber 7\nagents 0\n\n",
+        "mapf: TextAfter 4\n",
+    ),
     (
         "type octile\nheight 1\nwidth 3\nmap\n..\n",
         "mapf-plan 2\n",

@@ -9,7 +9,7 @@ use std::io::{ErrorKind, Read};
 const SHORT: &str = "type octile\r\nheight 2\r\nwidth 3\r\nmap\r\n...\r\n.@";
 
 /// Map texts, each with the status, the output and the error.
-static ANSWERS: [(&str, u8, &str, &str); 4] = [
+static ANSWERS: [(&str, u8, &str, &str); 11] = [
     (CORNER, 0, CORNER_WRITTEN, ""),
     (SHORT, 1, "", "mapf: ShortRow 6\n"),
     ("", 1, "", "mapf: BadHeader 1\n"),
@@ -18,6 +18,38 @@ static ANSWERS: [(&str, u8, &str, &str); 4] = [
         1,
         "",
         "mapf: BadTerrain 5 2\n",
+    ),
+    ("type octile\nheight 0\n", 1, "", "mapf: BadNumber 2\n"),
+    (
+        "type octile\nheight 2\nwidth x\n",
+        1,
+        "",
+        "mapf: BadNumber 3\n",
+    ),
+    ("type octile\nheight 65536\n", 1, "", "mapf: TooLarge 2\n"),
+    (
+        "type octile\nheight 2049\nwidth 2048\n",
+        1,
+        "",
+        "mapf: TooLarge 3\n",
+    ),
+    (
+        "type octile\nheight 1\nwidth 2\nmap\n...\n",
+        1,
+        "",
+        "mapf: LongRow 5\n",
+    ),
+    (
+        "type octile\nheight 2\nwidth 2\nmap\n..\n",
+        1,
+        "",
+        "mapf: MissingRows 6\n",
+    ),
+    (
+        "type octile\nheight 1\nwidth 2\nmap\n..\n\n.\n",
+        1,
+        "",
+        "mapf: TextAfter 7\n",
     ),
 ];
 
@@ -33,7 +65,9 @@ fn rewrite<R: Read + Drop>(alloc: Global, map: R, out: &mut Keeper, err: &mut Ke
 #[test]
 fn answers(rt: HostRuntime) {
     for &(text, status, told_out, told_err) in &ANSWERS {
-        let (mut out, mut err) = (Keeper::of_size(256), Keeper::of_size(256));
+        let mut out = Keeper::of_size(256);
+        // A line is written at once, so nothing fails.
+        let mut err = Keeper::of_size(256).in_trouble_at(2, Trouble::Failure);
         let got = rewrite(rt.alloc(), text.as_bytes(), &mut out, &mut err);
         assert_eq!(rt; got, status, "at {text:?}");
         assert!(rt; out.kept() == told_out.as_bytes(), "at {text:?}");

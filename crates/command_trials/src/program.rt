@@ -319,7 +319,9 @@ fn help_that_cannot_be_written(rt: HostRuntime) -> Result<(), Fail> {
 /// Runs the program over the files and this input, and compares what it did.
 fn does(rt: &impl Abort, alloc: Global, input: &str, want: &Done) -> Result<(), Fail> {
     let files = FakeFiles::new(alloc, FILES);
-    let (mut out, mut err) = (Keeper::of_size(2048), Keeper::of_size(2048));
+    let mut out = Keeper::of_size(2048);
+    // What is said on it is written at once, so nothing fails.
+    let mut err = Keeper::of_size(2048).in_trouble_at(2, Trouble::Failure);
     let words = words(alloc, want.words)?;
     let status = run(
         &files,

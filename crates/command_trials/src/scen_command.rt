@@ -9,10 +9,28 @@ use std::io::{ErrorKind, Read};
 const BAD_NUMBER: &str = "version 1\n\n0 m 3 2 0 1 1 0 2\n0 m 3 2 x 1 1 0 2\n";
 
 /// Scenario texts, each with the status, the output and the error.
-static ANSWERS: [(&str, u8, &str, &str); 3] = [
+static ANSWERS: [(&str, u8, &str, &str); 6] = [
     (ROW, 0, ROW_WRITTEN, ""),
     ("", 1, "", "mapf: NoVersion\n"),
     (BAD_NUMBER, 1, "", "mapf: BadNumber 4 5\n"),
+    (
+        "version 1\n0 m 3 2 0 1 1 0\n",
+        1,
+        "",
+        "mapf: FieldCount 2\n",
+    ),
+    (
+        "version 1\n0 m 3 2 3 1 1 0 2\n",
+        1,
+        "",
+        "mapf: OutOfGrid 2\n",
+    ),
+    (
+        "version 1\n0 m 3 2 0 1 1 0 2.\n",
+        1,
+        "",
+        "mapf: BadLength 2\n",
+    ),
 ];
 
 fn rewrite<R: Read + Drop>(alloc: Global, scen: R, out: &mut Keeper, err: &mut Keeper) -> u8 {
@@ -27,12 +45,24 @@ fn rewrite<R: Read + Drop>(alloc: Global, scen: R, out: &mut Keeper, err: &mut K
 #[test]
 fn answers(rt: HostRuntime) {
     for &(text, status, told_out, told_err) in &ANSWERS {
-        let (mut out, mut err) = (Keeper::of_size(256), Keeper::of_size(256));
+        let mut out = Keeper::of_size(256);
+        // A line is written at once, so nothing fails.
+        let mut err = Keeper::of_size(256).in_trouble_at(2, Trouble::Failure);
         let got = rewrite(rt.alloc(), text.as_bytes(), &mut out, &mut err);
         assert_eq!(rt; got, status, "at {text:?}");
         assert!(rt; out.kept() == told_out.as_bytes(), "at {text:?}");
         assert!(rt; err.kept() == told_err.as_bytes(), "at {text:?}");
     }
+}
+
+#[test]
+fn line_that_is_too_long(rt: HostRuntime) {
+    let (mut out, mut err) = (Keeper::of_size(256), Keeper::of_size(256));
+    let text = [b' '; 4097];
+    let status = rewrite(rt.alloc(), text.as_slice(), &mut out, &mut err);
+    assert_eq!(rt; status, 1);
+    assert!(rt; out.kept() == b"".as_slice());
+    assert!(rt; err.kept() == b"mapf: LineTooLong 1\n".as_slice());
 }
 
 #[test]

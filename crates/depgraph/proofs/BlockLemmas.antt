@@ -16,7 +16,7 @@ use Rattle.depgraph.specs.Code.Orders.{IsOrder}
 use Rattle.depgraph.specs.Code.Placing.{IsTimeline, IsPlacing, part_of, visited, listing}
 use Rattle.depgraph.specs.Code.Ranks.{tally, below, rank}
 use Rattle.depgraph.proofs.PositionLemmas.{table, visit_at, cell_of, arrival-visit, visit-arrival, arrivals-rise, times-rise}
-use Rattle.depgraph.proofs.RankLemmas.{tally-same, tally-up_to, tally-within, rank-is, occurs, IsOccurrence, below-all, below-up_to}
+use Rattle.depgraph.proofs.RankLemmas.{tally-same, tally-up_to, tally-within, rank-is, occurs, IsOccurrence, occurrences_rise, below-all, below-up_to}
 
 -- ---- a part of a list
 
@@ -103,19 +103,6 @@ module _ (number : ℕ) (tracks : List Track) (ends : List ℕ) (arrivals : List
       let found = part-visit n k less (omega (arith, inside, long)) in
       (found.0, found.1, found.2, same_Some (visit_at number tracks ends arrivals step_ends line found.0) v (sym found.3 ∙ at))
 
-  -- where fewer are before it, an occurrence is before the other
-  pub occurrences-rise : (n k l p q : ℕ) → k < l → IsOccurrence h.listed n k p → IsOccurrence h.listed n l q → p < q
-  occurrences-rise n k l p q less first second = elim (cases_lt p q) [
-    | inl before ↦ before
-    | inr after ↦ (
-        let inside = first.within in
-        let rises = tally-up_to h.listed q p n (omega (arith, after)) (omega (arith, inside)) in
-        let a = first.before in
-        let b = second.before in
-        absurd (omega (arith, rises, a, b, less))
-        )
-  ]
-
   pub at-cell : (n k p : ℕ) → p < length arrivals → IsOccurrence h.listed n k p → cell_of number tracks ends arrivals step_ends line p ≡ get_or h.names n no_cell
   at-cell n k p less occurs = sym (name-of p less) ∙ ap (λ m. get_or h.names m no_cell) occurs.key
 
@@ -148,7 +135,7 @@ module _ (number : ℕ) (tracks : List Track) (ends : List ℕ) (arrivals : List
       rising = λ k l v w before at_k at_l.
           let first = part-arrival n k v less at_k in
           let second = part-arrival n l w less at_l in
-          let rises = occurrences-rise n k l first.0 second.0 before first.1 second.1 in
+          let rises = occurrences_rise h.listed n k l first.0 second.0 before first.1 second.1 in
           let cell = at-cell n k first.0 first.2 first.1 ∙ sym (at-cell n l second.0 second.2 second.1) in
           let times = times-rise number tracks ends arrivals step_ends line first.0 second.0 free rises second.2 cell in
           let a = ap (λ x. x.time) first.3 in

@@ -23,10 +23,10 @@ use Rattle.depgraph.specs.Code.Placing.{part_of, visited, listing}
 use Rattle.depgraph.specs.Code.Ranks.{tally, below, rank}
 use Rattle.depgraph.specs.Code.Schedules.{entry_in}
 use Rattle.depgraph.specs.Code.Waits.{no_visit, no_wait, entry_for, wait_of, before_at}
-use Rattle.depgraph.proofs.BlockLemmas.{name-of, occurrences-rise, listing-get, number-within, part-visit, begin-below, end-below, part-within, at-cell, all_visits}
+use Rattle.depgraph.proofs.BlockLemmas.{name-of, listing-get, number-within, part-visit, begin-below, end-below, part-within, at-cell, all_visits}
 use Rattle.depgraph.proofs.PositionLemmas.{visit_at, cell_of}
 use Rattle.depgraph.proofs.NoteLemmas.{later-is}
-use Rattle.depgraph.proofs.RankLemmas.{occurs, occurrence-rank, rank-is, rank-least, rank-most, ranked, tally-within, below-all}
+use Rattle.depgraph.proofs.RankLemmas.{occurrences_rise, occurs, occurrence-rank, rank-is, rank-least, rank-most, ranked, tally-within, below-all}
 use Rattle.depgraph.proofs.ScheduleLemmas.{same_count, begin_most, position}
 use Rattle.depgraph.proofs.TrackLemmas.{no_track}
 use Rattle.depgraph.proofs.VisitLemmas.{begin_is, end_is, IsArrival, arrives, arrival-cell, entry_own, entry_track, entry_at, entry-one, entry-within}
@@ -139,7 +139,7 @@ module _ (tt : Timetable) (cells : List Cell) (times ends : List ℕ) (needs : L
               q,
               in_q,
               record {
-                before = occurrences-rise tt.number tt.tracks ends h.arrivals h.step_ends h.line visits visit_ends h.placing n (r - 1) r q p (omega (arith, some)) found.1
+                before = occurrences_rise h.placing.listed n (r - 1) r q p (omega (arith, some)) found.1
                     (record { within = omega (arith, less, all); key = refl; before = refl });
                 key = found.1.key;
                 cell = same;

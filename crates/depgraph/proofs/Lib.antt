@@ -7,9 +7,13 @@ pub mod RankLemmas
 pub mod VisitLemmas
 pub mod ScheduleLemmas
 pub mod NumberLemmas
+pub mod TileLemmas
 pub mod OrderLemmas
+pub mod PartLemmas
+pub mod SortedLemmas
 pub mod PlacingLemmas
 pub mod PositionLemmas
+pub mod PlacedLemmas
 pub mod BlockLemmas
 pub mod WaitLemmas
 pub mod NoteLemmas

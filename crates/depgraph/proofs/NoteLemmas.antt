@@ -14,9 +14,9 @@ use Rattle.depgraph.specs.Code.Paths.{all_entered, all_times}
 use Rattle.depgraph.specs.Code.Placing.{IsTimeline, IsPlacing}
 use Rattle.depgraph.specs.Code.Ranks.{tally, below, rank}
 use Rattle.depgraph.specs.Code.Waits.{no_visit, no_wait, entry_for, wait_of, before_at, IsNoted, AreWaits, AreBlocks}
-use Rattle.depgraph.proofs.BlockLemmas.{begin-below, end-below, part-within, occurrences-rise, at-cell}
+use Rattle.depgraph.proofs.BlockLemmas.{begin-below, end-below, part-within, at-cell}
 use Rattle.depgraph.proofs.PositionLemmas.{table, visit_at, arrival-visit, times-rise}
-use Rattle.depgraph.proofs.RankLemmas.{occurs, IsOccurrence, occurrence-rank, ranked, below-all}
+use Rattle.depgraph.proofs.RankLemmas.{occurrences_rise, occurs, IsOccurrence, occurrence-rank, ranked, below-all}
 use Rattle.depgraph.proofs.ScheduleLemmas.{same_count, arrival-within, arrivals_apart}
 use Rattle.depgraph.proofs.VisitLemmas.{entry_at}
 use Rattle.depgraph.proofs.WaitLemmas.{same_place, cell_in, visit_stands, IsJustBefore}
@@ -163,7 +163,7 @@ module _ (number : ℕ) (tracks : List Track) (ends : List ℕ) (arrivals : List
       let a = first.before in
       let b = second.before in
       record {
-        before = occurrences-rise number tracks ends arrivals step_ends line visits visit_ends h n (k - 1 - begin_in visit_ends n) (k - begin_in visit_ends n) q p (omega (arith, begun)) first second;
+        before = occurrences_rise h.listed n (k - 1 - begin_in visit_ends n) (k - begin_in visit_ends n) q p (omega (arith, begun)) first second;
         key = first.key ∙ sym second.key;
         cell = at-cell number tracks ends arrivals step_ends line visits visit_ends h n (k - 1 - begin_in visit_ends n) q in_q first
             ∙ sym (at-cell number tracks ends arrivals step_ends line visits visit_ends h n (k - begin_in visit_ends n) p in_p second);

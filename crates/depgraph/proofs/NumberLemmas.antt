@@ -1,58 +1,15 @@
--- A cell's number in a set of cells.
-use Rattle.std.proofs.Common.{◌≡◌, ℕ, ◌+◌, ◌<◌, ◌≤◌, true, List, [], ◌∷◌, ◌++◌, length, get_or, Some, inl, inr, arith, refl, sym, ap, subst, ◌∙◌}
-use Rattle.std.specs.Prelude.{if◌then◌else◌, slice_get}
-use Rattle.std.specs.List.{list_any, IsDistinct}
-use Rattle.std.proofs.lemmas.Bool.{cases_lt, cases_Bool, cond-true, cond-false, false≢true}
+-- One number more, and the numbers of the arrivals.
+use Rattle.std.proofs.Common.{◌≡◌, ◌≢◌, ℕ, ◌+◌, ◌<◌, ◌≤◌, List, [], ◌∷◌, ◌++◌, length, get_or, Some, inl, inr, arith, refl, sym, ap, subst, ◌∙◌}
+use Rattle.std.specs.Prelude.{slice_get}
+use Rattle.std.proofs.lemmas.Bool.{cases_lt}
 use Rattle.std.proofs.lemmas.List.{length-append, get_or_push, get_or_append_left}
-use Rattle.std.proofs.lemmas.Map.Keys.{apart_from_distinct}
 use Rattle.std.proofs.lemmas.Option.{slice_get-get_or, slice_get_within, get_or_from_slice_get}
 use Rattle.grid.specs.declared.cell.Cell.{Cell}
-use Rattle.model.specs.Timetable.{same_cell}
-use Rattle.model.proofs.TrackLemmas.{same_cell-same, same_cell-true}
 use Rattle.depgraph.specs.declared.schedule.Arrival.{Arrival}
 use Rattle.depgraph.specs.Code.Numbers.{no_cell, AreDistinct, HasNumber, AreNumbered, AreListed}
 use Rattle.depgraph.specs.Code.Schedules.{entry_in, AreTaken}
 
-pub distinct_cells : (names : List Cell) → IsDistinct same_cell names → AreDistinct names
-distinct_cells names h a b c at_a at_b = elim (cases_lt a b) [
-  | inl less ↦ absurd (apart a b less at_a at_b)
-  | inr not_less ↦ elim (cases_lt b a) [
-    | inl less ↦ absurd (apart b a less at_b at_a)
-    | inr not_more ↦ omega (arith, not_less, not_more)
-  ]
-] where
-  apart : (a b : ℕ) → a < b → slice_get names a ≡ Some c → slice_get names b ≡ Some c → ⊥
-  apart a b less at_a at_b =
-      let other = apart_from_distinct same_cell names a b no_cell h less (slice_get_within names b c at_b) in
-      let same = ap (λ d. same_cell d (get_or names b no_cell)) (get_or_from_slice_get names a c no_cell at_a) ∙ ap (same_cell c) (get_or_from_slice_get names b c no_cell at_b)
-      ∙ same_cell-true c c refl in
-      false≢true (sym other ∙ same)
-
-pub numbered : (old new : List Cell) (cell : Cell) (n : ℕ) (k : Cell) → new ≡ (if list_any (same_cell cell) old then old else old ++ cell ∷ [])
-    → slice_get new n ≡ Some k → same_cell cell k ≡ true → IsDistinct same_cell new → HasNumber old new cell n
-numbered old new cell n k keys stored same distinct =
-    let at : slice_get new n ≡ Some cell = stored ∙ ap Some (sym (same_cell-same cell k same)) in
-    record {
-      is_at = at;
-      grown = elim (cases_Bool (list_any (same_cell cell) old)) [
-        | inl there ↦ (
-            let stays : new ≡ old = keys ∙ cond-true (list_any (same_cell cell) old) old (old ++ cell ∷ []) there in
-            inr (subst (λ l. n < length l) stays (slice_get_within new n cell at), stays)
-            )
-        | inr none ↦ (
-            let grows : new ≡ old ++ cell ∷ [] = keys ∙ cond-false (list_any (same_cell cell) old) old (old ++ cell ∷ []) none in
-            let last : slice_get new (length old) ≡ Some cell = ap (λ l. slice_get l (length old)) grows
-            ∙ slice_get-get_or (old ++ cell ∷ []) (length old) no_cell (let long = length-append old (cell ∷ []) in omega (arith, long))
-            ∙ ap Some (get_or_push old cell no_cell (length old) refl) in
-            inl (distinct_cells new distinct n (length old) cell at last, grows)
-            )
-      ];
-    }
-
 -- ---- one number more
-
-pub number-most : (names new : List Cell) (cell : Cell) (n : ℕ) → HasNumber names new cell n → n ≤ length names
-number-most names new cell n h = elim h.grown [ inl added ↦ (let is = added.0 in omega (arith, is)) | inr stays ↦ (let less = stays.0 in omega (arith, less)) ]
 
 module _ (cells names new : List Cell) (numbers : List ℕ) (cell : Cell) (n : ℕ) where
   kept-name : HasNumber names new cell n → (m : ℕ) (c : Cell) → slice_get names m ≡ Some c → slice_get new m ≡ Some c
@@ -81,6 +38,15 @@ module _ (cells names new : List Cell) (numbers : List ℕ) (cell : Cell) (n : �
     | inl added ↦ (let long = ap length added.1 ∙ length-append names (cell ∷ []) in omega (arith, long))
     | inr stays ↦ (let long = ap length stays.1 in omega (arith, long))
   ]
+
+  pub count_more : HasNumber names new cell n → n ≡ length names → length new ≡ length names + 1
+  count_more h next = elim h.grown [
+    | inl added ↦ ap length added.1 ∙ length-append names (cell ∷ [])
+    | inr stays ↦ (let less = stays.0 in absurd (omega (arith, less, next)))
+  ]
+
+  pub count_same : HasNumber names new cell n → n ≢ length names → length new ≡ length names
+  count_same h other = elim h.grown [ inl added ↦ absurd (other added.0) | inr stays ↦ ap length stays.1 ]
 
   pub numbered-next : AreNumbered cells names numbers → HasNumber names new cell n → AreDistinct new → cell ≡ get_or cells (length numbers) no_cell
       → AreNumbered cells new (numbers ++ n ∷ [])

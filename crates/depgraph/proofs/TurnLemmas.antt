@@ -18,8 +18,7 @@ use Rattle.depgraph.specs.Code.Ranks.{below}
 use Rattle.depgraph.specs.Code.Schedules.{entry_in}
 use Rattle.depgraph.specs.Code.Turning.{agent_in, AreApart, ahead_by, ahead_in, AreLinked, AreMoved, AreCounts}
 use Rattle.depgraph.specs.Code.Waits.{no_wait}
-use Rattle.depgraph.proofs.PlacingLemmas.{time_at}
-use Rattle.depgraph.proofs.PositionLemmas.{arrivals-rise}
+use Rattle.depgraph.proofs.PositionLemmas.{arrivals-rise, time_at}
 use Rattle.depgraph.proofs.RankLemmas.{below-up_to, below-all}
 use Rattle.depgraph.proofs.RingLemmas.{one_at, following-next, following-first}
 use Rattle.depgraph.proofs.RotationLemmas.{visit_of, is_visit, time_bounds, mover-arrival, into-waits, waits-into, wait_agent}
@@ -153,7 +152,7 @@ module _ (tt : Timetable) (cells : List Cell) (times ends : List ℕ) (needs : L
   agents_count = h.line.paths.count
 
   visit_time : (p t : ℕ) → p < length h.arrivals → begin_at t ≤ p → p < begin_at (suc t) → (visit_of tt cells times ends needs visits visit_ends h p).time ≡ t
-  visit_time p t less after before = time_at tt.tracks ends h.arrivals h.step_ends h.placing.listed h.line h.placing.all p t less after before
+  visit_time p t less after before = time_at tt.number tt.tracks ends h.arrivals h.step_ends h.line p t less after before
 
   all_arrivals : (t : ℕ) → t ≤ length h.step_ends → begin_at t ≤ length h.arrivals
   all_arrivals t most =

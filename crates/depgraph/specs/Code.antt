@@ -14,12 +14,16 @@ pub mod Entries
 pub mod Schedules
 -- numbers of cells
 pub mod Numbers
+-- where they stand
+pub mod Tiles
 -- their order of first visit
 pub mod Orders
 -- visits in their places
 pub mod Placing
 -- what the moves wait for
 pub mod Waits
+-- visits that are sorted part after part
+pub mod Parts
 -- what a graph keeps
 pub mod Keeping
 -- the cycles of agents that follow one another

@@ -66,13 +66,14 @@ impl Graph {
         let paths = paths_of(alloc, plan)?;
         let Numbering { numbers, count } = numbering_of(alloc, &paths.cells)?;
         let (schedule, taken) = schedule_of(alloc, &paths, &numbers)?;
-        drop(numbers);
         let Paths { cells, times, ends } = paths;
-        // Both are found again in the end: to hold them all along would take more memory than the graph.
+        // Cells and times are found again in the end: to hold them all along would take more memory than the graph.
         drop(cells);
-        drop(times);
         let order = order_of(alloc, &taken, count)?;
-        let placed = place_visits(alloc, plan, &ends, &schedule, taken, count)?;
+        drop(taken);
+        let placed = place_visits(alloc, plan, &times, &ends, &numbers, count)?;
+        drop(numbers);
+        drop(times);
         let Placed { visits, next } = placed;
         let needs = waits_of(alloc, &ends, &visits, &next.next)?;
         let rotations = find_rotations(alloc, plan, &ends, &schedule, &needs)?;

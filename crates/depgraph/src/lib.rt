@@ -13,6 +13,7 @@ mod placing;
 mod rotations;
 mod schedule;
 mod sorting;
+mod tiles;
 mod waiting;
 
 pub use graph::{Graph, Route};

@@ -6,5 +6,7 @@ pub mod Requests
 pub mod Turns
 -- what a whole dialogue comes to
 pub mod Dialogue
+-- the words in which it is told that a dialogue ended early
+pub mod FaultWords
 -- the code's own words
 pub mod Code

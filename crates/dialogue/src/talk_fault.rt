@@ -1,24 +1,45 @@
 //! Why a dialogue ended before its input did.
-ghost use Rattle.std.specs.Prelude.{◌≡◌};
+ghost use Rattle.std.specs.Prelude.{◌≡◌, Some};
+ghost use Rattle.grid.specs.FaultWords.{words_of, words_text};
+ghost use Rattle.dialogue.specs.FaultWords.{talk_fault_words};
 ghost use Rattle.dialogue.specs.declared.talk_fault.TalkFault.TheVariants as talk_fault;
 
-use grid::WriteFault;
+use grid::{FaultWords, WriteFault};
 use std::alloc::AllocError;
+use std::fmt;
 use thiserror::Error;
 
 /// Why a dialogue ended before its input did.
 #[derive(Clone, Copy, Debug, PartialEq, Eq, Error)]
 pub enum TalkFault {
-    #[error("ReadFailed")]
     ReadFailed,
-    #[error("WriteFailed")]
     WriteFailed,
     /// The agent's tape failed, and that was answered.
-    #[error("StoreFailed")]
     StoreFailed,
     /// Nothing was read or written.
-    #[error("OutOfMemory")]
     OutOfMemory,
+}
+
+impl TalkFault {
+    /// The words in which it is told.
+    pub fn words(self) -> FaultWords
+        ensures { words_of result ≡ talk_fault_words self }
+    {
+        match self {
+            TalkFault::ReadFailed => FaultWords::new("ReadFailed", &[]),
+            TalkFault::WriteFailed => FaultWords::new("WriteFailed", &[]),
+            TalkFault::StoreFailed => FaultWords::new("StoreFailed", &[]),
+            TalkFault::OutOfMemory => FaultWords::new("OutOfMemory", &[]),
+        }
+    }
+}
+
+impl fmt::Display for TalkFault {
+    ghost output = { λ fault. Some (words_text (talk_fault_words fault)) };
+
+    fn fmt<W: fmt::Write>(&self, f: &mut fmt::Formatter<W>) -> fmt::Result {
+        self.words().fmt(f)
+    }
 }
 
 impl From<WriteFault> for TalkFault {

@@ -4,6 +4,8 @@
 pub mod EventText
 -- the faults of a text of events, and where each stands
 pub mod EventFault
+-- the words in which a fault is told
+pub mod FaultWords
 -- the events of a text up to its first fault
 pub mod FirstEvents
 -- what reading a text event by event leaves

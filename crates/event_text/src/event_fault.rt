@@ -1,23 +1,45 @@
 //! Why a text of events could not be read.
-ghost use Rattle.std.specs.Prelude.{◌≡◌};
+ghost use Rattle.std.specs.Prelude.{◌≡◌, Some};
+ghost use Rattle.grid.specs.FaultWords.{words_of, words_text};
+ghost use Rattle.event_text.specs.FaultWords.{event_fault_words};
 ghost use Rattle.event_text.specs.declared.event_fault.EventFault.TheVariants.{OutOfMemory as out_of_memory};
 
+use grid::FaultWords;
 use std::alloc::AllocError;
+use std::fmt;
 use thiserror::Error;
 
 /// The first fault of a text of events, with its line from 1 on, or why the text was not read to that point.
 #[derive(Clone, Copy, Debug, PartialEq, Eq, Error)]
 pub enum EventFault {
-    #[error("NoHeader")]
     NoHeader,
-    #[error("BadEvent {0}")]
     BadEvent(u64),
-    #[error("Unfinished {0}")]
     Unfinished(u64),
-    #[error("ReadFailed")]
     ReadFailed,
-    #[error("OutOfMemory")]
     OutOfMemory,
+}
+
+impl EventFault {
+    /// The words in which it is told.
+    pub fn words(self) -> FaultWords
+        ensures { words_of result ≡ event_fault_words self }
+    {
+        match self {
+            EventFault::NoHeader => FaultWords::new("NoHeader", &[]),
+            EventFault::BadEvent(line) => FaultWords::new("BadEvent", &[line]),
+            EventFault::Unfinished(line) => FaultWords::new("Unfinished", &[line]),
+            EventFault::ReadFailed => FaultWords::new("ReadFailed", &[]),
+            EventFault::OutOfMemory => FaultWords::new("OutOfMemory", &[]),
+        }
+    }
+}
+
+impl fmt::Display for EventFault {
+    ghost output = { λ fault. Some (words_text (event_fault_words fault)) };
+
+    fn fmt<W: fmt::Write>(&self, f: &mut fmt::Formatter<W>) -> fmt::Result {
+        self.words().fmt(f)
+    }
 }
 
 impl From<AllocError> for EventFault {

@@ -4,3 +4,5 @@
 pub mod Stored
 -- the tape in a file
 pub mod FileTape
+-- the words in which it is told why there is none
+pub mod FaultWords

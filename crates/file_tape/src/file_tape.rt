@@ -1,14 +1,17 @@
 //! A tape in a file, behind an image of it in memory.
-ghost use Rattle.std.specs.Prelude.{◌≡◌, ◌+◌, ◌<◌, ◌≤◌, length, IfOk, IfSome, IsErrOf};
+ghost use Rattle.std.specs.Prelude.{◌≡◌, ◌+◌, ◌<◌, ◌≤◌, length, Some, IfOk, IfSome, IsErrOf};
+ghost use Rattle.grid.specs.FaultWords.{words_of, words_text};
+ghost use Rattle.file_tape.specs.FaultWords.{file_tape_fault_words};
 ghost use Rattle.file_tape.specs.declared.file_tape.FileTapeFault.TheVariants.{TapeFailed as tape_failed, OutOfMemory as out_of_memory};
 ghost use Rattle.file_tape.specs.FileTape.{file_fault_of};
 
 use crate::disk::{Disk, read_up_to};
 use agent::{MemTape, Tape, TapeError, TapeMakeFault};
+use grid::FaultWords;
 use std::alloc::{AllocError, Global};
 use std::fs::OpenFile;
-use std::io;
 use std::io::{Read, Seek, Write};
+use std::{fmt, io};
 use thiserror::Error;
 
 /// How many bytes at the most stand behind the whole records of a file.
@@ -18,13 +21,31 @@ const TAIL: usize = 9;
 #[derive(Clone, Copy, Debug, PartialEq, Eq, Error)]
 pub enum FileTapeFault {
     /// Behind the room there are ten bytes or more.
-    #[error("TooLong")]
     TooLong,
     /// The file could not be read or synced.
-    #[error("TapeFailed")]
     TapeFailed,
-    #[error("OutOfMemory")]
     OutOfMemory,
+}
+
+impl FileTapeFault {
+    /// The words in which it is told.
+    pub fn words(self) -> FaultWords
+        ensures { words_of result ≡ file_tape_fault_words self }
+    {
+        match self {
+            FileTapeFault::TooLong => FaultWords::new("TooLong", &[]),
+            FileTapeFault::TapeFailed => FaultWords::new("TapeFailed", &[]),
+            FileTapeFault::OutOfMemory => FaultWords::new("OutOfMemory", &[]),
+        }
+    }
+}
+
+impl fmt::Display for FileTapeFault {
+    ghost output = { λ fault. Some (words_text (file_tape_fault_words fault)) };
+
+    fn fmt<W: fmt::Write>(&self, f: &mut fmt::Formatter<W>) -> fmt::Result {
+        self.words().fmt(f)
+    }
 }
 
 impl From<io::Error> for FileTapeFault {

@@ -21,3 +21,4 @@ pub mod MapLemmas
 pub mod Deciding
 pub mod LineTaking
 pub mod PlaceLemmas
+pub mod WordLemmas

@@ -12,6 +12,8 @@ pub mod Reading
 pub mod MapText
 -- the faults of a map's text, and where each stands
 pub mod MapFault
+-- the words in which a fault is told
+pub mod FaultWords
 -- what a writer of any format owes
 pub mod Writing
 -- what is counted of a reader or a writer

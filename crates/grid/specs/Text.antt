@@ -1,5 +1,5 @@
 -- The characters and lines that every format speaks of.
-use Rattle.std.specs.Prelude.{◌≡◌, ℕ, ◌<◌, Bool, true, false, ◌||◌, ◌==◌, if◌then◌else◌, IsTrue, List, [], ◌∷◌, ◌++◌, length}
+use Rattle.std.specs.Prelude.{◌≡◌, ℕ, ◌<◌, Bool, true, false, ◌||◌, ◌==◌, if◌then◌else◌, IsTrue, List, [], ◌∷◌, ◌++◌, length, codes, decimal}
 use Rattle.std.specs.List.{flat_map, list_all}
 use Rattle.std.specs.Char.{is_ascii_digit}
 use Rattle.std.specs.Str.Parse.{digits_value}
@@ -55,3 +55,7 @@ SpellsNumber n digits = IsTrue (list_all is_ascii_digit digits) × (0 < length d
 -- one blank or more
 abbrev pub IsGap : List ℕ → Type 0
 IsGap gap = IsTrue (list_all is_blank gap) × (0 < length gap)
+
+-- numbers with a space before each
+abbrev pub spaced_numbers : List ℕ → List ℕ
+spaced_numbers numbers = flat_map (λ n. codes " " ++ decimal n) numbers

@@ -3,6 +3,7 @@
 
 mod cell;
 mod counted;
+mod fault_words;
 mod header_line;
 pub mod laws;
 mod lines;
@@ -18,6 +19,7 @@ mod terrain_scan;
 
 pub use cell::Cell;
 pub use counted::Counted;
+pub use fault_words::FaultWords;
 pub use lines::TakenLine;
 pub use map::Map;
 pub use map_fault::MapFault;

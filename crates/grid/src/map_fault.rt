@@ -1,33 +1,56 @@
 //! Why a map could not be read.
-ghost use Rattle.std.specs.Prelude.{◌≡◌};
+ghost use Rattle.std.specs.Prelude.{◌≡◌, Some};
+ghost use Rattle.grid.specs.FaultWords.{map_fault_words, words_of, words_text};
 ghost use Rattle.grid.specs.declared.map_fault.MapFault.TheVariants.{OutOfMemory as out_of_memory};
 
+use crate::FaultWords;
 use std::alloc::AllocError;
+use std::fmt;
 use thiserror::Error;
 
 /// The first fault of a map text, with its line and column from 1 on, or why the text was not read to that point.
 #[derive(Clone, Copy, Debug, PartialEq, Eq, Error)]
 pub enum MapFault {
-    #[error("BadHeader {0}")]
     BadHeader(u64),
-    #[error("BadNumber {0}")]
     BadNumber(u64),
-    #[error("TooLarge {0}")]
     TooLarge(u64),
-    #[error("BadTerrain {0} {1}")]
     BadTerrain(u64, u32),
-    #[error("ShortRow {0}")]
     ShortRow(u64),
-    #[error("LongRow {0}")]
     LongRow(u64),
-    #[error("MissingRows {0}")]
     MissingRows(u64),
-    #[error("TextAfter {0}")]
     TextAfter(u64),
-    #[error("ReadFailed")]
     ReadFailed,
-    #[error("OutOfMemory")]
     OutOfMemory,
+}
+
+impl MapFault {
+    /// The words in which it is told.
+    pub fn words(self) -> FaultWords
+        ensures { words_of result ≡ map_fault_words self }
+    {
+        match self {
+            MapFault::BadHeader(line) => FaultWords::new("BadHeader", &[line]),
+            MapFault::BadNumber(line) => FaultWords::new("BadNumber", &[line]),
+            MapFault::TooLarge(line) => FaultWords::new("TooLarge", &[line]),
+            MapFault::BadTerrain(line, column) => {
+                FaultWords::new("BadTerrain", &[line, u64::from(column)])
+            }
+            MapFault::ShortRow(line) => FaultWords::new("ShortRow", &[line]),
+            MapFault::LongRow(line) => FaultWords::new("LongRow", &[line]),
+            MapFault::MissingRows(line) => FaultWords::new("MissingRows", &[line]),
+            MapFault::TextAfter(line) => FaultWords::new("TextAfter", &[line]),
+            MapFault::ReadFailed => FaultWords::new("ReadFailed", &[]),
+            MapFault::OutOfMemory => FaultWords::new("OutOfMemory", &[]),
+        }
+    }
+}
+
+impl fmt::Display for MapFault {
+    ghost output = { λ fault. Some (words_text (map_fault_words fault)) };
+
+    fn fmt<W: fmt::Write>(&self, f: &mut fmt::Formatter<W>) -> fmt::Result {
+        self.words().fmt(f)
+    }
 }
 
 impl From<AllocError> for MapFault {

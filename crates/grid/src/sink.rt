@@ -1,17 +1,37 @@
 //! Bytes for a writer, handed on a piece at a time.
-ghost use Rattle.std.specs.Prelude.{◌≡◌, ◌+◌, ◌≤◌, [], ◌++◌, length, take, OnOk, OnErr, is_ok};
+ghost use Rattle.std.specs.Prelude.{◌≡◌, ◌+◌, ◌≤◌, [], ◌++◌, length, take, Some, OnOk, OnErr, is_ok};
 ghost use Rattle.grid.specs.Counted.{counted_inner, failures_of};
+ghost use Rattle.grid.specs.FaultWords.{words_of, words_text, write_fault_words};
 ghost use Rattle.grid.specs.Writing.{WritesText};
 
-use crate::Counted;
+use crate::{Counted, FaultWords};
+use std::fmt;
 use std::io::Write;
 use thiserror::Error;
 
 /// Why a text was not written.
 #[derive(Clone, Copy, Debug, PartialEq, Eq, Error)]
 pub enum WriteFault {
-    #[error("WriteFailed")]
     WriteFailed,
+}
+
+impl WriteFault {
+    /// The words in which it is told.
+    pub fn words(self) -> FaultWords
+        ensures { words_of result ≡ write_fault_words self }
+    {
+        match self {
+            WriteFault::WriteFailed => FaultWords::new("WriteFailed", &[]),
+        }
+    }
+}
+
+impl fmt::Display for WriteFault {
+    ghost output = { λ fault. Some (words_text (write_fault_words fault)) };
+
+    fn fmt<W: fmt::Write>(&self, f: &mut fmt::Formatter<W>) -> fmt::Result {
+        self.words().fmt(f)
+    }
 }
 
 /// Up to 65,536 bytes.

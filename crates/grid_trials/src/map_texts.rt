@@ -2,7 +2,6 @@
 use crate::answers::answer;
 use fakes::{CORNER, CORNER_WRITTEN, Pieces, Repeats};
 use grid::{Cell, Counted, Terrain, read_map, write_map};
-use std::io;
 use std::test::Fail;
 
 /// Header lines and the fault that stands there, or the canonical text.
@@ -184,21 +183,43 @@ fn cells(rt: HostRuntime) -> Result<(), Fail> {
     Ok(())
 }
 
+/// Maps of as many cells as there may be, or nearly.
 #[test]
-fn greatest_square(rt: HostRuntime) -> Result<(), Fail> {
-    let mut line = [b'.'; 2049];
-    line[2048] = b'\n';
-    let parts: [(&[u8], u32); 2] = [
-        ("type octile\nheight 2048\nwidth 2048\nmap\n".as_bytes(), 1),
-        (line.as_slice(), 2048),
-    ];
-    let map = read_map(rt.alloc(), &mut Counted::new(Repeats::new(&parts)))?;
-    assert!(rt; map.width() == 2048 && map.height() == 2048);
-    assert_eq!(rt;
-        map.terrain(Cell { x: 2047, y: 2047 }),
-        Some(Terrain::Floor)
-    );
-    write_map(&map, &mut Counted::new(io::sink()))?;
+fn greatest_maps(rt: HostRuntime) -> Result<(), Fail> {
+    for &(width, height) in &[
+        (2_048u32, 2_048u32),
+        (65_535, 64),
+        (64, 65_535),
+        (65_535, 1),
+        (1, 65_535),
+    ] {
+        let header = format!(in rt.alloc(); "type octile\nheight {height}\nwidth {width}\nmap\n")?;
+        let mut text = String::with_capacity(rt.alloc(), 4_300_000)?;
+        text.push_str(header.as_str())?;
+        for _ in 0..height {
+            for _ in 0..width {
+                text.push('.')?;
+            }
+            text.push('\n')?;
+        }
+        let map = read_map(rt.alloc(), &mut Counted::new(text.as_bytes()))?;
+        assert!(rt; map.width() == width && map.height() == height);
+        let last = Cell {
+            x: (width - 1) as u16,
+            y: (height - 1) as u16,
+        };
+        assert_eq!(rt;
+            map.terrain(last),
+            Some(Terrain::Floor),
+            "at {width} {height}"
+        );
+        let mut written = Vec::with_capacity(rt.alloc(), 4_300_000)?;
+        write_map(&map, &mut Counted::new(&mut written))?;
+        assert!(rt;
+            written.as_slice() == text.as_bytes(),
+            "at {width} {height}"
+        );
+    }
     Ok(())
 }
 

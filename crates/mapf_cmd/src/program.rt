@@ -1,25 +1,45 @@
 //! The program over its words: chooses the command, and opens its files.
-ghost use Rattle.std.specs.Prelude.{◌≡◌, MatchResult, map, string_bytes};
-ghost use Rattle.mapf_cmd.specs.Program.{PerformsOn, Performs, EndsRefused, AnswersWords};
+ghost use Rattle.std.specs.Prelude.{◌≡◌, Some, MatchResult, map, string_bytes};
+ghost use Rattle.grid.specs.FaultWords.{words_of, words_text};
+ghost use Rattle.text_commands.specs.Telling.{Tells};
+ghost use Rattle.mapf_cmd.specs.Program.{program_fault_words, PerformsOn, Performs, EndsRefused, AnswersWords};
 
 use agent_commands::agent_cmd;
 use command_line::{Line, LineFault, line};
-use grid::Counted;
+use grid::{Counted, FaultWords};
 use plan_commands::{check_cmd, check_fit_cmd, deps_cmd};
 use run_commands::run_cmd;
 use std::io::{Read, Write};
 use std::rt::Files;
-use std::{fs, io};
+use std::{fmt, fs, io};
 use text_commands::{Status, finish, map_cmd, report, row_cmd, scen_cmd, write_text};
 use thiserror::Error;
 
 /// Why there is no command to perform, or none was performed.
 #[derive(Clone, Copy, Debug, PartialEq, Eq, Error)]
 enum ProgramFault {
-    #[error("OpenFailed")]
     OpenFailed,
-    #[error("OutOfMemory")]
     OutOfMemory,
+}
+
+impl ProgramFault {
+    /// The words in which it is told.
+    fn words(self) -> FaultWords
+        ensures { words_of result ≡ program_fault_words self }
+    {
+        match self {
+            ProgramFault::OpenFailed => FaultWords::new("OpenFailed", &[]),
+            ProgramFault::OutOfMemory => FaultWords::new("OutOfMemory", &[]),
+        }
+    }
+}
+
+impl fmt::Display for ProgramFault {
+    ghost output = { λ fault. Some (words_text (program_fault_words fault)) };
+
+    fn fmt<W: fmt::Write>(&self, f: &mut fmt::Formatter<W>) -> fmt::Result {
+        self.words().fmt(f)
+    }
 }
 
 /// Answers the words of the command line, the program's name first, over the files of `rt`: what a command writes goes to `out`, and
@@ -31,7 +51,7 @@ pub fn run<R: Files + AllocGlobal, I: Read, W: Write, E: Write>(
     out: &mut Counted<W>,
     err: &mut Counted<E>,
 ) -> u8
-    ensures { AnswersWords R.File.remaining I.remaining W.contents (map string_bytes words.now) input.old input.new out.old out.new result }
+    ensures { AnswersWords R.File.remaining I.remaining W.contents E.contents (map string_bytes words.now) input.old input.new out.old out.new err.old err.new result }
 {
     match line(rt.alloc(), words) {
         Ok(line) => perform(rt, line, input, out, err),
@@ -47,12 +67,12 @@ fn perform<R: Files + AllocGlobal, I: Read, W: Write, E: Write>(
     out: &mut Counted<W>,
     err: &mut Counted<E>,
 ) -> u8
-    ensures { Performs R.File.remaining I.remaining W.contents line input.old input.new out.old out.new result }
+    ensures { Performs R.File.remaining I.remaining W.contents (Tells E.contents err.old err.new) line input.old input.new out.old out.new result }
 {
     match perform_on_files(rt, line, input, out, err) {
         Ok(status) => status,
         Err(_) => {
-            let _ = report(err, ProgramFault::OpenFailed);
+            report(err, ProgramFault::OpenFailed.words());
             Status::Failure.code()
         }
     }
@@ -66,7 +86,8 @@ fn perform_on_files<R: Files + AllocGlobal, I: Read, W: Write, E: Write>(
     out: &mut Counted<W>,
     err: &mut Counted<E>,
 ) -> io::Result<u8>
-    ensures { MatchResult result (PerformsOn R.File.remaining I.remaining W.contents line input.old input.new out.old out.new) (λ _. (input.new ≡ input.old) × (out.new ≡ out.old)) }
+    ensures { MatchResult result (PerformsOn R.File.remaining I.remaining W.contents (Tells E.contents err.old err.new) line input.old input.new out.old out.new)
+        (λ _. (input.new ≡ input.old) × (out.new ≡ out.old) × (err.new ≡ err.old)) }
 {
     match line {
         Line::Map { file } => {
@@ -128,7 +149,7 @@ pub fn refuse<W: Write, E: Write>(
     out: &mut Counted<W>,
     err: &mut Counted<E>,
 ) -> u8
-    ensures { EndsRefused W.contents fault out.old out.new result }
+    ensures { EndsRefused W.contents E.contents fault out.old out.new err.old err.new result }
 {
     match fault {
         LineFault::Help(text) => {
@@ -136,11 +157,11 @@ pub fn refuse<W: Write, E: Write>(
             finish(written, Status::Done, out, err).code()
         }
         LineFault::BadCommand(text) => {
-            let _ = err.write_all(text.as_bytes());
+            let _ = write_text(text.as_bytes(), err);
             Status::BadCommand.code()
         }
         LineFault::OutOfMemory => {
-            let _ = report(err, ProgramFault::OutOfMemory);
+            report(err, ProgramFault::OutOfMemory.words());
             Status::Failure.code()
         }
     }

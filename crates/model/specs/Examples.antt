@@ -1,5 +1,5 @@
 -- Small plans and runs, and what the definitions say of them.
-use Rattle.std.specs.Prelude.{◌≡◌, ℕ, List, [], ◌∷◌, Option, None, Some}
+use Rattle.std.specs.Prelude.{◌≡◌, ℕ, true, false, List, [], ◌∷◌, Option, None, Some}
 use Rattle.grid.specs.declared.cell.Cell.{Cell}
 use Rattle.model.specs.declared.event.Event.{Event}
 use Rattle.model.specs.declared.event.Event.TheVariants.{Start, Finish, Say, Deliver, Restart, Tear}
@@ -9,12 +9,17 @@ use Rattle.grid.specs.Map.{Grid}
 use Rattle.model.specs.declared.act.Act.{Act}
 use Rattle.model.specs.declared.act.Act.TheVariants.{N, E, S, W, Wait}
 use Rattle.model.specs.declared.plan_fault.PlanFault.TheVariants.{BadStart, BadMove, Vertex, Swap}
-use Rattle.model.specs.Timetable.{Track, Timetable, moves, IsConflictFree, IsSwapFree}
-use Rattle.model.specs.Plan.{Course, Plan, HasPlanFault, IsValid, key_of, IsBefore, IsTrackOf, IsTimetableOf}
-use Rattle.model.specs.Costs.{sum_of_costs, makespan, Task, Fits, FitsFirst}
-use Rattle.model.specs.Dependency.{Need, need, IsVisit, IsRotation}
-use Rattle.model.specs.History.{Answer, moving, arrived, said, heard, at, between, armed, refused, History}
-use Rattle.model.specs.Rules.{answer}
+use Rattle.model.specs.declared.held.Held.TheVariants.{At, Between}
+use Rattle.model.specs.declared.reply.Reply.TheVariants as reply
+use Rattle.model.specs.Timetable.{Track, Timetable, cell_at, moves_before, moves, path, step_of, IsConflictFree, IsSwapFree}
+use Rattle.model.specs.Plan.{Course, Plan, HasPlanFault, IsValid, key_of, IsBefore, IsLeastFault, longest_of, IsTrackOf, IsTimetableOf}
+use Rattle.model.specs.Costs.{RestsFrom, IsCost, cost, EndsAtRest, AllEndAtRest, sum_of_costs, makespan, Task, Fits, FitsFirst, SolvesAt}
+use Rattle.model.specs.Dependency.{Need, Stand, stander, last_stand, moves_to, need, IsLastStand, IsNeed, IsVisit, HasEnded, MovesInto, following, IsRotation}
+use Rattle.model.specs.Messages.{Entry, told, own_message, message_bytes, IsMessage}
+use Rattle.model.specs.History.{Answer, moving, arrived, said, heard, at, between, armed, refused, History, armed_of, is_broken, kept_starts, done, is_moving, messages, known}
+use Rattle.model.specs.Replies.{answer_of}
+use Rattle.model.specs.Rules.{answer, IsRun}
+use Rattle.model.specs.Safety.{held, Holds, IsBetween, walk, IsBeginningOf, IsSafe}
 
 abbrev pub cell : ℕ → ℕ → Cell
 cell x y = record { x = x; y = y }
@@ -122,6 +127,12 @@ Faults =
     -- and four may turn round
     × IsValid ground_of_square turning_plan × IsTimetableOf turning_plan square
 
+-- of two faults of one time, and one plan, the vertex conflict is the least, and no other is; its time is no later than the last act's end
+abbrev pub LeastFaults : Type 0
+LeastFaults =
+    IsLeastFault ground_of_row crowding (Vertex 0 2 1 (cell 1 0)) × (IsLeastFault ground_of_row crowding (Swap 0 1 0) → ⊥)
+    × (longest_of crowding.courses ≡ 1)
+
 -- the leader's track with the wait at its end
 abbrev pub resting_leader : Track
 resting_leader = record { start = cell 1 0; later = cell 2 0 ∷ cell 2 0 ∷ [] }
@@ -129,6 +140,16 @@ resting_leader = record { start = cell 1 0; later = cell 2 0 ∷ cell 2 0 ∷ []
 -- a follower that waits first
 abbrev pub late_follower : Track
 late_follower = record { start = cell 0 0; later = cell 0 0 ∷ cell 1 0 ∷ [] }
+
+abbrev pub Paths : Type 0
+Paths =
+    -- a wait is no cell of a path and no move, but takes a step
+    (path late_follower ≡ cell 0 0 ∷ cell 1 0 ∷ []) × (step_of late_follower 0 ≡ 1) × (moves_before late_follower 1 ≡ 0)
+    × (moves_before late_follower 2 ≡ 1) × (cell_at late_follower 1 ≡ cell 0 0)
+    -- it stays in its last cell for ever
+    × (cell_at late_follower 9 ≡ cell 1 0) × RestsFrom late_follower 2 × IsCost late_follower 2 × (cost late_follower ≡ 2)
+    -- where it comes to rest a track ends
+    × EndsAtRest late_follower × (EndsAtRest resting_leader → ⊥) × AllEndAtRest row
 
 -- two that exchange cells
 abbrev pub exchange : Timetable
@@ -163,6 +184,15 @@ needs_nobody = None
 abbrev needs : ℕ → ℕ → Option Need
 needs agent count = Some (record { agent = agent; count = count })
 
+abbrev no_agent : Option ℕ
+no_agent = None
+
+abbrev no_stand : Option Stand
+no_stand = None
+
+abbrev stood : ℕ → ℕ → Option Stand
+stood agent time = Some (record { agent = agent; time = time })
+
 abbrev task : Cell → Cell → Task
 task start goal = record { width = 3; height = 1; start = start; goal = goal }
 
@@ -187,10 +217,25 @@ Tasks =
     × (FitsFirst 3 1 row.tracks (first_task ∷ second_task ∷ third_task ∷ []) 3 → ⊥)
     -- one task is not two
     × (FitsFirst 3 1 row.tracks (first_task ∷ []) 2 → ⊥)
+    × SolvesAt 3 1 row.tracks (first_task ∷ second_task ∷ []) 1 × (SolvesAt 3 1 row.tracks (second_task ∷ first_task ∷ []) 1 → ⊥)
 
 -- who comes into the middle of the row, the leader at the start and the follower at time 1
 abbrev pub Visits : Type 0
 Visits = IsVisit row 0 0 0 (cell 1 0) × IsVisit row 1 1 1 (cell 1 0) × IsVisit row 1 0 0 (cell 0 0) × IsVisit row 0 1 1 (cell 2 0)
+
+-- who was last in a cell of the row: the leader in the middle, then the follower; nobody in the east before the leader
+abbrev pub LastStands : Type 0
+LastStands =
+    (stander row 0 (cell 1 0) ≡ Some 0) × (stander row 1 (cell 1 0) ≡ Some 1) × (stander row 1 (cell 0 0) ≡ no_agent)
+    × (last_stand row (cell 1 0) 0 ≡ stood 0 0) × (last_stand row (cell 1 0) 3 ≡ stood 1 3) × (last_stand row (cell 0 0) 3 ≡ stood 1 0)
+    × (last_stand row (cell 2 0) 0 ≡ no_stand) × (moves_to row 0 1 ≡ 1)
+    × IsLastStand row (cell 1 0) 0 (stood 0 0) × IsLastStand row (cell 2 0) 0 no_stand
+    -- so the follower's move needs the leader's
+    × IsNeed row 1 follower 0 (needs 0 1)
+    -- whose visit of the middle has ended when the follower's begins
+    × HasEnded row 0 0 1 1 1 (cell 1 0) × MovesInto row 0 1 0
+    -- the last of a rotation moves behind the first
+    × (following (0 ∷ 1 ∷ 2 ∷ []) 1 ≡ Some 2) × (following (0 ∷ 1 ∷ 2 ∷ []) 2 ≡ Some 0)
 
 abbrev pub Dependencies : Type 0
 Dependencies =
@@ -233,3 +278,64 @@ Runs =
     -- numbers that name nothing
     × (answers nobody [] ≡ [])
     × (answers row (Deliver 1 5 ∷ Tear 0 11 ∷ Start 9 ∷ []) ≡ refused NoSuchMessage ∷ refused BadTear ∷ refused NoSuchAgent ∷ [])
+
+-- ---- what is said of messages, histories and safe runs
+
+abbrev entry : ℕ → ℕ → Entry
+entry agent done = record { agent = agent; done = done }
+
+abbrev pub Messages : Type 0
+Messages =
+    -- of its sender, and of nobody else; of several numbers for one agent the greatest counts
+    (told (own_message 1 3) 1 ≡ 3) × (told (own_message 1 3) 0 ≡ 0)
+    × (told (record { sender = 0; entries = entry 1 5 ∷ entry 0 7 ∷ entry 1 2 ∷ [] }) 1 ≡ 5)
+    × (message_bytes 9 0 1 ≡ 0x46 ∷ 1 ∷ 0 ∷ 0 ∷ 0 ∷ 0 ∷ 0 ∷ 9 ∷ 0 ∷ 0 ∷ 0 ∷ 1 ∷ [])
+    × IsMessage 258 772 65536 (0x46 ∷ 1 ∷ 3 ∷ 4 ∷ 0 ∷ 0 ∷ 1 ∷ 2 ∷ 0 ∷ 1 ∷ 0 ∷ 0 ∷ [])
+
+-- what has happened after these events, the newest first
+abbrev run_on : Timetable → History → List Event → History
+run_on tt h [] = h
+run_on tt h (e ∷ events) = run_on tt (record { event = e; answer = answer tt h e } ∷ h) events
+
+abbrev run_of : List Event → History
+run_of events = run_on row [] events
+
+abbrev tear_due : ℕ → Option ℕ
+tear_due n = Some n
+
+abbrev no_tear : Option ℕ
+no_tear = None
+
+abbrev pub Histories : Type 0
+Histories =
+    -- a tear is due until a write fails; then the agent is broken until it is opened again
+    (armed_of (run_of (Tear 0 9 ∷ [])) 0 ≡ tear_due 9) × (armed_of (run_of (Tear 0 9 ∷ Start 0 ∷ [])) 0 ≡ no_tear)
+    × (is_broken (run_of (Tear 0 9 ∷ Start 0 ∷ [])) 0 ≡ true) × (is_broken (run_of (Tear 0 9 ∷ Start 0 ∷ Restart 0 ∷ [])) 0 ≡ false)
+    -- a record of nine bytes is none, and one of ten is one
+    × (kept_starts (run_of (Tear 0 9 ∷ Start 0 ∷ [])) 0 ≡ 0) × (kept_starts (run_of (Tear 0 10 ∷ Start 0 ∷ [])) 0 ≡ 1)
+    × (done (run_of (Start 0 ∷ [])) 0 ≡ 0) × (is_moving (run_of (Start 0 ∷ [])) 0 ≡ true)
+    × (done (run_of (Start 0 ∷ Finish 0 ∷ [])) 0 ≡ 1) × (is_moving (run_of (Start 0 ∷ Finish 0 ∷ [])) 0 ≡ false)
+    -- what was said stays said, and what was heard is forgotten at a restart
+    × (messages (run_of (Say 0 ∷ Start 0 ∷ Finish 0 ∷ Say 0 ∷ [])) ≡ own_message 0 0 ∷ own_message 0 1 ∷ [])
+    × (known (run_of (Start 0 ∷ Finish 0 ∷ Say 0 ∷ [])) 1 0 ≡ 0) × (known (run_of (Start 0 ∷ Finish 0 ∷ Say 0 ∷ Deliver 1 0 ∷ [])) 1 0 ≡ 1)
+    × (known (run_of (Start 0 ∷ Finish 0 ∷ Say 0 ∷ Deliver 1 0 ∷ Restart 1 ∷ [])) 1 0 ≡ 0)
+    × (answer_of (reply.Heard 0 1) ≡ heard 0 1)
+
+-- the follower is told to enter the middle while the leader is still there, as no rule would have it
+abbrev pub hasty : History
+hasty = record { event = Start 1; answer = moving (cell 1 0) } ∷ []
+
+abbrev pub Safety : Type 0
+Safety =
+    -- a moving agent holds both its cells
+    (held leader [] 0 ≡ At (cell 1 0)) × (held leader (run_of (Start 0 ∷ [])) 0 ≡ Between (cell 1 0) (cell 2 0))
+    × (held leader (run_of (Start 0 ∷ Finish 0 ∷ [])) 0 ≡ At (cell 2 0))
+    × Holds row (run_of (Start 0 ∷ [])) 0 (cell 1 0) × Holds row (run_of (Start 0 ∷ [])) 0 (cell 2 0)
+    × IsBetween row (run_of (Start 0 ∷ [])) 0 (cell 1 0) (cell 2 0)
+    -- the drive was told to enter a cell by the answer, or where that was lost by the answer to the restart, and then once
+    × (walk leader (run_of (Start 0 ∷ [])) 0 ≡ path leader) × (walk leader (run_of (Tear 0 10 ∷ Start 0 ∷ [])) 0 ≡ cell 1 0 ∷ [])
+    × (walk leader (run_of (Tear 0 10 ∷ Start 0 ∷ Restart 0 ∷ Restart 0 ∷ [])) 0 ≡ path leader)
+    × IsBeginningOf (cell 1 0 ∷ []) (path leader) × (IsBeginningOf (cell 2 0 ∷ []) (path leader) → ⊥)
+    × IsRun row (run_of (Start 1 ∷ Start 0 ∷ []))
+    -- where it enters too early it holds what another holds
+    × Holds row hasty 0 (cell 1 0) × Holds row hasty 1 (cell 1 0) × (IsSafe row hasty → ⊥) × (IsRun row hasty → ⊥)

@@ -12,7 +12,7 @@ ghost use Rattle.model.specs.Messages.{Message, own_message};
 ghost use Rattle.model.specs.Rules.{IsRun};
 ghost use Rattle.model.specs.Safety.{IsSafe};
 ghost use Rattle.model.specs.Costs.{cost, IsCost, AllEndAtRest, Task, FitsFirst, SolvesAt};
-ghost use Rattle.model.specs.Examples.{Faults, Timetables, Rotations, Costs, Tasks, Visits, Dependencies, Runs};
+ghost use Rattle.model.specs.Examples.{Faults, LeastFaults, Timetables, Paths, Rotations, Costs, Tasks, Visits, LastStands, Dependencies, Runs, Messages, Histories, Safety};
 
 /// A plan has one least fault at the most, and that is not past the end of the longest course.
 pub fn least_faults()
@@ -97,11 +97,17 @@ pub fn tasks()
 /// The examples are what the definitions say.
 pub fn examples()
     ensures faults { Faults }
+    ensures least_faults { LeastFaults }
     ensures timetables { Timetables }
+    ensures paths { Paths }
     ensures rotations { Rotations }
     ensures costs { Costs }
     ensures tasks { Tasks }
     ensures visits { Visits }
+    ensures last_stands { LastStands }
     ensures dependencies { Dependencies }
     ensures runs { Runs }
+    ensures messages { Messages }
+    ensures histories { Histories }
+    ensures safety { Safety }
 {}

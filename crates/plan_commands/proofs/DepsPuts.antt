@@ -3,14 +3,13 @@ use Rattle.std.proofs.Common.{◌≡◌, ◌∙◌, ℕ, List, [], ◌∷◌, �
 use Rattle.std.specs.Prelude.{Option, codes, decimal, sum_by}
 use Rattle.grid.specs.declared.sink.Sink.{Sink}
 use Rattle.grid.specs.Sink.{Puts, Breaks}
-use Rattle.std.specs.List.{join_with_byte}
-use Rattle.grid.specs.Text.{space, line_feed, ended}
+use Rattle.grid.specs.Text.{line_feed, ended, spaced_numbers}
 use Rattle.model.specs.Timetable.{Timetable, moves}
 use Rattle.depgraph.specs.Rotations.{Turn}
 use Rattle.model.specs.Dependency.{Need}
 use Rattle.scen.proofs.PutLemmas.{Leaves, Leaves-all, Leaves-less, Leaves-broken, Puts-last, Breaks-last}
 use Rattle.plan_commands.specs.DepsText.{all_need_lines, counts_line, deps_text, need_line, rotation_line}
-use Rattle.plan_commands.specs.Code.Dependencies.{spaced_numbers}
+use Rattle.grid.proofs.WordLemmas.{joined}
 use Rattle.plan_commands.proofs.DepsLemmas.{ended-append}
 
 -- four parts and an LF
@@ -38,11 +37,6 @@ counts-same agents moves needs rotations a m n r e f g h =
     ap (λ x. counts_line x moves needs rotations ++ line_feed ∷ []) e
     ∙ (ap (λ x. counts_line a x needs rotations ++ line_feed ∷ []) f
     ∙ (ap (λ x. counts_line a m x rotations ++ line_feed ∷ []) g ∙ ap (λ x. counts_line a m n x ++ line_feed ∷ []) h))
-
--- a word and numbers, with a space before each
-joined : (word : List ℕ) (numbers : List ℕ) → join_with_byte space (word ∷ map decimal numbers) ≡ word ++ spaced_numbers numbers
-joined word [] = sym (append-nil word)
-joined word (n ∷ numbers) = ap (λ xs. word ++ (space ∷ xs)) (joined (decimal n) numbers)
 
 pub rotation-parts : (turn : Turn)
     → said (codes "rotation ") turn.step ++ (spaced_numbers turn.agents ++ line_feed ∷ []) ≡ rotation_line turn ++ line_feed ∷ []

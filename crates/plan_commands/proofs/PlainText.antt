@@ -19,7 +19,8 @@ use Rattle.plan.specs.declared.fit_fault.FitFault.{FitFault}
 use Rattle.plan.specs.declared.fit_fault.FitFault.TheVariants.{TooFewRows, AgentCount, StartDiffers, GoalDiffers, SizeDiffers}
 use Rattle.plan_commands.specs.declared.rejection.Rejection.{Rejection}
 use Rattle.plan_commands.specs.declared.rejection.Rejection.TheVariants.{Invalid, Unfit}
-use Rattle.plan_commands.specs.FaultWords.{plan_fault_words, fit_fault_words, words_text, rejection_text}
+use Rattle.grid.specs.FaultWords.{words_text}
+use Rattle.plan_commands.specs.FaultWords.{plan_fault_words, fit_fault_words, rejection_text}
 use Rattle.plan_commands.specs.Code.Verdicts.{rejected_data}
 use Rattle.plan_commands.specs.VerdictText.{is_plain_byte, IsPlainText, rejected_json}
 

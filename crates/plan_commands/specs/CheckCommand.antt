@@ -1,5 +1,5 @@
 -- What `mapf check` does and answers.
-use Rattle.std.specs.Prelude.{◌≡◌, ℕ, ◌⊎◌, Bool, List, length, Option, Result, Ok, Err}
+use Rattle.std.specs.Prelude.{◌≡◌, ℕ, ◌⊎◌, Bool, List, length, Option, Some, Result, Ok, Err}
 use Rattle.grid.specs.declared.counted.Counted.{Counted}
 use Rattle.grid.specs.Map.{Grid}
 use Rattle.model.specs.Costs.{sum_of_costs, makespan}
@@ -16,7 +16,7 @@ use Rattle.plan_commands.specs.declared.check_fault.CheckFault.TheVariants as ch
 use Rattle.plan_commands.specs.declared.rejection.Rejection.TheVariants.{Invalid, Unfit}
 use Rattle.text_commands.specs.declared.status.Status.{Status}
 use Rattle.text_commands.specs.declared.status.Status.TheVariants as status
-use Rattle.plan_commands.specs.FaultWords.{rejection_text}
+use Rattle.plan_commands.specs.FaultWords.{check_fault_words, rejection_text}
 use Rattle.text_commands.specs.Rewriting.{Reads, EndsWriting}
 use Rattle.text_commands.specs.RowCommand.{ReadsMap, ReadsScen}
 use Rattle.text_commands.specs.Status.{code_of}
@@ -72,34 +72,40 @@ ReadsChecksAndFits map_left plan_left scen_left old_map new_map old_plan new_pla
 ReadsChecksAndFits map_left plan_left scen_left old_map new_map old_plan new_plan old_scen new_scen (Err fault) =
     ReadsAndChecks map_left plan_left old_map new_map old_plan new_plan (Err fault) × (new_scen ≡ old_scen)
 
--- the line of a verdict was written as every text is; or its text was refused memory, and nothing was written
-abbrev pub EndsByLine : {W : Type 0} → (W → Option (List ℕ)) → Counted W → Counted W → ℕ → Status → List ℕ → Type 0
-EndsByLine contents old new code success line =
-    EndsWriting contents old new code success line ⊎ ((code ≡ code_of status.Failure) × (new ≡ old))
+-- the line of a verdict was written as every text is; or its text was refused memory, and nothing was written but that
+abbrev pub EndsByLine
+    : {W : Type 0} → (W → Option (List ℕ)) → (Told : Option (List (List ℕ)) → Type 0) → Counted W → Counted W → ℕ → Status → List ℕ → Type 0
+EndsByLine contents Told old new code success line =
+    EndsWriting contents Told old new code success line
+    ⊎ ((code ≡ code_of status.Failure) × (new ≡ old) × Told (Some (check_fault_words check_fault.OutOfMemory)))
 
--- The exit status and what the output got: the line of the verdict, which for an accepted plan has its number of agents, its sum of
--- costs and its makespan; nothing where there is no verdict.
-abbrev pub EndsByCheck : {W : Type 0} → (W → Option (List ℕ)) → Bool → Counted W → Counted W → ℕ → Result Checked CheckFault → Type 0
-EndsByCheck contents json old new code (Ok c) =
-    EndsByLine contents old new code status.Done
+-- The exit status, what the output got and which fault was told: the line of the verdict, which for an accepted plan has its number of
+-- agents, its sum of costs and its makespan; nothing where there is no verdict.
+abbrev pub EndsByCheck
+    : {W : Type 0} → (W → Option (List ℕ)) → (Told : Option (List (List ℕ)) → Type 0) → Bool → Counted W → Counted W → ℕ
+    → Result Checked CheckFault → Type 0
+EndsByCheck contents Told json old new code (Ok c) =
+    EndsByLine contents Told old new code status.Done
     (accepted_line json (length c.timetable.tracks) (sum_of_costs c.timetable) (makespan c.timetable))
-EndsByCheck contents json old new code (Err (check_fault.Rejected rejection)) =
-    EndsByLine contents old new code status.Fault (rejected_line json (rejection_text rejection))
-EndsByCheck contents json old new code (Err fault) = (code ≡ code_of (check_fault_status fault)) × (new ≡ old)
+EndsByCheck contents Told json old new code (Err (check_fault.Rejected rejection)) =
+    EndsByLine contents Told old new code status.Fault (rejected_line json (rejection_text rejection))
+EndsByCheck contents Told json old new code (Err fault) =
+    (code ≡ code_of (check_fault_status fault)) × (new ≡ old) × Told (Some (check_fault_words fault))
 
 -- the texts were read and the plan was checked, and the command ended by that
 pub record AnswersCheck
     {M P W : Type 0} (map_left : M → Option (List ℕ)) (plan_left : P → Option (List ℕ)) (contents : W → Option (List ℕ))
-    (old_map new_map : Counted M) (old_plan new_plan : Counted P) (json : Bool) (old_out new_out : Counted W) (code : ℕ) : Type 0 where
+    (Told : Option (List (List ℕ)) → Type 0) (old_map new_map : Counted M) (old_plan new_plan : Counted P) (json : Bool) (old_out new_out : Counted W) (code : ℕ) : Type 0 where
   pub answer : Result Checked CheckFault
   pub reads : ReadsAndChecks map_left plan_left old_map new_map old_plan new_plan answer
-  pub ends : EndsByCheck contents json old_out new_out code answer
+  pub ends : EndsByCheck contents Told json old_out new_out code answer
 
 -- the same with a scenario
 pub record AnswersCheckFit
     {M P S W : Type 0} (map_left : M → Option (List ℕ)) (plan_left : P → Option (List ℕ)) (scen_left : S → Option (List ℕ))
-    (contents : W → Option (List ℕ)) (old_map new_map : Counted M) (old_plan new_plan : Counted P) (old_scen new_scen : Counted S)
+    (contents : W → Option (List ℕ)) (Told : Option (List (List ℕ)) → Type 0) (old_map new_map : Counted M) (old_plan new_plan : Counted P)
+    (old_scen new_scen : Counted S)
     (json : Bool) (old_out new_out : Counted W) (code : ℕ) : Type 0 where
   pub answer : Result Checked CheckFault
   pub reads : ReadsChecksAndFits map_left plan_left scen_left old_map new_map old_plan new_plan old_scen new_scen answer
-  pub ends : EndsByCheck contents json old_out new_out code answer
+  pub ends : EndsByCheck contents Told json old_out new_out code answer

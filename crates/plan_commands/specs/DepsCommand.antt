@@ -1,5 +1,5 @@
 -- What `mapf deps` does and answers.
-use Rattle.std.specs.Prelude.{◌≡◌, ℕ, List, Option, Result, Ok, Err}
+use Rattle.std.specs.Prelude.{◌≡◌, ℕ, List, Option, Some, Result, Ok, Err}
 use Rattle.grid.specs.declared.counted.Counted.{Counted}
 use Rattle.model.specs.Timetable.{Timetable}
 use Rattle.plan.specs.Checking.{Checked}
@@ -11,6 +11,7 @@ use Rattle.plan_commands.specs.DepsText.{deps_text}
 use Rattle.text_commands.specs.Rewriting.{EndsWriting}
 use Rattle.text_commands.specs.Status.{code_of}
 use Rattle.plan_commands.specs.CheckStatus.{check_fault_status}
+use Rattle.plan_commands.specs.FaultWords.{check_fault_words}
 
 -- The map was read, and then the plan, and the plan was checked on the map: it is valid, and this is its timetable. Else what is
 -- answered for a check is answered, or memory was refused when both were read.
@@ -22,17 +23,19 @@ ReadsTimetable map_left plan_left old_map new_map old_plan new_plan (Ok tt) =
 ReadsTimetable map_left plan_left old_map new_map old_plan new_plan (Err fault) =
     ReadsAndChecks map_left plan_left old_map new_map old_plan new_plan (Err fault)
 
--- The exit status and what the output got: the text of the timetable's dependencies, with all its rotations, or a beginning of it
--- where the output failed; nothing where there is no timetable.
-abbrev pub EndsByDeps : {W : Type 0} → (W → Option (List ℕ)) → Counted W → Counted W → ℕ → Result Timetable CheckFault → Type 0
-EndsByDeps contents old new code (Ok tt) =
-    (turns : List Turn) × AreRotations tt turns × EndsWriting contents old new code status.Done (deps_text tt turns)
-EndsByDeps contents old new code (Err fault) = (code ≡ code_of (check_fault_status fault)) × (new ≡ old)
+-- The exit status, what the output got and which fault was told: the text of the timetable's dependencies, with all its rotations, or a
+-- beginning of it where the output failed; nothing where there is no timetable.
+abbrev pub EndsByDeps
+    : {W : Type 0} → (W → Option (List ℕ)) → (Told : Option (List (List ℕ)) → Type 0) → Counted W → Counted W → ℕ → Result Timetable CheckFault → Type 0
+EndsByDeps contents Told old new code (Ok tt) =
+    (turns : List Turn) × AreRotations tt turns × EndsWriting contents Told old new code status.Done (deps_text tt turns)
+EndsByDeps contents Told old new code (Err fault) =
+    (code ≡ code_of (check_fault_status fault)) × (new ≡ old) × Told (Some (check_fault_words fault))
 
 -- the texts were read and the plan was checked, and the command ended by that
 pub record AnswersDeps
     {M P W : Type 0} (map_left : M → Option (List ℕ)) (plan_left : P → Option (List ℕ)) (contents : W → Option (List ℕ))
-    (old_map new_map : Counted M) (old_plan new_plan : Counted P) (old_out new_out : Counted W) (code : ℕ) : Type 0 where
+    (Told : Option (List (List ℕ)) → Type 0) (old_map new_map : Counted M) (old_plan new_plan : Counted P) (old_out new_out : Counted W) (code : ℕ) : Type 0 where
   pub answer : Result Timetable CheckFault
   pub reads : ReadsTimetable map_left plan_left old_map new_map old_plan new_plan answer
-  pub ends : EndsByDeps contents old_out new_out code answer
+  pub ends : EndsByDeps contents Told old_out new_out code answer

@@ -1,11 +1,14 @@
--- The text of a plan's fault, and of why a plan does not solve the rows of a scenario.
+-- The words of a plan's fault, and of why a plan is not accepted.
 use Rattle.std.specs.Prelude.{ℕ, List, [], ◌∷◌, codes, decimal}
-use Rattle.std.specs.List.{join_with_byte}
-use Rattle.grid.specs.Text.{space}
+use Rattle.grid.specs.FaultWords.{map_fault_words, words_text}
 use Rattle.model.specs.declared.plan_fault.PlanFault.{PlanFault}
 use Rattle.model.specs.declared.plan_fault.PlanFault.TheVariants.{BadStart, BadMove, Vertex, Swap, OutOfMemory}
 use Rattle.plan.specs.declared.fit_fault.FitFault.{FitFault}
 use Rattle.plan.specs.declared.fit_fault.FitFault.TheVariants.{TooFewRows, AgentCount, StartDiffers, GoalDiffers, SizeDiffers}
+use Rattle.plan_text.specs.FaultWords.{plan_text_fault_words}
+use Rattle.scen.specs.FaultWords.{scen_fault_words}
+use Rattle.plan_commands.specs.declared.check_fault.CheckFault.{CheckFault}
+use Rattle.plan_commands.specs.declared.check_fault.CheckFault.TheVariants as check_fault
 use Rattle.plan_commands.specs.declared.rejection.Rejection.{Rejection}
 use Rattle.plan_commands.specs.declared.rejection.Rejection.TheVariants.{Invalid, Unfit}
 
@@ -26,11 +29,18 @@ fit_fault_words (StartDiffers agent) = codes "StartDiffers" ∷ decimal agent �
 fit_fault_words (GoalDiffers agent) = codes "GoalDiffers" ∷ decimal agent ∷ []
 fit_fault_words (SizeDiffers row) = codes "SizeDiffers" ∷ decimal row ∷ []
 
--- words with one space between each two
-abbrev pub words_text : List (List ℕ) → List ℕ
-words_text words = join_with_byte space words
+-- the words and the text of why a plan is rejected
+abbrev pub rejection_words : Rejection → List (List ℕ)
+rejection_words (Invalid fault) = plan_fault_words fault
+rejection_words (Unfit fault) = fit_fault_words fault
 
--- the text of why a plan is rejected
 abbrev pub rejection_text : Rejection → List ℕ
-rejection_text (Invalid fault) = words_text (plan_fault_words fault)
-rejection_text (Unfit fault) = words_text (fit_fault_words fault)
+rejection_text rejection = words_text (rejection_words rejection)
+
+-- the words of why a plan is not accepted: those of the fault that a text has, or of the rejection
+abbrev pub check_fault_words : CheckFault → List (List ℕ)
+check_fault_words (check_fault.Map fault) = map_fault_words fault
+check_fault_words (check_fault.Plan fault) = plan_text_fault_words fault
+check_fault_words (check_fault.Scen fault) = scen_fault_words fault
+check_fault_words check_fault.OutOfMemory = codes "OutOfMemory" ∷ []
+check_fault_words (check_fault.Rejected rejection) = rejection_words rejection

@@ -3,7 +3,7 @@
 
 -- which exit status a fault ends with
 pub mod CheckStatus
--- the text of a plan's fault
+-- the words of a plan's fault
 pub mod FaultWords
 -- what is written for a plan that was checked
 pub mod VerdictText

@@ -1,9 +1,11 @@
 //! `mapf check`: checks a plan on a map, and whether it solves the first rows of a scenario.
-ghost use Rattle.std.specs.Prelude.{◌≡◌, Err};
+ghost use Rattle.std.specs.Prelude.{◌≡◌, Some, Err};
 ghost use Rattle.plan_commands.specs.CheckCommand.{ReadsAndChecks, ReadsChecksAndFits, EndsByCheck, EndsByLine, AnswersCheck, AnswersCheckFit};
 ghost use Rattle.plan_commands.specs.Code.Verdicts.{verdict_line, verdict_status};
 ghost use Rattle.text_commands.specs.Status.{code_of};
+ghost use Rattle.text_commands.specs.Telling.{Tells};
 ghost use Rattle.plan_commands.specs.CheckStatus.{check_fault_status};
+ghost use Rattle.plan_commands.specs.FaultWords.{check_fault_words};
 ghost use Rattle.plan_commands.specs.VerdictText.{IsPlain};
 
 use crate::check_fault::CheckFault;
@@ -25,8 +27,7 @@ pub fn check_cmd<M: Read, P: Read, W: Write, E: Write>(
     out: &mut Counted<W>,
     err: &mut Counted<E>,
 ) -> u8
-    ensures answers { AnswersCheck M.remaining P.remaining W.contents map.old map.new plan.old plan.new json out.old out.new result }
-    ensures quiet { result ≡ 0 → err.new ≡ err.old }
+    ensures { AnswersCheck M.remaining P.remaining W.contents (Tells E.contents err.old err.new) map.old map.new plan.old plan.new json out.old out.new result }
 {
     let answer = read_and_check(alloc, map, plan);
     conclude(alloc, answer, json, out, err)
@@ -43,8 +44,7 @@ pub fn check_fit_cmd<M: Read, P: Read, S: Read, W: Write, E: Write>(
     out: &mut Counted<W>,
     err: &mut Counted<E>,
 ) -> u8
-    ensures answers { AnswersCheckFit M.remaining P.remaining S.remaining W.contents map.old map.new plan.old plan.new scen.old scen.new json out.old out.new result }
-    ensures quiet { result ≡ 0 → err.new ≡ err.old }
+    ensures { AnswersCheckFit M.remaining P.remaining S.remaining W.contents (Tells E.contents err.old err.new) map.old map.new plan.old plan.new scen.old scen.new json out.old out.new result }
 {
     let answer = read_check_and_fit(alloc, map, plan, scen);
     conclude(alloc, answer, json, out, err)
@@ -89,8 +89,7 @@ fn conclude<W: Write, E: Write>(
     out: &mut Counted<W>,
     err: &mut Counted<E>,
 ) -> u8
-    ensures ends { EndsByCheck W.contents json out.old out.new result answer }
-    ensures quiet { result ≡ 0 → err.new ≡ err.old }
+    ensures { EndsByCheck W.contents (Tells E.contents err.old err.new) json out.old out.new result answer }
 {
     match answer {
         Ok(plan) => tell(alloc, &Verdict::accepted(&plan), json, out, err),
@@ -106,8 +105,7 @@ fn refuse<W: Write, E: Write>(
     out: &mut Counted<W>,
     err: &mut Counted<E>,
 ) -> u8
-    ensures ends { EndsByCheck W.contents json out.old out.new result (Err fault) }
-    ensures quiet { result ≡ 0 → err.new ≡ err.old }
+    ensures { EndsByCheck W.contents (Tells E.contents err.old err.new) json out.old out.new result (Err fault) }
 {
     match fault {
         CheckFault::Rejected(rejection) => match rejection.text(alloc) {
@@ -127,8 +125,7 @@ fn tell<W: Write, E: Write>(
     err: &mut Counted<E>,
 ) -> u8
     requires { IsPlain verdict.now }
-    ensures ends { EndsByLine W.contents out.old out.new result (verdict_status verdict.now) (verdict_line json verdict.now) }
-    ensures quiet { result ≡ 0 → err.new ≡ err.old }
+    ensures { EndsByLine W.contents (Tells E.contents err.old err.new) out.old out.new result (verdict_status verdict.now) (verdict_line json verdict.now) }
 {
     match verdict_line(alloc, verdict, json) {
         Ok(line) => {
@@ -141,8 +138,9 @@ fn tell<W: Write, E: Write>(
 
 /// Says why there is no verdict. The answer is the exit status.
 pub(crate) fn give_up<E: Write>(fault: CheckFault, err: &mut Counted<E>) -> u8
-    ensures { result ≡ code_of (check_fault_status fault) }
+    ensures code { result ≡ code_of (check_fault_status fault) }
+    ensures told { Tells E.contents err.old err.new (Some (check_fault_words fault)) }
 {
-    let _ = report(err, fault);
+    report(err, fault.words());
     fault.status().code()
 }

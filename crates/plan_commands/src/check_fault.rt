@@ -1,15 +1,18 @@
 //! Why a plan is not accepted.
-ghost use Rattle.std.specs.Prelude.{◌≡◌};
+ghost use Rattle.std.specs.Prelude.{◌≡◌, Some};
+ghost use Rattle.grid.specs.FaultWords.{words_of, words_text};
 ghost use Rattle.plan_commands.specs.CheckStatus.{check_fault_status, plan_text_fault_status};
+ghost use Rattle.plan_commands.specs.FaultWords.{check_fault_words};
 ghost use Rattle.plan_commands.specs.Code.Verdicts.{check_fault_of};
 ghost use Rattle.plan_commands.specs.declared.check_fault.CheckFault.TheVariants as check_fault;
 ghost use Rattle.plan_commands.specs.declared.rejection.Rejection.TheVariants as rejection;
 
 use crate::rejection::Rejection;
 use depgraph::OutOfMemory;
-use grid::MapFault;
+use grid::{FaultWords, MapFault};
 use plan::{FitFault, PlanFault, PlanTextFault};
 use scen::ScenFault;
+use std::fmt;
 use text_commands::{Status, map_fault_status, scen_fault_status};
 use thiserror::Error;
 
@@ -17,19 +20,14 @@ use thiserror::Error;
 #[derive(Clone, Copy, Debug, PartialEq, Eq, Error)]
 pub enum CheckFault {
     /// The map could not be read.
-    #[error("{0}")]
     Map(MapFault),
     /// The plan could not be read.
-    #[error("{0}")]
     Plan(PlanTextFault),
     /// The scenario could not be read.
-    #[error("{0}")]
     Scen(ScenFault),
     /// The checker was refused memory, or the text of a verdict or a graph was.
-    #[error("OutOfMemory")]
     OutOfMemory,
     /// All was read, and the plan is rejected.
-    #[error("{0}")]
     Rejected(Rejection),
 }
 
@@ -45,6 +43,27 @@ impl CheckFault {
             CheckFault::OutOfMemory => Status::Failure,
             CheckFault::Rejected(_) => Status::Fault,
         }
+    }
+
+    /// The words in which it is told.
+    pub fn words(self) -> FaultWords
+        ensures { words_of result ≡ check_fault_words self }
+    {
+        match self {
+            CheckFault::Map(fault) => fault.words(),
+            CheckFault::Plan(fault) => fault.words(),
+            CheckFault::Scen(fault) => fault.words(),
+            CheckFault::OutOfMemory => FaultWords::new("OutOfMemory", &[]),
+            CheckFault::Rejected(rejection) => rejection.words(),
+        }
+    }
+}
+
+impl fmt::Display for CheckFault {
+    ghost output = { λ fault. Some (words_text (check_fault_words fault)) };
+
+    fn fmt<W: fmt::Write>(&self, f: &mut fmt::Formatter<W>) -> fmt::Result {
+        self.words().fmt(f)
     }
 }
 

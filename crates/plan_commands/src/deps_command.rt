@@ -1,5 +1,6 @@
 //! `mapf deps`: says which moves of a plan wait for which.
 ghost use Rattle.std.specs.Prelude.{◌≡◌};
+ghost use Rattle.text_commands.specs.Telling.{Tells};
 ghost use Rattle.plan_commands.specs.DepsCommand.{ReadsTimetable, EndsByDeps, AnswersDeps};
 
 use crate::check_command::{give_up, read_and_check};
@@ -20,8 +21,7 @@ pub fn deps_cmd<M: Read, P: Read, W: Write, E: Write>(
     out: &mut Counted<W>,
     err: &mut Counted<E>,
 ) -> u8
-    ensures answers { AnswersDeps M.remaining P.remaining W.contents map.old map.new plan.old plan.new out.old out.new result }
-    ensures quiet { result ≡ 0 → err.new ≡ err.old }
+    ensures { AnswersDeps M.remaining P.remaining W.contents (Tells E.contents err.old err.new) map.old map.new plan.old plan.new out.old out.new result }
 {
     let answer = read_graph(alloc, map, plan);
     conclude(answer, out, err)
@@ -45,8 +45,7 @@ fn conclude<W: Write, E: Write>(
     out: &mut Counted<W>,
     err: &mut Counted<E>,
 ) -> u8
-    ensures ends { EndsByDeps W.contents out.old out.new result answer }
-    ensures quiet { result ≡ 0 → err.new ≡ err.old }
+    ensures { EndsByDeps W.contents (Tells E.contents err.old err.new) out.old out.new result answer }
 {
     match answer {
         Ok(graph) => {

@@ -1,9 +1,10 @@
 //! Why a plan is rejected.
 ghost use Rattle.std.specs.Prelude.{◌≡◌, Some, string_bytes, IfOk};
-ghost use Rattle.std.specs.Fmt.{DisplaysOnOk};
-ghost use Rattle.plan_commands.specs.FaultWords.{plan_fault_words, fit_fault_words, rejection_text, words_text};
+ghost use Rattle.grid.specs.FaultWords.{words_of};
+ghost use Rattle.plan_commands.specs.FaultWords.{plan_fault_words, fit_fault_words, rejection_words, rejection_text};
 ghost use Rattle.plan_commands.specs.VerdictText.{IsPlainText};
 
+use grid::FaultWords;
 use plan::{FitFault, PlanFault};
 use std::alloc::{AllocError, Global};
 use std::fmt;
@@ -18,6 +19,16 @@ pub enum Rejection {
 }
 
 impl Rejection {
+    /// The words in which it is told.
+    pub fn words(self) -> FaultWords
+        ensures { words_of result ≡ rejection_words self }
+    {
+        match self {
+            Rejection::Invalid(fault) => plan_fault_words(fault),
+            Rejection::Unfit(fault) => fit_fault_words(fault),
+        }
+    }
+
     /// Its text.
     pub(crate) fn text(self, alloc: Global) -> Result<String, AllocError>
         ensures text { IfOk result (λ text. string_bytes text ≡ rejection_text self) }
@@ -31,36 +42,43 @@ impl fmt::Display for Rejection {
     ghost output = { λ rejection. Some (rejection_text rejection) };
 
     fn fmt<W: fmt::Write>(&self, f: &mut fmt::Formatter<W>) -> fmt::Result {
-        match *self {
-            Rejection::Invalid(fault) => show_plan_fault(fault, f),
-            Rejection::Unfit(fault) => show_fit_fault(fault, f),
-        }
+        self.words().fmt(f)
     }
 }
 
-fn show_plan_fault<W: fmt::Write>(fault: PlanFault, f: &mut fmt::Formatter<W>) -> fmt::Result
-    ensures { DisplaysOnOk W.write_str_gives f.old result (Some (words_text (plan_fault_words fault))) f.new }
+fn plan_fault_words(fault: PlanFault) -> FaultWords
+    ensures { words_of result ≡ plan_fault_words fault }
 {
     match fault {
-        PlanFault::BadStart(agent) => write!(f, "BadStart {agent}"),
-        PlanFault::BadMove(agent, step) => write!(f, "BadMove {agent} {step}"),
+        PlanFault::BadStart(agent) => FaultWords::new("BadStart", &[u64::from(agent)]),
+        PlanFault::BadMove(agent, step) => {
+            FaultWords::new("BadMove", &[u64::from(agent), u64::from(step)])
+        }
         PlanFault::Vertex(first, second, time, cell) => {
-            let (x, y) = (cell.x, cell.y);
-            write!(f, "Vertex {first} {second} {time} {x} {y}")
+            let (first, second, time) = (u64::from(first), u64::from(second), u64::from(time));
+            FaultWords::new(
+                "Vertex",
+                &[first, second, time, u64::from(cell.x), u64::from(cell.y)],
+            )
         }
-        PlanFault::Swap(first, second, step) => write!(f, "Swap {first} {second} {step}"),
-        PlanFault::OutOfMemory => f.write_str("OutOfMemory"),
+        PlanFault::Swap(first, second, step) => {
+            FaultWords::new(
+                "Swap",
+                &[u64::from(first), u64::from(second), u64::from(step)],
+            )
+        }
+        PlanFault::OutOfMemory => FaultWords::new("OutOfMemory", &[]),
     }
 }
 
-fn show_fit_fault<W: fmt::Write>(fault: FitFault, f: &mut fmt::Formatter<W>) -> fmt::Result
-    ensures { DisplaysOnOk W.write_str_gives f.old result (Some (words_text (fit_fault_words fault))) f.new }
+fn fit_fault_words(fault: FitFault) -> FaultWords
+    ensures { words_of result ≡ fit_fault_words fault }
 {
     match fault {
-        FitFault::TooFewRows => f.write_str("TooFewRows"),
-        FitFault::AgentCount => f.write_str("AgentCount"),
-        FitFault::StartDiffers(agent) => write!(f, "StartDiffers {agent}"),
-        FitFault::GoalDiffers(agent) => write!(f, "GoalDiffers {agent}"),
-        FitFault::SizeDiffers(row) => write!(f, "SizeDiffers {row}"),
+        FitFault::TooFewRows => FaultWords::new("TooFewRows", &[]),
+        FitFault::AgentCount => FaultWords::new("AgentCount", &[]),
+        FitFault::StartDiffers(agent) => FaultWords::new("StartDiffers", &[u64::from(agent)]),
+        FitFault::GoalDiffers(agent) => FaultWords::new("GoalDiffers", &[u64::from(agent)]),
+        FitFault::SizeDiffers(row) => FaultWords::new("SizeDiffers", &[u64::from(row)]),
     }
 }

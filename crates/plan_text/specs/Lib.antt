@@ -6,5 +6,7 @@ pub mod Limits
 pub mod PlanText
 -- the faults of a plan's text, and where each stands
 pub mod PlanTextFault
+-- the words in which a fault is told
+pub mod FaultWords
 -- The code's own words, of which no promise speaks.
 pub mod Code

@@ -1,31 +1,55 @@
 //! Why a plan's text could not be read.
-ghost use Rattle.std.specs.Prelude.{◌≡◌};
+ghost use Rattle.std.specs.Prelude.{◌≡◌, Some};
+ghost use Rattle.grid.specs.FaultWords.{words_of, words_text};
+ghost use Rattle.plan_text.specs.FaultWords.{plan_text_fault_words};
 ghost use Rattle.plan_text.specs.declared.plan_text_fault.PlanTextFault.TheVariants.{OutOfMemory as out_of_memory};
 
+use grid::FaultWords;
 use std::alloc::AllocError;
+use std::fmt;
 use thiserror::Error;
 
 /// The first fault of a plan's text, with its line and column from 1 on, or why the text was not read to that point.
 #[derive(Clone, Copy, Debug, PartialEq, Eq, Error)]
 pub enum PlanTextFault {
-    #[error("BadHeader {0}")]
     BadHeader(u64),
-    #[error("BadNumber {0}")]
     BadNumber(u64),
-    #[error("TooMany {0}")]
     TooMany(u64),
-    #[error("BadAgent {0}")]
     BadAgent(u64),
-    #[error("BadAct {0} {1}")]
     BadAct(u64, u32),
-    #[error("Unfinished {0}")]
     Unfinished(u64),
-    #[error("TextAfter {0}")]
     TextAfter(u64),
-    #[error("ReadFailed")]
     ReadFailed,
-    #[error("OutOfMemory")]
     OutOfMemory,
+}
+
+impl PlanTextFault {
+    /// The words in which it is told.
+    pub fn words(self) -> FaultWords
+        ensures { words_of result ≡ plan_text_fault_words self }
+    {
+        match self {
+            PlanTextFault::BadHeader(line) => FaultWords::new("BadHeader", &[line]),
+            PlanTextFault::BadNumber(line) => FaultWords::new("BadNumber", &[line]),
+            PlanTextFault::TooMany(line) => FaultWords::new("TooMany", &[line]),
+            PlanTextFault::BadAgent(line) => FaultWords::new("BadAgent", &[line]),
+            PlanTextFault::BadAct(line, column) => {
+                FaultWords::new("BadAct", &[line, u64::from(column)])
+            }
+            PlanTextFault::Unfinished(line) => FaultWords::new("Unfinished", &[line]),
+            PlanTextFault::TextAfter(line) => FaultWords::new("TextAfter", &[line]),
+            PlanTextFault::ReadFailed => FaultWords::new("ReadFailed", &[]),
+            PlanTextFault::OutOfMemory => FaultWords::new("OutOfMemory", &[]),
+        }
+    }
+}
+
+impl fmt::Display for PlanTextFault {
+    ghost output = { λ fault. Some (words_text (plan_text_fault_words fault)) };
+
+    fn fmt<W: fmt::Write>(&self, f: &mut fmt::Formatter<W>) -> fmt::Result {
+        self.words().fmt(f)
+    }
 }
 
 impl From<AllocError> for PlanTextFault {

@@ -3,6 +3,8 @@
 
 -- which exit status a run ends with
 pub mod RunStatus
+-- the words of why a run is not replayed to its end
+pub mod FaultWords
 -- what `mapf run` does and answers
 pub mod RunCommand
 -- The code's own words, of which no promise speaks.

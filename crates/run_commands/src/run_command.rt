@@ -1,17 +1,17 @@
 //! `mapf run`: answers the events of a run, one after another.
 ghost use Rattle.std.specs.Prelude.{◌≡◌};
+ghost use Rattle.grid.specs.FaultWords.{words_of};
+ghost use Rattle.run_commands.specs.FaultWords.{run_fault_words, told_of_run};
 ghost use Rattle.run_commands.specs.RunCommand.{AnswersRun};
 ghost use Rattle.run_commands.specs.RunStatus.{run_status};
 ghost use Rattle.run_commands.specs.Code.Concluding.{IsFlushed};
-ghost use Rattle.text_commands.specs.declared.status.Status.TheVariants.{Done};
+ghost use Rattle.text_commands.specs.Telling.{Tells};
 
 use crate::run_status::run_fault_status;
-use depgraph::OutOfMemory;
-use grid::{Counted, WriteFault};
+use grid::{Counted, FaultWords, WriteFault};
 use plan_commands::Rejection;
 use replay::{RunFault, run_text, was_written};
 use std::alloc::Global;
-use std::io;
 use std::io::{Read, Write};
 use text_commands::{Status, report};
 
@@ -25,8 +25,7 @@ pub fn run_cmd<M: Read, P: Read, V: Read, W: Write, E: Write>(
     out: &mut Counted<W>,
     err: &mut Counted<E>,
 ) -> u8
-    ensures answers { AnswersRun M.remaining P.remaining V.remaining W.contents map.old map.new plan.old plan.new events.old events.new out.old out.new result }
-    ensures quiet { result ≡ 0 → err.new ≡ err.old }
+    ensures { AnswersRun M.remaining P.remaining V.remaining W.contents (Tells E.contents err.old err.new) map.old map.new plan.old plan.new events.old events.new out.old out.new result }
 {
     let answer = run_text(alloc, map, plan, events, out);
     let answer = flush(answer, out);
@@ -46,25 +45,27 @@ fn flush<W: Write>(answer: Result<(), RunFault>, out: &mut Counted<W>) -> Result
 /// Says why the run was not replayed to its end, if it wasn't.
 fn conclude<E: Write>(answer: Result<(), RunFault>, err: &mut Counted<E>) -> Status
     ensures status { result ≡ run_status answer }
-    ensures quiet { result ≡ Done → err.new ≡ err.old }
+    ensures told { Tells E.contents err.old err.new (told_of_run answer) }
 {
     match answer {
         Ok(()) => Status::Done,
         Err(fault) => {
-            let _ = tell(fault, err);
+            report(err, run_fault_words(fault));
             run_fault_status(fault)
         }
     }
 }
 
-/// Writes the line of a fault, by the name and numbers of the innermost one.
-fn tell<E: Write>(fault: RunFault, err: &mut Counted<E>) -> io::Result<()> {
+/// The words of a fault: those of the innermost one.
+fn run_fault_words(fault: RunFault) -> FaultWords
+    ensures { words_of result ≡ run_fault_words fault }
+{
     match fault {
-        RunFault::Map(fault) => report(err, fault),
-        RunFault::PlanText(fault) => report(err, fault),
-        RunFault::Plan(fault) => report(err, Rejection::Invalid(fault)),
-        RunFault::Events(fault) => report(err, fault),
-        RunFault::WriteFailed => report(err, WriteFault::WriteFailed),
-        RunFault::OutOfMemory => report(err, OutOfMemory),
+        RunFault::Map(fault) => fault.words(),
+        RunFault::PlanText(fault) => fault.words(),
+        RunFault::Plan(fault) => Rejection::Invalid(fault).words(),
+        RunFault::Events(fault) => fault.words(),
+        RunFault::WriteFailed => WriteFault::WriteFailed.words(),
+        RunFault::OutOfMemory => FaultWords::new("OutOfMemory", &[]),
     }
 }

@@ -10,6 +10,8 @@ pub mod Query
 pub mod ScenText
 -- the faults of a scenario's text, and where each stands
 pub mod ScenFault
+-- the words in which a fault is told
+pub mod FaultWords
 -- walks on a map, and which are shortest
 pub mod Walk
 -- which certificates are accepted, and what an accepted one proves

@@ -1,12 +1,15 @@
 //! Certificates of shortest lengths: proposed by any search, and judged here.
-ghost use Rattle.std.specs.Prelude.{◌≡◌, ◌∷◌, ◌*◌, IfOk, IsTrue, length, ◌↔◌};
+ghost use Rattle.std.specs.Prelude.{◌≡◌, ◌∷◌, ◌*◌, Some, IfOk, IsTrue, length, ◌↔◌};
+ghost use Rattle.grid.specs.FaultWords.{words_of, words_text};
 ghost use Rattle.grid.specs.Map.{terrain_at};
+ghost use Rattle.scen.specs.FaultWords.{cert_fault_words};
 ghost use Rattle.scen.specs.Walk.{IsOn, IsWalk};
 ghost use Rattle.scen.specs.Certificate.{entry_of, IsTable, IsProof, Certifies, IsLeast};
 
 use crate::Length;
 use crate::tightness::is_tight;
-use grid::{Cell, Map, step4, step8};
+use grid::{Cell, FaultWords, Map, step4, step8};
+use std::fmt;
 use thiserror::Error;
 
 /// What a search proposes: a walk, and for each cell, row by row, a length from the start, or none.
@@ -20,17 +23,35 @@ pub struct Proposal {
 #[derive(Clone, Copy, Debug, PartialEq, Eq, Error)]
 pub enum CertFault {
     /// The walk isn't one of just the goal's length, or isn't empty where the goal has none.
-    #[error("BadWalk")]
     BadWalk,
     /// The table hasn't one entry a cell, or that of the start isn't the length of no step.
-    #[error("BadTable")]
     BadTable,
     /// A step leads from a cell with a length to one without, or to one whose length it improves.
-    #[error("NotTight")]
     NotTight,
     /// Start or goal is off the map.
-    #[error("OutOfRange")]
     OutOfRange,
+}
+
+impl CertFault {
+    /// The words in which it is told.
+    pub fn words(self) -> FaultWords
+        ensures { words_of result ≡ cert_fault_words self }
+    {
+        match self {
+            CertFault::BadWalk => FaultWords::new("BadWalk", &[]),
+            CertFault::BadTable => FaultWords::new("BadTable", &[]),
+            CertFault::NotTight => FaultWords::new("NotTight", &[]),
+            CertFault::OutOfRange => FaultWords::new("OutOfRange", &[]),
+        }
+    }
+}
+
+impl fmt::Display for CertFault {
+    ghost output = { λ fault. Some (words_text (cert_fault_words fault)) };
+
+    fn fmt<W: fmt::Write>(&self, f: &mut fmt::Formatter<W>) -> fmt::Result {
+        self.words().fmt(f)
+    }
 }
 
 /// The shortest length from the start to the goal, or `None` where no walk leads there, if the proposal proves it. Faults are

@@ -1,7 +1,7 @@
 //! The whole numbers of a row.
-ghost use Rattle.std.specs.Prelude.{◌≡◌, ◌^◌, ◌<◌, true, false, length, Some, None, MatchOption, MatchResult, if◌then◌else◌};
+ghost use Rattle.std.specs.Prelude.{◌≡◌, ◌+◌, ◌*◌, ◌^◌, ◌<◌, min, true, false, length, Some, None, MatchOption, MatchResult, if◌then◌else◌};
 ghost use Rattle.scen.specs.ScenFault.{value_of, is_bucket, is_size, wrong_number, is_in_grid};
-ghost use Rattle.scen.specs.Code.Parsing.{fields_seen, spelled, spelled_after, HasNumbers, are_in_grid, whole_of, after_of, is_listed_form, is_listed, listed_value};
+ghost use Rattle.scen.specs.Code.Parsing.{most_told, fields_seen, spelled, spelled_after, HasNumbers, are_in_grid, whole_of, after_of, is_listed_form, is_listed, listed_value};
 
 use crate::Listed;
 use crate::fields::FieldBytes;
@@ -114,9 +114,21 @@ pub(crate) fn spelled_after(start: u64, bytes: &[u8]) -> Option<u64>
         if !b.is_ascii_digit() {
             return None;
         }
-        value = value.saturating_mul(10).saturating_add(u64::from(b - b'0'));
+        value = with_digit(value, u64::from(b - b'0'));
     }
     Some(value)
+}
+
+/// A number with one more digit. Numbers are short, so the branch is foreseen, and is quicker than to test product and sum.
+fn with_digit(value: u64, digit: u64) -> u64
+    requires { digit < 10 }
+    ensures { result ≡ min (value * 10 + digit) most_told }
+{
+    if value < u64::MAX / 10 {
+        value * 10 + digit
+    } else {
+        value.saturating_mul(10).saturating_add(digit)
+    }
 }
 
 /// The listed length that a field spells, if it spells one.

@@ -1,16 +1,20 @@
 //! Scenarios and their rows.
-ghost use Rattle.std.specs.Prelude.{◌≡◌, ◌+◌, ◌^◌, ◌<◌, ◌≤◌};
+ghost use Rattle.std.specs.Prelude.{◌≡◌, ◌+◌, ◌^◌, ◌<◌, ◌≤◌, IfOk};
+ghost use Rattle.std.specs.Arc.{arc_slice_items};
 ghost use Rattle.scen.specs.Query.{Query, IsQuery};
 
 use crate::Listed;
 use grid::Cell;
+use std::alloc::AllocError;
 use std::marker::Model;
+use std::sync::ArcSlice;
 
 /// A query from a start to a goal, on a map of a width and a height, and the length that is listed for it.
 #[derive(Debug, Drop)]
 pub struct Row {
     bucket: u32,
-    name: Vec<u8>,
+    /// Rows side by side share a name that is the same.
+    name: ArcSlice<u8>,
     width: u32,
     height: u32,
     start: Cell,
@@ -21,23 +25,23 @@ pub struct Row {
 impl Model for Row {
     ghost Value = { Query };
 
-    ghost view = { λ r. record { bucket = r.bucket; name = r.name.items; width = r.width; height = r.height; start = r.start; goal = r.goal; listed = r.listed.n; decimals = r.listed.d } };
+    ghost view = { λ r. record { bucket = r.bucket; name = arc_slice_items r.name; width = r.width; height = r.height; start = r.start; goal = r.goal; listed = r.listed.n; decimals = r.listed.d } };
 
-    ghost invariant = { λ r. IsQuery (record { bucket = r.bucket; name = r.name.items; width = r.width; height = r.height; start = r.start; goal = r.goal; listed = r.listed.n; decimals = r.listed.d }) };
+    ghost invariant = { λ r. IsQuery (record { bucket = r.bucket; name = arc_slice_items r.name; width = r.width; height = r.height; start = r.start; goal = r.goal; listed = r.listed.n; decimals = r.listed.d }) };
 }
 
 impl Row {
     /// The row with these parts.
     pub(crate) fn from_parts(
         bucket: u32,
-        name: Vec<u8>,
+        name: ArcSlice<u8>,
         size: (u32, u32),
         start: Cell,
         goal: Cell,
         listed: Listed,
     ) -> Row
-        requires { IsQuery (record { bucket = bucket; name = name.items; width = size.0; height = size.1; start = start; goal = goal; listed = listed.n; decimals = listed.d }) }
-        ensures { result ≡ record { bucket = bucket; name = name.items; width = size.0; height = size.1; start = start; goal = goal; listed = listed.n; decimals = listed.d } }
+        requires { IsQuery (record { bucket = bucket; name = arc_slice_items name; width = size.0; height = size.1; start = start; goal = goal; listed = listed.n; decimals = listed.d }) }
+        ensures { result ≡ record { bucket = bucket; name = arc_slice_items name; width = size.0; height = size.1; start = start; goal = goal; listed = listed.n; decimals = listed.d } }
     {
         let (width, height) = size;
         Row {
@@ -63,6 +67,13 @@ impl Row {
         ensures { result.now ≡ self.now.name }
     {
         self.name.as_slice()
+    }
+
+    /// The same name, for another row.
+    pub(crate) fn shared_name(&self) -> Result<ArcSlice<u8>, AllocError>
+        ensures { IfOk result (λ name. arc_slice_items name ≡ self.now.name) }
+    {
+        self.name.clone()
     }
 
     /// How many cells a row of the map has.

@@ -1,5 +1,6 @@
 //! Reading a line as a row.
 ghost use Rattle.std.specs.Prelude.{◌≡◌, ◌≤◌, length, IfOk, MatchOption, MatchResult};
+ghost use Rattle.std.specs.Arc.{arc_slice_items};
 ghost use Rattle.grid.specs.Text.{IsLine};
 ghost use Rattle.scen.specs.Query.{longest_line};
 ghost use Rattle.scen.specs.ScenText.{IsSkipped, SpellsRow};
@@ -11,9 +12,15 @@ use crate::numbers::{Numbers, listed_of};
 use crate::{Row, ScenFault};
 use grid::Cell;
 use std::alloc::{AllocError, Global};
+use std::sync::ArcSlice;
 
-/// The row that a line is, or nothing for a line that is skipped.
-pub(crate) fn read_row(alloc: Global, line: &[u8], number: u64) -> Result<Option<Row>, ScenFault>
+/// The row that a line is, or nothing for a line that is skipped. The row before may lend its name.
+pub(crate) fn read_row(
+    alloc: Global,
+    line: &[u8],
+    number: u64,
+    before: Option<&Row>,
+) -> Result<Option<Row>, ScenFault>
     requires line { IsLine line.now }
     requires short { length line.now ≤ longest_line }
     ensures { MatchResult result (λ row. MatchOption row (IsSkipped line.now) (λ q. SpellsRow q line.now)) (Refuses row_due number line.now) }
@@ -35,7 +42,7 @@ pub(crate) fn read_row(alloc: Global, line: &[u8], number: u64) -> Result<Option
     let Some(listed) = listed_of(fields.listed) else {
         return Err(ScenFault::BadLength(number));
     };
-    let name = copy_of(alloc, fields.name)?;
+    let name = name_of(alloc, fields.name, before)?;
     Ok(Some(Row::from_parts(
         numbers.bucket,
         name,
@@ -46,11 +53,12 @@ pub(crate) fn read_row(alloc: Global, line: &[u8], number: u64) -> Result<Option
     )))
 }
 
-/// The bytes in memory of their own, no more than they need.
-fn copy_of(alloc: Global, bytes: &[u8]) -> Result<Vec<u8>, AllocError>
-    ensures { IfOk result (λ copy. copy.items ≡ bytes.now) }
+/// The bytes as a name: that of the row before, where it is the same.
+fn name_of(alloc: Global, bytes: &[u8], before: Option<&Row>) -> Result<ArcSlice<u8>, AllocError>
+    ensures { IfOk result (λ name. arc_slice_items name ≡ bytes.now) }
 {
-    let mut copy = Vec::with_capacity(alloc, bytes.len())?;
-    copy.extend_from_slice(bytes)?;
-    Ok(copy)
+    match before {
+        Some(row) if row.name() == bytes => row.shared_name(),
+        _ => ArcSlice::from_slice(alloc, bytes),
+    }
 }

@@ -1,29 +1,53 @@
 //! Why a scenario could not be read.
-ghost use Rattle.std.specs.Prelude.{◌≡◌};
+ghost use Rattle.std.specs.Prelude.{◌≡◌, Some};
+ghost use Rattle.grid.specs.FaultWords.{words_of, words_text};
+ghost use Rattle.scen.specs.FaultWords.{scen_fault_words};
 ghost use Rattle.scen.specs.declared.scen_fault.ScenFault.TheVariants.{OutOfMemory as out_of_memory};
 
+use grid::FaultWords;
 use std::alloc::AllocError;
+use std::fmt;
 use thiserror::Error;
 
 /// The first fault of a scenario text, with its line and field from 1 on, or why the text was not read to that point.
 #[derive(Clone, Copy, Debug, PartialEq, Eq, Error)]
 pub enum ScenFault {
-    #[error("NoVersion")]
     NoVersion,
-    #[error("FieldCount {0}")]
     FieldCount(u64),
-    #[error("BadNumber {0} {1}")]
     BadNumber(u64, u32),
-    #[error("OutOfGrid {0}")]
     OutOfGrid(u64),
-    #[error("BadLength {0}")]
     BadLength(u64),
-    #[error("ReadFailed")]
     ReadFailed,
-    #[error("OutOfMemory")]
     OutOfMemory,
-    #[error("LineTooLong {0}")]
     LineTooLong(u64),
+}
+
+impl ScenFault {
+    /// The words in which it is told.
+    pub fn words(self) -> FaultWords
+        ensures { words_of result ≡ scen_fault_words self }
+    {
+        match self {
+            ScenFault::NoVersion => FaultWords::new("NoVersion", &[]),
+            ScenFault::FieldCount(line) => FaultWords::new("FieldCount", &[line]),
+            ScenFault::BadNumber(line, field) => {
+                FaultWords::new("BadNumber", &[line, u64::from(field)])
+            }
+            ScenFault::OutOfGrid(line) => FaultWords::new("OutOfGrid", &[line]),
+            ScenFault::BadLength(line) => FaultWords::new("BadLength", &[line]),
+            ScenFault::ReadFailed => FaultWords::new("ReadFailed", &[]),
+            ScenFault::OutOfMemory => FaultWords::new("OutOfMemory", &[]),
+            ScenFault::LineTooLong(line) => FaultWords::new("LineTooLong", &[line]),
+        }
+    }
+}
+
+impl fmt::Display for ScenFault {
+    ghost output = { λ fault. Some (words_text (scen_fault_words fault)) };
+
+    fn fmt<W: fmt::Write>(&self, f: &mut fmt::Formatter<W>) -> fmt::Result {
+        self.words().fmt(f)
+    }
 }
 
 impl From<AllocError> for ScenFault {

@@ -85,7 +85,7 @@ impl Progress {
             (Refuses (due_after self.old.has_version) number line.now) }
     {
         if self.has_version {
-            if let Some(row) = read_row(alloc, line, number)? {
+            if let Some(row) = read_row(alloc, line, number, self.rows.last())? {
                 self.rows.push(row).map_err(AllocError::from)?;
             }
             return Ok(());

@@ -1,6 +1,6 @@
 //! Scenario texts and what each is answered with, by the format's rules.
 use crate::answers::answer;
-use fakes::{Pieces, ROW, ROW_WRITTEN};
+use fakes::{Pieces, ROW, ROW_WRITTEN, Repeats};
 use grid::{Cell, Counted};
 use scen::read_scen;
 use std::alloc::{AllocError, Global};
@@ -235,5 +235,23 @@ fn longest_lines(rt: HostRuntime) -> Result<(), Fail> {
             assert_eq!(rt; got.as_str(), "LineTooLong 2", "in pieces of {size}");
         }
     }
+    Ok(())
+}
+
+/// As many rows as the greatest scenarios of the benchmarks have, and more.
+#[test]
+fn many_rows(rt: HostRuntime) -> Result<(), Fail> {
+    let parts: [(&[u8], u32); 2] = [
+        (b"version 1\n", 1),
+        (
+            b"4294967295\tmaps/arena.map\t65535\t65535\t65534\t0\t0\t65534\t9999999.999999999999\n",
+            100_000,
+        ),
+    ];
+    let scenario = read_scen(rt.alloc(), &mut Counted::new(Repeats::new(&parts)))?;
+    assert_eq!(rt; scenario.rows().len(), 100_000);
+    let row = scenario.rows().last().ok_or("no row")?;
+    assert_eq!(rt; row.name(), b"maps/arena.map".as_slice());
+    assert_eq!(rt; row.goal(), Cell { x: 0, y: 65_534 });
     Ok(())
 }

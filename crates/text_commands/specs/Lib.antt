@@ -3,6 +3,10 @@
 
 -- the exit statuses, and which one a fault of a text or a row's verdict ends with
 pub mod Status
+-- what a command says of a fault
+pub mod Telling
+-- the words of why a row has no answer
+pub mod FaultWords
 -- how a command ends that wrote a text
 pub mod Finishing
 -- what a command does that reads a text and writes it in canonical form

@@ -20,6 +20,7 @@ use Rattle.text_commands.specs.declared.row_fault.RowFault.{RowFault}
 use Rattle.text_commands.specs.declared.row_fault.RowFault.TheVariants.{Map, Scen, NoSuchRow, SizeDiffers, OutOfMemory, Certificate}
 use Rattle.text_commands.specs.declared.row_verdict.RowVerdict.{RowVerdict}
 use Rattle.text_commands.specs.declared.row_verdict.RowVerdict.TheVariants.{Shortest, Unreachable}
+use Rattle.text_commands.specs.FaultWords.{row_fault_words}
 use Rattle.text_commands.specs.Rewriting.{Reads, EndsWriting}
 use Rattle.text_commands.specs.Status.{code_of, row_fault_status, row_verdict_status}
 
@@ -94,16 +95,19 @@ ReadsAndJudges map_left scen_left old_map new_map old_scen new_scen number answe
     (m : Grid) × (rows : List Query) × ReadsMap map_left old_map new_map (Ok m) × ReadsScen scen_left old_scen new_scen (Ok rows)
     × JudgesRow m rows number answer
 
--- The exit status and what the output got: the line of the verdict, or a beginning of it where the output failed; nothing where
--- there is no verdict.
-abbrev pub EndsByRowVerdict : {W : Type 0} → (W → Option (List ℕ)) → Counted W → Counted W → ℕ → Result RowVerdict RowFault → Type 0
-EndsByRowVerdict contents old new status (Ok verdict) = EndsWriting contents old new status (row_verdict_status verdict) (row_verdict_text verdict)
-EndsByRowVerdict contents old new status (Err fault) = (status ≡ code_of (row_fault_status fault)) × (new ≡ old)
+-- The exit status, what the output got and which fault was told: the line of the verdict, or a beginning of it where the output failed;
+-- nothing where there is no verdict.
+abbrev pub EndsByRowVerdict
+    : {W : Type 0} → (W → Option (List ℕ)) → (Told : Option (List (List ℕ)) → Type 0) → Counted W → Counted W → ℕ → Result RowVerdict RowFault → Type 0
+EndsByRowVerdict contents Told old new status (Ok verdict) =
+    EndsWriting contents Told old new status (row_verdict_status verdict) (row_verdict_text verdict)
+EndsByRowVerdict contents Told old new status (Err fault) =
+    (status ≡ code_of (row_fault_status fault)) × (new ≡ old) × Told (Some (row_fault_words fault))
 
 -- The texts were read and the row was judged, and the command ended by that.
 pub record AnswersRow
     {R S W : Type 0} (map_left : R → Option (List ℕ)) (scen_left : S → Option (List ℕ)) (contents : W → Option (List ℕ))
-    (old_map new_map : Counted R) (old_scen new_scen : Counted S) (number : ℕ) (old_out new_out : Counted W) (status : ℕ) : Type 0 where
+    (Told : Option (List (List ℕ)) → Type 0) (old_map new_map : Counted R) (old_scen new_scen : Counted S) (number : ℕ) (old_out new_out : Counted W) (status : ℕ) : Type 0 where
   pub answer : Result RowVerdict RowFault
   pub judges : ReadsAndJudges map_left scen_left old_map new_map old_scen new_scen number answer
-  pub ends : EndsByRowVerdict contents old_out new_out status answer
+  pub ends : EndsByRowVerdict contents Told old_out new_out status answer

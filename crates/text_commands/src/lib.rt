@@ -1,6 +1,7 @@
 //! The commands over maps and scenarios, and how every command ends.
 #![tactic(auto)]
 
+mod fault_line;
 mod map_command;
 mod row_command;
 mod row_fault;
@@ -9,8 +10,9 @@ mod scen_command;
 mod status;
 mod writing;
 
+pub use fault_line::report;
 pub use map_command::{map_cmd, map_fault_status};
 pub use row_command::row_cmd;
 pub use scen_command::{scen_cmd, scen_fault_status};
-pub use status::{Status, report};
+pub use status::Status;
 pub use writing::{finish, write_text};

@@ -1,6 +1,7 @@
 //! `mapf map`: reads a map and writes it in canonical form.
 ghost use Rattle.std.specs.Prelude.{◌≡◌};
 ghost use Rattle.text_commands.specs.Status.{map_fault_status};
+ghost use Rattle.text_commands.specs.Telling.{Tells};
 ghost use Rattle.text_commands.specs.MapCommand.{RewritesMap};
 
 use crate::writing::finish;
@@ -17,8 +18,7 @@ pub fn map_cmd<R: Read, W: Write, E: Write>(
     out: &mut Counted<W>,
     err: &mut Counted<E>,
 ) -> u8
-    ensures rewrites { RewritesMap R.remaining W.contents map.old map.new out.old out.new result }
-    ensures quiet { result ≡ 0 → err.new ≡ err.old }
+    ensures { RewritesMap R.remaining W.contents (Tells E.contents err.old err.new) map.old map.new out.old out.new result }
 {
     match read_map(alloc, map) {
         Ok(map) => {
@@ -26,7 +26,7 @@ pub fn map_cmd<R: Read, W: Write, E: Write>(
             finish(written, Status::Done, out, err).code()
         }
         Err(fault) => {
-            let _ = report(err, fault);
+            report(err, fault.words());
             map_fault_status(fault).code()
         }
     }

@@ -1,6 +1,7 @@
 //! `mapf row`: judges the listed length of a scenario's row on a map.
 ghost use Rattle.std.specs.Prelude.{◌≡◌, ◌↔◌, IsTrue, IfErr, MatchResult};
 ghost use Rattle.scen.specs.Certificate.{AreOn};
+ghost use Rattle.text_commands.specs.Telling.{Tells};
 ghost use Rattle.text_commands.specs.RowCommand.{HasSizeOf, IsAsked, JudgesRow, ReadsAndJudges, AnswersRow};
 
 use crate::report;
@@ -23,8 +24,7 @@ pub fn row_cmd<R: Read, S: Read, W: Write, E: Write>(
     out: &mut Counted<W>,
     err: &mut Counted<E>,
 ) -> u8
-    ensures answers { AnswersRow R.remaining S.remaining W.contents map.old map.new scen.old scen.new row out.old out.new result }
-    ensures quiet { result ≡ 0 → err.new ≡ err.old }
+    ensures { AnswersRow R.remaining S.remaining W.contents (Tells E.contents err.old err.new) map.old map.new scen.old scen.new row out.old out.new result }
 {
     match read_and_judge(alloc, map, scen, row) {
         Ok(verdict) => {
@@ -32,7 +32,7 @@ pub fn row_cmd<R: Read, S: Read, W: Write, E: Write>(
             finish(written, verdict.status(), out, err).code()
         }
         Err(fault) => {
-            let _ = report(err, fault);
+            report(err, fault.words());
             fault.status().code()
         }
     }

@@ -1,35 +1,32 @@
 //! Why a row of a scenario has no answer.
-ghost use Rattle.std.specs.Prelude.{◌≡◌};
+ghost use Rattle.std.specs.Prelude.{◌≡◌, Some};
+ghost use Rattle.grid.specs.FaultWords.{words_of, words_text};
+ghost use Rattle.text_commands.specs.FaultWords.{row_fault_words};
 ghost use Rattle.text_commands.specs.Status.{row_fault_status};
 ghost use Rattle.text_commands.specs.declared.row_fault.RowFault.TheVariants as row_fault;
 
 use crate::Status;
 use crate::map_command::map_fault_status;
 use crate::scen_command::scen_fault_status;
-use grid::MapFault;
+use grid::{FaultWords, MapFault};
 use scen::{CertFault, ScenFault};
+use std::fmt;
 use thiserror::Error;
 
 /// Why a row has no answer.
 #[derive(Clone, Copy, Debug, PartialEq, Eq, Error)]
 pub(crate) enum RowFault {
     /// The map could not be read.
-    #[error("{0}")]
     Map(MapFault),
     /// The scenario could not be read.
-    #[error("{0}")]
     Scen(ScenFault),
     /// The scenario has no row with the number.
-    #[error("NoSuchRow")]
     NoSuchRow,
     /// The row with this number is for a map of another size.
-    #[error("SizeDiffers {0}")]
     SizeDiffers(u32),
     /// The search was refused memory.
-    #[error("OutOfMemory")]
     OutOfMemory,
     /// What the search proposed proves nothing.
-    #[error("{0}")]
     Certificate(CertFault),
 }
 
@@ -44,6 +41,28 @@ impl RowFault {
             RowFault::OutOfMemory => Status::Failure,
             _ => Status::Fault,
         }
+    }
+
+    /// The words in which it is told.
+    pub(crate) fn words(self) -> FaultWords
+        ensures { words_of result ≡ row_fault_words self }
+    {
+        match self {
+            RowFault::Map(fault) => fault.words(),
+            RowFault::Scen(fault) => fault.words(),
+            RowFault::NoSuchRow => FaultWords::new("NoSuchRow", &[]),
+            RowFault::SizeDiffers(row) => FaultWords::new("SizeDiffers", &[u64::from(row)]),
+            RowFault::OutOfMemory => FaultWords::new("OutOfMemory", &[]),
+            RowFault::Certificate(fault) => fault.words(),
+        }
+    }
+}
+
+impl fmt::Display for RowFault {
+    ghost output = { λ fault. Some (words_text (row_fault_words fault)) };
+
+    fn fmt<W: fmt::Write>(&self, f: &mut fmt::Formatter<W>) -> fmt::Result {
+        self.words().fmt(f)
     }
 }
 

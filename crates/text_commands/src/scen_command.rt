@@ -1,6 +1,7 @@
 //! `mapf scen`: reads a scenario and writes it in canonical form.
 ghost use Rattle.std.specs.Prelude.{◌≡◌};
 ghost use Rattle.text_commands.specs.Status.{scen_fault_status};
+ghost use Rattle.text_commands.specs.Telling.{Tells};
 ghost use Rattle.text_commands.specs.ScenCommand.{RewritesScen};
 
 use crate::writing::finish;
@@ -18,8 +19,7 @@ pub fn scen_cmd<R: Read, W: Write, E: Write>(
     out: &mut Counted<W>,
     err: &mut Counted<E>,
 ) -> u8
-    ensures rewrites { RewritesScen R.remaining W.contents scen.old scen.new out.old out.new result }
-    ensures quiet { result ≡ 0 → err.new ≡ err.old }
+    ensures { RewritesScen R.remaining W.contents (Tells E.contents err.old err.new) scen.old scen.new out.old out.new result }
 {
     match read_scen(alloc, scen) {
         Ok(scenario) => {
@@ -27,7 +27,7 @@ pub fn scen_cmd<R: Read, W: Write, E: Write>(
             finish(written, Status::Done, out, err).code()
         }
         Err(fault) => {
-            let _ = report(err, fault);
+            report(err, fault.words());
             scen_fault_status(fault).code()
         }
     }

@@ -1,13 +1,5 @@
-//! How a command ends: its exit status, and the line that says why.
-ghost use Rattle.std.specs.Prelude.{◌≡◌, ◌++◌, ◌∷◌, [], OnOk, IfSome, codes};
-ghost use Rattle.std.specs.Io.KnownBytes.{Appends};
-ghost use Rattle.grid.specs.Counted.{counted_inner};
-ghost use Rattle.grid.specs.Text.{line_feed};
-
-use grid::Counted;
-use std::fmt::Display;
-use std::io;
-use std::io::Write;
+//! How a command ends: its exit status.
+ghost use Rattle.std.specs.Prelude.{◌≡◌};
 
 /// The exit status of the program.
 #[derive(Clone, Copy, Debug, PartialEq, Eq)]
@@ -36,12 +28,4 @@ impl Status {
             Status::Failure => 3,
         }
     }
-}
-
-/// Writes the line of a fault, as `mapf: ShortRow 6`.
-pub fn report<E: Write, D: Display + Drop>(err: &mut Counted<E>, fault: D) -> io::Result<()>
-    ensures { OnOk result (IfSome (D.output fault) (λ text.
-        Appends (E.contents (counted_inner err.old)) (E.contents (counted_inner err.new)) (codes "mapf: " ++ text ++ line_feed ∷ []))) }
-{
-    writeln!(err, "mapf: {fault}")
 }

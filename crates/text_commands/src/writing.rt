@@ -1,8 +1,11 @@
 //! Ending a command that wrote a text.
-ghost use Rattle.std.specs.Prelude.{◌≡◌, ◌⊎◌, [], is_ok, OnOk, OnErr};
+ghost use Rattle.std.specs.Prelude.{◌≡◌, [], None, Some, is_ok, OnOk, OnErr};
 ghost use Rattle.grid.specs.Counted.{counted_inner, failures_of};
+ghost use Rattle.grid.specs.FaultWords.{write_fault_words};
 ghost use Rattle.grid.specs.Sink.{held_back, Puts, Breaks};
 ghost use Rattle.grid.specs.Writing.{WritesText};
+ghost use Rattle.grid.specs.declared.sink.WriteFault.TheVariants as write_fault;
+ghost use Rattle.text_commands.specs.Telling.{Tells};
 ghost use Rattle.text_commands.specs.Finishing.{Finishes};
 
 use crate::{Status, report};
@@ -34,12 +37,12 @@ pub fn finish<W: Write, E: Write>(
     out: &mut Counted<W>,
     err: &mut Counted<E>,
 ) -> Status
-    ensures out { Finishes W.contents (is_ok written) success out.old out.new result }
-    ensures err { (err.new ≡ err.old) ⊎ (result ≡ Status.Failure) }
+    ensures { Finishes W.contents (Tells E.contents err.old err.new None) (Tells E.contents err.old err.new (Some (write_fault_words write_fault.WriteFailed)))
+        (is_ok written) success out.old out.new result }
 {
     if written.is_ok() && out.flush().is_ok() {
         return success;
     }
-    let _ = report(err, WriteFault::WriteFailed);
+    report(err, WriteFault::WriteFailed.words());
     Status::Failure
 }

@@ -5,3 +5,5 @@
 mod certificates;
 #[cfg(test)]
 mod searches;
+#[cfg(test)]
+mod wide_searches;

@@ -1,6 +1,5 @@
 -- What the parts of `mapf deps` owe each other.
-use Rattle.std.specs.Prelude.{◌≡◌, ℕ, List, [], ◌∷◌, ◌++◌, Option, None, Some, codes, decimal}
-use Rattle.std.specs.List.{flat_map}
+use Rattle.std.specs.Prelude.{◌≡◌, ℕ, List, [], ◌∷◌, ◌++◌, Option, None, Some}
 use Rattle.grid.specs.Text.{line_feed}
 use Rattle.model.specs.Timetable.{Track, Timetable, track_of}
 use Rattle.depgraph.specs.Routes.{Route}
@@ -14,7 +13,3 @@ HasNeedsOf tt agent route = (track : Track) → track_of tt agent ≡ Some track
 abbrev pub need_text : (agent move : ℕ) → Option (ℕ × ℕ) → List ℕ
 need_text agent move None = []
 need_text agent move (Some n) = need_line agent move (record { agent = n.0; count = n.1 }) ++ line_feed ∷ []
-
--- numbers with a space before each
-abbrev pub spaced_numbers : List ℕ → List ℕ
-spaced_numbers numbers = flat_map (λ n. codes " " ++ decimal n) numbers

@@ -1,11 +1,12 @@
 -- How a run is ended.
-use Rattle.std.specs.Prelude.{ℕ, List, Option, Result}
+use Rattle.std.specs.Prelude.{◌≡◌, ℕ, List, Option, Result, Err}
 use Rattle.grid.specs.declared.counted.Counted.{Counted}
 use Rattle.replay.specs.Replaying.{was_written}
 use Rattle.replay.specs.declared.run_fault.RunFault.{RunFault}
+use Rattle.replay.specs.declared.run_fault.RunFault.TheVariants.{WriteFailed}
 use Rattle.text_commands.specs.Finishing.{Finishes}
 use Rattle.run_commands.specs.RunStatus.{run_status}
 
--- the replies were flushed, if they were written, and the second answer says whether that failed
+-- the replies were flushed, if they were written, and the second answer is the first, or that this failed
 abbrev pub IsFlushed : {W : Type 0} → (W → Option (List ℕ)) → Result Unit RunFault → Counted W → Counted W → Result Unit RunFault → Type 0
-IsFlushed contents answer old new flushed = Finishes contents (was_written answer) (run_status answer) old new (run_status flushed)
+IsFlushed contents answer old new flushed = Finishes contents (flushed ≡ answer) (flushed ≡ Err WriteFailed) (was_written answer) (run_status answer) old new (run_status flushed)

@@ -1,6 +1,6 @@
 -- What computes needs no more; that there is no fault, and no rotation, goes by the agents and the times that there are.
-use Rattle.std.proofs.Common.{◌≡◌, ℕ, zero, suc, ◌+◌, List, [], ◌∷◌, length, Some, inl, inr, arith, refl, sym, ap, subst, ◌∙◌}
-use Rattle.std.specs.Prelude.{Option, slice_get, ◌⊎◌, nat_lt}
+use Rattle.std.proofs.Common.{◌≡◌, ℕ, zero, suc, ◌+◌, ◌≤◌, List, [], ◌∷◌, length, Some, inl, inr, arith, refl, sym, ap, subst, ◌∙◌}
+use Rattle.std.specs.Prelude.{Option, slice_get, get_or, ◌<◌, ◌⊎◌, nat_lt}
 use Rattle.std.proofs.lemmas.Bool.{cond-true, lt-ltb}
 use Rattle.std.proofs.lemmas.Option.{same_Some, none-some}
 use Rattle.grid.specs.declared.cell.Cell.{Cell}
@@ -10,10 +10,11 @@ use Rattle.model.specs.declared.act.Act.TheVariants.{N, E, S, W, Wait}
 use Rattle.model.specs.declared.plan_fault.PlanFault.{PlanFault}
 use Rattle.model.specs.declared.plan_fault.PlanFault.TheVariants.{BadStart, BadMove, Vertex, Swap, OutOfMemory}
 use Rattle.model.specs.Timetable.{Track, cell_at, track_of, Stands}
-use Rattle.model.specs.Plan.{Position, position_of, moved, position_at, HasPlanFault, IsLegal, IsAt, IsTrackOf}
-use Rattle.model.specs.Dependency.{MovesInto, following, IsRotation}
+use Rattle.model.specs.Plan.{Position, position_of, moved, position_at, HasPlanFault, IsLegal, IsAt, key_of, IsBefore, IsTrackOf}
+use Rattle.model.specs.Dependency.{IsLastStand, MovesInto, following, IsRotation}
 use Rattle.model.specs.Costs.{EndsAtRest, Task, Fits}
-use Rattle.model.specs.Examples.{cell, course, ground_of_row, swapping, following_plan, ground_of_square, turning_plan, row, square, turning, leader, follower, late_follower, exchange, first_task, second_task}
+use Rattle.model.specs.Examples.{cell, course, ground_of_row, swapping, crowding, following_plan, ground_of_square, turning_plan, row, square, turning, leader, follower, late_follower, exchange, first_task, second_task}
+use Rattle.model.proofs.CostLemmas.{cost-rests, cost-least}
 use Rattle.model.proofs.laws.examples.Goals as goal
 
 -- ---- faults
@@ -202,6 +203,62 @@ returns-clause-faults c = (
 
 -- ---- timetables
 
+to_the_west : (x : ℕ) → IsStraightStep ground_of_row (cell (x + 1) 0) (cell x 0) → IsLegal ground_of_row (position_of (cell (x + 1) 0)) (position_of (cell x 0))
+to_the_west x step = record { u = cell (x + 1) 0; v = cell x 0; is_from = refl; is_to = refl; step = step }
+
+-- a meeting of the same two is not before itself
+not_itself : (t : ℕ) → IsBefore (record { time = suc t; rank = 1; first = 0; second = 2 }) (record { time = 1; rank = 1; first = 0; second = 2 }) → ⊥
+not_itself t (inl less) = omega (arith, less)
+not_itself t (inr (e, inl less)) = omega (arith, less)
+not_itself t (inr (e, inr (f, inl less))) = omega (arith, less)
+not_itself t (inr (e, inr (f, inr (g, less)))) = omega (arith, less)
+
+no_swap : {i j : ℕ} (s : ℕ) → IsBefore (record { time = s + 1; rank = 2; first = i; second = j }) (record { time = 1; rank = 1; first = 0; second = 2 }) → ⊥
+no_swap s (inl less) = omega (arith, less)
+no_swap s (inr (e, inl less)) = omega (arith, less)
+no_swap s (inr (e, inr (f, rest))) = omega (arith, f)
+
+-- ---- the least fault
+
+-- before the meeting in the middle at time 1 there is no fault
+nothing_before : (f : PlanFault) → HasPlanFault ground_of_row crowding f → IsBefore (key_of f) (key_of (Vertex 0 2 1 (cell 1 0))) → ⊥
+nothing_before (BadStart zero) h b = h (λ e. cc)
+nothing_before (BadStart (suc zero)) h b = h (λ e. cc)
+nothing_before (BadStart (suc (suc zero))) h b = h (λ e. cc)
+nothing_before (BadStart (suc (suc (suc i)))) h b = h
+nothing_before (BadMove zero zero) h b = h.1 (to_the_east 0 (record { side = inr (refl, inr refl); joined = refl }))
+nothing_before (BadMove zero (suc s)) h b = h
+nothing_before (BadMove (suc zero) zero) h b = h.1 (to_the_west 0 (record { side = inr (refl, inl refl); joined = refl }))
+nothing_before (BadMove (suc zero) (suc s)) h b = h
+nothing_before (BadMove (suc (suc zero)) zero) h b = h.1 (to_the_west 1 (record { side = inr (refl, inl refl); joined = refl }))
+nothing_before (BadMove (suc (suc zero)) (suc s)) h b = h
+nothing_before (BadMove (suc (suc (suc i))) s) h b = h
+nothing_before (Vertex zero zero t c) h b = omega (arith, h.0)
+nothing_before (Vertex zero (suc zero) zero c) h b = let apart = across (h.1 ∙ sym h.2) in cc
+nothing_before (Vertex zero (suc zero) (suc t) c) h b = let apart = across (h.1 ∙ sym h.2) in cc
+nothing_before (Vertex zero (suc (suc zero)) zero c) h b = let apart = across (h.1 ∙ sym h.2) in cc
+nothing_before (Vertex zero (suc (suc zero)) (suc t) c) h b = not_itself t b
+nothing_before (Vertex zero (suc (suc (suc j))) t c) h b = h.2
+nothing_before (Vertex (suc zero) zero t c) h b = omega (arith, h.0)
+nothing_before (Vertex (suc zero) (suc zero) t c) h b = omega (arith, h.0)
+nothing_before (Vertex (suc zero) (suc (suc zero)) zero c) h b = let apart = across (h.1 ∙ sym h.2) in cc
+nothing_before (Vertex (suc zero) (suc (suc zero)) (suc t) c) h b = let apart = across (h.1 ∙ sym h.2) in cc
+nothing_before (Vertex (suc zero) (suc (suc (suc j))) t c) h b = h.2
+nothing_before (Vertex (suc (suc zero)) zero t c) h b = omega (arith, h.0)
+nothing_before (Vertex (suc (suc zero)) (suc zero) t c) h b = omega (arith, h.0)
+nothing_before (Vertex (suc (suc zero)) (suc (suc zero)) t c) h b = omega (arith, h.0)
+nothing_before (Vertex (suc (suc zero)) (suc (suc (suc j))) t c) h b = h.2
+nothing_before (Vertex (suc (suc (suc i))) j t c) h b = h.1
+nothing_before (Swap i j s) h b = no_swap s b
+nothing_before OutOfMemory h b = h
+
+pub returns-clause-least_faults : goal.returns-clause-least_faults
+returns-clause-least_faults c = (
+  record { has = (omega arith, refl, refl); first = nothing_before },
+  λ least. least.first (Vertex 0 2 1 (cell 1 0)) (omega arith, refl, refl) (inr (refl, inl (omega arith))),
+  refl,
+)
+
 column : {u v : Cell} → u ≡ v → u.x ≡ v.x
 column e = ap (λ c. c.x) e
 
@@ -330,6 +387,10 @@ returns-clause-tasks c = (
   λ h. (let two = h.agents in omega (arith, two)),
   λ h. (let two = h.agents in omega (arith, two)),
   λ h. (let one = h.enough in omega (arith, one)),
+  (follower, second_task, refl, refl, record { same_width = refl; same_height = refl; from_start = refl; to_goal = refl }),
+  λ h. (
+      let apart = column (ap (λ track. track.start) (same_Some follower h.0 h.2) ∙ h.4.from_start ∙ sym (ap (λ task. task.start) (same_Some first_task h.1 h.3))) in cc
+      ),
 )
 
 pub returns-clause-visits : goal.returns-clause-visits
@@ -352,3 +413,92 @@ returns-clause-dependencies c = (refl, refl, refl, refl, refl, refl, refl, refl,
 
 pub returns-clause-runs : goal.returns-clause-runs
 returns-clause-runs c = (refl, refl, refl, refl, refl, refl, refl, refl, refl, refl, refl, refl)
+
+both_rest : (k : ℕ) (other : Track) → k < 2 → EndsAtRest (get_or row.tracks k other)
+both_rest zero other less = refl
+both_rest (suc zero) other less = refl
+both_rest (suc (suc k)) other less = omega (arith, less)
+
+pub returns-clause-paths : goal.returns-clause-paths
+returns-clause-paths c = (
+  refl,
+  refl,
+  refl,
+  refl,
+  refl,
+  refl,
+  cost-rests (cell 0 0) late_follower.later,
+  record {
+    rests = cost-rests (cell 0 0) late_follower.later;
+    least = λ before less rests. (let most = cost-least (cell 0 0) late_follower.later before rests in omega (arith, less, most));
+  },
+  refl,
+  refl,
+  λ e. cc,
+  λ k other less. both_rest k other less,
+)
+
+nobody_in_the_east : (t i : ℕ) → t ≤ 0 → Stands row i t (cell 2 0) → ⊥
+nobody_in_the_east zero zero most there = let apart = column there in cc
+nobody_in_the_east zero (suc zero) most there = let apart = column there in cc
+nobody_in_the_east zero (suc (suc i)) most there = there
+nobody_in_the_east (suc t) i most there = omega (arith, most)
+
+leader_in_the_middle : IsLastStand row (cell 1 0) 0 (Some (record { agent = 0; time = 0 }))
+leader_in_the_middle = (refl, omega arith, λ r j past most there. omega (arith, past, most))
+
+pub returns-clause-last_stands : goal.returns-clause-last_stands
+returns-clause-last_stands c = (
+  refl,
+  refl,
+  refl,
+  refl,
+  refl,
+  refl,
+  refl,
+  refl,
+  leader_in_the_middle,
+  λ t i most there. nobody_in_the_east t i most there,
+  record {
+    step = 0;
+    last = Some (record { agent = 0; time = 0 });
+    is_step = refl;
+    leaves = λ e. (let apart = column e in cc);
+    is_last = leader_in_the_middle;
+    asks = refl;
+  },
+  inl (λ there. (let apart = column there in cc)),
+  record { from = follower; to = leader; is_from = refl; is_to = refl; moves = λ e. (let apart = column e in cc); into = refl },
+  refl,
+  refl,
+)
+
+pub returns-clause-messages : goal.returns-clause-messages
+returns-clause-messages c = (refl, refl, refl, refl, record { spelled = refl })
+
+pub returns-clause-histories : goal.returns-clause-histories
+returns-clause-histories c = (refl, refl, refl, refl, refl, refl, refl, refl, refl, refl, refl, refl, refl, refl, refl)
+
+head_cell : List Cell → Cell
+head_cell [] = cell 0 0
+head_cell (c ∷ cells) = c
+
+pub returns-clause-safety : goal.returns-clause-safety
+returns-clause-safety c = (
+  refl,
+  refl,
+  refl,
+  inl refl,
+  inr refl,
+  refl,
+  refl,
+  refl,
+  refl,
+  (cell 2 0 ∷ [], refl),
+  λ h. (let apart = column (ap head_cell h.1) in cc),
+  (refl, (refl, tt)),
+  refl,
+  inr refl,
+  λ safe. (let same = safe.apart 0 1 (cell 1 0) refl (inr refl) in omega (arith, same)),
+  λ run. cc,
+)

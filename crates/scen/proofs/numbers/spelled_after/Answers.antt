@@ -1,4 +1,4 @@
-use Rattle.std.proofs.Common.{◌≡◌, ◌+◌, ◌*◌, ◌<◌, ◌≤◌, min, true, Some, length, get_or, sym, ap, ◌∙◌, arith}
+use Rattle.std.proofs.Common.{◌≡◌, ◌<◌, ◌≤◌, min, true, Some, length, get_or, sym, ap, ◌∙◌, arith}
 use Rattle.std.specs.Char.{is_ascii_digit}
 use Rattle.std.specs.List.{list_all}
 use Rattle.std.specs.Str.Parse.{digits_value_after}
@@ -13,10 +13,9 @@ pub loop-b-preserved : goal.loop-b-preserved
 loop-b-preserved c =
     let digit : is_ascii_digit (get_or c.args.bytes.now c.loop-b.b-index 0) ≡ true = sym c.is_ascii_digit.ensures.value ∙ c.if-not-is_ascii_digit.false in
     let within : c.loop-b.b-index < length c.args.bytes.now = omega arith in
-    let sum : c.saturating_add-value.result ≡ min (c.loop-b.value * 10 + c.from.result) most_told =
-    omega (arith, c.saturating_add-value.ensures, c.saturating_mul.ensures) in
+    let sum = c.with_digit-value.ensures in
     record {
-      value = value_after-digit c.args.bytes.now c.loop-b.b-index c.loop-b.value c.from.result c.saturating_add-value.result most_told within
+      value = value_after-digit c.args.bytes.now c.loop-b.b-index c.loop-b.value c.from.result c.with_digit-value.result most_told within
           digit c.from.ensures sum
           ∙ c.loop-b.invariant.value;
       within = omega (arith, sum);

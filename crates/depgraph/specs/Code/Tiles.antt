@@ -1,0 +1,53 @@
+-- Where the numbers of cells stand: those of a tile, 16 x 16 cells, side by side.
+use Rattle.std.specs.Prelude.{◌≡◌, ℕ, ◌+◌, ◌*◌, ◌/◌, ◌%◌, ◌<◌, ◌≤◌, ◌⊎◌, length, get_or}
+use Rattle.grid.specs.declared.cell.Cell.{Cell}
+use Rattle.depgraph.specs.declared.tiles.Tiles.{Tiles}
+
+-- the tile of a cell, where so many lie side by side
+abbrev pub tile_of : ℕ → Cell → ℕ
+tile_of across cell = cell.y / 16 * across + cell.x / 16
+
+-- where the cell stands in its tile
+abbrev pub offset_of : Cell → ℕ
+offset_of cell = cell.y % 16 * 16 + cell.x % 16
+
+-- the part of the numbers that the cell's tile has, or 0
+abbrev pub part_of : Tiles → Cell → ℕ
+part_of t cell = get_or t.parts.items (tile_of t.across cell) 0
+
+abbrev pub place_of : Tiles → Cell → ℕ
+place_of t cell = part_of t cell * 256 + offset_of cell
+
+-- one more than the cell's number, or 0 where it has none
+abbrev pub held : Tiles → Cell → ℕ
+held t cell = get_or t.numbers.items (place_of t cell) 0
+
+-- the cell has a tile, and no cell of another column of tiles has the same
+pub record IsCovered (t : Tiles) (cell : Cell) : Type 0 where
+  pub column : cell.x / 16 < t.across
+  pub tile : tile_of t.across cell < length t.parts.items
+
+-- each tile that has a part has it alone; the first part, which none has, has no numbers
+pub record AreTiles (t : Tiles) : Type 0 where
+  pub within : (i : ℕ) → get_or t.parts.items i 0 * 256 + 256 ≤ length t.numbers.items
+  pub apart : (i j : ℕ) → 0 < get_or t.parts.items i 0 → get_or t.parts.items i 0 ≡ get_or t.parts.items j 0 → i ≡ j
+  pub first : (i : ℕ) → i < 256 → get_or t.numbers.items i 0 ≡ 0
+  pub whole : length t.numbers.items ≡ length t.numbers.items / 256 * 256
+
+-- they have the same tiles
+pub record IsSameMap (old new : Tiles) : Type 0 where
+  pub across : new.across ≡ old.across
+  pub count : length new.parts.items ≡ length old.parts.items
+
+-- the cell's tile has a part now, and no number has changed
+pub record HasRoom (old new : Tiles) (cell : Cell) : Type 0 where
+  pub map : IsSameMap old new
+  pub tiles : AreTiles new
+  pub part : 0 < part_of new cell
+  pub kept : (c : Cell) → held new c ≡ held old c
+  pub size : length new.numbers.items ≤ length old.numbers.items + 256
+
+-- the cell has this number now: it had it, or had none and has the next one
+pub record IsHeld (old new : Tiles) (cell : Cell) (next number : ℕ) : Type 0 where
+  pub now : held new cell ≡ number + 1
+  pub before : ((held old cell ≡ 0) × (number ≡ next)) ⊎ (held old cell ≡ number + 1)

@@ -1,0 +1,2 @@
+-- Lemmas on runs that end.
+mod FinishLemmas

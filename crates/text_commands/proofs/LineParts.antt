@@ -1,0 +1,47 @@
+-- The parts of a fault's line, and how far they have been put.
+use Rattle.std.proofs.Common.{◌≡◌, ◌∙◌, ℕ, List, [], ◌∷◌, ◌++◌, refl, sym, ap, take, append_assoc}
+use Rattle.std.specs.Prelude.{Option, codes}
+use Rattle.grid.proofs.WordLemmas.{joined}
+use Rattle.grid.specs.Text.{line_feed, spaced_numbers}
+use Rattle.grid.specs.FaultWords.{words_of}
+use Rattle.grid.specs.Sink.{Puts}
+use Rattle.grid.specs.declared.fault_words.FaultWords.{FaultWords}
+use Rattle.grid.specs.declared.sink.Sink.{Sink}
+use Rattle.scen.proofs.PutLemmas.{Leaves, Leaves-all, Leaves-less}
+use Rattle.text_commands.specs.Telling.{fault_line}
+
+abbrev pub numbers_of : FaultWords → List ℕ
+numbers_of words = take words.count words.numbers
+
+-- the line from each of its parts on
+abbrev pub from_numbers : FaultWords → List ℕ
+from_numbers words = spaced_numbers (numbers_of words) ++ line_feed ∷ []
+
+abbrev pub from_name : FaultWords → List ℕ
+from_name words = words.name.now ++ from_numbers words
+
+line-is : (words : FaultWords) → codes "mapf: " ++ from_name words ≡ fault_line (words_of words)
+line-is words =
+    ap (λ (rest : List ℕ). codes "mapf: " ++ rest)
+    (sym (append_assoc words.name.now (spaced_numbers (numbers_of words)) (line_feed ∷ []))
+    ∙ ap (λ (text : List ℕ). text ++ line_feed ∷ []) (sym (joined words.name.now (numbers_of words))))
+
+module _ {W : Type 0} (contents : W → Option (List ℕ)) (words : FaultWords) where
+  -- what is left at first, and after each part
+  pub first-left : (s : Sink W) → Leaves contents s s (fault_line (words_of words)) (codes "mapf: " ++ from_name words)
+  first-left s = Leaves-all contents s _ _ (line-is words)
+
+  pub name-left : (s now : Sink W) → Puts contents s now (codes "mapf: ") → Leaves contents s now (fault_line (words_of words)) (from_name words)
+  name-left s now p = Leaves-less contents s s now _ (codes "mapf: ") (from_name words) _ (first-left s) refl p
+
+  pub numbers-left : (s mid now : Sink W) (given : List ℕ) → Leaves contents s mid (fault_line (words_of words)) (from_name words)
+      → given ≡ words.name.now → Puts contents mid now given → Leaves contents s now (fault_line (words_of words)) (from_numbers words)
+  numbers-left s mid now given left e p = Leaves-less contents s mid now _ words.name.now (from_numbers words) given left e p
+
+  pub end-left : (s mid now : Sink W) (given : List ℕ) → Leaves contents s mid (fault_line (words_of words)) (from_numbers words)
+      → given ≡ spaced_numbers (numbers_of words) → Puts contents mid now given → Leaves contents s now (fault_line (words_of words)) (line_feed ∷ [])
+  end-left s mid now given left e p = Leaves-less contents s mid now _ (spaced_numbers (numbers_of words)) (line_feed ∷ []) given left e p
+
+  pub none-left : (s mid now : Sink W) → Leaves contents s mid (fault_line (words_of words)) (line_feed ∷ []) → Puts contents mid now (line_feed ∷ [])
+      → Leaves contents s now (fault_line (words_of words)) []
+  none-left s mid now left p = Leaves-less contents s mid now _ (line_feed ∷ []) [] _ left refl p

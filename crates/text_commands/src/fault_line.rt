@@ -1,0 +1,58 @@
+//! The line that says why a command ends as it does.
+ghost use Rattle.std.specs.Prelude.{◌≡◌, [], ◌∷◌, ◌++◌, Some, is_ok, OnOk, OnErr, decimal};
+ghost use Rattle.grid.specs.Text.{space, spaced_numbers};
+ghost use Rattle.grid.specs.Counted.{counted_inner, failures_of};
+ghost use Rattle.grid.specs.FaultWords.{words_of};
+ghost use Rattle.grid.specs.Sink.{held_back, Puts, Breaks};
+ghost use Rattle.grid.specs.Writing.{WritesText};
+ghost use Rattle.text_commands.specs.Telling.{Tells, fault_line};
+
+use grid::{Counted, FaultWords, Sink, WriteFault};
+use itoa::Buffer;
+use std::io::Write;
+
+/// Writes the line of a fault, as `mapf: ShortRow 6`, by one write where the writer takes it whole.
+pub fn report<E: Write>(err: &mut Counted<E>, words: FaultWords)
+    ensures { Tells E.contents err.old err.new (Some (words_of words)) }
+{
+    let _ = write_line(err, words);
+}
+
+fn write_line<E: Write>(err: &mut Counted<E>, words: FaultWords) -> Result<(), WriteFault>
+    ensures { WritesText (is_ok result) (E.contents (counted_inner err.old)) (E.contents (counted_inner err.new)) (failures_of err.old) (failures_of err.new) (fault_line (words_of words)) }
+{
+    let mut sink = Sink::new(err);
+    put_line(&mut sink, words)
+}
+
+/// Puts the line, and hands it on.
+fn put_line<E: Write>(sink: &mut Sink<'_, E>, words: FaultWords) -> Result<(), WriteFault>
+    ensures ok { OnOk result (Puts E.contents sink.old sink.new (fault_line (words_of words))) }
+    ensures none_held { OnOk result (held_back sink.new ≡ []) }
+    ensures err { OnErr result (Breaks E.contents sink.old sink.new (fault_line (words_of words))) }
+{
+    sink.put(b"mapf: ")?;
+    sink.put(words.name().as_bytes())?;
+    put_numbers(sink, words.numbers())?;
+    sink.put(b"\n")?;
+    sink.hand_on()
+}
+
+/// Puts each number behind a space.
+fn put_numbers<E: Write>(sink: &mut Sink<'_, E>, numbers: &[u64]) -> Result<(), WriteFault>
+    ensures ok { OnOk result (Puts E.contents sink.old sink.new (spaced_numbers numbers.now)) }
+    ensures err { OnErr result (Breaks E.contents sink.old sink.new (spaced_numbers numbers.now)) }
+{
+    for number in numbers {
+        put_number(sink, *number)?;
+    }
+    Ok(())
+}
+
+fn put_number<E: Write>(sink: &mut Sink<'_, E>, number: u64) -> Result<(), WriteFault>
+    ensures ok { OnOk result (Puts E.contents sink.old sink.new (space ∷ decimal number)) }
+    ensures err { OnErr result (Breaks E.contents sink.old sink.new (space ∷ decimal number)) }
+{
+    sink.put(b" ")?;
+    sink.put(Buffer::new().format(number).as_bytes())
+}
