@@ -7,7 +7,7 @@ use Rattle.std.proofs.lemmas.Option.{slice_get-get_or, slice_get-map, slice_get_
 use Rattle.grid.specs.declared.cell.Cell.{Cell}
 use Rattle.model.specs.declared.visit.Visit.{Visit}
 use Rattle.model.specs.Timetable.{Track, IsConflictFree}
-use Rattle.depgraph.specs.declared.schedule.Arrival.{Arrival}
+use Rattle.depgraph.specs.declared.placing.Arrival.{Arrival}
 use Rattle.depgraph.specs.Visits.{IsVisitTo, AreVisitsTo, ComesBefore, Visited, AreAllVisits}
 use Rattle.depgraph.specs.Code.Entries.{begin_in}
 use Rattle.depgraph.specs.Code.Waits.{no_visit}
@@ -16,7 +16,7 @@ use Rattle.depgraph.specs.Code.Orders.{IsOrder}
 use Rattle.depgraph.specs.Code.Placing.{IsTimeline, IsPlacing, part_of, visited, listing}
 use Rattle.depgraph.specs.Code.Ranks.{tally, below, rank}
 use Rattle.depgraph.proofs.PositionLemmas.{table, visit_at, cell_of, arrival-visit, visit-arrival, arrivals-rise, times-rise}
-use Rattle.depgraph.proofs.RankLemmas.{tally-same, tally-up_to, tally-within, rank-is, occurs, IsOccurrence, occurrences_rise, below-all, below-up_to}
+use Rattle.depgraph.proofs.RankLemmas.{tally-same, tally-up_to, tally-within, rank-is, occurs, IsOccurrence, occurrences_rise, occurrence-first, ranked, below-all, below-up_to}
 
 -- ---- a part of a list
 
@@ -47,6 +47,22 @@ module _ (number : ℕ) (tracks : List Track) (ends : List ℕ) (arrivals : List
 
   pub name-of : (p : ℕ) → p < length arrivals → get_or h.names (get_or h.listed p 0) no_cell ≡ cell_of number tracks ends arrivals step_ends line p
   name-of p less = (let all = h.all in get_or_from_slice_get h.names (get_or h.listed p 0) (cell_of number tracks ends arrivals step_ends line p) no_cell (h.numbered.named p (omega (arith, less, all))))
+
+  -- the visit at the place of an arrival by its cell's number
+  pub visit-at_rank : (p : ℕ) → p < length arrivals → get_or visits (rank h.listed p) no_visit ≡ visit_at number tracks ends arrivals step_ends line p
+  visit-at_rank p less = get_or_from_slice_get visits (rank h.listed p) (visit_at number tracks ends arrivals step_ends line p) no_visit (h.placed p less)
+
+  -- the arrival of the visit at a place
+  pub arrival-at : (k : ℕ) → k < length visits
+      → (p : ℕ) × (p < length arrivals) × (rank h.listed p ≡ k) × (get_or visits k no_visit ≡ visit_at number tracks ends arrivals step_ends line p)
+  arrival-at k less =
+      let all = h.all in
+      let count = h.visit_count in
+      let whole = below-all h.listed (length h.names) h.numbered.known in
+      let found = ranked h.listed (length h.names) k (omega (arith, less, count, all, whole)) in
+      let inside = found.1 in
+      let within : found.0 < length arrivals = omega (arith, inside, all) in
+      (found.0, within, found.2, sym (ap (λ n. get_or visits n no_visit) found.2) ∙ visit-at_rank found.0 within)
 
   -- arrivals in one cell have one number
   pub one_number : (p q : ℕ) → p < length arrivals → q < length arrivals → cell_of number tracks ends arrivals step_ends line p ≡ cell_of number tracks ends arrivals step_ends line q
@@ -201,19 +217,7 @@ module _ (number : ℕ) (tracks : List Track) (ends : List ℕ) (arrivals : List
             let in_q = q.2 in
             let sooner = first.rising m l q.0 less b.3 (omega (arith, in_q, all)) (q.1.key ∙ sym (get_or_from_slice_get order l b.0 0 b.1)) in
             let earlier = sooner.1 in
-            let before = not_later a.0 p.0 sooner.0 p.1 (sooner.2 ∙ get_or_from_slice_get order m a.0 0 a.1) in
+            let before = occurrence-first h.listed a.0 p.0 sooner.0 p.1 (sooner.2 ∙ get_or_from_slice_get order m a.0 0 a.1) in
             subst (λ x. ComesBefore x w) p.3 (subst (ComesBefore (visit_at number tracks ends arrivals step_ends line p.0)) q.3
             (arrivals-rise number tracks ends arrivals step_ends line p.0 q.0 (omega (arith, earlier, before)) q.2));
-      } where
-        -- nobody has the number before its first
-        not_later : (n p r : ℕ) → IsOccurrence h.listed n 0 p → get_or h.listed r 0 ≡ n → p ≤ r
-        not_later n p r occurs key = elim (cases_lt r p) [
-          | inl sooner ↦ (
-              let inside = occurs.within in
-              let more = tally-same h.listed r n (omega (arith, sooner, inside)) key in
-              let rises = tally-up_to h.listed (r + 1) p n (omega (arith, sooner)) (omega (arith, inside)) in
-              let none = occurs.before in
-              absurd (omega (arith, more, rises, none))
-              )
-          | inr not_sooner ↦ not_sooner
-        ]
+      }

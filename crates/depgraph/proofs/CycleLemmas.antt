@@ -1,37 +1,44 @@
--- The cycles that walks find, one after another.
-use Rattle.std.proofs.Common.{◌≡◌, ℕ, ◌+◌, ◌<◌, ◌≤◌, List, [], ◌∷◌, ◌++◌, length, get_or, Some, inl, inr, arith, refl, sym, ap, subst, append_assoc, ◌∙◌}
-use Rattle.std.specs.Prelude.{◌⊎◌, All, slice_get}
-use Rattle.std.proofs.lemmas.Bool.{cases_eq, cases_lt}
-use Rattle.std.proofs.lemmas.List.{append-nil, map_push}
+-- The cycles that walks find, one after another, and the turns that are made of them.
+use Rattle.std.proofs.Common.{◌≡◌, ℕ, ◌+◌, ◌<◌, ◌≤◌, List, [], ◌∷◌, ◌++◌, length, get_or, map, Some, inl, inr, arith, refl, sym, ap, subst, ◌∙◌}
+use Rattle.std.specs.Prelude.{◌⊎◌, slice_get}
+use Rattle.std.proofs.lemmas.Bool.{cases_lt}
+use Rattle.std.proofs.lemmas.List.{map_push}
 use Rattle.std.proofs.lemmas.Option.{none-some, slice_get-get_or, slice_get_within}
 use Rattle.model.specs.declared.visit.Rotation.{Rotation}
 use Rattle.depgraph.specs.Rotations.{Turn, turns_of}
-use Rattle.depgraph.specs.Code.Cycles.{nobody, Leads, AreLinks, AreMovers, IsCycle, turns_in, IsWithCycles, IsCut, IsWalked}
-use Rattle.depgraph.proofs.RingLemmas.{push-old, push-new, push-cases, one_agent, follower}
+use Rattle.depgraph.specs.Code.Cycles.{Leads, AreLinks, IsCycle, IsCut, IsWalked}
+use Rattle.depgraph.proofs.RingLemmas.{push-old, push-new, push-cases, same_at, follower}
 use Rattle.depgraph.proofs.WalkLemmas.{cycle-leads, cycle-cut}
 
--- The cycles that were found before a mover; of the others all links are there, and no mover before it has one.
-pub record AreFound (step : ℕ) (ahead now movers : List ℕ) (m : ℕ) (before after : List Turn) : Type 0 where
-  pub cycles : List (List ℕ)
-  pub behind : after ≡ before ++ turns_in step cycles
-  pub is_cut : IsCut ahead now
-  pub linked : (i j : ℕ) → Leads now i j → (k : ℕ) × (m ≤ k) × (slice_get movers k ≡ Some i)
-  pub sound : (n : ℕ) (agents : List ℕ) → slice_get cycles n ≡ Some agents → IsCycle ahead agents
-  pub whole : (agents : List ℕ) → IsCycle ahead agents → ((n : ℕ) × (slice_get cycles n ≡ Some agents)) ⊎ IsCycle now agents
-  pub rising : (n m : ℕ) (agents others : List ℕ) (i j : ℕ) → n < m → slice_get cycles n ≡ Some agents → slice_get cycles m ≡ Some others
-      → slice_get agents 0 ≡ Some i → slice_get others 0 ≡ Some j → i < j
-  pub earlier : (n k : ℕ) (agents : List ℕ) (i j : ℕ) → slice_get cycles n ≡ Some agents → slice_get agents 0 ≡ Some i → m ≤ k → slice_get movers k ≡ Some j → i < j
+-- Each cycle once, by least entry.
+pub record AreCycles (ahead : List ℕ) (cycles : List (List ℕ)) : Type 0 where
+  pub sound : (n : ℕ) (entries : List ℕ) → slice_get cycles n ≡ Some entries → IsCycle ahead entries
+  pub whole : (entries : List ℕ) → IsCycle ahead entries → (n : ℕ) × (slice_get cycles n ≡ Some entries)
+  pub rising : (n m i j : ℕ) (entries others : List ℕ) → n < m → slice_get cycles n ≡ Some entries → slice_get cycles m ≡ Some others
+      → slice_get entries 0 ≡ Some i → slice_get others 0 ≡ Some j → i < j
 
-pub found-start : (step : ℕ) (ahead movers : List ℕ) (before : List Turn) → AreMovers ahead movers → AreFound step ahead ahead movers 0 before before
-found-start step ahead movers before are_movers = record {
+-- The turns of the cycles whose least entry is before a place; of the others all links are there, and no entry before the place has one.
+pub record AreFound (turn : List ℕ → Turn) (ahead now : List ℕ) (m : ℕ) (turns : List Turn) : Type 0 where
+  pub cycles : List (List ℕ)
+  pub are_turns : turns ≡ map turn cycles
+  pub is_cut : IsCut ahead now
+  pub linked : (i j : ℕ) → Leads now i j → m ≤ i
+  pub sound : (n : ℕ) (entries : List ℕ) → slice_get cycles n ≡ Some entries → IsCycle ahead entries
+  pub whole : (entries : List ℕ) → IsCycle ahead entries → ((n : ℕ) × (slice_get cycles n ≡ Some entries)) ⊎ IsCycle now entries
+  pub rising : (n m i j : ℕ) (entries others : List ℕ) → n < m → slice_get cycles n ≡ Some entries → slice_get cycles m ≡ Some others
+      → slice_get entries 0 ≡ Some i → slice_get others 0 ≡ Some j → i < j
+  pub earlier : (n i : ℕ) (entries : List ℕ) → slice_get cycles n ≡ Some entries → slice_get entries 0 ≡ Some i → i < m
+
+pub found-start : (turn : List ℕ → Turn) (ahead : List ℕ) → AreFound turn ahead ahead 0 []
+found-start turn ahead = record {
   cycles = [];
-  behind = sym (append-nil before);
+  are_turns = refl;
   is_cut = record { count = refl; kept = λ i j leads. leads };
-  linked = λ i j leads. let mover = are_movers.whole i j leads in (mover.0, omega arith, mover.1);
-  sound = λ n agents there. absurd (none-some agents there);
-  whole = λ agents h. inr h;
-  rising = λ n m agents others i j less there. absurd (none-some agents there);
-  earlier = λ n k agents i j there. absurd (none-some agents there);
+  linked = λ i j leads. omega arith;
+  sound = λ n entries there. absurd (none-some entries there);
+  whole = λ entries h. inr h;
+  rising = λ n m i j entries others less there. absurd (none-some entries there);
+  earlier = λ n i entries there. absurd (none-some entries there);
 }
 
 -- what a walk requires of the links that are left
@@ -45,144 +52,112 @@ cut-links ahead now links cut =
       injective = λ i k j one other. links.injective i k j (cut.kept i j one) (cut.kept k j other);
     }
 
-pub mover-least : (step : ℕ) (ahead now movers : List ℕ) (m first : ℕ) (before after : List Turn) → AreMovers ahead movers → AreFound step ahead now movers m before after
-    → slice_get movers m ≡ Some first → (i j : ℕ) → Leads now i j → first ≤ i
-mover-least step ahead now movers m first before after are_movers found there i j leads =
-    let mover = found.linked i j leads in
-    let from = mover.1 in
-    elim (cases_lt m mover.0) [
-      | inl later ↦ (let less = are_movers.rising m mover.0 first i later there mover.2 in omega (arith, less))
-      | inr same ↦ (
-          let one : m ≡ mover.0 = omega (arith, from, same) in
-          let is = one_agent movers m first i there (ap (slice_get movers) one ∙ mover.2) in
-          omega (arith, is)
-          )
-    ]
-
 -- ---- after a walk
 
 cut-cut : (ahead now next : List ℕ) → IsCut ahead now → IsCut now next → IsCut ahead next
 cut-cut ahead now next one other = record { count = other.count ∙ one.count; kept = λ i j leads. one.kept i j (other.kept i j leads) }
 
-still-linked : (step : ℕ) (ahead now next movers trail : List ℕ) (m first : ℕ) (before after : List Turn) (is : Type 0) → AreFound step ahead now movers m before after
-    → slice_get movers m ≡ Some first → IsWalked first now next trail is → (i j : ℕ) → Leads next i j → (k : ℕ) × (m + 1 ≤ k) × (slice_get movers k ≡ Some i)
-still-linked step ahead now next movers trail m first before after is found there walked i j leads =
-    let mover = found.linked i j (walked.is_cut.kept i j leads) in
-    let from = mover.1 in
-    elim (cases_lt m mover.0) [
-      | inl later ↦ (mover.0, omega (arith, later), mover.2)
-      | inr same ↦ (
-          let one : m ≡ mover.0 = omega (arith, from, same) in
-          let own = one_agent movers m i first (ap (slice_get movers) one ∙ mover.2) there in
-          absurd (walked.gone j (subst (λ n. Leads next n j) own leads))
-          )
+still-linked : (turn : List ℕ → Turn) (ahead now next trail : List ℕ) (m : ℕ) (turns : List Turn) (is : Type 0) → AreFound turn ahead now m turns
+    → IsWalked m now next trail is → (i j : ℕ) → Leads next i j → m + 1 ≤ i
+still-linked turn ahead now next trail m turns is found walked i j leads =
+    let from = found.linked i j (walked.is_cut.kept i j leads) in
+    elim (cases_lt m i) [
+      | inl later ↦ omega (arith, later)
+      | inr same ↦ (let one : i ≡ m = omega (arith, from, same) in absurd (walked.gone j (subst (λ n. Leads next n j) one leads)))
     ]
 
-pub found-none : (step : ℕ) (ahead now next movers trail : List ℕ) (m first : ℕ) (before after : List Turn) (is : Type 0) → AreFound step ahead now movers m before after
-    → slice_get movers m ≡ Some first → IsWalked first now next trail is → (is → ⊥) → AreFound step ahead next movers (m + 1) before after
-found-none step ahead now next movers trail m first before after is found there walked not_found = record {
+pub found-none : (turn : List ℕ → Turn) (ahead now next trail : List ℕ) (m : ℕ) (turns : List Turn) (is : Type 0) → AreFound turn ahead now m turns
+    → IsWalked m now next trail is → (is → ⊥) → AreFound turn ahead next (m + 1) turns
+found-none turn ahead now next trail m turns is found walked not_found = record {
   cycles = found.cycles;
-  behind = found.behind;
+  are_turns = found.are_turns;
   is_cut = cut-cut ahead now next found.is_cut walked.is_cut;
-  linked = still-linked step ahead now next movers trail m first before after is found there walked;
+  linked = still-linked turn ahead now next trail m turns is found walked;
   sound = found.sound;
-  whole = λ agents h. elim (found.whole agents h) [
+  whole = λ entries h. elim (found.whole entries h) [
     | inl listed ↦ inl listed
-    | inr yet ↦ elim (walked.others agents yet) [ inl own ↦ absurd (not_found own.0) | inr other ↦ inr other ]
+    | inr yet ↦ elim (walked.others entries yet) [ inl own ↦ absurd (not_found own.0) | inr other ↦ inr other ]
   ];
   rising = found.rising;
-  earlier = λ n k agents i j at_n begins from. found.earlier n k agents i j at_n begins (omega (arith, from));
+  earlier = λ n i entries at_n begins. let less = found.earlier n i entries at_n begins in omega (arith, less);
 }
 
-pub found-one : (step : ℕ) (ahead now next movers trail : List ℕ) (m first : ℕ) (before after : List Turn) (is : Type 0) → AreLinks ahead → AreMovers ahead movers
-    → AreFound step ahead now movers m before after → slice_get movers m ≡ Some first → IsWalked first now next trail is → is
-    → AreFound step ahead next movers (m + 1) before (after ++ record { step = step; agents = trail } ∷ [])
-found-one step ahead now next movers trail m first before after is links are_movers found there walked is_found = record {
+-- the walk went round a cycle
+pub walked-cycle : (turn : List ℕ → Turn) (ahead now next trail : List ℕ) (m : ℕ) (turns : List Turn) (is : Type 0) → AreLinks ahead → AreFound turn ahead now m turns
+    → IsWalked m now next trail is → is → IsCycle ahead trail × (slice_get trail 0 ≡ Some m)
+walked-cycle turn ahead now next trail m turns is links found walked is_found =
+    let own = walked.is_cycle is_found in
+    (cycle-cut ahead now trail links found.is_cut own.0, own.1)
+
+pub found-one : (turn : List ℕ → Turn) (ahead now next trail : List ℕ) (m : ℕ) (turns : List Turn) (is : Type 0) → AreLinks ahead → AreFound turn ahead now m turns
+    → IsWalked m now next trail is → is → AreFound turn ahead next (m + 1) (turns ++ turn trail ∷ [])
+found-one turn ahead now next trail m turns is links found walked is_found = record {
   cycles = found.cycles ++ trail ∷ [];
-  behind = ap (λ l. l ++ turn ∷ []) found.behind ∙ append_assoc before (turns_in step found.cycles) (turn ∷ [])
-      ∙ ap (λ l. before ++ l) (sym (map_push (λ agents. record { step = step; agents = agents }) found.cycles trail));
+  are_turns = ap (λ l. l ++ turn trail ∷ []) found.are_turns ∙ sym (map_push turn found.cycles trail);
   is_cut = cut-cut ahead now next found.is_cut walked.is_cut;
-  linked = still-linked step ahead now next movers trail m first before after is found there walked;
-  sound = λ n agents at_n. elim (push-cases found.cycles trail agents n at_n) [
-    | inl old ↦ found.sound n agents old
-    | inr new ↦ subst (IsCycle ahead) new.1 (cycle-cut ahead now trail links found.is_cut own.0)
+  linked = still-linked turn ahead now next trail m turns is found walked;
+  sound = λ n entries at_n. elim (push-cases found.cycles trail entries n at_n) [
+    | inl old ↦ found.sound n entries old
+    | inr new ↦ subst (IsCycle ahead) new.1 own.0
   ];
-  whole = λ agents h. elim (found.whole agents h) [
-    | inl listed ↦ inl (listed.0, push-old found.cycles trail agents listed.0 listed.1)
-    | inr yet ↦ elim (walked.others agents yet) [
+  whole = λ entries h. elim (found.whole entries h) [
+    | inl listed ↦ inl (listed.0, push-old found.cycles trail entries listed.0 listed.1)
+    | inr yet ↦ elim (walked.others entries yet) [
       | inl same ↦ inl (length found.cycles, push-new found.cycles trail ∙ ap Some (sym same.1))
       | inr other ↦ inr other
     ]
   ];
-  rising = λ n l agents others i j less at_n at_l begins other_begins. elim (push-cases found.cycles trail others l at_l) [
-    | inl old ↦ found.rising n l agents others i j less (was n agents at_n (let inside = slice_get_within found.cycles l others old in omega (arith, less, inside))) old begins other_begins
+  rising = λ n l i j entries others less at_n at_l begins other_begins. elim (push-cases found.cycles trail others l at_l) [
+    | inl old ↦ found.rising n l i j entries others less (was n entries at_n (let inside = slice_get_within found.cycles l others old in omega (arith, less, inside))) old begins other_begins
     | inr new ↦ (
         let last = new.0 in
-        let earlier = found.earlier n m agents i first (was n agents at_n (omega (arith, less, last))) begins (omega arith) there in
-        let same = one_agent trail 0 j first (ap (λ (l : List ℕ). slice_get l 0) new.1 ∙ other_begins) own.1 in
+        let earlier = found.earlier n i entries (was n entries at_n (omega (arith, less, last))) begins in
+        let same = same_at trail 0 j m (ap (λ (l : List ℕ). slice_get l 0) new.1 ∙ other_begins) own.1 in
         omega (arith, earlier, same)
         )
   ];
-  earlier = λ n k agents i j at_n begins from at_k. elim (push-cases found.cycles trail agents n at_n) [
-    | inl old ↦ found.earlier n k agents i j old begins (omega (arith, from)) at_k
-    | inr new ↦ (
-        let same = one_agent trail 0 i first (ap (λ (l : List ℕ). slice_get l 0) new.1 ∙ begins) own.1 in
-        let less = are_movers.rising m k first j (omega (arith, from)) there at_k in
-        omega (arith, same, less)
-        )
+  earlier = λ n i entries at_n begins. elim (push-cases found.cycles trail entries n at_n) [
+    | inl old ↦ (let less = found.earlier n i entries old begins in omega (arith, less))
+    | inr new ↦ (let same = same_at trail 0 i m (ap (λ (l : List ℕ). slice_get l 0) new.1 ∙ begins) own.1 in omega (arith, same))
   ];
 } where
-  turn : Turn
-  turn = record { step = step; agents = trail }
+  own : IsCycle ahead trail × (slice_get trail 0 ≡ Some m)
+  own = walked-cycle turn ahead now next trail m turns is links found walked is_found
 
-  own : IsCycle now trail × (slice_get trail 0 ≡ Some first)
-  own = walked.is_cycle is_found
-
-  was : (n : ℕ) (agents : List ℕ) → slice_get (found.cycles ++ trail ∷ []) n ≡ Some agents → n < length found.cycles → slice_get found.cycles n ≡ Some agents
-  was n agents at_n less = elim (push-cases found.cycles trail agents n at_n) [
+  was : (n : ℕ) (entries : List ℕ) → slice_get (found.cycles ++ trail ∷ []) n ≡ Some entries → n < length found.cycles → slice_get found.cycles n ≡ Some entries
+  was n entries at_n less = elim (push-cases found.cycles trail entries n at_n) [
     | inl old ↦ old
     | inr new ↦ absurd (let past = new.0 in omega (arith, past, less))
   ]
 
-pub turns-push : (rotations more : List Rotation) (r : Rotation) (trail : List ℕ) → more ≡ rotations ++ r ∷ [] → r.agents.items ≡ trail
-    → turns_of more ≡ turns_of rotations ++ record { step = r.step; agents = trail } ∷ []
-turns-push rotations more r trail is_more is_trail =
+pub turns-push : (rotations more : List Rotation) (r : Rotation) (turn : Turn) → more ≡ rotations ++ r ∷ [] → r.step ≡ turn.step → r.agents.items ≡ turn.agents
+    → turns_of more ≡ turns_of rotations ++ turn ∷ []
+turns-push rotations more r turn is_more is_step is_agents =
     ap turns_of is_more ∙ map_push {Y = Turn} (λ (v : Rotation). record { step = v.step; agents = v.agents.items }) rotations r
-    ∙ ap {A = List ℕ} {B = List Turn} (λ agents. turns_of rotations ++ record { step = r.step; agents = agents } ∷ []) is_trail
+    ∙ ap {A = ℕ} {B = List Turn} (λ step. turns_of rotations ++ record { step = step; agents = r.agents.items } ∷ []) is_step
+    ∙ ap {A = List ℕ} {B = List Turn} (λ agents. turns_of rotations ++ record { step = turn.step; agents = agents } ∷ []) is_agents
 
 -- ---- after the last walk
 
-no_link : (step : ℕ) (ahead now movers : List ℕ) (m : ℕ) (before after : List Turn) → AreFound step ahead now movers m before after → length movers ≤ m
-    → (i j : ℕ) → Leads now i j → ⊥
-no_link step ahead now movers m before after found past i j leads =
-    let mover = found.linked i j leads in
-    let from = mover.1 in
-    let less = slice_get_within movers mover.0 i mover.2 in
-    omega (arith, from, past, less)
-
-pub found-all : (step : ℕ) (ahead now movers : List ℕ) (m : ℕ) (before after : List Turn) → AreLinks ahead → AreFound step ahead now movers m before after
-    → length movers ≤ m → IsWithCycles step ahead before after
-found-all step ahead now movers m before after links found past = record {
-  cycles = found.cycles;
-  are_cycles = record {
+pub found-all : (turn : List ℕ → Turn) (ahead now : List ℕ) (m : ℕ) (turns : List Turn) → AreLinks ahead → AreFound turn ahead now m turns → length ahead ≤ m
+    → (cycles : List (List ℕ)) × AreCycles ahead cycles × (turns ≡ map turn cycles)
+found-all turn ahead now m turns links found past = (
+  found.cycles,
+  record {
     sound = found.sound;
-    whole = λ agents h. elim (found.whole agents h) [
+    whole = λ entries h. elim (found.whole entries h) [
       | inl listed ↦ listed
       | inr yet ↦ absurd (
-          let next = follower agents 0 yet.some in
-          let first = slice_get-get_or agents 0 0 yet.some in
-          no_link step ahead now movers m before after found past (get_or agents 0 0) next.0
-          (cycle-leads now agents 0 (get_or agents 0 0) next.0 (cut-links ahead now links found.is_cut) yet first next.1)
+          let next = follower entries 0 yet.some in
+          let first = slice_get-get_or entries 0 0 yet.some in
+          let leads = cycle-leads now entries 0 (get_or entries 0 0) next.0 (cut-links ahead now links found.is_cut) yet first next.1 in
+          let from = found.linked (get_or entries 0 0) next.0 leads in
+          let inside = slice_get_within now (get_or entries 0 0) next.0 leads.0 in
+          let count = found.is_cut.count in
+          omega (arith, from, inside, past, count)
           )
     ];
     rising = found.rising;
-  };
-  behind = found.behind;
-}
-
-pub all_gone : (step : ℕ) (ahead now movers : List ℕ) (m : ℕ) (before after : List Turn) → AreFound step ahead now movers m before after → length movers ≤ m
-    → All (λ j. j ≡ nobody) now
-all_gone step ahead now movers m before after found past k d less = elim (cases_eq (get_or now k d) nobody) [
-  | inl none ↦ none
-  | inr linked ↦ absurd (no_link step ahead now movers m before after found past k (get_or now k d) (slice_get-get_or now k d less, linked))
-]
+  },
+  found.are_turns,
+)

@@ -1,17 +1,17 @@
--- The cells of all paths are few enough to be counted.
-use Rattle.std.proofs.Common.{◌≡◌, ℕ, zero, suc, ◌+◌, ◌≤◌, List, [], ◌∷◌, length, Some, None, inl, inr, arith, ap, subst}
+-- The cells of all paths, and the times at which they are entered, are few enough to be counted.
+use Rattle.std.proofs.Common.{◌≡◌, ℕ, zero, suc, ◌+◌, ◌-◌, ◌<◌, ◌≤◌, List, [], ◌∷◌, length, get_or, Some, None, inl, inr, arith, refl, sym, ap, subst}
 use Rattle.std.specs.Prelude.{Option, slice_get}
 use Rattle.std.specs.List.{AllByRecursion}
-use Rattle.std.proofs.lemmas.Bool.{cases_Bool, cond-true, cond-false}
-use Rattle.std.proofs.lemmas.List.{length-append}
+use Rattle.std.proofs.lemmas.Bool.{cases_Bool, cases_lt, cond-true, cond-false}
+use Rattle.std.proofs.lemmas.List.{length-append, get_or_append_left, get_or-append_right}
 use Rattle.std.proofs.lemmas.Option.{same_Some, none-some}
 use Rattle.grid.specs.declared.cell.Cell.{Cell}
 use Rattle.model.specs.Timetable.{Track}
 use Rattle.plan_text.specs.Limits.{most_agents, most_acts, most_acts_in_all}
 use Rattle.plan.specs.Checking.{cells_of, steps_in}
-use Rattle.depgraph.specs.Code.Arrivals.{is_new, entered}
+use Rattle.depgraph.specs.Code.Arrivals.{is_new, entered, entry_times}
 use Rattle.depgraph.specs.Code.Entries.{AreFew}
-use Rattle.depgraph.specs.Code.Paths.{all_entered, ArePaths}
+use Rattle.depgraph.specs.Code.Paths.{all_entered, all_times, ArePaths}
 use Rattle.depgraph.proofs.ArrivalLemmas.{entered_path}
 use Rattle.depgraph.proofs.VisitLemmas.{entry_own, entry_track}
 
@@ -52,3 +52,42 @@ are_few tracks cells times ends h agents steps whole = record {
       );
   all = (let few = few_of_all tracks in let same = ap length h.are_cells in omega (arith, few, same, agents, whole));
 }
+
+-- no later than after so many steps
+time_within : (here : Option Cell) (cells : List Cell) (t k : ℕ) → k < length (entry_times here cells t) → get_or (entry_times here cells t) k 0 < t + length cells
+time_within here [] t k less = absurd (omega (arith, less))
+time_within here (c ∷ cells) t k less =
+    let rest = entry_times (Some c) cells (t + 1) in
+    let old : (j : ℕ) → j < length rest → get_or rest j 0 < t + length (c ∷ cells) = λ j inside. (let soon = time_within (Some c) cells (t + 1) j inside in omega (arith, soon)) in
+    elim (cases_Bool (is_new here c)) [
+      | inl new ↦ (
+          let is = cond-true (is_new here c) (t ∷ rest) rest new in
+          subst (λ l. k < length l → get_or l k 0 < t + length (c ∷ cells)) (sym is) (first rest old k) less
+          )
+      | inr stays ↦ (
+          let is = cond-false (is_new here c) (t ∷ rest) rest stays in
+          subst (λ l. k < length l → get_or l k 0 < t + length (c ∷ cells)) (sym is) (old k) less
+          )
+    ] where
+      first : (rest : List ℕ) → ((j : ℕ) → j < length rest → get_or rest j 0 < t + length (c ∷ cells)) → (k : ℕ) → k < length (t ∷ rest) → get_or (t ∷ rest) k 0 < t + length (c ∷ cells)
+      first rest old zero less = omega arith
+      first rest old (suc k) less = old k (omega (arith, less))
+
+pub few_times : (tracks : List Track) (e : ℕ) → AllByRecursion (λ t. length t.later ≤ most_acts) tracks → e < length (all_times tracks) → get_or (all_times tracks) e 0 ≤ most_acts
+few_times [] e h less = absurd (omega (arith, less))
+few_times (track ∷ tracks) e h less =
+    let own = entry_times None (cells_of track) 0 in
+    let parts = length-append own (all_times tracks) in
+    elim (cases_lt e (length own)) [
+      | inl inside ↦ (
+          let soon = time_within None (cells_of track) 0 e inside in
+          let most = h.0 in
+          let is = get_or_append_left own (all_times tracks) 0 e inside in
+          omega (arith, soon, most, is)
+          )
+      | inr past ↦ (
+          let rest = few_times tracks (e - length own) h.1 (omega (arith, less, parts, past)) in
+          let is = get_or-append_right own (all_times tracks) (length own) e 0 refl past in
+          omega (arith, rest, is)
+          )
+    ]

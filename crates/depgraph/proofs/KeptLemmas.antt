@@ -5,7 +5,7 @@ use Rattle.std.specs.List.{range_with_len}
 use Rattle.std.proofs.lemmas.Bool.{cases_lt, cases_Bool, cond-true, cond-false, eq-eqb, ne_eqb}
 use Rattle.std.proofs.lemmas.List.{length-map}
 use Rattle.std.proofs.lemmas.List.FromFn.{get_or-map-range_with_len, length-map-range_with_len}
-use Rattle.std.proofs.lemmas.Option.{slice_get-get_or, slice_get_past, get_or_from_slice_get}
+use Rattle.std.proofs.lemmas.Option.{slice_get-get_or, slice_get_past}
 use Rattle.grid.specs.declared.cell.Cell.{Cell}
 use Rattle.model.specs.declared.visit.Visit.{Visit}
 use Rattle.model.specs.Dependency.{need}
@@ -23,7 +23,7 @@ use Rattle.depgraph.specs.Code.Placing.{part_of, visited, listing}
 use Rattle.depgraph.specs.Code.Ranks.{tally, below, rank}
 use Rattle.depgraph.specs.Code.Schedules.{entry_in}
 use Rattle.depgraph.specs.Code.Waits.{no_visit, no_wait, entry_for, wait_of, before_at}
-use Rattle.depgraph.proofs.BlockLemmas.{name-of, listing-get, number-within, part-visit, begin-below, end-below, part-within, at-cell, all_visits}
+use Rattle.depgraph.proofs.BlockLemmas.{name-of, listing-get, number-within, part-visit, begin-below, end-below, part-within, at-cell, visit-at_rank, all_visits}
 use Rattle.depgraph.proofs.PositionLemmas.{visit_at, cell_of}
 use Rattle.depgraph.proofs.NoteLemmas.{later-is}
 use Rattle.depgraph.proofs.RankLemmas.{occurrences_rise, occurs, occurrence-rank, rank-is, rank-least, rank-most, ranked, tally-within, below-all}
@@ -83,8 +83,8 @@ module _ (tt : Timetable) (cells : List Cell) (times ends : List ℕ) (needs : L
   abbrev pub place_of : ℕ → Cell
   place_of p = cell_of tt.number tt.tracks ends h.arrivals h.step_ends h.line p
 
-  rank-visit : (q : ℕ) → q < length h.arrivals → get_or visits (rank h.placing.listed q) no_visit ≡ arrives_at q
-  rank-visit q less = get_or_from_slice_get visits (rank h.placing.listed q) (arrives_at q) no_visit (h.placing.placed q less)
+  pub rank-visit : (q : ℕ) → q < length h.arrivals → get_or visits (rank h.placing.listed q) no_visit ≡ arrives_at q
+  rank-visit q less = visit-at_rank tt.number tt.tracks ends h.arrivals h.step_ends h.line visits visit_ends h.placing q less
 
   own_cell : (p : ℕ) → p < length h.arrivals → get_or cells (entry_in ends h.arrivals p) no_cell ≡ place_of p
   own_cell p less = ap (λ l. get_or l (entry_in ends h.arrivals p) no_cell) h.are_cells
@@ -93,13 +93,12 @@ module _ (tt : Timetable) (cells : List Cell) (times ends : List ℕ) (needs : L
   visit_cell : (q : ℕ) → q < length h.arrivals → get_or cells (begin_in ends (arrives_at q).agent + (arrives_at q).index) no_cell ≡ place_of q
   visit_cell q less = own_cell q less
 
-  -- what the arrival waits for, by the place of its visit
-  noted : (p : ℕ) → p < length h.arrivals → get_or needs (entry_in ends h.arrivals p) no_wait
-      ≡ wait_of (arrives_at p).agent (before_at visits (begin_in visit_ends (get_or h.placing.listed p 0)) (rank h.placing.listed p))
-  noted p less =
+  -- the place of an arrival's visit, among those of its cell
+  pub in_block : (p : ℕ) → p < length h.arrivals → (get_or h.placing.listed p 0 < length visit_ends) × (begin_in visit_ends (get_or h.placing.listed p 0) ≤ rank h.placing.listed p)
+      × (rank h.placing.listed p < get_or visit_ends (get_or h.placing.listed p 0) 0)
+  in_block p less =
       let listed = h.placing.listed in
       let n = get_or listed p 0 in
-      let k = rank listed p in
       let all = h.placing.all in
       let within = number-within tt.number tt.tracks ends h.arrivals h.step_ends h.line visits visit_ends h.placing p less in
       let count = h.placing.end_count in
@@ -107,15 +106,18 @@ module _ (tt : Timetable) (cells : List Cell) (times ends : List ℕ) (needs : L
       let end = end-below tt.number tt.tracks ends h.arrivals h.step_ends h.line visits visit_ends h.placing n within in
       let least = rank-least listed p n refl in
       let most = rank-most listed p n (omega (arith, less, all)) refl in
-      subst (λ v. get_or needs (entry_for ends v) no_wait ≡ wait_of v.agent (before_at visits (begin_in visit_ends n) k)) (rank-visit p less)
-      (h.are_needs.each n k (omega (arith, within, count)) (omega (arith, begin, least)) (omega (arith, end, most)))
+      (omega (arith, within, count), omega (arith, begin, least), omega (arith, end, most))
 
-  -- what is noted is what the visit before in the same cell says: there was none, or it is that of the arrival just before
-  pub looked_up : (p : ℕ) → p < length h.arrivals
-      → ((tally (take p h.placing.listed) (get_or h.placing.listed p 0) ≡ 0) × (get_or needs (entry_in ends h.arrivals p) no_wait ≡ no_wait))
+  -- the visit before that of an arrival in its cell
+  abbrev pub before_of : ℕ → Option Visit
+  before_of p = before_at visits (begin_in visit_ends (get_or h.placing.listed p 0)) (rank h.placing.listed p)
+
+  -- there was none, or it is that of the arrival just before
+  pub before_is : (p : ℕ) → p < length h.arrivals
+      → ((tally (take p h.placing.listed) (get_or h.placing.listed p 0) ≡ 0) × (before_of p ≡ None))
       ⊎ ((q : ℕ) × (q < length h.arrivals) × IsJustBefore tt.number tt.tracks ends h.arrivals h.step_ends h.line visits visit_ends h.placing h.graphed.conflict_free q p
-      × (get_or needs (entry_in ends h.arrivals p) no_wait ≡ wait_of (arrives_at p).agent (Some (arrives_at q))))
-  looked_up p less =
+      × (before_of p ≡ Some (arrives_at q)))
+  before_is p less =
       let listed = h.placing.listed in
       let n = get_or listed p 0 in
       let r = tally (take p listed) n in
@@ -145,19 +147,24 @@ module _ (tt : Timetable) (cells : List Cell) (times ends : List ℕ) (needs : L
                 cell = same;
                 next = omega (arith, before, some);
               },
-              noted p less ∙ ap (wait_of (arrives_at p).agent) (later-is visits (begin_in visit_ends n) (rank listed p) (omega (arith, begin, is, some))
-                  ∙ ap Some (ap (λ k. get_or visits k no_visit) side ∙ rank-visit q in_q)),
+              later-is visits (begin_in visit_ends n) (rank listed p) (omega (arith, begin, is, some)) ∙ ap Some (ap (λ k. get_or visits k no_visit) side ∙ rank-visit q in_q),
             )
             )
         | inr none ↦ (
             let zero_before : r ≡ 0 = omega (arith, none) in
             inl (
               zero_before,
-              noted p less ∙ ap (wait_of (arrives_at p).agent)
-                  (cond-true (rank listed p == begin_in visit_ends n) None (Some (get_or visits (rank listed p - 1) no_visit)) (eq-eqb (rank listed p) (begin_in visit_ends n) (omega (arith, begin, is, zero_before)))),
+              cond-true (rank listed p == begin_in visit_ends n) None (Some (get_or visits (rank listed p - 1) no_visit)) (eq-eqb (rank listed p) (begin_in visit_ends n) (omega (arith, begin, is, zero_before))),
             )
             )
       ]
+
+  -- what is noted for an arrival is what the visit before in the same cell says
+  pub looked_up : (p : ℕ) → p < length h.arrivals → get_or needs (entry_in ends h.arrivals p) no_wait ≡ wait_of (arrives_at p).agent (before_of p)
+  looked_up p less =
+      let at = in_block p less in
+      subst (λ v. get_or needs (entry_for ends v) no_wait ≡ wait_of v.agent (before_of p)) (rank-visit p less)
+      (h.are_needs.each (get_or h.placing.listed p 0) (rank h.placing.listed p) at.0 at.1 at.2)
 
   -- ---- needs
 
@@ -188,14 +195,14 @@ module _ (tt : Timetable) (cells : List Cell) (times ends : List ℕ) (needs : L
       let cell : place_of p ≡ cell_at track (s + 1) = ap (λ x. get_or (all_entered tt.tracks) x no_cell) at.2 ∙ parts.3
       ∙ arrival-cell track (k + 1) (s + 1) no_cell (subst (IsArrival track (k + 1)) (before_time track k) (arrives track (k + 1) parts.2)) in
       ap asked_by (ap (λ o. slice_get (route_by tt i o).needs k) parts.1 ∙ of_moves (need tt i track) k (moves track) (in_moves track k parts.2))
-      ∙ (elim (looked_up p less) [
+      ∙ (elim (before_is p less) [
         | inl none ↦
             ap (λ n. asked_by (Some n)) (need_none tt.number tt.tracks ends h.arrivals h.step_ends h.line visits visit_ends h.placing h.graphed.conflict_free p i k s track less refl time cell none.0)
-            ∙ sym (ap asked_of (sym (ap (λ x. get_or needs x no_wait) at.2) ∙ none.1))
+            ∙ sym (ap asked_of (sym (ap (λ x. get_or needs x no_wait) at.2) ∙ looked_up p less ∙ ap (wait_of (arrives_at p).agent) none.1))
         | inr some ↦
             ap (λ n. asked_by (Some n)) (need_some tt.number tt.tracks ends h.arrivals h.step_ends h.line visits visit_ends h.placing h.graphed.conflict_free some.0 p i k s track some.1 less refl time cell some.2)
             ∙ same_asked i (Some (arrives_at some.0))
-            ∙ sym (ap asked_of (sym (ap (λ x. get_or needs x no_wait) at.2) ∙ some.3 ∙ ap (λ j. wait_of j (Some (arrives_at some.0))) agent))
+            ∙ sym (ap asked_of (sym (ap (λ x. get_or needs x no_wait) at.2) ∙ looked_up p less ∙ ap (wait_of (arrives_at p).agent) some.3 ∙ ap (λ j. wait_of j (Some (arrives_at some.0))) agent))
       ])
 
   -- ---- where there is no such entry

@@ -22,6 +22,6 @@ pub mod RingLemmas
 pub mod WalkLemmas
 pub mod CycleLemmas
 pub mod RotationLemmas
-pub mod StepLemmas
 pub mod TurnLemmas
+pub mod KeyLemmas
 pub mod FewLemmas

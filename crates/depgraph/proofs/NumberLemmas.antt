@@ -5,7 +5,7 @@ use Rattle.std.proofs.lemmas.Bool.{cases_lt}
 use Rattle.std.proofs.lemmas.List.{length-append, get_or_push, get_or_append_left}
 use Rattle.std.proofs.lemmas.Option.{slice_get-get_or, slice_get_within, get_or_from_slice_get}
 use Rattle.grid.specs.declared.cell.Cell.{Cell}
-use Rattle.depgraph.specs.declared.schedule.Arrival.{Arrival}
+use Rattle.depgraph.specs.declared.placing.Arrival.{Arrival}
 use Rattle.depgraph.specs.Code.Numbers.{no_cell, AreDistinct, HasNumber, AreNumbered, AreListed}
 use Rattle.depgraph.specs.Code.Schedules.{entry_in, AreTaken}
 

@@ -1,5 +1,5 @@
 -- The visits of a timetable, and the places of their arrivals in its schedule.
-use Rattle.std.proofs.Common.{◌≡◌, ℕ, suc, ◌<◌, ◌≤◌, List, length, get_or, inl, inr, arith, refl, sym, ap, subst, ◌∙◌}
+use Rattle.std.proofs.Common.{◌≡◌, ℕ, ◌<◌, List, length, get_or, inl, inr, arith, sym, ap, subst, ◌∙◌}
 use Rattle.std.proofs.lemmas.Bool.{cases_lt}
 use Rattle.std.proofs.lemmas.Option.{same_Some}
 use Rattle.grid.specs.declared.cell.Cell.{Cell}
@@ -7,15 +7,15 @@ use Rattle.model.specs.declared.visit.Visit.{Visit}
 use Rattle.model.specs.Timetable.{Track, Timetable, moves_before, track_of, IsConflictFree}
 use Rattle.model.specs.Dependency.{IsVisit}
 use Rattle.model.proofs.NeedLemmas.{stands-from}
-use Rattle.depgraph.specs.declared.schedule.Arrival.{Arrival}
+use Rattle.depgraph.specs.declared.placing.Arrival.{Arrival}
 use Rattle.depgraph.specs.Visits.{IsVisitTo, ComesBefore}
 use Rattle.depgraph.specs.Code.Entries.{IsEntry}
 use Rattle.depgraph.specs.Code.Numbers.{no_cell}
 use Rattle.depgraph.specs.Code.Paths.{all_entered, all_times}
 use Rattle.depgraph.specs.Code.Placing.{visit_in, IsTimeline}
-use Rattle.depgraph.specs.Code.Ranks.{below, rank}
+use Rattle.depgraph.specs.Code.Ranks.{rank}
 use Rattle.depgraph.specs.Code.Schedules.{no_arrival, entry_of, entry_in}
-use Rattle.depgraph.proofs.RankLemmas.{rank-one, rank-within, rank-order, rank-least, rank-most, below-up_to}
+use Rattle.depgraph.proofs.RankLemmas.{rank-one, rank-within, rank-order}
 use Rattle.depgraph.proofs.ScheduleLemmas.{same_count, arrival-within, arrivals_apart}
 use Rattle.depgraph.proofs.VisitLemmas.{entry_visit, visit_entry, entry-one, entry-before, entry-within}
 
@@ -54,23 +54,6 @@ module _ (number : ℕ) (tracks : List Track) (ends : List ℕ) (arrivals : List
       let within = arrival-within tracks (all_entered tracks) (all_times tracks) ends arrivals p line.paths line.schedule less in
       let same = same_count tracks (all_entered tracks) (all_times tracks) ends line.paths in
       omega (arith, within, same)
-
-  -- the arrivals of a time stand between the end of the time before and its own
-  pub time_at : (p t : ℕ) → p < length arrivals → below (all_times tracks) t ≤ p → p < below (all_times tracks) (suc t) → (visit_at p).time ≡ t
-  time_at p t less after before =
-      let times = all_times tracks in
-      let e = entry_in ends arrivals p in
-      let key = get_or times e 0 in
-      let place = line.schedule.places p less in
-      let least = rank-least times e key refl in
-      let most = rank-most times e key (in_times p less) refl in
-      elim (cases_lt key t) [
-        | inl early ↦ (let rises = below-up_to times (suc key) t (omega (arith, early)) in absurd (omega (arith, rises, most, place, after)))
-        | inr not_early ↦ elim (cases_lt t key) [
-          | inl late ↦ (let rises = below-up_to times (suc t) key (omega (arith, late)) in absurd (omega (arith, rises, least, place, before)))
-          | inr not_late ↦ omega (arith, not_early, not_late)
-        ]
-      ]
 
   pub arrival-visit : (p : ℕ) → p < length arrivals → IsVisitTo table (cell_of p) (visit_at p)
   arrival-visit p less =

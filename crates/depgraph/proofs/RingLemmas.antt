@@ -1,10 +1,10 @@
--- Elements of lists by their places: after a push, after a write, and in a ring.
-use Rattle.std.proofs.Common.{◌≡◌, ℕ, zero, suc, ◌+◌, ◌-◌, ◌<◌, ◌≤◌, List, [], ◌∷◌, ◌++◌, length, get_or, take, drop, Some, inl, inr, arith, refl, sym, ap, ◌∙◌}
-use Rattle.std.specs.Prelude.{◌⊎◌, nat_lt, slice_get}
+-- Elements of lists by their places: after a push, after a write, in a list of images, and in a ring.
+use Rattle.std.proofs.Common.{◌≡◌, ℕ, zero, suc, ◌+◌, ◌-◌, ◌<◌, ◌≤◌, List, [], ◌∷◌, ◌++◌, length, get_or, map, take, drop, Some, inl, inr, arith, refl, sym, ap, ◌∙◌}
+use Rattle.std.specs.Prelude.{◌⊎◌, nat_lt, option_map, slice_get}
 use Rattle.std.proofs.Math.ListN.{set}
 use Rattle.std.proofs.lemmas.Bool.{cases_lt, lt-ltb, le-ltb, cond-true, cond-false}
 use Rattle.std.proofs.lemmas.List.{same_lists, take_all, take-append-le}
-use Rattle.std.proofs.lemmas.Option.{none-some, same_Some, slice_get-get_or, slice_get_within}
+use Rattle.std.proofs.lemmas.Option.{none-some, same_Some, slice_get-get_or, slice_get-map, slice_get_within}
 use Rattle.model.specs.Dependency.{following}
 
 -- ---- a push
@@ -38,14 +38,24 @@ write-other (x ∷ xs) zero (suc k) y other = refl
 write-other (x ∷ xs) (suc i) zero y other = refl
 write-other (x ∷ xs) (suc i) (suc k) y other = write-other xs i k y (λ e. other (ap suc e))
 
--- ---- lists of agents
+-- ---- images
 
--- who is at a place
+pub map-get : {X Y : Type 0} (f : X → Y) (xs : List X) (k : ℕ) (y : Y) → slice_get (map f xs) k ≡ Some y → (x : X) × (slice_get xs k ≡ Some x) × (f x ≡ y)
+map-get f [] k y there = absurd (none-some y there)
+map-get f (x ∷ xs) zero y there = (x, refl, same_Some (f x) y there)
+map-get f (x ∷ xs) (suc k) y there = map-get f xs k y there
+
+pub map-from : {X Y : Type 0} (f : X → Y) (xs : List X) (k : ℕ) (x : X) → slice_get xs k ≡ Some x → slice_get (map f xs) k ≡ Some (f x)
+map-from f xs k x there = slice_get-map f xs k ∙ ap (option_map f) there
+
+-- ---- places in a ring
+
+-- what is at a place
 pub one_at : (xs : List ℕ) (k : ℕ) → k < length xs → (x : ℕ) × (slice_get xs k ≡ Some x)
 one_at xs k less = (get_or xs k 0, slice_get-get_or xs k 0 less)
 
-pub one_agent : (xs : List ℕ) (k x y : ℕ) → slice_get xs k ≡ Some x → slice_get xs k ≡ Some y → x ≡ y
-one_agent xs k x y at_x at_y = same_Some x y (sym at_x ∙ at_y)
+pub same_at : (xs : List ℕ) (k x y : ℕ) → slice_get xs k ≡ Some x → slice_get xs k ≡ Some y → x ≡ y
+same_at xs k x y at_x at_y = same_Some x y (sym at_x ∙ at_y)
 
 pub following-next : (agents : List ℕ) (place : ℕ) → place + 1 < length agents → following agents place ≡ slice_get agents (place + 1)
 following-next agents place less =
@@ -81,8 +91,8 @@ followed agents (suc place) i h =
     let next : place + 1 ≡ suc place = omega arith in
     (place, one.0, one.1, following-next agents place (omega (arith, less)) ∙ ap (slice_get agents) next ∙ h)
 
-pub same_agents : (xs ys : List ℕ) → length xs ≡ length ys → ((k : ℕ) → k < length xs → slice_get xs k ≡ slice_get ys k) → xs ≡ ys
-same_agents xs ys long same = same_lists xs ys long (λ k d less.
+pub same_by_places : (xs ys : List ℕ) → length xs ≡ length ys → ((k : ℕ) → k < length xs → slice_get xs k ≡ slice_get ys k) → xs ≡ ys
+same_by_places xs ys long same = same_lists xs ys long (λ k d less.
     same_Some (get_or xs k d) (get_or ys k d) (sym (slice_get-get_or xs k d less) ∙ same k less ∙ slice_get-get_or ys k d (omega (arith, less, long))))
 
 -- a list that was lent whole has what was written

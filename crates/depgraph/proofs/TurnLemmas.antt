@@ -1,440 +1,576 @@
--- The cycles of the links of a step are its rotations.
-use Rattle.std.proofs.Common.{◌≡◌, ℕ, zero, suc, ◌+◌, ◌-◌, ◌<◌, ◌≤◌, List, [], ◌∷◌, ◌++◌, length, get_or, Some, inl, inr, arith, refl, sym, ap, subst, ◌∙◌}
-use Rattle.std.specs.Prelude.{◌⊎◌, ◌==◌, slice_get}
-use Rattle.std.proofs.lemmas.Bool.{cases_Bool, false≢true, cases_lt, cases_eq, cond-true, cond-false, eq-eqb, ne_eqb}
-use Rattle.std.proofs.lemmas.Option.{same_Some, none-some, slice_get-get_or, slice_get_within}
-use Rattle.grid.specs.declared.cell.Cell.{Cell}
+-- The cycles of the links are the rotations.
+use Rattle.std.proofs.Common.{◌≡◌, ℕ, zero, suc, ◌+◌, ◌-◌, ◌<◌, ◌≤◌, ◌^◌, List, [], ◌∷◌, ◌++◌, length, get_or, map, Some, inl, inr, arith, refl, sym, ap, subst, ◌∙◌}
+use Rattle.std.specs.Prelude.{◌⊎◌, ◌==◌, if◌then◌else◌, All, slice_get}
+use Rattle.std.proofs.lemmas.Bool.{cases_lt, cases_eq, cond-true, cond-false, eq-eqb, ne_eqb}
+use Rattle.std.proofs.lemmas.List.{get_or_past, length-map}
+use Rattle.std.proofs.lemmas.Option.{same_Some, slice_get-get_or, slice_get_within, get_or_from_slice_get}
 use Rattle.model.specs.declared.visit.Visit.{Visit}
-use Rattle.model.specs.Timetable.{Track, Timetable, same_cell, cell_at, moves_before, track_of}
-use Rattle.model.specs.Dependency.{moves_in, MovesInto, following, IsRotation}
+use Rattle.model.specs.Timetable.{Timetable, cell_at, moves_before, track_of}
+use Rattle.model.specs.Dependency.{moves_in, moves_to, MovesInto, following, IsRotation}
 use Rattle.model.proofs.NeedLemmas.{stands-from}
-use Rattle.model.proofs.TrackLemmas.{same_cell-same, same_cell-true, moves-stay, moves_at-start}
-use Rattle.depgraph.specs.Rotations.{Turn, TurnsBefore, AreRotations}
-use Rattle.depgraph.specs.Code.Cycles.{nobody, Leads, AreLinks, AreMovers, IsCycle, turns_in, IsWithCycles}
+use Rattle.model.proofs.TrackLemmas.{moves-leave}
+use Rattle.depgraph.specs.Rotations.{Turn}
 use Rattle.depgraph.specs.declared.waiting.Wait.{Wait}
+use Rattle.depgraph.specs.Code.Cycles.{Leads, AreLinks, IsCycle, IsWalked}
+use Rattle.depgraph.specs.Code.Entries.{begin_in, IsEntry}
 use Rattle.depgraph.specs.Code.Keeping.{IsKept}
+use Rattle.depgraph.specs.Code.Numbers.{no_cell}
 use Rattle.depgraph.specs.Code.Paths.{all_entered, all_times}
-use Rattle.depgraph.specs.Code.Ranks.{below}
+use Rattle.depgraph.specs.Code.Ranks.{rank}
 use Rattle.depgraph.specs.Code.Schedules.{entry_in}
-use Rattle.depgraph.specs.Code.Turning.{agent_in, AreApart, ahead_by, ahead_in, AreLinked, AreMoved, AreCounts}
-use Rattle.depgraph.specs.Code.Waits.{no_wait}
-use Rattle.depgraph.proofs.PositionLemmas.{arrivals-rise, time_at}
-use Rattle.depgraph.proofs.RankLemmas.{below-up_to, below-all}
-use Rattle.depgraph.proofs.RingLemmas.{one_at, following-next, following-first}
-use Rattle.depgraph.proofs.RotationLemmas.{visit_of, is_visit, time_bounds, mover-arrival, into-waits, waits-into, wait_agent}
-use Rattle.depgraph.proofs.ScheduleLemmas.{same_count, arrival-within}
-use Rattle.depgraph.proofs.StepLemmas.{between}
+use Rattle.depgraph.specs.Code.Turning.{AreLaid, AreAllRotations, agents_of}
+use Rattle.depgraph.specs.Code.Waits.{no_wait, no_entry, entry_for, ahead_of}
+use Rattle.depgraph.proofs.CycleLemmas.{AreCycles, AreFound, cut-links, found-none, found-one, found-all, walked-cycle}
+use Rattle.depgraph.proofs.KeptLemmas.{rank-visit, in_block, before_of, before_is}
+use Rattle.depgraph.proofs.PositionLemmas.{times-rise}
+use Rattle.depgraph.proofs.RingLemmas.{map-get, map-from, one_at, same_at, following-next, following-first, follower, follower-within, same_by_places}
+use Rattle.depgraph.proofs.RotationLemmas.{kept, visit_of, is_visit, mover-arrival, not_own, waits-for, into-after, after-into}
+use Rattle.depgraph.proofs.ScheduleLemmas.{same_count, position, begin_most, begin_last}
+use Rattle.depgraph.proofs.VisitLemmas.{entry_own, entry_track, entry-one, entry-before, entry-within}
 use Rattle.depgraph.proofs.WalkLemmas.{cycle-leads}
 
-cases_same : (c d : Cell) → (c ≡ d) ⊎ (c ≡ d → ⊥)
-cases_same c d = elim (cases_Bool (same_cell c d)) [
-  | inl same ↦ inl (same_cell-same c d same)
-  | inr other ↦ inr (λ is. false≢true (sym other ∙ same_cell-true c d is))
-]
+-- ---- the agents of entries
 
--- ---- who is ahead, by what is waited for
+-- what follows in a list of images
+map-following : (f : ℕ → ℕ) (xs : List ℕ) (k y : ℕ) → following (map f xs) k ≡ Some y → (x : ℕ) × (following xs k ≡ Some x) × (f x ≡ y)
+map-following f xs k y next =
+    let long = length-map xs f in
+    elim (cases_lt (k + 1) (length xs)) [
+      | inl less ↦ (
+          let found = map-get f xs (k + 1) y (sym (following-next (map f xs) k (omega (arith, less, long))) ∙ next) in
+          (found.0, following-next xs k less ∙ found.1, found.2)
+          )
+      | inr past ↦ (
+          let found = map-get f xs 0 y (sym (following-first (map f xs) k (omega (arith, past, long))) ∙ next) in
+          (found.0, following-first xs k past ∙ found.1, found.2)
+          )
+    ]
 
-ahead-there : (latest : List ℕ) (w : Wait) → get_or latest w.agent 0 + 1 ≡ w.count → ahead_by latest w ≡ w.agent
-ahead-there latest w is = cond-true (get_or latest w.agent 0 + 1 == w.count) w.agent nobody (eq-eqb (get_or latest w.agent 0 + 1) w.count is)
+-- where each waits for the agent of the next, those that are waited for are the agents of the entries
+agents-map : (waits : List Wait) (owner : ℕ → ℕ) (i : ℕ) (entries : List ℕ) → ((first : ℕ) → slice_get entries 0 ≡ Some first → i ≡ owner first)
+    → ((k e f : ℕ) → slice_get entries k ≡ Some e → slice_get entries (suc k) ≡ Some f → (get_or waits e no_wait).agent ≡ owner f) → agents_of waits i entries ≡ map owner entries
+agents-map waits owner i [] begins waits_for = refl
+agents-map waits owner i (e ∷ entries) begins waits_for =
+    ap (λ j. j ∷ agents_of waits (get_or waits e no_wait).agent entries) (begins e refl)
+    ∙ ap (λ l. owner e ∷ l) (agents-map waits owner (get_or waits e no_wait).agent entries (λ f there. waits_for 0 e f refl there) (λ k. waits_for (suc k)))
 
-ahead-cases : (latest : List ℕ) (w : Wait) → (ahead_by latest w ≡ nobody) ⊎ ((get_or latest w.agent 0 + 1 ≡ w.count) × (ahead_by latest w ≡ w.agent))
-ahead-cases latest w = elim (cases_eq (get_or latest w.agent 0 + 1) w.count) [
-  | inl same ↦ inr (same, ahead-there latest w same)
-  | inr other ↦ inl (cond-false (get_or latest w.agent 0 + 1 == w.count) w.agent nobody (ne_eqb (get_or latest w.agent 0 + 1) w.count other))
-]
+-- ---- what is ahead, by the visit before
 
--- ---- the rotations of the steps so far
+ahead-there : (times ends : List ℕ) (own v : Visit) → (v.agent ≡ own.agent → ⊥) → get_or times (entry_for ends v + 1) 0 ≡ own.time → ahead_of times ends own (Some v) ≡ entry_for ends v + 1
+ahead-there times ends own v other time =
+    let next = entry_for ends v + 1 in
+    cond-false (v.agent == own.agent) no_entry (if get_or times next 0 == own.time then next else no_entry) (ne_eqb v.agent own.agent other)
+    ∙ cond-true (get_or times next 0 == own.time) next no_entry (eq-eqb (get_or times next 0) own.time time)
 
--- The rotations of the steps before this one.
-pub record AreBelow (tt : Timetable) (s : ℕ) (turns : List Turn) : Type 0 where
-  pub sound : (n : ℕ) (r : Turn) → slice_get turns n ≡ Some r → IsRotation tt r.step r.agents × (r.step < s)
-  pub whole : (r : Turn) → IsRotation tt r.step r.agents → r.step < s → (n : ℕ) × (slice_get turns n ≡ Some r)
-  pub rising : (n m : ℕ) (r t : Turn) → n < m → slice_get turns n ≡ Some r → slice_get turns m ≡ Some t → TurnsBefore r t
+ahead-cases : (times ends : List ℕ) (own v : Visit)
+    → (ahead_of times ends own (Some v) ≡ no_entry) ⊎ ((v.agent ≡ own.agent → ⊥) × (get_or times (entry_for ends v + 1) 0 ≡ own.time) × (ahead_of times ends own (Some v) ≡ entry_for ends v + 1))
+ahead-cases times ends own v =
+    let next = entry_for ends v + 1 in
+    elim (cases_eq v.agent own.agent) [
+      | inl same ↦ inl (cond-true (v.agent == own.agent) no_entry (if get_or times next 0 == own.time then next else no_entry) (eq-eqb v.agent own.agent same))
+      | inr other ↦ elim (cases_eq (get_or times next 0) own.time) [
+        | inl time ↦ inr (other, time, ahead-there times ends own v other time)
+        | inr unlike ↦ inl (cond-false (v.agent == own.agent) no_entry (if get_or times next 0 == own.time then next else no_entry) (ne_eqb v.agent own.agent other)
+            ∙ cond-false (get_or times next 0 == own.time) next no_entry (ne_eqb (get_or times next 0) own.time unlike))
+      ]
+    ]
 
-append-old : (xs ys : List Turn) (n : ℕ) (r : Turn) → slice_get xs n ≡ Some r → slice_get (xs ++ ys) n ≡ Some r
-append-old [] ys n r there = absurd (none-some r there)
-append-old (x ∷ xs) ys zero r there = there
-append-old (x ∷ xs) ys (suc n) r there = append-old xs ys n r there
+module _ (tt : Timetable) (ends : List ℕ) (waits : List Wait) (ahead : List ℕ) (l : AreLaid tt ends waits ahead) where
+  abbrev times : List ℕ
+  times = all_times tt.tracks
 
-append-new : (xs ys : List Turn) (n : ℕ) → slice_get (xs ++ ys) (length xs + n) ≡ slice_get ys n
-append-new [] ys n = let none : 0 + n ≡ n = omega arith in ap (slice_get ys) none
-append-new (x ∷ xs) ys n = let next : suc (length xs) + n ≡ suc (length xs + n) = omega arith in ap (slice_get (x ∷ xs ++ ys)) next ∙ append-new xs ys n
+  abbrev h : IsKept tt (all_entered tt.tracks) (all_times tt.tracks) ends waits l.visits l.visit_ends
+  h = kept tt ends waits ahead l
 
-append-cases : (xs ys : List Turn) (n : ℕ) (r : Turn) → slice_get (xs ++ ys) n ≡ Some r → (slice_get xs n ≡ Some r) ⊎ ((m : ℕ) × (n ≡ length xs + m) × (slice_get ys m ≡ Some r))
-append-cases [] ys n r there = inr (n, omega arith, there)
-append-cases (x ∷ xs) ys zero r there = inl there
-append-cases (x ∷ xs) ys (suc n) r there = elim (append-cases xs ys n r there) [
-  | inl old ↦ inl old
-  | inr new ↦ (let place = new.1 in inr (new.0, omega (arith, place), new.2))
-]
+  -- the visit of an arrival
+  abbrev came : ℕ → Visit
+  came p = visit_of tt (all_entered tt.tracks) (all_times tt.tracks) ends waits l.visits l.visit_ends h p
 
-abbrev turn_in : ℕ → List ℕ → Turn
-turn_in s agents = record { step = s; agents = agents }
+  -- the visit of an entry, and its agent
+  abbrev visit_for : ℕ → Visit
+  visit_for e = came (rank times e)
 
-turns_in-get : (s : ℕ) (cycles : List (List ℕ)) (m : ℕ) (r : Turn) → slice_get (turns_in s cycles) m ≡ Some r → (agents : List ℕ) × (slice_get cycles m ≡ Some agents) × (turn_in s agents ≡ r)
-turns_in-get s [] m r there = absurd (none-some r there)
-turns_in-get s (c ∷ cycles) zero r there = (c, refl, same_Some (turn_in s c) r there)
-turns_in-get s (c ∷ cycles) (suc m) r there = turns_in-get s cycles m r there
+  abbrev pub owner : ℕ → ℕ
+  owner e = (visit_for e).agent
 
-turns_in-from : (s : ℕ) (cycles : List (List ℕ)) (m : ℕ) (agents : List ℕ) → slice_get cycles m ≡ Some agents → slice_get (turns_in s cycles) m ≡ Some (turn_in s agents)
-turns_in-from s [] m agents there = absurd (none-some agents there)
-turns_in-from s (c ∷ cycles) zero agents there = ap Some (ap (turn_in s) (same_Some c agents there))
-turns_in-from s (c ∷ cycles) (suc m) agents there = turns_in-from s cycles m agents there
+  -- ---- entries
 
-pub below-start : (tt : Timetable) → AreBelow tt 0 []
-below-start tt = record {
-  sound = λ n r there. absurd (none-some r there);
-  whole = λ r is less. absurd (omega (arith, less));
-  rising = λ n m r t less there. absurd (none-some r there);
-}
+  count : length (all_times tt.tracks) ≡ length (all_entered tt.tracks)
+  count = same_count tt.tracks (all_entered tt.tracks) (all_times tt.tracks) ends l.line.paths
 
-pub below-next : (tt : Timetable) (s : ℕ) (ahead : List ℕ) (before after : List Turn) → ((agents : List ℕ) → IsCycle ahead agents → IsRotation tt s agents)
-    → ((agents : List ℕ) → IsRotation tt s agents → IsCycle ahead agents) → AreBelow tt s before → IsWithCycles s ahead before after → AreBelow tt (s + 1) after
-below-next tt s ahead before after is_rotation is_cycle was more = record {
-  sound = λ n r there. elim (split n r there) [
-    | inl old ↦ (let own = was.sound n r old in let less = own.1 in (own.0, omega (arith, less)))
-    | inr new ↦ (
-        let told = turns_in-get s cycles new.0 r new.2 in
-        let step = ap (λ x. x.step) told.2 in
-        (subst (λ x. IsRotation tt x.step x.agents) told.2 (is_rotation told.0 (more.are_cycles.sound new.0 told.0 told.1)), omega (arith, step))
+  entry_count : length ahead ≡ length (all_times tt.tracks)
+  entry_count = l.are_ahead.count ∙ l.placing.visit_count ∙ l.line.schedule.count
+
+  wait_count : length waits ≡ length (all_times tt.tracks)
+  wait_count = l.are_waits.count ∙ l.placing.visit_count ∙ l.line.schedule.count
+
+  arrival_of : (e : ℕ) → e < length times → (rank times e < length l.arrivals) × (entry_in ends l.arrivals (rank times e) ≡ e)
+  arrival_of e less =
+      let same = count in
+      let found = position tt.tracks (all_entered tt.tracks) times ends l.arrivals (length l.step_ends) l.line.paths l.line.schedule l.line.within e (omega (arith, less, same)) in
+      let place : rank times e ≡ found.0 = ap (rank times) (sym found.2) ∙ l.line.schedule.places found.0 found.1 in
+      (subst (λ p. p < length l.arrivals) (sym place) found.1, ap (entry_in ends l.arrivals) place ∙ found.2)
+
+  own_entry : (e : ℕ) → e < length times → IsEntry ends (owner e) (visit_for e).index e
+  own_entry e less = let at = arrival_of e less in subst (IsEntry ends (owner e) (visit_for e).index) at.1 (l.line.schedule.entries (rank times e) at.0)
+
+  own_time : (e : ℕ) → e < length times → (visit_for e).time ≡ get_or times e 0
+  own_time e less = ap (λ x. get_or times x 0) (arrival_of e less).1
+
+  -- who has an entry, by its place in the list of all
+  owner-is : (i k e : ℕ) → IsEntry ends i k e → e < length (all_times tt.tracks) → owner e ≡ i
+  owner-is i k e entry less = (entry-one tt.tracks (all_entered tt.tracks) times ends l.line.paths (owner e) i (visit_for e).index k e (own_entry e less) entry).0
+
+  -- an agent has one entry of a time
+  one_entry : (e f : ℕ) → e < length times → f < length times → owner e ≡ owner f → get_or times e 0 ≡ get_or times f 0 → e ≡ f
+  one_entry e f in_e in_f agent time =
+      let v = is_visit tt (all_entered tt.tracks) times ends waits l.visits l.visit_ends h (rank times e) (arrival_of e in_e).0 in
+      let w = is_visit tt (all_entered tt.tracks) times ends waits l.visits l.visit_ends h (rank times f) (arrival_of f in_f).0 in
+      let track = same_Some v.track w.track (sym v.is_track ∙ ap (track_of tt) agent ∙ w.is_track) in
+      let same = own_time e in_e ∙ time ∙ sym (own_time f in_f) in
+      let index = sym v.is_index ∙ ap (moves_before v.track) same ∙ ap (λ k. moves_before k (visit_for f).time) track ∙ w.is_index in
+      (own_entry e in_e).place ∙ ap (λ i. begin_in ends i + (visit_for e).index) agent ∙ ap (λ k. begin_in ends (owner f) + k) index ∙ sym (own_entry f in_f).place
+
+  -- no agent begins its path at a time that is not the start
+  later_index : (i k e s : ℕ) → IsEntry ends i k e → get_or times e 0 ≡ s + 1 → 0 < k
+  later_index i (suc k) e s entry time = omega arith
+  later_index i zero e s entry time =
+      let found = entry_track tt.tracks (all_entered tt.tracks) times ends l.line.paths i 0 e entry in
+      let own = (entry_own tt.tracks (all_entered tt.tracks) times ends l.line.paths i 0 e found.0 no_cell found.1 entry).2 in
+      absurd (omega (arith, own, time))
+
+  -- the entry after an arrival's, where it is not the start of a path
+  next_own : (q f s : ℕ) → q < length l.arrivals → f ≡ entry_in ends l.arrivals q + 1 → get_or times f 0 ≡ s + 1
+      → (f < length times) × (owner f ≡ (came q).agent) × ((visit_for f).index ≡ (came q).index + 1)
+  next_own q f s in_q next time = elim (cases_lt f (length times)) [
+    | inr past ↦ absurd (let none = get_or_past times f 0 past in omega (arith, none, time))
+    | inl less ↦ (
+        let entry = own_entry f less in
+        let place = entry.place in
+        let within = entry.within in
+        let later = later_index (owner f) (visit_for f).index f s entry time in
+        let before : IsEntry ends (owner f) ((visit_for f).index - 1) (entry_in ends l.arrivals q) = record {
+          is_agent = entry.is_agent;
+          place = omega (arith, place, next, later);
+          within = omega (arith, within, next);
+        } in
+        let one = entry-one tt.tracks (all_entered tt.tracks) times ends l.line.paths (owner f) (came q).agent ((visit_for f).index - 1) (came q).index (entry_in ends l.arrivals q) before
+        (l.line.schedule.entries q in_q) in
+        let index = one.1 in
+        (less, one.0, omega (arith, index, later))
         )
-  ];
-  whole = λ r is less. elim (cases_lt r.step s) [
-    | inl earlier ↦ (let old = was.whole r is earlier in (old.0, ap (λ l. slice_get l old.0) more.behind ∙ append-old before (turns_in s cycles) old.0 r old.1))
-    | inr not_earlier ↦ (
-        let step : r.step ≡ s = omega (arith, less, not_earlier) in
-        let found = more.are_cycles.whole r.agents (is_cycle r.agents (subst (λ x. IsRotation tt x r.agents) step is)) in (
-          length before + found.0,
-          ap (λ l. slice_get l (length before + found.0)) more.behind ∙ append-new before (turns_in s cycles) found.0 ∙ turns_in-from s cycles found.0 r.agents found.1
-              ∙ ap (λ x. Some (turn_in x r.agents)) (sym step),
-        )
-        )
-  ];
-  rising = λ n m r t less at_n at_m. elim (split m t at_m) [
-    | inl old ↦ (
-        let inside = slice_get_within before m t old in
-        elim (split n r at_n) [
-          | inl also ↦ was.rising n m r t less also old
-          | inr new ↦ absurd (let place = new.1 in omega (arith, place, less, inside))
-        ]
-        )
-    | inr new ↦ (
-        let told = turns_in-get s cycles new.0 t new.2 in
-        let step = ap (λ x. x.step) told.2 in
-        elim (split n r at_n) [
-          | inl old ↦ (let earlier = (was.sound n r old).1 in inl (omega (arith, earlier, step)))
-          | inr both ↦ (
-              let first = turns_in-get s cycles both.0 r both.2 in
-              let also = ap (λ x. x.step) first.2 in
-              let place_n = both.1 in
-              let place_m = new.1 in
-              inr (
-                sym also ∙ step,
-                λ i j begins other_begins. more.are_cycles.rising both.0 new.0 first.0 told.0 i j (omega (arith, place_n, place_m, less)) first.1 told.1
-                    (ap (λ x. slice_get x.agents 0) first.2 ∙ begins) (ap (λ x. slice_get x.agents 0) told.2 ∙ other_begins),
-              )
-              )
-        ]
-        )
-  ];
-} where
-  cycles : List (List ℕ)
-  cycles = more.cycles
+  ]
 
-  split : (n : ℕ) (r : Turn) → slice_get after n ≡ Some r → (slice_get before n ≡ Some r) ⊎ ((m : ℕ) × (n ≡ length before + m) × (slice_get (turns_in s more.cycles) m ≡ Some r))
-  split n r there = append-cases before (turns_in s more.cycles) n r (ap (λ l. slice_get l n) (sym more.behind) ∙ there)
+  -- an entry of a time after a step is that of a move in the step
+  moved_to : (e s : ℕ) → e < length times → get_or times e 0 ≡ s + 1 → moves_to tt (owner e) s + 1 ≡ (visit_for e).index
+  moved_to e s less time =
+      let v = is_visit tt (all_entered tt.tracks) times ends waits l.visits l.visit_ends h (rank times e) (arrival_of e less).0 in
+      let at : (visit_for e).time ≡ s + 1 = own_time e less ∙ time in
+      let next : s + 1 ≡ suc s = omega arith in
+      let there = ap (cell_at v.track) (sym (at ∙ next)) ∙ v.is_there in
+      let more = moves-leave v.track.start v.track.later s (λ same. v.comes s at (same ∙ there)) in
+      let index = sym (ap (moves_before v.track) (at ∙ next)) ∙ v.is_index in
+      let told = ap (λ o. moves_in o s) v.is_track in
+      omega (arith, more, index, told)
 
-module _ (tt : Timetable) (cells : List Cell) (times ends : List ℕ) (needs : List Wait) (visits : List Visit) (visit_ends : List ℕ) (h : IsKept tt cells times ends needs visits visit_ends) where
-  abbrev begin_at : ℕ → ℕ
-  begin_at t = below (all_times tt.tracks) t
+  -- ---- links
 
-  agents_count : length ends ≡ length tt.tracks
-  agents_count = h.line.paths.count
+  noted : (e : ℕ) → e < length times → get_or ahead e no_entry ≡ ahead_of times ends (visit_for e) (before_of tt (all_entered tt.tracks) times ends waits l.visits l.visit_ends h (rank times e))
+  noted e less =
+      let at = arrival_of e less in
+      let p = rank times e in
+      let block = in_block tt (all_entered tt.tracks) times ends waits l.visits l.visit_ends h p at.0 in
+      let before = before_of tt (all_entered tt.tracks) times ends waits l.visits l.visit_ends h p in
+      sym (ap (λ x. get_or ahead x no_entry) at.1)
+      ∙ subst (λ v. get_or ahead (entry_for ends v) no_entry ≡ ahead_of times ends v before) (rank-visit tt (all_entered tt.tracks) times ends waits l.visits l.visit_ends h p at.0)
+      (l.are_ahead.each (get_or l.placing.listed p 0) (rank l.placing.listed p) block.0 block.1 block.2)
 
-  visit_time : (p t : ℕ) → p < length h.arrivals → begin_at t ≤ p → p < begin_at (suc t) → (visit_of tt cells times ends needs visits visit_ends h p).time ≡ t
-  visit_time p t less after before = time_at tt.number tt.tracks ends h.arrivals h.step_ends h.line p t less after before
+  -- Two entries of one time, by moves of one step: the first into the cell that the second leaves.
+  record AreMoves (e f s : ℕ) : Type 0 where
+    pub in_e : e < length times
+    pub in_f : f < length times
+    pub time_e : get_or times e 0 ≡ s + 1
+    pub time_f : get_or times f 0 ≡ s + 1
+    pub into : MovesInto tt s (owner e) (owner f)
+    pub waits_for : (get_or waits e no_wait).agent ≡ owner f
 
-  all_arrivals : (t : ℕ) → t ≤ length h.step_ends → begin_at t ≤ length h.arrivals
-  all_arrivals t most =
-      let rises = below-up_to (all_times tt.tracks) t (length h.step_ends) most in
-      let whole = below-all (all_times tt.tracks) (length h.step_ends) h.line.within in
-      let count = h.line.schedule.count in
-      omega (arith, rises, whole, count)
+  leads-moves : (e f : ℕ) → Leads ahead e f → (s : ℕ) × AreMoves e f s
+  leads-moves e f leads =
+      let all = entry_count in
+      let inside = slice_get_within ahead e f leads.0 in
+      let in_e : e < length times = omega (arith, all, inside) in
+      let at = arrival_of e in_e in
+      let p = rank times e in
+      let told : f ≡ ahead_of times ends (visit_for e) (before_of tt (all_entered tt.tracks) times ends waits l.visits l.visit_ends h p) =
+      sym (get_or_from_slice_get ahead e f no_entry leads.0) ∙ noted e in_e in
+      elim (before_is tt (all_entered tt.tracks) times ends waits l.visits l.visit_ends h p at.0) [
+        | inl none ↦ absurd (leads.1 (told ∙ ap (ahead_of times ends (visit_for e)) none.1))
+        | inr some ↦ (
+            let q = some.0 in
+            elim (ahead-cases times ends (visit_for e) (came q)) [
+              | inl nothing ↦ absurd (leads.1 (told ∙ ap (ahead_of times ends (visit_for e)) some.3 ∙ nothing))
+              | inr is ↦ (
+                  let next : f ≡ entry_in ends l.arrivals q + 1 = told ∙ ap (ahead_of times ends (visit_for e)) some.3 ∙ is.2 in
+                  let later = times-rise tt.number tt.tracks ends l.arrivals l.step_ends l.line q p l.graphed.conflict_free some.2.before at.0 some.2.cell in
+                  let s = (visit_for e).time - 1 in
+                  let time : (visit_for e).time ≡ s + 1 = omega (arith, later) in
+                  let time_f : get_or times f 0 ≡ s + 1 = ap (λ x. get_or times x 0) next ∙ is.1 ∙ time in
+                  let own = next_own q f s some.1 next time_f in
+                  let index = own.2 in
+                  let moved = moved_to f s own.0 time_f in
+                  let last : (came q).index ≡ moves_to tt (owner f) s = omega (arith, index, moved) in
+                  let into = after-into tt (all_entered tt.tracks) times ends waits l.visits l.visit_ends h q p s some.1 at.0 time some.2.cell (last ∙ ap (λ j. moves_to tt j s) own.1) in
+                  let wait = waits-for tt (all_entered tt.tracks) times ends waits l.visits l.visit_ends h q p at.0 some.3 is.0 in (
+                    s,
+                    record {
+                      in_e = in_e;
+                      in_f = own.0;
+                      time_e = sym (own_time e in_e) ∙ time;
+                      time_f = time_f;
+                      into = subst (MovesInto tt s (owner e)) (sym own.1) into;
+                      waits_for = sym (ap (λ x. (get_or waits x no_wait).agent) at.1) ∙ ap (λ w. w.agent) wait ∙ sym own.1;
+                    },
+                  )
+                  )
+            ]
+            )
+      ]
 
-  -- the arrivals of one time are those of different agents
-  pub time_apart : (t : ℕ) → t < length h.step_ends → AreApart h.arrivals (length ends) (begin_at t) (begin_at (suc t))
-  time_apart t less = record {
-    within = all_arrivals (suc t) (omega (arith, less));
-    known = λ p after before. (let all = all_arrivals (suc t) (omega (arith, less)) in (h.line.schedule.entries p (omega (arith, before, all))).is_agent);
-    rising = λ p q after before within. (
-        let all = all_arrivals (suc t) (omega (arith, less)) in
-        let in_q : q < length h.arrivals = omega (arith, within, all) in
-        let first = visit_time p t (omega (arith, before, in_q)) after (omega (arith, before, within)) in
-        let second = visit_time q t in_q (omega (arith, after, before)) within in
-        elim (arrivals-rise tt.number tt.tracks ends h.arrivals h.step_ends h.line p q before in_q) [
-          | inl earlier ↦ absurd (omega (arith, earlier, first, second))
-          | inr both ↦ both.1
-        ]
+  -- the entry with which an agent's move in a step ends
+  abbrev entry_after : ℕ → ℕ → ℕ
+  entry_after s i = begin_in ends i + moves_to tt i (s + 1)
+
+  -- who moves in a step has such an entry
+  entry_of_move : (i s j : ℕ) → MovesInto tt s i j → (entry_after s i < length times) × (owner (entry_after s i) ≡ i) × (get_or times (entry_after s i) 0 ≡ s + 1)
+  entry_of_move i s j into =
+      let found = mover-arrival tt (all_entered tt.tracks) times ends waits l.visits l.visit_ends h i s into.from into.is_from into.moves in
+      let p = found.0 in
+      let e = entry_in ends l.arrivals p in
+      let index : (came p).index ≡ moves_to tt i (s + 1) = found.5 ∙ sym (ap (λ o. moves_in o (s + 1)) into.is_from) in
+      let same : e ≡ entry_after s i = ap (λ a. begin_in ends a + (came p).index) found.2 ∙ ap (λ k. begin_in ends i + k) index in
+      let place = l.line.schedule.places p found.1 in
+      let inside = entry-within tt.tracks (all_entered tt.tracks) times ends l.line.paths (came p).agent (came p).index e (l.line.schedule.entries p found.1) in
+      let all = count in
+      let within : e < length times = omega (arith, inside, all) in (
+        subst (λ x. x < length times) same within,
+        ap owner (sym same) ∙ ap (λ x. (came x).agent) place ∙ found.2,
+        ap (λ x. get_or times x 0) (sym same) ∙ found.3,
+      )
+
+  into-leads : (i j k s : ℕ) → MovesInto tt s i j → MovesInto tt s j k → Leads ahead (entry_after s i) (entry_after s j)
+  into-leads i j k s into on =
+      let own = entry_of_move i s j into in
+      let other = entry_of_move j s k on in
+      let e = entry_after s i in
+      let f = entry_after s j in
+      let at = arrival_of e own.0 in
+      let time : (visit_for e).time ≡ s + 1 = own_time e own.0 ∙ own.2 in
+      let after = into-after tt (all_entered tt.tracks) times ends waits l.visits l.visit_ends h i j s (rank times e) at.0 own.1 time into in
+      let q = after.0 in
+      let moved = moved_to f s other.0 other.2 in
+      let by_owner = ap (λ a. moves_to tt a s) other.1 in
+      let place = (own_entry f other.0).place in
+      let begin = ap (begin_in ends) other.1 in
+      let index = after.3 in
+      let begin_q = ap (begin_in ends) after.2 in
+      let next : f ≡ entry_in ends l.arrivals q + 1 = omega (arith, moved, by_owner, place, begin, index, begin_q) in
+      let apart : (came q).agent ≡ (visit_for e).agent → ⊥ = λ same. not_own tt (all_entered tt.tracks) times ends waits l.visits l.visit_ends h i s
+      (subst (MovesInto tt s i) (sym after.2 ∙ same ∙ own.1) into) in
+      let is = noted e own.0 ∙ ap (ahead_of times ends (visit_for e)) after.4
+      ∙ ahead-there times ends (visit_for e) (came q) apart (sym (ap (λ x. get_or times x 0) next) ∙ other.2 ∙ sym time) ∙ sym next in
+      let all = entry_count in
+      let inside = own.0 in
+      let within = other.0 in
+      let few = l.line.few.all in
+      let same = count in
+      (slice_get-get_or ahead e no_entry (omega (arith, all, inside)) ∙ ap Some is, λ none. omega (arith, none, within, few, same))
+
+  are_links : AreLinks ahead
+  are_links = record {
+    few = (let few = l.line.few.all in let same = count in let all = entry_count in omega (arith, few, same, all));
+    within = λ i j leads. (let less = (leads-moves i j leads).1.in_f in let all = entry_count in omega (arith, less, all));
+    injective = λ i k j one other. (
+        let a = leads-moves i j one in
+        let b = leads-moves k j other in
+        let at = a.1.time_f in
+        let also = b.1.time_f in
+        let step : b.0 ≡ a.0 = omega (arith, at, also) in
+        let one_into = a.1.into in
+        let other_into = subst (λ s. MovesInto tt s (owner k) (owner j)) step b.1.into in
+        let to = same_Some other_into.to one_into.to (sym other_into.is_to ∙ one_into.is_to) in
+        let c = cell_at one_into.to a.0 in
+        let agent = l.graphed.conflict_free (owner i) (owner k) (a.0 + 1) c (stands-from tt (owner i) (a.0 + 1) c one_into.from one_into.is_from one_into.into)
+        (stands-from tt (owner k) (a.0 + 1) c other_into.from other_into.is_from (other_into.into ∙ ap (λ t. cell_at t a.0) to)) in
+        let time_i = a.1.time_e in
+        let time_k = b.1.time_e in
+        one_entry i k a.1.in_e b.1.in_e agent (omega (arith, time_i, time_k, step))
         );
   }
 
-  agent_known : (j : ℕ) (track : Track) → track_of tt j ≡ Some track → j < length ends
-  agent_known j track is = (let less = slice_get_within tt.tracks j track is in let count = agents_count in omega (arith, less, count))
+  -- ---- the rotation of a cycle
 
-  some_track : (i : ℕ) → i < length tt.tracks → (track : Track) × (track_of tt i ≡ Some track)
-  some_track i less = (let k : Track = record { start = record { x = 0; y = 0 }; later = [] } in (get_or tt.tracks i k, slice_get-get_or tt.tracks i k less))
+  abbrev pub turn : List ℕ → Turn
+  turn entries = record { step = get_or times (get_or entries 0 0) 0 - 1; agents = map owner entries }
 
-  -- ---- the links of a step
+  module _ (entries : List ℕ) (c : IsCycle ahead entries) where
+    abbrev first : ℕ
+    first = get_or entries 0 0
 
-  module _ (s : ℕ) (latest ahead movers : List ℕ) (in_time : s + 1 < length h.step_ends) (counts : AreCounts tt s latest) (long : length ahead ≡ length ends)
-      (links : AreLinked (ahead_in ends needs latest h.arrivals) h.arrivals (begin_at (s + 1)) (begin_at (suc (s + 1))) ahead movers) where
-    in_arrivals : (p : ℕ) → p < begin_at (suc (s + 1)) → p < length h.arrivals
-    in_arrivals p before = (let all = all_arrivals (suc (s + 1)) (omega (arith, in_time)) in omega (arith, before, all))
+    abbrev step : ℕ
+    step = get_or times (get_or entries 0 0) 0 - 1
 
-    -- who moves into a cell has a link to the agent that stands there
-    pub into-leads : (i j : ℕ) → MovesInto tt s i j → Leads ahead i j
-    into-leads i j into =
-        let found = mover-arrival tt cells times ends needs visits visit_ends h i s into.from into.is_from into.moves in
-        let p = found.0 in
-        let bounds = time_bounds tt cells times ends needs visits visit_ends h p (s + 1) found.1 found.3 in
-        let w = get_or needs (entry_in ends h.arrivals p) no_wait in
-        let waits = into-waits tt cells times ends needs visits visit_ends h i j s p found.1 found.2 found.3 into in
-        let known = agent_known j into.to into.is_to in
-        let count = agents_count in
-        let few = h.line.few.agents in
-        let each = counts.each j (omega (arith, known, count)) in
-        let latest_w : get_or latest w.agent 0 + 1 ≡ w.count = ap (λ x. get_or latest x 0 + 1) waits.0 ∙ ap (λ n. n + 1) each ∙ sym waits.1 in (
-          ap (slice_get ahead) (sym found.2) ∙ links.linked p bounds.0 bounds.1 ∙ ap Some (ahead-there latest w latest_w ∙ waits.0),
-          λ none. omega (arith, none, known, few),
-        )
+    is_first : slice_get entries 0 ≡ Some first
+    is_first = slice_get-get_or entries 0 0 c.some
 
-    -- and the other way round
-    pub leads-into : (i j : ℕ) → Leads ahead i j → MovesInto tt s i j
-    leads-into i j leads = elim (between h.arrivals i (begin_at (s + 1)) (begin_at (suc (s + 1)))) [
-      | inr none ↦ absurd (leads.1 (same_Some j nobody (sym leads.0 ∙ links.others i (slice_get_within ahead i j leads.0) none)))
-      | inl found ↦ (
-          let p = found.0 in
-          let less = in_arrivals p found.2 in
-          let time = visit_time p (s + 1) less found.1 found.2 in
-          let told = same_Some j (ahead_in ends needs latest h.arrivals p) (sym leads.0 ∙ ap (slice_get ahead) (sym found.3) ∙ links.linked p found.1 found.2) in
-          let w = get_or needs (entry_in ends h.arrivals p) no_wait in
-          elim (ahead-cases latest w) [
-            | inl none ↦ absurd (leads.1 (told ∙ none))
-            | inr some ↦ (
-                let own = wait_agent tt cells times ends needs visits visit_ends h p less in
-                let count = agents_count in
-                let into = waits-into tt cells times ends needs visits visit_ends h s p less time (sym some.0 ∙ ap (λ n. n + 1) (counts.each w.agent (omega (arith, own, count)))) in
-                subst (λ x. MovesInto tt s x j) found.3 (subst (MovesInto tt s (agent_in h.arrivals p)) (sym (told ∙ some.1)) into)
+    moves : (place i j : ℕ) → slice_get entries place ≡ Some i → following entries place ≡ Some j → (s : ℕ) × AreMoves i j s
+    moves place i j there next = leads-moves i j (cycle-leads ahead entries place i j are_links c there next)
+
+    -- all of them have one time
+    same_time : (place i : ℕ) → slice_get entries place ≡ Some i → get_or times i 0 ≡ get_or times first 0
+    same_time zero i there = ap (λ x. get_or times x 0) (same_at entries 0 i first there is_first)
+    same_time (suc place) i there =
+        let less = slice_get_within entries (suc place) i there in
+        let before = one_at entries place (omega (arith, less)) in
+        let next : place + 1 ≡ suc place = omega arith in
+        let both = moves place before.0 i before.1 (following-next entries place (omega (arith, less)) ∙ ap (slice_get entries) next ∙ there) in
+        let a = both.1.time_e in
+        let b = both.1.time_f in
+        let was = same_time place before.0 before.1 in
+        omega (arith, a, b, was)
+
+    moves_at : (place i j : ℕ) → slice_get entries place ≡ Some i → following entries place ≡ Some j → AreMoves i j step
+    moves_at place i j there next =
+        let both = moves place i j there next in
+        let a = both.1.time_e in
+        let b = same_time place i there in
+        let is : both.0 ≡ step = omega (arith, a, b) in
+        subst (AreMoves i j) is both.1
+
+    inside : (place i : ℕ) → slice_get entries place ≡ Some i → i < length times
+    inside place i there = (let next = follower entries place c.some in (moves_at place i next.0 there next.1).in_e)
+
+    -- which is not the start
+    begun : 1 ≤ get_or (all_times tt.tracks) (get_or entries 0 0) 0
+    begun = (let next = follower entries 0 c.some in let time = (moves_at 0 first next.0 is_first next.1).time_e in omega (arith, time))
+
+    trail_known : All (λ e. e < length waits) entries
+    trail_known k d less = (let within = inside k (get_or entries k d) (slice_get-get_or entries k d less) in let all = wait_count in omega (arith, within, all))
+
+    trail_agents : (i : ℕ) → i ≡ owner (get_or entries 0 0) → agents_of waits i entries ≡ map owner entries
+    trail_agents i is = agents-map waits owner i entries (λ e there. is ∙ ap owner (same_at entries 0 first e is_first there)) (λ k e f there after.
+        let less = slice_get_within entries (suc k) f after in
+        let next : k + 1 ≡ suc k = omega arith in
+        (moves_at k e f there (following-next entries k (omega (arith, less)) ∙ ap (slice_get entries) next ∙ after)).waits_for)
+
+    not_swapped : (i j : ℕ) → MovesInto tt step i j → MovesInto tt step j i → ⊥
+    not_swapped i j a b =
+        let u = cell_at a.from step in
+        let v = cell_at a.from (step + 1) in
+        let one = same_Some b.to a.from (sym b.is_to ∙ a.is_from) in
+        l.graphed.swap_free i j step u v a.moves (stands-from tt i step u a.from a.is_from refl) (stands-from tt i (step + 1) v a.from a.is_from refl)
+        (stands-from tt j step v a.to a.is_to (sym a.into))
+        (stands-from tt j (step + 1) u b.from b.is_from (b.into ∙ ap (λ t. cell_at t step) one))
+
+    not_two : length entries < 3 → ⊥
+    not_two few = elim (cases_lt 1 (length entries)) [
+      | inl two ↦ (
+          let second = one_at entries 1 two in
+          not_swapped (owner first) (owner second.0) (moves_at 0 first second.0 is_first (following-next entries 0 two ∙ second.1)).into
+          (moves_at 1 second.0 first second.1 (following-first entries 1 (omega (arith, few)) ∙ is_first)).into
+          )
+      | inr one ↦ not_own tt (all_entered tt.tracks) times ends waits l.visits l.visit_ends h (owner first) step
+          (moves_at 0 first first is_first (following-first entries 0 (omega (arith, one)) ∙ is_first)).into
+    ]
+
+    cycle-rotation : IsRotation tt (get_or (all_times tt.tracks) (get_or entries 0 0) 0 - 1) (map owner entries)
+    cycle-rotation = record {
+      three = (let long = length-map entries owner in elim (cases_lt (length entries) 3) [ inl few ↦ absurd (not_two few) | inr enough ↦ omega (arith, enough, long) ]);
+      different = λ place other i at_place at_other. (
+          let a = map-get owner entries place i at_place in
+          let b = map-get owner entries other i at_other in
+          let same = one_entry a.0 b.0 (inside place a.0 a.1) (inside other b.0 b.1) (a.2 ∙ sym b.2) (same_time place a.0 a.1 ∙ sym (same_time other b.0 b.1)) in
+          c.different place other a.0 a.1 (b.1 ∙ ap Some (sym same))
+          );
+      least = λ place start i at_first at_place. (
+          let a = map-get owner entries 0 start at_first in
+          let b = map-get owner entries place i at_place in
+          let from = c.least place a.0 b.0 a.1 b.1 in
+          let is_start = a.2 in
+          let is_i = b.2 in
+          elim (cases_lt (owner b.0) (owner a.0)) [
+            | inl lesser ↦ (
+                let before = entry-before tt.tracks (all_entered tt.tracks) times ends l.line.paths (owner b.0) (owner a.0) (visit_for b.0).index (visit_for a.0).index b.0 a.0 lesser
+                (own_entry b.0 (inside place b.0 b.1)) (own_entry a.0 (inside 0 a.0 a.1)) in
+                absurd (omega (arith, before, from))
+                )
+            | inr enough ↦ omega (arith, enough, is_start, is_i)
+          ]
+          );
+      cycle = λ place i j there next. (
+          let a = map-get owner entries place i there in
+          let b = map-following owner entries place j next in
+          subst (MovesInto tt step i) b.2 (subst (λ x. MovesInto tt step x (owner b.0)) a.2 (moves_at place a.0 b.0 a.1 b.1).into)
+          );
+    }
+
+  -- ---- the cycle of a rotation
+
+  module _ (r : Turn) (is : IsRotation tt r.step r.agents) where
+    abbrev round : List ℕ
+    round = map (entry_after r.step) r.agents
+
+    some_agents : 0 < length r.agents
+    some_agents = (let three = is.three in omega (arith, three))
+
+    moved : (place i : ℕ) → slice_get r.agents place ≡ Some i
+        → (entry_after r.step i < length times) × (owner (entry_after r.step i) ≡ i) × (get_or times (entry_after r.step i) 0 ≡ r.step + 1)
+    moved place i there = (let next = follower r.agents place some_agents in entry_of_move i r.step next.0 (is.cycle place i next.0 there next.1))
+
+    rotation-cycle : IsCycle ahead round
+    rotation-cycle = record {
+      some = (let long = length-map r.agents (entry_after r.step) in let some = some_agents in omega (arith, long, some));
+      different = λ place other e at_place at_other. (
+          let a = map-get (entry_after r.step) r.agents place e at_place in
+          let b = map-get (entry_after r.step) r.agents other e at_other in
+          let same : b.0 ≡ a.0 = sym (moved other b.0 b.1).1 ∙ ap owner (b.2 ∙ sym a.2) ∙ (moved place a.0 a.1).1 in
+          is.different place other a.0 a.1 (b.1 ∙ ap Some same)
+          );
+      least = λ place start e at_first at_place. (
+          let a = map-get (entry_after r.step) r.agents 0 start at_first in
+          let b = map-get (entry_after r.step) r.agents place e at_place in
+          let from = is.least place a.0 b.0 a.1 b.1 in
+          let one = moved 0 a.0 a.1 in
+          let other = moved place b.0 b.1 in
+          let is_start = a.2 in
+          let is_e = b.2 in
+          elim (cases_lt a.0 b.0) [
+            | inl lesser ↦ (
+                let f = entry_after r.step a.0 in
+                let g = entry_after r.step b.0 in
+                let before = entry-before tt.tracks (all_entered tt.tracks) times ends l.line.paths a.0 b.0 (visit_for f).index (visit_for g).index f g lesser
+                (subst (λ x. IsEntry ends x (visit_for f).index f) one.1 (own_entry f one.0)) (subst (λ x. IsEntry ends x (visit_for g).index g) other.1 (own_entry g other.0)) in
+                omega (arith, before, is_start, is_e)
+                )
+            | inr enough ↦ (
+                let same : a.0 ≡ b.0 = omega (arith, from, enough) in
+                let also = ap (entry_after r.step) same in
+                omega (arith, also, is_start, is_e)
                 )
           ]
-          )
-    ]
-
-    pub are_links : AreLinks ahead
-    are_links = record {
-      few = (let few = h.line.few.agents in omega (arith, few, long));
-      within = λ i j leads. (let into = leads-into i j leads in let known = agent_known j into.to into.is_to in omega (arith, known, long));
-      injective = λ i k j one other. (
-          let a = leads-into i j one in
-          let b = leads-into k j other in
-          let to = same_Some b.to a.to (sym b.is_to ∙ a.is_to) in
-          h.graphed.conflict_free i k (s + 1) (cell_at a.to s) (stands-from tt i (s + 1) (cell_at a.to s) a.from a.is_from a.into)
-          (stands-from tt k (s + 1) (cell_at a.to s) b.from b.is_from (b.into ∙ ap (λ t. cell_at t s) to))
+          );
+      cycle = λ place e f there next. (
+          let a = map-get (entry_after r.step) r.agents place e there in
+          let b = map-following (entry_after r.step) r.agents place f next in
+          let at = follower-within r.agents place b.0 b.1 in
+          let on = follower r.agents at.0 some_agents in
+          ap (slice_get ahead) (sym a.2) ∙ (into-leads a.0 b.0 on.0 r.step (is.cycle place a.0 b.0 a.1 b.1) (is.cycle at.0 b.0 on.0 at.1 on.1)).0 ∙ ap Some b.2
           );
     }
 
-    pub are_movers : AreMovers ahead movers
-    are_movers = record {
-      rising = λ k n i j less at_k at_n. (
-          let count = links.count in
-          let inside = slice_get_within movers n j at_n in
-          let a = links.agents k i at_k in
-          let b = links.agents n j at_n in
-          let rises = (time_apart (s + 1) in_time).rising (begin_at (s + 1) + k) (begin_at (s + 1) + n) (omega arith) (omega (arith, less)) (omega (arith, inside, count)) in
-          omega (arith, a, b, rises)
-          );
-      within = λ k i at_k. (
-          let count = links.count in
-          let inside = slice_get_within movers k i at_k in
-          let a = links.agents k i at_k in
-          let known = (time_apart (s + 1) in_time).known (begin_at (s + 1) + k) (omega arith) (omega (arith, inside, count)) in
-          omega (arith, a, known, long)
-          );
-      whole = λ i j leads. (
-          let into = leads-into i j leads in
-          let found = mover-arrival tt cells times ends needs visits visit_ends h i s into.from into.is_from into.moves in
-          let bounds = time_bounds tt cells times ends needs visits visit_ends h found.0 (s + 1) found.1 found.3 in
-          let after = bounds.0 in
-          let before = bounds.1 in
-          let count = links.count in
-          let there = one_at movers (found.0 - begin_at (s + 1)) (omega (arith, after, before, count)) in
-          let place : begin_at (s + 1) + (found.0 - begin_at (s + 1)) ≡ found.0 = omega (arith, after) in
-          (found.0 - begin_at (s + 1), there.1 ∙ ap Some (links.agents (found.0 - begin_at (s + 1)) there.0 there.1 ∙ ap (agent_in h.arrivals) place ∙ found.2))
-          );
-    }
+    same_turn : turn round ≡ r
+    same_turn =
+        let start = one_at r.agents 0 some_agents in
+        let begins = get_or_from_slice_get round 0 (entry_after r.step start.0) 0 (map-from (entry_after r.step) r.agents 0 start.0 start.1) in
+        let time = ap (λ x. get_or times x 0) begins ∙ (moved 0 start.0 start.1).2 in
+        let step : get_or times (get_or round 0 0) 0 - 1 ≡ r.step = omega (arith, time) in
+        let agents : map owner round ≡ r.agents = same_by_places (map owner round) r.agents (length-map round owner ∙ length-map r.agents (entry_after r.step)) (λ k less.
+        let inner = length-map r.agents (entry_after r.step) in
+        let outer = length-map round owner in
+        let x = one_at r.agents k (omega (arith, less, inner, outer)) in
+        map-from owner round k (entry_after r.step x.0) (map-from (entry_after r.step) r.agents k x.0 x.1) ∙ ap Some (moved k x.0 x.1).1 ∙ sym x.1) in
+        ap {A = ℕ} {B = Turn} (λ s. record { step = s; agents = map owner round }) step ∙ ap {A = List ℕ} {B = Turn} (λ a. record { step = r.step; agents = a }) agents
 
-    -- ---- rotations
+  -- ---- all of them
 
-    cycle_into : (agents : List ℕ) → IsCycle ahead agents → (place i j : ℕ) → slice_get agents place ≡ Some i → following agents place ≡ Some j → MovesInto tt s i j
-    cycle_into agents c place i j there next = leads-into i j (cycle-leads ahead agents place i j are_links c there next)
-
-    not_own : (i : ℕ) → MovesInto tt s i i → ⊥
-    not_own i into = into.moves (sym (into.into ∙ ap (λ t. cell_at t s) (same_Some into.to into.from (sym into.is_to ∙ into.is_from))))
-
-    not_swapped : (i j : ℕ) → MovesInto tt s i j → MovesInto tt s j i → ⊥
-    not_swapped i j a b =
-        let u = cell_at a.from s in
-        let v = cell_at a.from (s + 1) in
-        let one = same_Some b.to a.from (sym b.is_to ∙ a.is_from) in
-        h.graphed.swap_free i j s u v a.moves (stands-from tt i s u a.from a.is_from refl) (stands-from tt i (s + 1) v a.from a.is_from refl)
-        (stands-from tt j s v a.to a.is_to (sym a.into))
-        (stands-from tt j (s + 1) u b.from b.is_from (b.into ∙ ap (λ t. cell_at t s) one))
-
-    not_two : (agents : List ℕ) → IsCycle ahead agents → length agents < 3 → ⊥
-    not_two agents c few =
-        let some = c.some in
-        let first = one_at agents 0 some in
-        elim (cases_lt 1 (length agents)) [
-          | inl two ↦ (
-              let second = one_at agents 1 two in
-              not_swapped first.0 second.0 (cycle_into agents c 0 first.0 second.0 first.1 (following-next agents 0 two ∙ second.1))
-              (cycle_into agents c 1 second.0 first.0 second.1 (following-first agents 1 (omega (arith, few)) ∙ first.1))
-              )
-          | inr one ↦ not_own first.0 (cycle_into agents c 0 first.0 first.0 first.1 (following-first agents 0 (omega (arith, one)) ∙ first.1))
-        ]
-
-    pub cycle-rotation : (agents : List ℕ) → IsCycle ahead agents → IsRotation tt s agents
-    cycle-rotation agents c = record {
-      three = elim (cases_lt (length agents) 3) [ inl few ↦ absurd (not_two agents c few) | inr enough ↦ enough ];
-      different = c.different;
-      least = c.least;
-      cycle = cycle_into agents c;
-    }
-
-    pub rotation-cycle : (agents : List ℕ) → IsRotation tt s agents → IsCycle ahead agents
-    rotation-cycle agents r = record {
-      some = (let three = r.three in omega (arith, three));
-      different = r.different;
-      least = r.least;
-      cycle = λ place i j there next. (into-leads i j (r.cycle place i j there next)).0;
-    }
-
-  -- ---- the counts after a step
-
-  pub counts-next : (s : ℕ) (latest more : List ℕ) → s + 1 < length h.step_ends → AreCounts tt s latest → AreMoved h.arrivals (begin_at (s + 1)) (begin_at (suc (s + 1))) latest more
-      → AreCounts tt (s + 1) more
-  counts-next s latest more in_time counts moved = record {
-    agents = moved.count ∙ counts.agents;
-    each = λ i less. (
-        let own = some_track i less in
-        let track = own.0 in
-        let next : s + 1 ≡ suc s = omega arith in
-        elim (between h.arrivals i (begin_at (s + 1)) (begin_at (suc (s + 1)))) [
-          | inl found ↦ (
-              let p = found.0 in
-              let all = all_arrivals (suc (s + 1)) (omega (arith, in_time)) in
-              let before = found.2 in
-              let within : p < length h.arrivals = omega (arith, before, all) in
-              let time = visit_time p (s + 1) within found.1 found.2 in
-              let v = is_visit tt cells times ends needs visits visit_ends h p within in
-              let is = same_Some v.track track (sym v.is_track ∙ ap (track_of tt) found.3 ∙ own.1) in
-              ap (λ x. get_or more x 0) (sym found.3) ∙ moved.moved p found.1 found.2 ∙ sym v.is_index ∙ ap (moves_before v.track) time ∙ ap (λ t. moves_before t (s + 1)) is
-              ∙ sym (ap (λ o. moves_in o (s + 1)) own.1)
-              )
-          | inr none ↦
-              moved.others i none ∙ counts.each i less ∙ ap (λ o. moves_in o s) own.1
-              ∙ sym (ap (moves_before track) next ∙ moves-stay track.start track.later s (stays i track own.1 none next)) ∙ sym (ap (λ o. moves_in o (s + 1)) own.1)
-        ]
+  all-rotations : (cycles : List (List ℕ)) → AreCycles ahead cycles → AreAllRotations tt (map turn cycles)
+  all-rotations cycles c = record {
+    sound = λ n r there. (let found = map-get turn cycles n r there in subst (λ x. IsRotation tt x.step x.agents) found.2 (cycle-rotation found.0 (c.sound n found.0 found.1)));
+    whole = λ r is. (let found = c.whole (round r is) (rotation-cycle r is) in (found.0, map-from turn cycles found.0 (round r is) found.1 ∙ ap Some (same_turn r is)));
+    different = λ n m i r s less at_n at_m step begins other_begins. (
+        let a = map-get turn cycles n r at_n in
+        let b = map-get turn cycles m s at_m in
+        let one = c.sound n a.0 a.1 in
+        let other = c.sound m b.0 b.1 in
+        let e = map-get owner a.0 0 i (ap (λ x. slice_get x.agents 0) a.2 ∙ begins) in
+        let f = map-get owner b.0 0 i (ap (λ x. slice_get x.agents 0) b.2 ∙ other_begins) in
+        let steps = ap (λ x. x.step) a.2 ∙ step ∙ sym (ap (λ x. x.step) b.2) in
+        let begun_a = begun a.0 one in
+        let begun_b = begun b.0 other in
+        let at_e = same_time a.0 one 0 e.0 e.1 in
+        let at_f = same_time b.0 other 0 f.0 f.1 in
+        let same = one_entry e.0 f.0 (inside a.0 one 0 e.0 e.1) (inside b.0 other 0 f.0 f.1) (e.2 ∙ sym f.2) (omega (arith, steps, begun_a, begun_b, at_e, at_f)) in
+        let rises = c.rising n m e.0 f.0 a.0 b.0 less a.1 b.1 e.1 f.1 in
+        omega (arith, same, rises)
         );
-  } where
-    stays : (i : ℕ) (track : Track) → track_of tt i ≡ Some track → ((p : ℕ) → begin_at (s + 1) ≤ p → p < begin_at (suc (s + 1)) → agent_in h.arrivals p ≡ i → ⊥) → s + 1 ≡ suc s
-        → cell_at track s ≡ cell_at track (suc s)
-    stays i track is none next = elim (cases_same (cell_at track s) (cell_at track (s + 1))) [
-      | inl same ↦ same ∙ ap (cell_at track) next
-      | inr moves ↦ absurd (
-          let found = mover-arrival tt cells times ends needs visits visit_ends h i s track is moves in
-          let bounds = time_bounds tt cells times ends needs visits visit_ends h found.0 (s + 1) found.1 found.3 in
-          none found.0 bounds.0 bounds.1 found.2
-          )
-    ]
-
-  pub counts-start : (latest : List ℕ) → length latest ≡ length ends → ((i : ℕ) → i < length ends → get_or latest i 0 ≡ 0) → AreCounts tt 0 latest
-  counts-start latest long none = record {
-    agents = (let count = agents_count in omega (arith, long, count));
-    each = λ i less. (let own = some_track i less in let count = agents_count in none i (omega (arith, less, count)) ∙ sym (moves_at-start own.0.start own.0.later) ∙ sym (ap (λ o. moves_in o 0) own.1));
   }
 
-  -- ---- step after step
+  -- ---- the entries of an agent
 
-  -- where the arrivals of the time after a step stand
-  pub bounds-at : (s begin end : ℕ) → s + 1 < length h.step_ends → begin ≡ get_or h.step_ends s 0 → end ≡ get_or h.step_ends (s + 1) 0
-      → (begin ≡ begin_at (s + 1)) × (end ≡ begin_at (suc (s + 1)))
-  bounds-at s begin end less is_begin is_end =
-      let next : suc s ≡ s + 1 = omega arith in
-      (is_begin ∙ h.line.time_end s (omega (arith, less)) ∙ ap begin_at next, is_end ∙ h.line.time_end (s + 1) less)
+  pub entry_here : (agent e : ℕ) → agent < length ends → begin_in ends agent ≤ e → e < get_or ends agent 0 → (e < length (all_times tt.tracks)) × (owner e ≡ agent)
+  entry_here agent e known from to =
+      let entry : IsEntry ends agent (e - begin_in ends agent) e = record { is_agent = known; place = omega (arith, from); within = to } in
+      let all = count in
+      let inside = entry-within tt.tracks (all_entered tt.tracks) times ends l.line.paths agent (e - begin_in ends agent) e entry in
+      let less : e < length times = omega (arith, inside, all) in
+      (less, owner-is agent (e - begin_in ends agent) e entry less)
 
-  pub bounds-order : (s begin end : ℕ) → s + 1 < length h.step_ends → begin ≡ get_or h.step_ends s 0 → end ≡ get_or h.step_ends (s + 1) 0 → begin ≤ end
-  bounds-order s begin end less is_begin is_end =
-      let both = bounds-at s begin end less is_begin is_end in
-      let from = both.0 in
-      let to = both.1 in
-      let rises = below-up_to (all_times tt.tracks) (s + 1) (suc (s + 1)) (omega arith) in
-      omega (arith, from, to, rises)
+  pub few_entries : length (all_times tt.tracks) < 2 ^ 32
+  few_entries = (let few = l.line.few.all in let all = count in omega (arith, few, all))
 
-  pub apart-at : (s begin end : ℕ) → s + 1 < length h.step_ends → begin ≡ get_or h.step_ends s 0 → end ≡ get_or h.step_ends (s + 1) 0 → AreApart h.arrivals (length ends) begin end
-  apart-at s begin end less is_begin is_end =
-      let both = bounds-at s begin end less is_begin is_end in
-      subst (λ b. AreApart h.arrivals (length ends) b end) (sym both.0) (subst (AreApart h.arrivals (length ends) (begin_at (s + 1))) (sym both.1) (time_apart (s + 1) less))
+  pub begin_up : (agent : ℕ) → agent < length ends → begin_in ends agent ≤ get_or ends agent 0
+  begin_up agent known = begin_most tt.tracks (all_entered tt.tracks) times ends l.line.paths agent known
 
-  pub links-at : (s begin end : ℕ) (f : ℕ → ℕ) (ahead movers : List ℕ) → s + 1 < length h.step_ends → begin ≡ get_or h.step_ends s 0 → end ≡ get_or h.step_ends (s + 1) 0
-      → AreLinked f h.arrivals begin end ahead movers → AreLinked f h.arrivals (begin_at (s + 1)) (begin_at (suc (s + 1))) ahead movers
-  links-at s begin end f ahead movers less is_begin is_end links =
-      let both = bounds-at s begin end less is_begin is_end in
-      subst (λ b. AreLinked f h.arrivals b (begin_at (suc (s + 1))) ahead movers) both.0 (subst (λ e. AreLinked f h.arrivals begin e ahead movers) both.1 links)
+  last_entry : begin_in ends (length ends) ≡ length ahead
+  last_entry = (let last = begin_last tt.tracks (all_entered tt.tracks) times ends l.line.paths in let all = count in let whole = entry_count in omega (arith, last, all, whole))
 
-  pub moved-at : (s begin end : ℕ) (old new : List ℕ) → s + 1 < length h.step_ends → begin ≡ get_or h.step_ends s 0 → end ≡ get_or h.step_ends (s + 1) 0
-      → AreMoved h.arrivals begin end old new → AreMoved h.arrivals (begin_at (s + 1)) (begin_at (suc (s + 1))) old new
-  moved-at s begin end old new less is_begin is_end moved =
-      let both = bounds-at s begin end less is_begin is_end in
-      subst (λ b. AreMoved h.arrivals b (begin_at (suc (s + 1))) old new) both.0 (subst (λ e. AreMoved h.arrivals begin e old new) both.1 moved)
+-- ---- one walk after another
 
-  -- a rotation's step is before the last time
-  rotation_step : (s : ℕ) (agents : List ℕ) → IsRotation tt s agents → s + 1 < length h.step_ends
-  rotation_step s agents r =
-      let three = r.three in
-      let first = one_at agents 0 (omega (arith, three)) in
-      let second = one_at agents 1 (omega (arith, three)) in
-      let into = r.cycle 0 first.0 second.0 first.1 (following-next agents 0 (omega (arith, three)) ∙ second.1) in
-      let found = mover-arrival tt cells times ends needs visits visit_ends h first.0 s into.from into.is_from into.moves in
-      let within = arrival-within tt.tracks (all_entered tt.tracks) (all_times tt.tracks) ends h.arrivals found.0 h.line.paths h.line.schedule found.1 in
-      let same = same_count tt.tracks (all_entered tt.tracks) (all_times tt.tracks) ends h.line.paths in
-      let most = h.line.within (entry_in ends h.arrivals found.0) (omega (arith, within, same)) in
-      let time = found.3 in
-      omega (arith, most, time)
+-- The rotations whose least entry is before a place are found, and the links of the others are left.
+pub record AreTurned (tt : Timetable) (ends : List ℕ) (waits : List Wait) (ahead now : List ℕ) (m : ℕ) (turns : List Turn) : Type 0 where
+  pub laid : AreLaid tt ends waits ahead
+  pub found : AreFound (turn tt ends waits ahead laid) ahead now m turns
 
-  pub below-all_steps : (s : ℕ) (turns : List Turn) → AreBelow tt s turns → length h.step_ends ≤ s + 1 → AreRotations tt turns
-  below-all_steps s turns was past = record {
-    sound = λ n r at_n. (was.sound n r at_n).0;
-    whole = λ r is. was.whole r is (let less = rotation_step r.step r.agents is in omega (arith, less, past));
-    rising = was.rising;
-  }
+module _ (tt : Timetable) (ends : List ℕ) (waits : List Wait) (ahead now : List ℕ) (m : ℕ) (turns : List Turn) (t : AreTurned tt ends waits ahead now m turns) where
+  all_links : AreLinks ahead
+  all_links = are_links tt ends waits ahead t.laid
 
-  -- what the links of a step are good for
-  pub record IsStep (s : ℕ) (ahead movers : List ℕ) : Type 0 where
-    pub links : AreLinks ahead
-    pub movers_in : AreMovers ahead movers
-    pub rotation : (agents : List ℕ) → IsCycle ahead agents → IsRotation tt s agents
-    pub cycle : (agents : List ℕ) → IsRotation tt s agents → IsCycle ahead agents
+  pub links_now : AreLinks now
+  links_now = cut-links ahead now all_links t.found.is_cut
 
-  pub step-links : (s begin end : ℕ) (latest given ahead movers : List ℕ) → s + 1 < length h.step_ends → begin ≡ get_or h.step_ends s 0 → end ≡ get_or h.step_ends (s + 1) 0
-      → AreCounts tt s latest → given ≡ latest → length ahead ≡ length ends → AreLinked (ahead_in ends needs given h.arrivals) h.arrivals begin end ahead movers
-      → IsStep s ahead movers
-  step-links s begin end latest given ahead movers less is_begin is_end counts same long linked =
-      let links = links-at s begin end (ahead_in ends needs latest h.arrivals) ahead movers less is_begin is_end
-      (subst (λ l. AreLinked (ahead_in ends needs l h.arrivals) h.arrivals begin end ahead movers) same linked) in
-      record {
-        links = are_links s latest ahead movers less counts long links;
-        movers_in = are_movers s latest ahead movers less counts long links;
-        rotation = cycle-rotation s latest ahead movers less counts long links;
-        cycle = rotation-cycle s latest ahead movers less counts long links;
-      }
+  pub now_count : length now ≡ length (all_times tt.tracks)
+  now_count = t.found.is_cut.count ∙ entry_count tt ends waits ahead t.laid
+
+  pub turned-all : begin_in ends (length ends) ≤ m → AreAllRotations tt turns
+  turned-all past =
+      let last = last_entry tt ends waits ahead t.laid in
+      let all = found-all (turn tt ends waits ahead t.laid) ahead now m turns all_links t.found (omega (arith, past, last)) in
+      subst (AreAllRotations tt) (sym all.2) (all-rotations tt ends waits ahead t.laid all.0 all.1)
+
+  module _ (next trail : List ℕ) (is : Type 0) (walked : IsWalked m now next trail is) where
+    pub turned-none : (is → ⊥) → AreTurned tt ends waits ahead next (m + 1) turns
+    turned-none not_found = record { laid = t.laid; found = found-none (turn tt ends waits ahead t.laid) ahead now next trail m turns is t.found walked not_found }
+
+    cycle_here : is → IsCycle ahead trail × (slice_get trail 0 ≡ Some m)
+    cycle_here is_found = walked-cycle (turn tt ends waits ahead t.laid) ahead now next trail m turns is all_links t.found walked is_found
+
+    pub begun_here : is → 1 ≤ get_or (all_times tt.tracks) m 0
+    begun_here is_found =
+        let c = cycle_here is_found in
+        subst (λ e. 1 ≤ get_or (all_times tt.tracks) e 0) (get_or_from_slice_get trail 0 m 0 c.1) (begun tt ends waits ahead t.laid trail c.0)
+
+    pub known_here : is → All (λ e. e < length waits) trail
+    known_here is_found = trail_known tt ends waits ahead t.laid trail (cycle_here is_found).0
+
+    pub turned-one : is → (agent step : ℕ) (agents : List ℕ) → agent < length ends → begin_in ends agent ≤ m → m < get_or ends agent 0 → step ≡ get_or (all_times tt.tracks) m 0 - 1
+        → agents ≡ agents_of waits agent trail → AreTurned tt ends waits ahead next (m + 1) (turns ++ record { step = step; agents = agents } ∷ [])
+    turned-one is_found agent step agents known from to is_step are_agents =
+        let c = cycle_here is_found in
+        let begins = get_or_from_slice_get trail 0 m 0 c.1 in
+        let owned = (entry_here tt ends waits ahead t.laid agent m known from to).1 in
+        let same = are_agents ∙ trail_agents tt ends waits ahead t.laid trail c.0 agent (sym owned ∙ ap (owner tt ends waits ahead t.laid) (sym begins)) in
+        let time = is_step ∙ ap (λ e. get_or (all_times tt.tracks) e 0 - 1) (sym begins) in
+        let one : turn tt ends waits ahead t.laid trail ≡ record { step = step; agents = agents } =
+        ap {A = ℕ} {B = Turn} (λ s. record { step = s; agents = map (owner tt ends waits ahead t.laid) trail }) (sym time)
+        ∙ ap {A = List ℕ} {B = Turn} (λ a. record { step = step; agents = a }) (sym same) in
+        subst (λ r. AreTurned tt ends waits ahead next (m + 1) (turns ++ r ∷ [])) one
+        (record { laid = t.laid; found = found-one (turn tt ends waits ahead t.laid) ahead now next trail m turns is all_links t.found walked is_found })

@@ -9,7 +9,7 @@ use Rattle.model.specs.Timetable.{Track, Timetable, cell_at, moves_before, path,
 use Rattle.model.specs.Dependency.{Stand, moves_in, moves_to, need_by, need, last_stand}
 use Rattle.model.proofs.TrackLemmas.{cell-visit, moves-rise, moves-leave}
 use Rattle.model.proofs.NeedLemmas.{IsLastBelow, last_stand-is, stands-track, stands-from}
-use Rattle.depgraph.specs.declared.schedule.Arrival.{Arrival}
+use Rattle.depgraph.specs.declared.placing.Arrival.{Arrival}
 use Rattle.depgraph.specs.Visits.{IsVisitTo}
 use Rattle.depgraph.specs.Code.Keeping.{need_of}
 use Rattle.depgraph.specs.Code.Placing.{IsTimeline, IsPlacing}

@@ -26,7 +26,7 @@ pub mod Waits
 pub mod Parts
 -- what a graph keeps
 pub mod Keeping
--- the cycles of agents that follow one another
+-- the cycles of entries that follow one another
 pub mod Cycles
 -- who moves into whose cell in a step
 pub mod Turning

@@ -1,64 +1,31 @@
-//! The rotations of a step: agents that each move into the cell that the next one leaves.
-ghost use Rattle.std.specs.Prelude.{◌≡◌, ◌<◌, ◌≤◌, ℕ, All, IfOk, IsTrue, OnOk, [], length};
-ghost use Rattle.depgraph.specs.Rotations.{turns_of};
-ghost use Rattle.depgraph.specs.Code.Cycles.{nobody, Leads, AreLinks, AreMovers, IsWithCycles, IsWalked};
+//! The cycles of entries that follow one another.
+ghost use Rattle.std.specs.Prelude.{◌≡◌, ◌<◌, ◌≤◌, ℕ, IfOk, IsTrue, [], length};
+ghost use Rattle.depgraph.specs.Code.Cycles.{Leads, AreLinks, IsWalked};
 
-use model::Rotation;
-use std::alloc::{AllocError, Global};
+use crate::waiting::NO_ENTRY;
+use std::alloc::AllocError;
 
-/// Stands for no agent in a list of who follows whom.
-pub(crate) const NOBODY: u16 = u16::MAX;
-
-/// Adds the rotations of a step, each from its least agent on, by that agent, and takes all links away. `ahead` has for each
-/// agent the one into whose cell it moves, or `NOBODY`; `movers` has those that move, in ascending order; `trail` is room for
-/// the agents of one walk.
-pub(crate) fn add_rotations(
-    alloc: Global,
-    step: u32,
-    movers: &[u16],
-    ahead: &mut [u16],
-    trail: &mut Vec<u16>,
-    rotations: &mut Vec<Rotation>,
-) -> Result<(), AllocError>
-    requires links { AreLinks ahead.old }
-    requires movers { AreMovers ahead.old movers.now }
-    requires trail { trail.old.items ≡ [] }
-    ensures cycles { OnOk result (IsWithCycles step ahead.old (turns_of rotations.old.items) (turns_of rotations.new.items)) }
-    ensures gone { OnOk result (All (λ j. j ≡ nobody) ahead.new) }
-    ensures trail { OnOk result (trail.new.items ≡ []) }
-{
-    for first in movers {
-        let is_cycle = walk(*first, ahead, trail)?;
-        if is_cycle {
-            let agents = Vec::from_slice(alloc, trail)?;
-            rotations.push(Rotation { step, agents })?;
-        }
-        trail.clear();
-    }
-    Ok(())
-}
-
-/// Walks from an agent to the one ahead of it and on, taking the links away, until it is back or there is no link: each link
-/// is walked once, and a cycle is found from its least agent. Answers whether it came back; the trail has those that it passed.
-fn walk(first: u16, ahead: &mut [u16], trail: &mut Vec<u16>) -> Result<bool, AllocError>
+/// Walks from an entry to the one ahead of it and on, taking the links away, until it is back or there is no link: each link
+/// is walked once, and a cycle is found from its least entry. Answers whether it came back; the trail has those that it passed.
+pub(crate) fn walk(first: u32, ahead: &mut [u32], trail: &mut Vec<u32>) -> Result<bool, AllocError>
     requires links { AreLinks ahead.old }
     requires first { first < length ahead.old }
     requires least { (i j : ℕ) → Leads ahead.old i j → first ≤ i }
     requires trail { trail.old.items ≡ [] }
     ensures { IfOk result (λ found. IsWalked first ahead.old ahead.new trail.new.items (IsTrue found)) }
 {
-    let mut agent = first;
+    let mut entry = first;
     'links: loop {
-        trail.push(agent)?;
-        let index = usize::from(agent);
+        trail.push(entry)?;
+        let index = entry as usize;
         let next = ahead[index];
-        ahead[index] = NOBODY;
+        ahead[index] = NO_ENTRY;
         if next == first {
             return Ok(true);
         }
-        if next == NOBODY {
+        if next == NO_ENTRY {
             return Ok(false);
         }
-        agent = next;
+        entry = next;
     }
 }

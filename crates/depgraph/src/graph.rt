@@ -14,8 +14,7 @@ use crate::out_of_memory::OutOfMemory;
 use crate::paths::{Paths, paths_of};
 use crate::placing::{Placed, bounds_in, place_visits};
 use crate::rotations::find_rotations;
-use crate::schedule::schedule_of;
-use crate::waiting::{Wait, waits_of};
+use crate::waiting::{Wait, Waits, waits_of};
 use grid::Cell;
 use model::{Rotation, Visit};
 use plan::CheckedPlan;
@@ -63,28 +62,25 @@ impl Graph {
         ensures { IfOk result (λ g. g ≡ plan.now.timetable) }
     {
         let number = plan.number();
-        let paths = paths_of(alloc, plan)?;
-        let Numbering { numbers, count } = numbering_of(alloc, &paths.cells)?;
-        let (schedule, taken) = schedule_of(alloc, &paths, &numbers)?;
-        let Paths { cells, times, ends } = paths;
-        // Cells and times are found again in the end: to hold them all along would take more memory than the graph.
+        let Paths { cells, times, ends } = paths_of(alloc, plan)?;
+        let Numbering { numbers, count } = numbering_of(alloc, &cells)?;
+        // Cells are found again in the end: to hold them all along would take more memory than the graph.
         drop(cells);
-        let order = order_of(alloc, &taken, count)?;
-        drop(taken);
         let placed = place_visits(alloc, plan, &times, &ends, &numbers, count)?;
         drop(numbers);
-        drop(times);
         let Placed { visits, next } = placed;
-        let needs = waits_of(alloc, &ends, &visits, &next.next)?;
-        let rotations = find_rotations(alloc, plan, &ends, &schedule, &needs)?;
-        drop(schedule);
+        let Waits { waits, mut ahead } = waits_of(alloc, &times, &ends, &visits, &next.next)?;
+        let rotations = find_rotations(alloc, plan, &times, &ends, &waits, &mut ahead)?;
+        drop(ahead);
+        drop(times);
+        let order = order_of(alloc, &visits, &next.next)?;
         let again = paths_of(alloc, plan)?;
         Ok(Graph {
             number,
             cells: again.cells,
             times: again.times,
             ends,
-            needs,
+            needs: waits,
             visits,
             visit_ends: next.next,
             order,

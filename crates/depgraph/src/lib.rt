@@ -11,7 +11,6 @@ mod out_of_memory;
 mod paths;
 mod placing;
 mod rotations;
-mod schedule;
 mod sorting;
 mod tiles;
 mod waiting;

@@ -1,21 +1,52 @@
 //! The visited cells in order of first visit.
-ghost use Rattle.std.specs.Prelude.{◌<◌, ℕ, length, get_or, IfOk};
-ghost use Rattle.depgraph.specs.Code.Orders.{IsOrder};
+ghost use Rattle.std.specs.Prelude.{◌≡◌, ◌+◌, ◌*◌, ◌%◌, ◌<◌, ◌≤◌, ◌^◌, ℕ, length, get_or, IfOk};
+ghost use Rattle.depgraph.specs.Code.Entries.{begin_in};
+ghost use Rattle.depgraph.specs.Code.Orders.{AreByFirst};
+ghost use Rattle.depgraph.specs.Code.Waits.{no_visit};
 
+use model::Visit;
 use std::alloc::{AllocError, Global};
 
-/// The numbers, all below a limit, in the order in which they come first.
-pub(crate) fn order_of(alloc: Global, numbers: &[u32], limit: usize) -> Result<Vec<u32>, AllocError>
-    requires { (p : ℕ) → p < length numbers.now → get_or numbers.now p 0 < limit }
-    ensures { IfOk result (λ v. IsOrder numbers.now v.items) }
+/// The numbers of the cells in order of first visit, by time and then by agent. The visits of each cell stand together, as their times rise,
+/// and end there.
+pub(crate) fn order_of(
+    alloc: Global,
+    visits: &[Visit],
+    visit_ends: &[u32],
+) -> Result<Vec<u32>, AllocError>
+    requires few { length visit_ends.now < 2 ^ 32 }
+    requires some { (n : ℕ) → n < length visit_ends.now → begin_in visit_ends.now n < get_or visit_ends.now n 0 }
+    requires within { (n : ℕ) → n < length visit_ends.now → get_or visit_ends.now n 0 ≤ length visits.now }
+    requires times { (k : ℕ) → k < length visits.now → (get_or visits.now k no_visit).time < 2 ^ 16 }
+    ensures { IfOk result (λ v. AreByFirst visits.now visit_ends.now v.items) }
 {
-    let mut came = vec![in alloc; false; limit]?;
-    let mut order = Vec::with_capacity(alloc, limit)?;
-    for number in numbers {
-        if !came[*number as usize] {
-            came[*number as usize] = true;
-            order.push(*number)?;
-        }
+    // One number a cell, which begins with the time and the agent of its first visit: numbers are sorted fastest.
+    let mut firsts = Vec::with_capacity(alloc, visit_ends.len())?;
+    let mut begin = 0;
+    for n in 0..visit_ends.len() {
+        let first = visits[begin];
+        firsts.push(first_key(first.time, first.agent, n as u32))?;
+        begin = visit_ends[n] as usize;
+    }
+    firsts.sort_unstable();
+    let mut order = Vec::with_capacity(alloc, firsts.len())?;
+    for first in &firsts {
+        order.push(number_of(*first))?;
     }
     Ok(order)
+}
+
+/// When the first visit of the cell with a number begins, whose it is, and the number, as one number that goes by these in turn.
+fn first_key(time: u32, agent: u16, number: u32) -> u64
+    requires { time < 2 ^ 16 }
+    ensures { result ≡ (time * 2 ^ 16 + agent) * 2 ^ 32 + number }
+{
+    (u64::from(time) << 48) | (u64::from(agent) << 32) | u64::from(number)
+}
+
+/// The number of the cell in such a number.
+fn number_of(key: u64) -> u32
+    ensures { result ≡ key % 2 ^ 32 }
+{
+    (key & u64::from(u32::MAX)) as u32
 }

@@ -1,120 +1,89 @@
-//! The rotations of a timetable. Who moves in a step arrives at the time after it, and waits for whoever was last in that cell,
-//! which is the one whose cell it was, unless that one had left.
-ghost use Rattle.std.specs.Prelude.{◌≡◌, ◌<◌, ◌≤◌, ℕ, All, [], length, get_or, IfOk, OnOk};
+//! The rotations of a timetable: cycles of moves of one step, each of which waits for the next.
+ghost use Rattle.std.specs.Prelude.{◌≡◌, ◌<◌, All, length, IfOk};
 ghost use Rattle.depgraph.specs.Rotations.{AreRotations, turns_of};
-ghost use Rattle.depgraph.specs.Code.Cycles.{nobody};
-ghost use Rattle.depgraph.specs.Code.Schedules.{entry_in};
-ghost use Rattle.depgraph.specs.Code.Turning.{AreLaid, AreApart, ahead_by, ahead_in, AreLinked, AreMoved};
-ghost use Rattle.depgraph.specs.Code.Waits.{no_wait};
+ghost use Rattle.depgraph.specs.Code.Paths.{all_times};
+ghost use Rattle.depgraph.specs.Code.Turning.{AreLaid, AreAllRotations, agents_of, key_by};
 
-use crate::cycles::{NOBODY, add_rotations};
-use crate::schedule::{Arrival, Schedule, entry_of};
+use crate::cycles::walk;
 use crate::waiting::Wait;
 use model::Rotation;
 use plan::CheckedPlan;
 use std::alloc::{AllocError, Global};
 
 /// All rotations of a plan's timetable, by step and then by least agent. `waits` has for each entry what the move into its cell
-/// waits for.
+/// waits for, and `ahead` the entry of that move if both are made in one step; these links are taken away.
 pub(crate) fn find_rotations(
     alloc: Global,
     plan: &CheckedPlan,
+    times: &[u32],
     ends: &[usize],
-    schedule: &Schedule,
     waits: &[Wait],
+    ahead: &mut [u32],
 ) -> Result<Vec<Rotation>, AllocError>
-    requires { AreLaid plan.now.timetable ends.now schedule.now.arrivals.items schedule.now.ends.items waits.now }
+    requires times { times.now ≡ all_times plan.now.timetable.tracks }
+    requires laid { AreLaid plan.now.timetable ends.now waits.now ahead.old }
     ensures { IfOk result (λ v. AreRotations plan.now.timetable (turns_of v.items)) }
 {
-    // How many moves each agent has made.
-    let mut latest = vec![in alloc; 0u16; ends.len()]?;
-    let mut ahead = vec![in alloc; NOBODY; ends.len()]?;
-    let mut movers = Vec::new(alloc);
+    let mut rotations = rotations_by_agent(alloc, plan, times, ends, waits, ahead)?;
+    rotations.sort_unstable_by_key(key_of);
+    Ok(rotations)
+}
+
+/// The same by least agent, and then by step: the entries of a cycle have one time, so the least of them is that of its least
+/// agent, and each cycle is found from there.
+fn rotations_by_agent(
+    alloc: Global,
+    plan: &CheckedPlan,
+    times: &[u32],
+    ends: &[usize],
+    waits: &[Wait],
+    ahead: &mut [u32],
+) -> Result<Vec<Rotation>, AllocError>
+    requires times { times.now ≡ all_times plan.now.timetable.tracks }
+    requires laid { AreLaid plan.now.timetable ends.now waits.now ahead.old }
+    ensures { IfOk result (λ v. AreAllRotations plan.now.timetable (turns_of v.items)) }
+{
     let mut trail = Vec::new(alloc);
     let mut rotations = Vec::new(alloc);
-    // The arrivals of time 0 are the starts, and no moves.
-    for time in 1..schedule.ends.len() {
-        let begin = schedule.ends[time - 1] as usize;
-        let end = schedule.ends[time] as usize;
-        link(
-            ends,
-            &schedule.arrivals,
-            waits,
-            &latest,
-            begin,
-            end,
-            &mut ahead,
-            &mut movers,
-        )?;
-        add_rotations(
-            alloc,
-            (time - 1) as u32,
-            &movers,
-            &mut ahead,
-            &mut trail,
-            &mut rotations,
-        )?;
-        movers.clear();
-        arrive(&schedule.arrivals, begin, end, &mut latest);
+    let mut entry = 0;
+    for agent in 0..ends.len() {
+        while entry < ends[agent] {
+            if walk(entry as u32, ahead, &mut trail)? {
+                let agents = agents_on(alloc, agent as u16, &trail, waits)?;
+                // An entry has the time after the step of its move.
+                let step = times[entry] - 1;
+                rotations.push(Rotation { step, agents })?;
+            }
+            trail.clear();
+            entry += 1;
+        }
     }
     Ok(rotations)
 }
 
-/// Lists the agents that arrive between two places, and links each to the one into whose cell it has moved.
-fn link(
-    ends: &[usize],
-    arrivals: &[Arrival],
+/// The agents of a cycle of entries, the first of which is known: each waits for the next.
+fn agents_on(
+    alloc: Global,
+    first: u16,
+    trail: &[u32],
     waits: &[Wait],
-    latest: &[u16],
-    begin: usize,
-    end: usize,
-    ahead: &mut [u16],
-    movers: &mut Vec<u16>,
-) -> Result<(), AllocError>
-    requires latest { length latest.now ≡ length ends.now }
-    requires order { begin ≤ end }
-    requires apart { AreApart arrivals.now (length ends.now) begin end }
-    requires entries { (p : ℕ) → begin ≤ p → p < end → entry_in ends.now arrivals.now p < length waits.now }
-    requires agents { (p : ℕ) → begin ≤ p → p < end → (get_or waits.now (entry_in ends.now arrivals.now p) no_wait).agent < length ends.now }
-    requires count { length ahead.old ≡ length ends.now }
-    requires gone { All (λ j. j ≡ nobody) ahead.old }
-    requires movers { movers.old.items ≡ [] }
-    ensures count { OnOk result (length ahead.new ≡ length ahead.old) }
-    ensures linked { OnOk result (AreLinked (ahead_in ends.now waits.now latest.now arrivals.now) arrivals.now begin end ahead.new movers.new.items) }
+) -> Result<Vec<u16>, AllocError>
+    requires { All (λ e. e < length waits.now) trail.now }
+    ensures { IfOk result (λ v. v.items ≡ agents_of waits.now first trail.now) }
 {
-    let mut at = begin;
-    while at < end {
-        let arrival = arrivals[at];
-        let entry = entry_of(ends, arrival);
-        movers.push(arrival.agent)?;
-        ahead[usize::from(arrival.agent)] = ahead_of(latest, waits[entry]);
-        at += 1;
+    let mut agents = Vec::with_capacity(alloc, trail.len())?;
+    let mut agent = first;
+    for entry in trail {
+        agents.push(agent)?;
+        agent = waits[*entry as usize].agent;
     }
-    Ok(())
+    Ok(agents)
 }
 
-/// The agent that is waited for, if it is still in that cell: the next of its moves is the one that is waited for.
-fn ahead_of(latest: &[u16], wait: Wait) -> u16
-    requires { wait.agent < length latest.now }
-    ensures { result ≡ ahead_by latest.now wait }
+/// A rotation's step and least agent, in one number.
+fn key_of(rotation: &Rotation) -> u64
+    ensures { result ≡ key_by rotation.now.step rotation.now.agents.items }
 {
-    if u32::from(latest[usize::from(wait.agent)]) + 1 == u32::from(wait.count) {
-        wait.agent
-    } else {
-        NOBODY
-    }
-}
-
-/// Counts the moves of the agents that arrive between two places.
-fn arrive(arrivals: &[Arrival], begin: usize, end: usize, latest: &mut [u16])
-    requires order { begin ≤ end }
-    requires apart { AreApart arrivals.now (length latest.old) begin end }
-    ensures { AreMoved arrivals.now begin end latest.old latest.new }
-{
-    let mut at = begin;
-    while at < end {
-        let arrival = arrivals[at];
-        latest[usize::from(arrival.agent)] = arrival.index;
-        at += 1;
-    }
+    let first = rotation.agents.first().copied().unwrap_or(0);
+    (u64::from(rotation.step) << 16) | u64::from(first)
 }

@@ -5,7 +5,7 @@ use Rattle.grid.specs.declared.cell.Cell.{Cell}
 use Rattle.model.specs.declared.visit.Visit.{Visit}
 use Rattle.model.specs.Dependency.{Need, need}
 use Rattle.model.specs.Timetable.{Track, Timetable, moves, path, step_of, track_of}
-use Rattle.depgraph.specs.declared.schedule.Arrival.{Arrival}
+use Rattle.depgraph.specs.declared.placing.Arrival.{Arrival}
 use Rattle.depgraph.specs.declared.waiting.Wait.{Wait}
 use Rattle.depgraph.specs.Graphs.{IsGraphed}
 use Rattle.depgraph.specs.Routes.{Route}

@@ -1,7 +1,7 @@
 -- The numbers of cells.
 use Rattle.std.specs.Prelude.{◌≡◌, ℕ, ◌<◌, ◌≤◌, ◌⊎◌, List, [], ◌∷◌, ◌++◌, length, get_or, Some, slice_get}
 use Rattle.grid.specs.declared.cell.Cell.{Cell}
-use Rattle.depgraph.specs.declared.schedule.Arrival.{Arrival}
+use Rattle.depgraph.specs.declared.placing.Arrival.{Arrival}
 use Rattle.depgraph.specs.Code.Schedules.{entry_in}
 
 abbrev pub no_cell : Cell

@@ -2,7 +2,7 @@
 use Rattle.std.specs.Prelude.{◌≡◌, ℕ, ◌+◌, ◌-◌, ◌<◌, ◌≤◌, ◌^◌, ◌==◌, if◌then◌else◌, List, length, get_or, Option, None, Some}
 use Rattle.model.specs.declared.visit.Visit.{Visit}
 use Rattle.depgraph.specs.declared.waiting.Wait.{Wait}
-use Rattle.depgraph.specs.Code.Entries.{begin_in}
+use Rattle.depgraph.specs.Code.Entries.{begin_in, IsEntry}
 
 abbrev pub no_visit : Visit
 no_visit = record { agent = 0; index = 0; time = 0 }
@@ -43,3 +43,23 @@ pub record AreBlocks (ends : List ℕ) (visits : List Visit) (visit_ends : List 
   pub apart : (j k : ℕ) → j < length visits → k < length visits → entry_for ends (get_or visits j no_visit) ≡ entry_for ends (get_or visits k no_visit) → j ≡ k
   pub left : (n k : ℕ) → n < length visit_ends → begin_in visit_ends n < k → k < get_or visit_ends n 0
       → ((get_or visits (k - 1) no_visit).agent ≡ (get_or visits k no_visit).agent → ⊥) → (get_or visits (k - 1) no_visit).index + 1 < 2 ^ 16
+  pub next : (n k : ℕ) → n < length visit_ends → begin_in visit_ends n < k → k < get_or visit_ends n 0
+      → ((get_or visits (k - 1) no_visit).agent ≡ (get_or visits k no_visit).agent → ⊥)
+      → IsEntry ends (get_or visits (k - 1) no_visit).agent ((get_or visits (k - 1) no_visit).index + 1) (entry_for ends (get_or visits (k - 1) no_visit) + 1)
+  pub inside : (i k e : ℕ) → IsEntry ends i k e → e < length visits
+
+-- what stands for no entry
+abbrev pub no_entry : ℕ
+no_entry = 4294967295
+
+-- the entry of the move that is waited for, after the visit before, if it is made in the very step of the move that a visit begins with
+abbrev pub ahead_of : List ℕ → List ℕ → Visit → Option Visit → ℕ
+ahead_of times ends own None = no_entry
+ahead_of times ends own (Some v) =
+    if v.agent == own.agent then no_entry else if get_or times (entry_for ends v + 1) 0 == own.time then entry_for ends v + 1 else no_entry
+
+-- For each entry the one of the move that its move waits for, if both are made in one step.
+pub record AreAhead (times ends : List ℕ) (visits : List Visit) (visit_ends ahead : List ℕ) : Type 0 where
+  pub count : length ahead ≡ length visits
+  pub each : (n k : ℕ) → n < length visit_ends → begin_in visit_ends n ≤ k → k < get_or visit_ends n 0
+      → get_or ahead (entry_for ends (get_or visits k no_visit)) no_entry ≡ ahead_of times ends (get_or visits k no_visit) (before_at visits (begin_in visit_ends n) k)

@@ -1,10 +1,17 @@
-use Rattle.std.proofs.Common.{◌≡◌, length}
-use Rattle.depgraph.proofs.OrderLemmas.{AreMet}
+use Rattle.std.proofs.Common.{◌≡◌, ◌+◌, ◌*◌, ◌%◌, ◌<◌, ℕ, length, get_or}
+use Rattle.depgraph.specs.Code.Entries.{begin_in}
+use Rattle.depgraph.specs.Code.Orders.{first_of}
 use Rattle.depgraph.proofs.order.order_of.Given as goal
 
--- the numbers so far stand in the order, and are marked
-abbrev pub invariant-loop-number : goal.invariant-loop-number
-invariant-loop-number l = record {
-  count : length l.came.items ≡ l.limit;
-  met : AreMet l.numbers l.number-index l.came.items l.order.items;
+abbrev pub invariant-loop-n : goal.invariant-loop-n
+invariant-loop-n l = record {
+  begin : l.begin ≡ begin_in l.visit_ends l.n;
+  count : length l.firsts.items ≡ l.n;
+  keys : (k : ℕ) → k < l.n → get_or l.firsts.items k 0 ≡ first_of l.visits l.visit_ends k * 4294967296 + k;
+}
+
+abbrev pub invariant-loop-first : goal.invariant-loop-first
+invariant-loop-first l = record {
+  count : length l.order.items ≡ l.first-index;
+  numbers : (k : ℕ) → k < l.first-index → get_or l.order.items k 0 ≡ get_or l.first-items k 0 % 4294967296;
 }
