@@ -45,7 +45,7 @@ pub fn put_reply<W: Write>(sink: &mut Sink<'_, W>, reply: &Reply) -> Result<(), 
     ensures err { OnErr result (Breaks W.contents sink.old sink.new (reply_line (answer_of reply.now) ++ line_feed ∷ [])) }
 {
     put_line(sink, reply)?;
-    sink.put(b"\n")
+    sink.put_byte(b'\n')
 }
 
 fn put_line<W: Write>(sink: &mut Sink<'_, W>, reply: &Reply) -> Result<(), WriteFault>
@@ -78,7 +78,7 @@ fn put_said<W: Write>(sink: &mut Sink<'_, W>, number: u64, bytes: &[u8]) -> Resu
     ensures err { OnErr result (Breaks W.contents sink.old sink.new (reply_line (said number bytes.now))) }
 {
     put_numbers(sink, b"said", &[number])?;
-    sink.put(b" ")?;
+    sink.put_byte(b' ')?;
     put_hexadecimal(sink, bytes)
 }
 
@@ -150,7 +150,7 @@ fn put_number<W: Write>(sink: &mut Sink<'_, W>, number: u64) -> Result<(), Write
     ensures ok { OnOk result (Puts W.contents sink.old sink.new (space ∷ decimal number)) }
     ensures err { OnErr result (Breaks W.contents sink.old sink.new (space ∷ decimal number)) }
 {
-    sink.put(b" ")?;
+    sink.put_byte(b' ')?;
     sink.put(Buffer::new().format(number).as_bytes())
 }
 

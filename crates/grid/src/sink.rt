@@ -1,5 +1,5 @@
 //! Bytes for a writer, handed on a piece at a time.
-ghost use Rattle.std.specs.Prelude.{◌≡◌, ◌+◌, ◌≤◌, [], ◌++◌, length, take, Some, OnOk, OnErr, is_ok};
+ghost use Rattle.std.specs.Prelude.{◌≡◌, ◌+◌, ◌<◌, ◌≤◌, [], ◌∷◌, ◌++◌, length, take, Some, OnOk, OnErr, is_ok};
 ghost use Rattle.grid.specs.Counted.{counted_inner, failures_of};
 ghost use Rattle.grid.specs.FaultWords.{words_of, words_text, write_fault_words};
 ghost use Rattle.grid.specs.Writing.{WritesText};
@@ -69,6 +69,14 @@ impl Piece {
         self.bytes[self.len..end].copy_from_slice(bytes);
         self.len = end;
     }
+
+    fn push(&mut self, byte: u8)
+        requires { self.old.len < 65536 }
+        ensures { take self.new.len self.new.bytes ≡ take self.old.len self.old.bytes ++ byte ∷ [] }
+    {
+        self.bytes[self.len] = byte;
+        self.len += 1;
+    }
 }
 
 /// Collects bytes for a writer, and hands on a piece of 65,536 at a time, or more where more are put at once.
@@ -118,6 +126,18 @@ impl<'a, W: Write> Sink<'a, W> {
             }
         }
         self.piece.append(bytes);
+        Ok(())
+    }
+
+    /// Puts one byte, which takes no call to copy it.
+    pub fn put_byte(&mut self, byte: u8) -> Result<(), WriteFault>
+        ensures ok { OnOk result (Puts W.contents self.old self.new (byte ∷ [])) }
+        ensures err { OnErr result (Breaks W.contents self.old self.new (byte ∷ [])) }
+    {
+        if self.piece.room() == 0 {
+            return self.put(&[byte]);
+        }
+        self.piece.push(byte);
         Ok(())
     }
 

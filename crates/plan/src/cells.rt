@@ -74,24 +74,24 @@ pub(crate) fn cell_after(start: Cell, acts: &[Act], time: u32) -> Cell
     cell
 }
 
-/// The cell to which an act leads.
+/// The cell to which an act leads. It asks for each act by itself, since which one comes can't be foreseen.
 fn next_cell(cell: Cell, act: Act) -> Cell
     requires column { (cell_by act cell).x < 65536 }
     requires row { (cell_by act cell).y < 65536 }
     ensures { result ≡ cell_by act cell }
 {
-    let Cell { x, y } = cell;
-    match act {
-        Act::N => Cell {
-            x,
-            y: y.saturating_sub(1),
-        },
-        Act::E => Cell { x: x + 1, y },
-        Act::S => Cell { x, y: y + 1 },
-        Act::W => Cell {
-            x: x.saturating_sub(1),
-            y,
-        },
-        Act::Wait => cell,
+    let mut next = cell;
+    if matches!(act, Act::N) {
+        next.y = cell.y.saturating_sub(1);
     }
+    if matches!(act, Act::E) {
+        next.x = cell.x + 1;
+    }
+    if matches!(act, Act::S) {
+        next.y = cell.y + 1;
+    }
+    if matches!(act, Act::W) {
+        next.x = cell.x.saturating_sub(1);
+    }
+    next
 }

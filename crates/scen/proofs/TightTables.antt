@@ -1,15 +1,21 @@
 -- A table is tight exactly where each block of four cells keeps.
-use Rattle.std.proofs.Common.{◌≡◌, ℕ, ◌+◌, ◌<◌, Bool, true, false, cond, List, Some, None, inl, inr, arith, refl, sym, subst, ◌∙◌}
-use Rattle.std.specs.Prelude.{Option, IsTrue, ◌&&◌, ◌||◌, nat_lt, slice_get}
-use Rattle.std.proofs.lemmas.Bool.{cases_lt, and_parts, ltb-true}
+use Rattle.std.proofs.Common.{◌≡◌, ℕ, ◌+◌, ◌<◌, Bool, true, false, cond, zero, suc, List, replicate, get_or, length, map, ◌*◌, Some, None, inl, inr, arith, refl, sym, ap, subst, ◌∙◌}
+use Rattle.std.specs.Prelude.{Option, IsTrue, ◌↔◌, ◌&&◌, ◌-◌, ◌≤◌, nat_lt, slice_get, slice_index, bit_and}
+use Rattle.std.proofs.lemmas.Bool.{cases_lt, and_parts, and_from, ltb-true, lt-ltb, cond-true}
+use Rattle.std.proofs.lemmas.List.{get_or-map, get_or_default}
+use Rattle.std.proofs.lemmas.Nat.{mul-le}
+use Rattle.std.proofs.lemmas.Option.{slice_get-get_or}
+use Rattle.std.specs.Int.Bits.{and_zero_l, and_zero_r}
 use Rattle.grid.specs.declared.cell.Cell.{Cell}
 use Rattle.grid.specs.declared.terrain.Terrain.{Terrain}
-use Rattle.grid.specs.Terrain.{Class, land, swamp, water, blocked, class_of, joins}
-use Rattle.grid.specs.Map.{Grid, terrain_at, AreNext, ShareSide, AreJoined, IsStraightStep, IsDiagonalStep}
+use Rattle.grid.specs.declared.terrain.Terrain.TheVariants.{Floor, Grass, Void, OutOfBounds, Trees, Swamp, Water}
+use Rattle.grid.specs.Terrain.{Class, land, swamp, water, blocked, class_of, joins, character_of, terrain_of}
+use Rattle.grid.specs.Map.{Grid, IsMap, terrain_at, AreNext, ShareSide, AreJoined, IsStraightStep, IsDiagonalStep}
 use Rattle.scen.specs.declared.length.Length.{Length}
 use Rattle.scen.specs.declared.tightness.Corner.{Corner}
+use Rattle.scen.specs.declared.tightness.Corners.{Corners}
 use Rattle.scen.specs.Certificate.{entry_of, Bounds, IsTight}
-use Rattle.scen.specs.Code.Tightness.{Ground, open_land, open_water, no_ground, ground_of_class, ground_of, is_land, is_water, key_of_entry, corner_at, AreWithin, KeepsSide, KeepsBlock, KeepsRow}
+use Rattle.scen.specs.Code.Tightness.{Ground, open_land, open_water, no_ground, ground_of_class, ground_of, number_of, key_of_entry, corner_at, AreWithin, AreSame, KeepsSide, KeepsBlock, KeepsBlockAt, KeepsBlockIn, KeepsRows, Tells, AreCorners, corner_in}
 use Rattle.scen.proofs.KeyLemmas.{BoundEachOther, within_from, from_within}
 
 -- ---- what holds of each number below another
@@ -17,9 +23,84 @@ use Rattle.scen.proofs.KeyLemmas.{BoundEachOther, within_from, from_within}
 pub all_below_next : (P : ℕ → Type 0) (n : ℕ) → ((k : ℕ) → k < n → P k) → P n → (k : ℕ) → k < n + 1 → P k
 all_below_next P n h last k less = elim (cases_lt k n) [ inl before ↦ h k before | inr most ↦ subst P (omega (arith, less, most)) last ]
 
-pub block_along : (a e b f c g d h : Corner) → a ≡ e → b ≡ f → c ≡ g → d ≡ h → KeepsBlock a b c d → KeepsBlock e f g h
-block_along a e b f c g d h p q r s keeps =
-    subst (λ x. KeepsBlock e f g x) s (subst (λ x. KeepsBlock e f x d) r (subst (λ x. KeepsBlock e x c d) q (subst (λ x. KeepsBlock x b c d) p keeps)))
+-- ---- what a row holds, and what the map and the table say
+
+pub told_back : (p c : Corner) → Tells p c → Tells c p
+told_back p c t = (sym t.0, λ some. sym (t.1 (λ none. some (t.0 ∙ none))))
+
+same_told : (a b e f : Corner) → Tells a e → Tells b f → AreSame e f → AreSame a b
+same_told a b e f p q same none = same (ap (λ g. bit_and g f.grounds) (sym p.0) ∙ ap (bit_and a.grounds) (sym q.0) ∙ none)
+
+first_some : (e f : Corner) → AreSame e f → e.grounds ≡ 0 → ⊥
+first_some e f same none = same (ap (λ g. bit_and g f.grounds) none ∙ and_zero_l f.grounds)
+
+second_some : (e f : Corner) → AreSame e f → f.grounds ≡ 0 → ⊥
+second_some e f same none = same (ap (bit_and e.grounds) none ∙ and_zero_r e.grounds)
+
+within_told : (step : ℕ) (a b e f : Corner) → Tells a e → Tells b f → (e.grounds ≡ 0 → ⊥) → (f.grounds ≡ 0 → ⊥)
+    → AreWithin step a.key b.key → AreWithin step e.key f.key
+within_told step a b e f p q first second within =
+    subst (λ k. AreWithin step k f.key) (p.1 first) (subst (AreWithin step a.key) (q.1 second) within)
+
+side_told : (a b e f : Corner) → Tells a e → Tells b f → KeepsSide a b → KeepsSide e f
+side_told a b e f p q keeps same =
+    within_told 6625109 a b e f p q (first_some e f same) (second_some e f same) (keeps (same_told a b e f p q same))
+
+pub block_told : (a e b f c g d h : Corner) → Tells a e → Tells b f → Tells c g → Tells d h → KeepsBlock a b c d → KeepsBlock e f g h
+block_told a e b f c g d h p q r s keeps = (
+  side_told a b e f p q keeps.0,
+  side_told a c e g p r keeps.1,
+  λ same.
+      let within = keeps.2 (same_told a b e f p q same.0, same_told a c e g p r same.1, same_told a d e h p s same.2) in (
+        within_told 9369319 a d e h p s (first_some e f same.0) (second_some e h same.2) within.0,
+        within_told 9369319 b c f g q r (second_some e f same.0) (second_some e g same.1) within.1,
+      ),
+)
+
+-- the blocks of two rows keep exactly where those of the map and the table do
+pub rows_from_held : (m : Grid) (table : List (Option Length)) (left right y : ℕ) (upper lower : Corners)
+    → AreCorners m table left right y upper → AreCorners m table left right (y + 1) lower → KeepsRows (right - left) upper lower
+    → (x : ℕ) → left ≤ x → x < right → KeepsBlockAt m table x y
+rows_from_held m table left right y upper lower above below keeps x least less =
+    let next : x + 1 - left ≡ x - left + 1 = omega (arith, least) in
+    block_told (corner_in upper (x - left)) (corner_at m table x y) (corner_in upper (x - left + 1)) (corner_at m table (x + 1) y)
+    (corner_in lower (x - left)) (corner_at m table x (y + 1)) (corner_in lower (x - left + 1)) (corner_at m table (x + 1) (y + 1))
+    (above x least (omega (arith, less))) (subst (λ i. Tells (corner_in upper i) (corner_at m table (x + 1) y)) next (above (x + 1) (omega (arith, least)) (omega (arith, less))))
+    (below x least (omega (arith, less))) (subst (λ i. Tells (corner_in lower i) (corner_at m table (x + 1) (y + 1))) next (below (x + 1) (omega (arith, least)) (omega (arith, less))))
+    (keeps (x - left) (omega (arith, least, less)))
+
+pub held_from_rows : (m : Grid) (table : List (Option Length)) (left right y : ℕ) (upper lower : Corners)
+    → AreCorners m table left right y upper → AreCorners m table left right (y + 1) lower
+    → ((x : ℕ) → left ≤ x → x < right → KeepsBlockAt m table x y) → KeepsRows (right - left) upper lower
+held_from_rows m table left right y upper lower above below keeps i less =
+    let x : ℕ = left + i in
+    let here : x - left ≡ i = omega arith in
+    let next : x + 1 - left ≡ i + 1 = omega arith in
+    block_told (corner_at m table x y) (corner_in upper i) (corner_at m table (x + 1) y) (corner_in upper (i + 1))
+    (corner_at m table x (y + 1)) (corner_in lower i) (corner_at m table (x + 1) (y + 1)) (corner_in lower (i + 1))
+    (subst (λ k. Tells (corner_at m table x y) (corner_in upper k)) here (told_back _ (corner_at m table x y) (above x (omega arith) (omega (arith, less)))))
+    (subst (λ k. Tells (corner_at m table (x + 1) y) (corner_in upper k)) next (told_back _ (corner_at m table (x + 1) y) (above (x + 1) (omega arith) (omega (arith, less)))))
+    (subst (λ k. Tells (corner_at m table x (y + 1)) (corner_in lower k)) here (told_back _ (corner_at m table x (y + 1)) (below x (omega arith) (omega (arith, less)))))
+    (subst (λ k. Tells (corner_at m table (x + 1) (y + 1)) (corner_in lower k)) next (told_back _ (corner_at m table (x + 1) (y + 1)) (below (x + 1) (omega arith) (omega (arith, less)))))
+    (keeps x (omega arith) (omega (arith, less)))
+
+-- of one block more
+pub rows_next : (i : ℕ) (upper lower : Corners) (a b c d : Corner) → a ≡ corner_in upper i → b ≡ corner_in upper (i + 1) → c ≡ corner_in lower i
+    → d ≡ corner_in lower (i + 1) → (before last : Bool) → (IsTrue before ↔ KeepsRows i upper lower) → (IsTrue last ↔ KeepsBlock a b c d)
+    → (IsTrue (before && last) ↔ KeepsRows (i + 1) upper lower)
+rows_next i upper lower a b c d p q r s before last rows block =
+    let held : KeepsBlock a b c d ≡ KeepsBlockIn upper lower i =
+    ap (λ e. KeepsBlock e b c d) p ∙ ap (λ e. KeepsBlock (corner_in upper i) e c d) q
+    ∙ ap (λ e. KeepsBlock (corner_in upper i) (corner_in upper (i + 1)) e d) r
+    ∙ ap (λ e. KeepsBlock (corner_in upper i) (corner_in upper (i + 1)) (corner_in lower i) e) s in (
+      λ both. let parts = and_parts before last both in all_below_next (KeepsBlockIn upper lower) i (rows.0 parts.0) (subst (λ t. t) held (block.0 parts.1)),
+      λ all. and_from before last (rows.1 (λ k less. all k (omega (arith, less)))) (block.1 (subst (λ t. t) (sym held) (all i (omega arith)))),
+    )
+
+pub no_grounds : (n i : ℕ) → slice_index (replicate n 0) i ≡ 0
+no_grounds zero i = refl
+no_grounds (suc n) zero = refl
+no_grounds (suc n) (suc i) = no_grounds n i
 
 -- ---- grounds, and the terrains that join
 
@@ -74,23 +155,26 @@ ground_at m x y = ground_of (terrain_at m (record { x = x; y = y }))
 abbrev Alike : Ground → Ground → Type 0
 Alike g h = (g ≡ no_ground → ⊥) × (g ≡ h)
 
-alike_from : (g h : Ground) → IsTrue ((is_land g && is_land h) || (is_water g && is_water h)) → Alike g h
-alike_from open_land open_land e = (λ f. cc, refl)
-alike_from open_land open_water e = cc
-alike_from open_land no_ground e = cc
-alike_from open_water open_land e = cc
-alike_from open_water open_water e = (λ f. cc, refl)
-alike_from open_water no_ground e = cc
-alike_from no_ground open_land e = cc
-alike_from no_ground open_water e = cc
-alike_from no_ground no_ground e = cc
+abbrev Meet : Ground → Ground → Type 0
+Meet g h = bit_and (number_of g) (number_of h) ≡ 0 → ⊥
 
-same_from : (g h : Ground) → Alike g h → IsTrue ((is_land g && is_land h) || (is_water g && is_water h))
-same_from open_land open_land e = refl
+alike_from : (g h : Ground) → Meet g h → Alike g h
+alike_from open_land open_land e = (λ f. cc, refl)
+alike_from open_land open_water e = absurd (e refl)
+alike_from open_land no_ground e = absurd (e refl)
+alike_from open_water open_land e = absurd (e refl)
+alike_from open_water open_water e = (λ f. cc, refl)
+alike_from open_water no_ground e = absurd (e refl)
+alike_from no_ground open_land e = absurd (e refl)
+alike_from no_ground open_water e = absurd (e refl)
+alike_from no_ground no_ground e = absurd (e refl)
+
+same_from : (g h : Ground) → Alike g h → Meet g h
+same_from open_land open_land e = λ f. omega (arith, f)
 same_from open_land open_water e = (let f = e.1 in cc)
 same_from open_land no_ground e = (let f = e.1 in cc)
 same_from open_water open_land e = (let f = e.1 in cc)
-same_from open_water open_water e = refl
+same_from open_water open_water e = λ f. omega (arith, f)
 same_from open_water no_ground e = (let f = e.1 in cc)
 same_from no_ground h e = absurd (e.0 refl)
 
@@ -118,6 +202,53 @@ on_map : (m : Grid) (x y : ℕ) → (ground_at m x y ≡ no_ground → ⊥) → 
 on_map m x y h =
     let both = and_parts (nat_lt x m.width) (nat_lt y m.height) (on_map_by (nat_lt x m.width && nat_lt y m.height) (slice_get m.terrain _) h) in
     (ltb-true x m.width both.0, ltb-true y m.height both.1)
+
+-- ---- what is read of a cell
+
+no_number : (g : Ground) → ((g ≡ no_ground → ⊥) → ⊥) → number_of g ≡ 0
+no_number open_land h = absurd (h (λ e. cc))
+no_number open_water h = absurd (h (λ e. cc))
+no_number no_ground h = refl
+
+-- off the map there are no grounds
+pub told_off : (m : Grid) (table : List (Option Length)) (x y : ℕ) (p : Corner) → ((x < m.width) × (y < m.height) → ⊥) → p.grounds ≡ 0
+    → Tells p (corner_at m table x y)
+told_off m table x y p off none =
+    let zero = no_number (ground_at m x y) (λ some. off (on_map m x y some)) in
+    (none ∙ sym zero, λ some. absurd (some zero))
+
+read_back : (t : Terrain) → terrain_of (character_of t) ≡ Some t
+read_back Floor = refl
+read_back Grass = refl
+read_back Void = refl
+read_back OutOfBounds = refl
+read_back Trees = refl
+read_back Swamp = refl
+read_back Water = refl
+
+place_within : (x y width height : ℕ) → x < width → y < height → y * width + x < width * height
+place_within x y width height column row =
+    let rows = mul-le (y + 1) width height width (omega (arith, row)) (omega arith) in
+    omega (arith, rows, column)
+
+-- on the map it is what the character and the entry of the cell say
+pub told_on : (m : Grid) (table : List (Option Length)) (x y i : ℕ) (p : Corner) (d : Option Length) → IsMap m → length table ≡ m.width * m.height
+    → x < m.width → y < m.height → i ≡ y * m.width + x
+    → p.grounds ≡ number_of (ground_of (terrain_of (get_or (map character_of m.terrain) i 0))) → p.key ≡ key_of_entry (get_or table i d)
+    → Tells p (corner_at m table x y)
+told_on m table x y i p d is_map cells column row at grounds key =
+    let count = is_map.cells in
+    let within = place_within x y m.width m.height column row in
+    let inside : i < length m.terrain = omega (arith, count, at, within) in
+    let held : i < length table = omega (arith, cells, at, within) in
+    let t = get_or m.terrain i Floor in
+    let here : terrain_at m (record { x = x; y = y }) ≡ Some t =
+    cond-true (nat_lt x m.width && nat_lt y m.height) _ _ (and_from (nat_lt x m.width) (nat_lt y m.height) (lt-ltb x m.width column) (lt-ltb y m.height row))
+    ∙ ap (slice_get m.terrain) (sym at) ∙ slice_get-get_or m.terrain i Floor inside in (
+      grounds ∙ ap (λ c. number_of (ground_of (terrain_of c))) (get_or-map character_of m.terrain i Floor 0 inside)
+          ∙ ap (λ o. number_of (ground_of o)) (read_back t ∙ sym here),
+      λ some. key ∙ ap key_of_entry (get_or_default table i d None held ∙ ap (λ k. get_or table k None) at),
+    )
 
 -- ---- a tight table keeps each block
 
@@ -179,10 +310,10 @@ block_from_tight m table tight x y =
 
 -- ---- a table of which each block keeps is tight
 
-abbrev AllRows : Grid → List (Option Length) → Type 0
-AllRows m table = (y : ℕ) → y < m.height → KeepsRow m table y
+abbrev AllBlocks : Grid → List (Option Length) → Type 0
+AllBlocks m table = (y : ℕ) → y < m.height → (x : ℕ) → x < m.width → KeepsBlockAt m table x y
 
-side_right : (m : Grid) (table : List (Option Length)) → AllRows m table → (x y i j : ℕ) → i ≡ x + 1 → j ≡ y
+side_right : (m : Grid) (table : List (Option Length)) → AllBlocks m table → (x y i j : ℕ) → i ≡ x + 1 → j ≡ y
     → KeepsSide (corner_at m table x y) (corner_at m table i j)
 side_right m table rows x y i j e f same =
     let on = on_map m x y (alike_from (ground_at m x y) (ground_at m i j) same).0 in
@@ -190,7 +321,7 @@ side_right m table rows x y i j e f same =
     subst (λ k. KeepsSide (corner_at m table x y) (corner_at m table k j)) (sym e)
     (subst (λ k. KeepsSide (corner_at m table x y) (corner_at m table (x + 1) k)) (sym f) keeps.0) same
 
-side_below : (m : Grid) (table : List (Option Length)) → AllRows m table → (x y i j : ℕ) → i ≡ x → j ≡ y + 1
+side_below : (m : Grid) (table : List (Option Length)) → AllBlocks m table → (x y i j : ℕ) → i ≡ x → j ≡ y + 1
     → KeepsSide (corner_at m table x y) (corner_at m table i j)
 side_below m table rows x y i j e f same =
     let on = on_map m x y (alike_from (ground_at m x y) (ground_at m i j) same).0 in
@@ -205,7 +336,7 @@ Diagonals m table x y i j =
     → AreWithin 9369319 (corner_at m table x y).key (corner_at m table i j).key
     × AreWithin 9369319 (corner_at m table i y).key (corner_at m table x j).key
 
-diagonals : (m : Grid) (table : List (Option Length)) → AllRows m table → (x y i j : ℕ) → i ≡ x + 1 → j ≡ y + 1 → Diagonals m table x y i j
+diagonals : (m : Grid) (table : List (Option Length)) → AllBlocks m table → (x y i j : ℕ) → i ≡ x + 1 → j ≡ y + 1 → Diagonals m table x y i j
 diagonals m table rows x y i j e f =
     subst (λ k. Diagonals m table x y k j) (sym e) (subst (λ k. Diagonals m table x y (x + 1) k) (sym f)
     (λ beside below across.
@@ -220,7 +351,7 @@ straight_bounds p q h = from_within 1 0 p q (omega arith) (omega arith) h
 diagonal_bounds : (p q : Option Length) → AreWithin 9369319 (key_of_entry p) (key_of_entry q) → BoundEachOther 0 1 p q
 diagonal_bounds p q h = from_within 0 1 p q (omega arith) (omega arith) h
 
-straight_by : (m : Grid) (table : List (Option Length)) → AllRows m table → (u v : Cell) → IsStraightStep m u v → ShareSide u v
+straight_by : (m : Grid) (table : List (Option Length)) → AllBlocks m table → (u v : Cell) → IsStraightStep m u v → ShareSide u v
     → Bounds 1 0 (entry_of m table u) (entry_of m table v)
 straight_by m table rows u v step (inl (e, inl f)) =
     let same = same_from (ground_at m v.x v.y) (ground_at m u.x u.y) (flip (ground_at m u.x u.y) (ground_at m v.x v.y) (same_from_step m u v step)) in
@@ -233,7 +364,7 @@ straight_by m table rows u v step (inr (e, inl f)) =
 straight_by m table rows u v step (inr (e, inr f)) =
     (straight_bounds (entry_of m table u) (entry_of m table v) (side_right m table rows u.x u.y v.x v.y f (sym e) (same_from (ground_at m u.x u.y) (ground_at m v.x v.y) (same_from_step m u v step)))).0
 
-diagonal_by : (m : Grid) (table : List (Option Length)) → AllRows m table → (u v : Cell) → IsDiagonalStep m u v → AreNext u.x v.x → AreNext u.y v.y
+diagonal_by : (m : Grid) (table : List (Option Length)) → AllBlocks m table → (u v : Cell) → IsDiagonalStep m u v → AreNext u.x v.x → AreNext u.y v.y
     → Bounds 0 1 (entry_of m table u) (entry_of m table v)
 diagonal_by m table rows u v step columns lines =
     let below : Cell = record { x = u.x; y = v.y } in
@@ -262,8 +393,8 @@ diagonal_by m table rows u v step columns lines =
       ]
     ]
 
-pub tight_from_rows : (m : Grid) (table : List (Option Length)) → AllRows m table → IsTight m table
-tight_from_rows m table rows = record {
+pub tight_from_blocks : (m : Grid) (table : List (Option Length)) → AllBlocks m table → IsTight m table
+tight_from_blocks m table rows = record {
   straight = λ u v step. straight_by m table rows u v step step.side;
   diagonal = λ u v step. diagonal_by m table rows u v step step.columns step.rows;
 }

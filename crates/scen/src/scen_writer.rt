@@ -63,7 +63,7 @@ fn put_row<W: Write>(sink: &mut Sink<'_, W>, row: &Row) -> Result<(), WriteFault
         ],
     )?;
     put_listed(sink, row.listed())?;
-    sink.put(b"\n")
+    sink.put_byte(b'\n')
 }
 
 /// Puts each number as a field.
@@ -83,7 +83,7 @@ fn put_field<W: Write>(sink: &mut Sink<'_, W>, field: &[u8]) -> Result<(), Write
     ensures err { OnErr result (Breaks W.contents sink.old sink.new (field.now ++ tab ∷ [])) }
 {
     sink.put(field)?;
-    sink.put(b"\t")
+    sink.put_byte(b'\t')
 }
 
 /// Puts a listed length with as many decimals as it has.
@@ -97,7 +97,7 @@ pub fn put_listed<W: Write>(sink: &mut Sink<'_, W>, listed: Listed) -> Result<()
     if listed.d == 0 {
         return Ok(());
     }
-    sink.put(b".")?;
+    sink.put_byte(b'.')?;
     // the 1 in front keeps the zeros that the decimals may begin with
     let decimals = buffer.format(scale + listed.n % scale).as_bytes();
     sink.put(&decimals[1..])

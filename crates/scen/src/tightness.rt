@@ -1,87 +1,127 @@
 //! Whether a table of lengths is tight: no legal step improves it.
-ghost use Rattle.std.specs.Prelude.{◌≡◌, ◌*◌, ◌<◌, ◌≤◌, ◌↔◌, IsTrue, length};
-ghost use Rattle.grid.specs.Map.{terrain_at};
+ghost use Rattle.std.specs.Prelude.{◌≡◌, ◌+◌, ◌*◌, ◌<◌, ◌≤◌, ◌↔◌, IsTrue, length, ℕ, slice_index};
 ghost use Rattle.grid.specs.Terrain.{terrain_of};
 ghost use Rattle.scen.specs.Certificate.{IsTight};
-ghost use Rattle.scen.specs.Code.Tightness.{ground_of, is_land, is_water, key_of_entry, corner_at, AreSame, AreWithin, KeepsSide, KeepsDiagonals, KeepsBlock, KeepsRow};
+ghost use Rattle.scen.specs.Code.Tightness.{ground_of, number_of, is_land, is_water, key_of_entry, AreSame, AreWithin, KeepsSide, KeepsDiagonals, KeepsBlock, KeepsRows, IsStrip, AreCorners, KeepsStrip};
 
 use crate::Length;
-use crate::certificate::entry;
 use crate::keys::{DIAGONAL, STRAIGHT};
-use grid::{Cell, Map};
+use grid::Map;
 
-/// What the map and the table say of a cell. Two bools tell its ground, since a branch on it could not be foreseen.
+/// What the map and the table say of a cell. Land and water have a bit each of its grounds, since a branch on them
+/// could not be foreseen.
 #[derive(Clone, Copy, Debug)]
 pub(crate) struct Corner {
-    is_land: bool,
-    is_water: bool,
+    grounds: u64,
     key: u64,
 }
 
 /// The key of a cell without a length, far from those of all lengths.
 const NO_LENGTH: u64 = 1 << 62;
 
-/// Whether no legal step improves the table. It goes once over the map, a row and the one below it side by side.
+/// So many columns make a strip.
+const STRIP: u32 = 512;
+
+/// What the cells of one row say in a strip, and in the column behind it.
+#[derive(Clone, Copy, Debug)]
+pub(crate) struct Corners {
+    grounds: [u64; STRIP as usize + 1],
+    keys: [u64; STRIP as usize + 1],
+}
+
+impl Corners {
+    ghost use Rattle.scen.specs.Code.Tightness.{corner_in};
+
+    fn blocked() -> Corners
+        ensures { (i : ℕ) → slice_index result.grounds i ≡ 0 }
+    {
+        Corners {
+            grounds: [0; STRIP as usize + 1],
+            keys: [0; STRIP as usize + 1],
+        }
+    }
+
+    fn at(&self, i: usize) -> Corner
+        requires { i < 513 }
+        ensures { result ≡ corner_in self.now i }
+    {
+        Corner {
+            grounds: self.grounds[i],
+            key: self.keys[i],
+        }
+    }
+}
+
+/// Whether no legal step improves the table. It goes down the map strip by strip, and holds two rows, so that it looks up each cell
+/// once.
 pub(crate) fn is_tight(map: &Map, table: &[Option<Length>]) -> bool
+    requires cells { length table.now ≡ map.now.width * map.now.height }
     ensures { IsTrue result ↔ IsTight map.now table.now }
 {
-    for y in 0..map.height() {
-        if !keeps_row(map, table, y) {
+    let width = map.width();
+    for strip in 0..width.div_ceil(STRIP) {
+        let left = strip * STRIP;
+        if !keeps_strip(map, table, left, width.min(left + STRIP)) {
             return false;
         }
     }
     true
+}
+
+/// Tests each step of the columns from one to before another, and each to the column behind them.
+fn keeps_strip(map: &Map, table: &[Option<Length>], left: u32, right: u32) -> bool
+    requires cells { length table.now ≡ map.now.width * map.now.height }
+    requires strip { IsStrip map.now left right }
+    ensures { IsTrue result ↔ KeepsStrip map.now table.now left right }
+{
+    let mut upper = corners_of(map, table, left, right, 0);
+    for y in 0..map.height() {
+        let lower = corners_of(map, table, left, right, y + 1);
+        if !keeps_row(&upper, &lower, (right - left) as usize) {
+            return false;
+        }
+        upper = lower;
+    }
+    true
+}
+
+/// What the cells of a row say; off the map they are blocked, and no key is told.
+fn corners_of(map: &Map, table: &[Option<Length>], left: u32, right: u32, y: u32) -> Corners
+    requires cells { length table.now ≡ map.now.width * map.now.height }
+    requires strip { IsStrip map.now left right }
+    requires row { y < 65536 }
+    ensures { AreCorners map.now table.now left right y result }
+{
+    let mut corners = Corners::blocked();
+    let (width, height) = (map.width(), map.height());
+    if y < height {
+        let characters = map.characters();
+        let first = y as usize * width as usize + left as usize;
+        for i in 0..(width.min(right + 1) - left) as usize {
+            corners.grounds[i] = grounds_of(characters[first + i]);
+            corners.keys[i] = key_of_entry(table[first + i]);
+        }
+    }
+    corners
 }
 
 /// Tests each step of a row and each to the row below it.
-fn keeps_row(map: &Map, table: &[Option<Length>], y: u32) -> bool
-    requires { y < map.now.height }
-    ensures { IsTrue result ↔ KeepsRow map.now table.now y }
+fn keeps_row(upper: &Corners, lower: &Corners, count: usize) -> bool
+    requires { count ≤ 512 }
+    ensures { IsTrue result ↔ KeepsRows count upper.now lower.now }
 {
-    let width = map.width();
-    let mut upper = corner_of(map, table, 0, y);
-    let mut lower = corner_of(map, table, 0, y + 1);
-    for x in 0..width {
-        let next_upper = corner_of(map, table, x + 1, y);
-        let next_lower = corner_of(map, table, x + 1, y + 1);
-        if !keeps_block(upper, next_upper, lower, next_lower) {
-            return false;
-        }
-        upper = next_upper;
-        lower = next_lower;
+    let mut keeps = true;
+    for i in 0..count {
+        // no branch, so that many blocks can be tested at once
+        keeps &= keeps_block(upper.at(i), upper.at(i + 1), lower.at(i), lower.at(i + 1));
     }
-    true
+    keeps
 }
 
-/// What the map and the table say of a cell; off the map it is blocked.
-fn corner_of(map: &Map, table: &[Option<Length>], x: u32, y: u32) -> Corner
-    requires column { x < 65536 }
-    requires row { y < 65536 }
-    ensures { result ≡ corner_at map.now table.now x y }
+fn grounds_of(character: u8) -> u64
+    ensures { result ≡ number_of (ground_of (terrain_of character)) }
 {
-    let cell = Cell {
-        x: x as u16,
-        y: y as u16,
-    };
-    let character = character_at(map, cell);
-    Corner {
-        is_land: is_land(character),
-        is_water: is_water(character),
-        key: key_of_entry(entry(map, table, cell)),
-    }
-}
-
-/// The character of a cell; off the map that of a blocked one.
-fn character_at(map: &Map, cell: Cell) -> u8
-    ensures { ground_of (terrain_of result) ≡ ground_of (terrain_at map.now cell) }
-{
-    let (width, height) = (map.width(), map.height());
-    let (x, y) = (u32::from(cell.x), u32::from(cell.y));
-    if x < width && y < height {
-        map.characters()[y as usize * width as usize + x as usize]
-    } else {
-        b'@'
-    }
+    u64::from(is_land(character)) + 2 * u64::from(is_water(character))
 }
 
 fn is_land(character: u8) -> bool
@@ -135,7 +175,7 @@ fn keeps_diagonals(a: Corner, b: Corner, c: Corner, d: Corner) -> bool
 fn are_same(p: Corner, q: Corner) -> bool
     ensures { IsTrue result ↔ AreSame p q }
 {
-    (p.is_land & q.is_land) | (p.is_water & q.is_water)
+    p.grounds & q.grounds != 0
 }
 
 /// Whether neither of two keys is more than the other and a step.

@@ -1,10 +1,11 @@
 -- How a table is tested to be tight: row by row, by blocks of four cells that share a corner.
-use Rattle.std.specs.Prelude.{ℕ, ◌+◌, ◌*◌, ◌^◌, ◌<◌, ◌≤◌, ◌&&◌, ◌||◌, Bool, true, false, IsTrue, List, Option, Some, None}
+use Rattle.std.specs.Prelude.{bit_and, ℕ, ◌≡◌, ◌+◌, ◌-◌, ◌*◌, ◌^◌, ◌<◌, ◌≤◌, Bool, true, false, List, slice_index, Option, Some, None}
 use Rattle.grid.specs.declared.terrain.Terrain.{Terrain}
 use Rattle.grid.specs.Terrain.{Class, land, swamp, water, blocked, class_of}
 use Rattle.grid.specs.Map.{Grid, terrain_at}
 use Rattle.scen.specs.declared.length.Length.{Length}
 use Rattle.scen.specs.declared.tightness.Corner.{Corner}
+use Rattle.scen.specs.declared.tightness.Corners.{Corners}
 use Rattle.scen.specs.Certificate.{entry_of}
 
 -- what steps hang on: land and swamp are one ground, since each joins each
@@ -30,6 +31,12 @@ abbrev pub is_water : Ground → Bool
 is_water open_water = true
 is_water _ = false
 
+-- a bit for each kind of ground
+abbrev pub number_of : Ground → ℕ
+number_of open_land = 1
+number_of open_water = 2
+number_of no_ground = 0
+
 -- an entry as a number: the keys of lengths are ordered as the lengths are, and no length has a key near that of none
 abbrev pub key_of_entry : Option Length → ℕ
 key_of_entry None = 2 ^ 62
@@ -39,14 +46,13 @@ key_of_entry (Some l) = l.straight * 6625109 + l.diagonal * 9369319
 abbrev pub corner_at : Grid → List (Option Length) → ℕ → ℕ → Corner
 corner_at m table x y =
     record {
-      is_land = is_land (ground_of (terrain_at m (record { x = x; y = y })));
-      is_water = is_water (ground_of (terrain_at m (record { x = x; y = y })));
+      grounds = number_of (ground_of (terrain_at m (record { x = x; y = y })));
       key = key_of_entry (entry_of m table (record { x = x; y = y }));
     }
 
 -- both cells are land, or both are water
 abbrev pub AreSame : Corner → Corner → Type 0
-AreSame p q = IsTrue ((p.is_land && q.is_land) || (p.is_water && q.is_water))
+AreSame p q = bit_and p.grounds q.grounds ≡ 0 → ⊥
 
 -- neither key is more than the other and a step
 abbrev pub AreWithin : (step p q : ℕ) → Type 0
@@ -64,8 +70,35 @@ KeepsDiagonals a b c d = AreSame a b × AreSame a c × AreSame a d → AreWithin
 abbrev pub KeepsBlock : Corner → Corner → Corner → Corner → Type 0
 KeepsBlock a b c d = KeepsSide a b × KeepsSide a c × KeepsDiagonals a b c d
 
--- each block whose upper left cell is in the row
-abbrev pub KeepsRow : Grid → List (Option Length) → ℕ → Type 0
-KeepsRow m table y =
-    (x : ℕ) → x < m.width
-    → KeepsBlock (corner_at m table x y) (corner_at m table (x + 1) y) (corner_at m table x (y + 1)) (corner_at m table (x + 1) (y + 1))
+-- four cells that share a corner, by the upper left one
+abbrev pub KeepsBlockAt : Grid → List (Option Length) → (x y : ℕ) → Type 0
+KeepsBlockAt m table x y =
+    KeepsBlock (corner_at m table x y) (corner_at m table (x + 1) y) (corner_at m table x (y + 1)) (corner_at m table (x + 1) (y + 1))
+
+-- what a row holds of a column of its strip
+abbrev pub corner_in : Corners → ℕ → Corner
+corner_in corners i = record { grounds = slice_index corners.grounds i; key = slice_index corners.keys i }
+
+-- four cells that share a corner, by the place of the upper left one in two rows one below another
+abbrev pub KeepsBlockIn : Corners → Corners → ℕ → Type 0
+KeepsBlockIn upper lower i = KeepsBlock (corner_in upper i) (corner_in upper (i + 1)) (corner_in lower i) (corner_in lower (i + 1))
+
+-- the first so many blocks of two rows
+abbrev pub KeepsRows : ℕ → Corners → Corners → Type 0
+KeepsRows count upper lower = (i : ℕ) → i < count → KeepsBlockIn upper lower i
+
+-- the columns of a strip, from one to before another
+abbrev pub IsStrip : Grid → (left right : ℕ) → Type 0
+IsStrip m left right = (left < right) × (right ≤ left + 512) × (right ≤ m.width)
+
+-- The one tells of a cell what the other does. A key tells nothing where no step may enter.
+abbrev pub Tells : Corner → Corner → Type 0
+Tells p c = (p.grounds ≡ c.grounds) × ((c.grounds ≡ 0 → ⊥) → p.key ≡ c.key)
+
+-- what the cells of a row say, from one column to another
+abbrev pub AreCorners : Grid → List (Option Length) → (left right y : ℕ) → Corners → Type 0
+AreCorners m table left right y corners = (x : ℕ) → left ≤ x → x ≤ right → Tells (corner_in corners (x - left)) (corner_at m table x y)
+
+-- each block whose upper left cell is in a column from one to before another
+abbrev pub KeepsStrip : Grid → List (Option Length) → (left right : ℕ) → Type 0
+KeepsStrip m table left right = (y : ℕ) → y < m.height → (x : ℕ) → left ≤ x → x < right → KeepsBlockAt m table x y

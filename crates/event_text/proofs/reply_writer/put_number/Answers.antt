@@ -6,23 +6,23 @@ use Rattle.grid.specs.Text.{space}
 use Rattle.scen.proofs.PutLemmas.{Leaves-all, Leaves-less, Leaves-broken, Puts-last, Breaks-last}
 use Rattle.event_text.proofs.reply_writer.put_number.Goals as goal
 
-pub returns-in_err-put-clause-err : goal.returns-in_err-put-clause-err
-returns-in_err-put-clause-err g c =
+pub returns-in_err-put_byte-clause-err : goal.returns-in_err-put_byte-clause-err
+returns-in_err-put_byte-clause-err g c =
     let p = err_from_is_err_and c.from_residual.result c.from_residual.ensures.1 in
     let digits = decimal c.args.number in
     rw p.1 (Leaves-broken g.W.Write.contents _ _ _ _ (space ∷ []) digits _ (Leaves-all g.W.Write.contents _ (space ∷ digits) (space ∷ digits) refl) refl
-    c.in_err-put.ensures.err)
+    c.in_err-put_byte.ensures.err)
 
 pub returns-clause-ok : goal.returns-clause-ok
 returns-clause-ok g c =
     let digits = decimal c.args.number in
     let less = Leaves-less g.W.Write.contents _ _ _ _ (space ∷ []) digits _ (Leaves-all g.W.Write.contents _ (space ∷ digits) (space ∷ digits) refl) refl
-    c.in_ok-put.ensures.ok in
-    Puts-last g.W.Write.contents _ _ _ _ digits _ c.put-2.result less (c.as_bytes.ensures.value ∙ c.format.ensures.text) c.put-2.ensures.ok
+    c.in_ok-put_byte.ensures.ok in
+    Puts-last g.W.Write.contents _ _ _ _ digits _ c.put.result less (c.as_bytes.ensures.value ∙ c.format.ensures.text) c.put.ensures.ok
 
 pub returns-clause-err : goal.returns-clause-err
 returns-clause-err g c =
     let digits = decimal c.args.number in
     let less = Leaves-less g.W.Write.contents _ _ _ _ (space ∷ []) digits _ (Leaves-all g.W.Write.contents _ (space ∷ digits) (space ∷ digits) refl) refl
-    c.in_ok-put.ensures.ok in
-    Breaks-last g.W.Write.contents _ _ _ _ digits _ c.put-2.result less (c.as_bytes.ensures.value ∙ c.format.ensures.text) c.put-2.ensures.err
+    c.in_ok-put_byte.ensures.ok in
+    Breaks-last g.W.Write.contents _ _ _ _ digits _ c.put.result less (c.as_bytes.ensures.value ∙ c.format.ensures.text) c.put.ensures.err

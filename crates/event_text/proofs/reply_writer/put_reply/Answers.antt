@@ -19,11 +19,11 @@ returns-clause-ok g c =
     let line = reply_line (answer_of c.args.reply.now) in
     let all = Leaves-all g.W.Write.contents _ (line ++ line_feed ∷ []) (line ++ line_feed ∷ []) refl in
     let less = Leaves-less g.W.Write.contents _ _ _ _ line (line_feed ∷ []) _ all refl c.in_ok-put_line.ensures.ok in
-    Puts-last g.W.Write.contents _ _ _ _ (line_feed ∷ []) _ c.put.result less refl c.put.ensures.ok
+    Puts-last g.W.Write.contents _ _ _ _ (line_feed ∷ []) _ c.put_byte.result less refl c.put_byte.ensures.ok
 
 pub returns-clause-err : goal.returns-clause-err
 returns-clause-err g c =
     let line = reply_line (answer_of c.args.reply.now) in
     let all = Leaves-all g.W.Write.contents _ (line ++ line_feed ∷ []) (line ++ line_feed ∷ []) refl in
     let less = Leaves-less g.W.Write.contents _ _ _ _ line (line_feed ∷ []) _ all refl c.in_ok-put_line.ensures.ok in
-    Breaks-last g.W.Write.contents _ _ _ _ (line_feed ∷ []) _ c.put.result less refl c.put.ensures.err
+    Breaks-last g.W.Write.contents _ _ _ _ (line_feed ∷ []) _ c.put_byte.result less refl c.put_byte.ensures.err

@@ -15,14 +15,14 @@ returns-in_err-put_numbers-clause-err g c =
     rw p.1 (Leaves-broken g.W.Write.contents _ _ _ _ front rest _ (Leaves-all g.W.Write.contents _ (front ++ rest) (front ++ rest) refl) refl
     c.in_err-put_numbers.ensures.err)
 
-pub returns-in_err-put-clause-err : goal.returns-in_err-put-clause-err
-returns-in_err-put-clause-err g c =
-    let p = err_from_is_err_and c.from_residual-in_err-put.result c.from_residual-in_err-put.ensures.1 in
+pub returns-in_err-put_byte-clause-err : goal.returns-in_err-put_byte-clause-err
+returns-in_err-put_byte-clause-err g c =
+    let p = err_from_is_err_and c.from_residual-in_err-put_byte.result c.from_residual-in_err-put_byte.ensures.1 in
     let front = codes "said" ++ spaced_numbers (c.args.number ∷ []) in
     let digits = encode_lower c.args.bytes.now in
     let all = Leaves-all g.W.Write.contents _ (front ++ space ∷ digits) (front ++ space ∷ digits) refl in
     let less = Leaves-less g.W.Write.contents _ _ _ _ front (space ∷ digits) _ all refl c.in_ok-put_numbers.ensures.ok in
-    rw p.1 (Leaves-broken g.W.Write.contents _ _ _ _ (space ∷ []) digits _ less refl c.in_err-put.ensures.err)
+    rw p.1 (Leaves-broken g.W.Write.contents _ _ _ _ (space ∷ []) digits _ less refl c.in_err-put_byte.ensures.err)
 
 pub returns-clause-ok : goal.returns-clause-ok
 returns-clause-ok g c =
@@ -30,7 +30,7 @@ returns-clause-ok g c =
     let digits = encode_lower c.args.bytes.now in
     let all = Leaves-all g.W.Write.contents _ (front ++ space ∷ digits) (front ++ space ∷ digits) refl in
     let less = Leaves-less g.W.Write.contents _ _ _ _ front (space ∷ digits) _ all refl c.in_ok-put_numbers.ensures.ok in
-    let last = Leaves-less g.W.Write.contents _ _ _ _ (space ∷ []) digits _ less refl c.in_ok-put.ensures.ok in
+    let last = Leaves-less g.W.Write.contents _ _ _ _ (space ∷ []) digits _ less refl c.in_ok-put_byte.ensures.ok in
     Puts-last g.W.Write.contents _ _ _ _ digits _ c.put_hexadecimal.result last refl c.put_hexadecimal.ensures.ok
 
 pub returns-clause-err : goal.returns-clause-err
@@ -39,5 +39,5 @@ returns-clause-err g c =
     let digits = encode_lower c.args.bytes.now in
     let all = Leaves-all g.W.Write.contents _ (front ++ space ∷ digits) (front ++ space ∷ digits) refl in
     let less = Leaves-less g.W.Write.contents _ _ _ _ front (space ∷ digits) _ all refl c.in_ok-put_numbers.ensures.ok in
-    let last = Leaves-less g.W.Write.contents _ _ _ _ (space ∷ []) digits _ less refl c.in_ok-put.ensures.ok in
+    let last = Leaves-less g.W.Write.contents _ _ _ _ (space ∷ []) digits _ less refl c.in_ok-put_byte.ensures.ok in
     Breaks-last g.W.Write.contents _ _ _ _ digits _ c.put_hexadecimal.result last refl c.put_hexadecimal.ensures.err

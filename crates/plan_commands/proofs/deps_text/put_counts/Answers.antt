@@ -37,12 +37,12 @@ pub returns-clause-ok : goal.returns-clause-ok
 returns-clause-ok g c =
     let n = c.args.counts.now in
     line-put g.W.Write.contents (said (codes "agents ") c.args.agents) (said (codes " moves ") n.moves) (said (codes " needs ") n.needs) (said (codes " rotations ") c.args.rotations) _
-    (counts-parts c.args.agents n.moves n.needs c.args.rotations) _ _ _ _ _ _ c.put.result c.in_ok-put_number.ensures.ok c.in_ok-put_number-2.ensures.ok c.in_ok-put_number-3.ensures.ok
-    c.in_ok-put_number-4.ensures.ok c.put.ensures.ok
+    (counts-parts c.args.agents n.moves n.needs c.args.rotations) _ _ _ _ _ _ c.put_byte.result c.in_ok-put_number.ensures.ok c.in_ok-put_number-2.ensures.ok c.in_ok-put_number-3.ensures.ok
+    c.in_ok-put_number-4.ensures.ok c.put_byte.ensures.ok
 
 pub returns-clause-err : goal.returns-clause-err
 returns-clause-err g c =
     let n = c.args.counts.now in
     line-broken g.W.Write.contents (said (codes "agents ") c.args.agents) (said (codes " moves ") n.moves) (said (codes " needs ") n.needs) (said (codes " rotations ") c.args.rotations) _
-    (counts-parts c.args.agents n.moves n.needs c.args.rotations) _ _ _ _ _ _ c.put.result c.in_ok-put_number.ensures.ok c.in_ok-put_number-2.ensures.ok c.in_ok-put_number-3.ensures.ok
-    c.in_ok-put_number-4.ensures.ok c.put.ensures.err
+    (counts-parts c.args.agents n.moves n.needs c.args.rotations) _ _ _ _ _ _ c.put_byte.result c.in_ok-put_number.ensures.ok c.in_ok-put_number-2.ensures.ok c.in_ok-put_number-3.ensures.ok
+    c.in_ok-put_number-4.ensures.ok c.put_byte.ensures.err

@@ -31,7 +31,7 @@ returns-clause-ok g c =
     let all = Leaves-all g.W.Write.contents _ _ (first ++ left) (rotation-parts (record { step = c.args.step; agents = c.args.agents.now })) in
     let less = Leaves-less g.W.Write.contents _ _ _ _ first left _ all refl c.in_ok-put_number.ensures.ok in
     let last = Leaves-less g.W.Write.contents _ _ _ _ (spaced_numbers c.args.agents.now) (line_feed ∷ []) _ less refl c.in_ok-put_agents.ensures.ok in
-    Puts-last g.W.Write.contents _ _ _ _ (line_feed ∷ []) _ c.put.result last refl c.put.ensures.ok
+    Puts-last g.W.Write.contents _ _ _ _ (line_feed ∷ []) _ c.put_byte.result last refl c.put_byte.ensures.ok
 
 pub returns-clause-err : goal.returns-clause-err
 returns-clause-err g c =
@@ -40,4 +40,4 @@ returns-clause-err g c =
     let all = Leaves-all g.W.Write.contents _ _ (first ++ left) (rotation-parts (record { step = c.args.step; agents = c.args.agents.now })) in
     let less = Leaves-less g.W.Write.contents _ _ _ _ first left _ all refl c.in_ok-put_number.ensures.ok in
     let last = Leaves-less g.W.Write.contents _ _ _ _ (spaced_numbers c.args.agents.now) (line_feed ∷ []) _ less refl c.in_ok-put_agents.ensures.ok in
-    Breaks-last g.W.Write.contents _ _ _ _ (line_feed ∷ []) _ c.put.result last refl c.put.ensures.err
+    Breaks-last g.W.Write.contents _ _ _ _ (line_feed ∷ []) _ c.put_byte.result last refl c.put_byte.ensures.err

@@ -14,11 +14,11 @@ returns-in_err-put-clause-err g c =
 pub returns-clause-ok : goal.returns-clause-ok
 returns-clause-ok g c =
     let all = Leaves-all g.W.Write.contents _ _ (c.args.field.now ++ tab ∷ []) refl in
-    Puts-last g.W.Write.contents _ _ _ _ (tab ∷ []) _ c.put-2.result
-    (Leaves-less g.W.Write.contents _ _ _ _ c.args.field.now (tab ∷ []) _ all refl c.in_ok-put.ensures.ok) refl c.put-2.ensures.ok
+    Puts-last g.W.Write.contents _ _ _ _ (tab ∷ []) _ c.put_byte.result
+    (Leaves-less g.W.Write.contents _ _ _ _ c.args.field.now (tab ∷ []) _ all refl c.in_ok-put.ensures.ok) refl c.put_byte.ensures.ok
 
 pub returns-clause-err : goal.returns-clause-err
 returns-clause-err g c =
     let all = Leaves-all g.W.Write.contents _ _ (c.args.field.now ++ tab ∷ []) refl in
-    Breaks-last g.W.Write.contents _ _ _ _ (tab ∷ []) _ c.put-2.result
-    (Leaves-less g.W.Write.contents _ _ _ _ c.args.field.now (tab ∷ []) _ all refl c.in_ok-put.ensures.ok) refl c.put-2.ensures.err
+    Breaks-last g.W.Write.contents _ _ _ _ (tab ∷ []) _ c.put_byte.result
+    (Leaves-less g.W.Write.contents _ _ _ _ c.args.field.now (tab ∷ []) _ all refl c.in_ok-put.ensures.ok) refl c.put_byte.ensures.err

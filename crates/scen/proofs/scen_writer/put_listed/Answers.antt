@@ -44,15 +44,15 @@ returns-in_err-put-clause-err g c =
     let all = Leaves-all g.W.Write.contents _ (listed_text listed.n listed.d) _ refl in
     rw p.1 (Leaves-broken g.W.Write.contents _ _ _ _ (decimal (listed.n / 10 ^ listed.d)) (decimals_text listed.d listed.n) _ all whole c.in_err-put.ensures.err)
 
-pub returns-in_err-put-2-clause-err : goal.returns-in_err-put-2-clause-err
-returns-in_err-put-2-clause-err g c =
-    let p = err_from_is_err_and c.from_residual-in_err-put-2.result c.from_residual-in_err-put-2.ensures.1 in
+pub returns-in_err-put_byte-clause-err : goal.returns-in_err-put_byte-clause-err
+returns-in_err-put_byte-clause-err g c =
+    let p = err_from_is_err_and c.from_residual-in_err-put_byte.result c.from_residual-in_err-put_byte.ensures.1 in
     let listed = c.args.listed in
     let power : c.pow-scale.result ≡ 10 ^ listed.d = c.pow-scale.ensures ∙ ap (λ k. 10 ^ k) c.from.ensures in
     let whole : c.as_bytes.result.now ≡ decimal (listed.n / 10 ^ listed.d)
     = c.as_bytes.ensures.value ∙ c.format.ensures.text ∙ ap (λ k. decimal (listed.n / k)) power in
     let front = whole-put g.W.Write.contents listed.n listed.d _ _ _ whole (omega arith) c.in_ok-put.ensures.ok in
-    rw p.1 (Leaves-broken g.W.Write.contents _ _ _ _ _ (last_digits listed.d listed.n) _ front refl c.in_err-put-2.ensures.err)
+    rw p.1 (Leaves-broken g.W.Write.contents _ _ _ _ _ (last_digits listed.d listed.n) _ front refl c.in_err-put_byte.ensures.err)
 
 pub returns-clause-ok : goal.returns-clause-ok
 returns-clause-ok g c =
@@ -61,10 +61,10 @@ returns-clause-ok g c =
     let whole : c.as_bytes.result.now ≡ decimal (listed.n / 10 ^ listed.d)
     = c.as_bytes.ensures.value ∙ c.format.ensures.text ∙ ap (λ k. decimal (listed.n / k)) power in
     let front = whole-put g.W.Write.contents listed.n listed.d _ _ _ whole (omega arith) c.in_ok-put.ensures.ok in
-    let mark = point-put g.W.Write.contents listed.n listed.d _ _ _ front c.in_ok-put-2.ensures.ok in
-    Puts-last g.W.Write.contents _ _ _ _ _ _ c.put-3.result mark
+    let mark = point-put g.W.Write.contents listed.n listed.d _ _ _ front c.in_ok-put_byte.ensures.ok in
+    Puts-last g.W.Write.contents _ _ _ _ _ _ c.put-2.result mark
     (decimals_behind_one listed.d listed.n c.pow-scale.result c.as_bytes-decimals.result.now listed.decimals_limit power
-    (c.as_bytes-decimals.ensures.value ∙ c.format-2.ensures.text)) c.put-3.ensures.ok
+    (c.as_bytes-decimals.ensures.value ∙ c.format-2.ensures.text)) c.put-2.ensures.ok
 
 pub returns-clause-err : goal.returns-clause-err
 returns-clause-err g c =
@@ -73,7 +73,7 @@ returns-clause-err g c =
     let whole : c.as_bytes.result.now ≡ decimal (listed.n / 10 ^ listed.d)
     = c.as_bytes.ensures.value ∙ c.format.ensures.text ∙ ap (λ k. decimal (listed.n / k)) power in
     let front = whole-put g.W.Write.contents listed.n listed.d _ _ _ whole (omega arith) c.in_ok-put.ensures.ok in
-    let mark = point-put g.W.Write.contents listed.n listed.d _ _ _ front c.in_ok-put-2.ensures.ok in
-    Breaks-last g.W.Write.contents _ _ _ _ _ _ c.put-3.result mark
+    let mark = point-put g.W.Write.contents listed.n listed.d _ _ _ front c.in_ok-put_byte.ensures.ok in
+    Breaks-last g.W.Write.contents _ _ _ _ _ _ c.put-2.result mark
     (decimals_behind_one listed.d listed.n c.pow-scale.result c.as_bytes-decimals.result.now listed.decimals_limit power
-    (c.as_bytes-decimals.ensures.value ∙ c.format-2.ensures.text)) c.put-3.ensures.err
+    (c.as_bytes-decimals.ensures.value ∙ c.format-2.ensures.text)) c.put-2.ensures.err

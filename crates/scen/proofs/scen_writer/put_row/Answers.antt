@@ -53,7 +53,7 @@ returns-clause-ok g c =
     let sizes = sizes-put g.W.Write.contents q _ _ _ _ name given c.in_ok-put_numbers-2.ensures.ok in
     let listed = listed-put g.W.Write.contents q _ _ _ c.listed.result.n c.listed.result.d sizes c.listed.ensures.number c.listed.ensures.decimals
     c.in_ok-put_listed.ensures.ok in
-    Puts-last g.W.Write.contents _ _ _ _ (line_feed ∷ []) _ c.put.result listed refl c.put.ensures.ok
+    Puts-last g.W.Write.contents _ _ _ _ (line_feed ∷ []) _ c.put_byte.result listed refl c.put_byte.ensures.ok
 
 pub returns-clause-err : goal.returns-clause-err
 returns-clause-err g c =
@@ -64,4 +64,4 @@ returns-clause-err g c =
     let sizes = sizes-put g.W.Write.contents q _ _ _ _ name given c.in_ok-put_numbers-2.ensures.ok in
     let listed = listed-put g.W.Write.contents q _ _ _ c.listed.result.n c.listed.result.d sizes c.listed.ensures.number c.listed.ensures.decimals
     c.in_ok-put_listed.ensures.ok in
-    Breaks-last g.W.Write.contents _ _ _ _ (line_feed ∷ []) _ c.put.result listed refl c.put.ensures.err
+    Breaks-last g.W.Write.contents _ _ _ _ (line_feed ∷ []) _ c.put_byte.result listed refl c.put_byte.ensures.err

@@ -1,23 +1,25 @@
--- The table is tight exactly where each row keeps.
-use Rattle.std.proofs.Common.{refl, sym, arith, ◌∙◌}
-use Rattle.std.proofs.lemmas.Bool.{false≢true}
-use Rattle.scen.specs.Code.Tightness.{KeepsRow}
-use Rattle.scen.proofs.TightTables.{all_below_next, block_from_tight, tight_from_rows}
+-- The table is tight exactly where each strip keeps.
+use Rattle.std.proofs.Common.{◌*◌, refl, sym, arith, ◌∙◌, inl, inr}
+use Rattle.std.proofs.lemmas.Bool.{false≢true, cases_lt}
+use Rattle.scen.proofs.TightTables.{block_from_tight, tight_from_blocks}
 use Rattle.scen.proofs.tightness.is_tight.Goals as goal
 
-pub returns-then-not-keeps_row : goal.returns-then-not-keeps_row
-returns-then-not-keeps_row c =
+pub returns-then-not-keeps_strip : goal.returns-then-not-keeps_strip
+returns-then-not-keeps_strip c =
     let m = c.args.map.now in
     let table = c.args.table.now in (
       λ e. absurd (false≢true e),
-      λ tight. absurd (false≢true (sym c.if-not-keeps_row.true ∙ c.keeps_row.ensures.1 (λ x column. block_from_tight m table tight x c.loop-y.y))),
+      λ tight. absurd (false≢true (sym c.if-not-keeps_strip.true ∙ c.keeps_strip.ensures.1 (λ y row x least most. block_from_tight m table tight x y))),
     )
 
-pub loop-y-preserved : goal.loop-y-preserved
-loop-y-preserved c = all_below_next (KeepsRow c.args.map.now c.args.table.now) c.loop-y.y c.loop-y.invariant (c.keeps_row.ensures.0 c.if-not-keeps_row.false)
+pub loop-strip-preserved : goal.loop-strip-preserved
+loop-strip-preserved c y row x less inside = elim (cases_lt x (512 * c.loop-strip.strip)) [
+  | inl earlier ↦ c.loop-strip.invariant y row x earlier inside
+  | inr least ↦ c.keeps_strip.ensures.0 c.if-not-keeps_strip.false y row x (omega (arith, least)) (omega (arith, less, inside, c.min.ensures, c.width-width.ensures.width))
+]
 
 pub returns : goal.returns
 returns c = (
-  λ e. tight_from_rows c.args.map.now c.args.table.now (λ y row. c.loop-y.invariant y (omega (arith, c.loop-y-test.false, c.height-y-end.ensures.height, row))),
+  λ e. tight_from_blocks c.args.map.now c.args.table.now (λ y row x column. c.loop-strip.invariant y row x (omega (arith, column, c.loop-strip-test.false, c.div_ceil-strip-end.ensures, c.width-width.ensures.width)) column),
   λ tight. refl,
 )

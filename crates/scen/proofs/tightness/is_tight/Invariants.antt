@@ -1,6 +1,7 @@
-use Rattle.std.proofs.Common.{ℕ, ◌<◌}
-use Rattle.scen.specs.Code.Tightness.{KeepsRow}
+use Rattle.std.proofs.Common.{ℕ, ◌*◌, ◌<◌}
+use Rattle.scen.specs.Code.Tightness.{KeepsBlockAt}
 use Rattle.scen.proofs.tightness.is_tight.Given as goal
 
-abbrev pub invariant-loop-y : goal.invariant-loop-y
-invariant-loop-y l = (k : ℕ) → k < l.y → KeepsRow l.map l.table k
+-- each block whose column is in a strip before it keeps
+abbrev pub invariant-loop-strip : goal.invariant-loop-strip
+invariant-loop-strip l = (y : ℕ) → y < l.map.height → (x : ℕ) → x < 512 * l.strip → x < l.map.width → KeepsBlockAt l.map l.table x y
