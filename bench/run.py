@@ -2,9 +2,9 @@
 """Measures `mapf` beside a plain Rust program that does the same work.
 
 Usage: run.py [--program PATH] [--rounds N] [--side N] [--rows N] [--only COMMAND]
-Both programs run in turn over the same texts, many rounds. A line for each text: the best time of each in milliseconds,
-their ratio, and the most memory that each held, in megabytes. For `row` our program finds the lengths and certifies them, and
-the other one only finds them.
+Both programs run in turn over the same texts, many rounds, and at least ten seconds for each text. A line for each text: the
+best time of each in milliseconds, their ratio, and the most memory that each held, in megabytes. For `row` our program finds the
+lengths and certifies them, and the other one only finds them.
 """
 import argparse
 import pathlib
@@ -45,25 +45,30 @@ def peak_memory(program, words, size):
 
 
 def whole_peak_memory(program, words):
-    """The most kilobytes of memory, as it was last seen before the end."""
-    child = subprocess.Popen([program, *words], stdout=subprocess.DEVNULL, stderr=subprocess.DEVNULL)
+    """The most kilobytes of memory in five runs, as it was last seen before each end: one look may come too early for a short run."""
     most = 0
-    while child.poll() is None:
-        status = pathlib.Path(f"/proc/{child.pid}/status").read_text()
-        most = max([most, *(int(line.split()[1]) for line in status.splitlines() if line.startswith("VmHWM"))])
+    for _ in range(5):
+        child = subprocess.Popen([program, *words], stdout=subprocess.DEVNULL, stderr=subprocess.DEVNULL)
+        while child.poll() is None:
+            status = pathlib.Path(f"/proc/{child.pid}/status").read_text()
+            most = max([most, *(int(line.split()[1]) for line in status.splitlines() if line.startswith("VmHWM"))])
     return most
 
 
 def measure(programs, words, folder, rounds, statuses=(0,)):
-    """The best time of each program in seconds, and the text that each wrote."""
+    """The best time of each program in seconds, and the text that each wrote. A machine may be slow for seconds at a time, so
+    short texts get more rounds, until ten seconds are over."""
     best = [float("inf")] * len(programs)
     texts = [None] * len(programs)
-    for _ in range(rounds):
+    begun = time.perf_counter()
+    done = 0
+    while done < rounds or time.perf_counter() - begun < 10:
         for i, program in enumerate(programs):
             output = folder / f"out{i}"
             best[i] = min(best[i], run_once(program, words, output, statuses))
             if texts[i] is None:
                 texts[i] = output.read_bytes()
+        done += 1
     return best, texts
 
 
@@ -143,7 +148,7 @@ def measure_run(programs, name, events, mishaps, folder, rounds):
 def main():
     parser = argparse.ArgumentParser()
     parser.add_argument("--program", default=str(BENCH.parent / "crates/mapf/out/mapf"))
-    parser.add_argument("--rounds", type=int, default=60)
+    parser.add_argument("--rounds", type=int, default=9)
     parser.add_argument("--side", type=int, default=2048)
     parser.add_argument("--rows", type=int, default=100_000)
     parser.add_argument("--only", choices=("map", "scen", "row", "check", "deps", "run"))
