@@ -28,7 +28,7 @@ use Rattle.depgraph.proofs.PositionLemmas.{visit_at, cell_of}
 use Rattle.depgraph.proofs.NoteLemmas.{later-is}
 use Rattle.depgraph.proofs.RankLemmas.{occurrences_rise, occurs, occurrence-rank, rank-is, rank-least, rank-most, ranked, tally-within, below-all}
 use Rattle.depgraph.proofs.ScheduleLemmas.{same_count, begin_most, position}
-use Rattle.depgraph.proofs.TrackLemmas.{no_track}
+use Rattle.depgraph.proofs.PathLemmas.{no_track}
 use Rattle.depgraph.proofs.VisitLemmas.{begin_is, end_is, IsArrival, arrives, arrival-cell, entry_own, entry_track, entry_at, entry-one, entry-within}
 use Rattle.depgraph.proofs.WaitLemmas.{IsJustBefore, need_none, need_some}
 

@@ -14,7 +14,7 @@ use Rattle.depgraph.specs.Code.Arrivals.{entered, entry_times}
 use Rattle.depgraph.specs.Code.Paths.{ArePaths, begin_of}
 use Rattle.depgraph.specs.Code.Tracks.{later_by, track_by, tracks_from, tracks_by}
 use Rattle.depgraph.proofs.ArrivalLemmas.{entered-stays, entered-moves, times-stays, times-moves, entered_path}
-use Rattle.depgraph.proofs.PathLemmas.{own_path, own_times, begin_before}
+use Rattle.depgraph.proofs.PathLemmas.{no_track, own_path, own_times, begin_before}
 
 -- the agent ends at rest: it costs as many steps as there are
 abbrev RestsAtEnd : Cell → List Cell → Type 0
@@ -93,9 +93,6 @@ begins tracks cells times ends zero h less = refl
 begins tracks cells times ends (suc i) h less =
     let next : i + 1 ≡ suc i = omega arith in
     begin_before tracks cells times ends i h (omega (arith, less)) ∙ ap (begin_of tracks) next
-
-pub no_track : Track
-no_track = record { start = record { x = 0; y = 0 }; later = [] }
 
 pub tracks_told : (tracks : List Track) (cells : List Cell) (times ends : List ℕ) → ArePaths tracks cells times ends → All EndsAtRest tracks
     → tracks_by cells times ends ≡ tracks

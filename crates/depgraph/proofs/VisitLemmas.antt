@@ -14,7 +14,7 @@ use Rattle.depgraph.specs.Code.Entries.{begin_in, IsEntry, arrival_time}
 use Rattle.depgraph.specs.Code.Paths.{all_entered, ArePaths, begin_of}
 use Rattle.depgraph.proofs.ArrivalLemmas.{step-entered, entered_path}
 use Rattle.depgraph.proofs.PathLemmas.{own_path, own_times, begin_before, all_entered-push, all_entered-append}
-use Rattle.depgraph.proofs.TrackLemmas.{no_track}
+use Rattle.depgraph.proofs.PathLemmas.{no_track}
 
 -- ---- the arrivals of one agent
 

@@ -11,7 +11,7 @@ use crate::entries::{begin_in, entry_at};
 use crate::numbering::{Numbering, numbering_of};
 use crate::order::order_of;
 use crate::out_of_memory::OutOfMemory;
-use crate::paths::{Paths, paths_of};
+use crate::paths::{Paths, entered_cells, paths_of};
 use crate::placing::{Placed, bounds_in, place_visits};
 use crate::rotations::find_rotations;
 use crate::waiting::{Wait, Waits, waits_of};
@@ -67,18 +67,18 @@ impl Graph {
         // Cells are found again in the end: to hold them all along would take more memory than the graph.
         drop(cells);
         let placed = place_visits(alloc, plan, &times, &ends, &numbers, count)?;
-        drop(numbers);
         let Placed { visits, next } = placed;
-        let Waits { waits, mut ahead } = waits_of(alloc, &times, &ends, &visits, &next.next)?;
+        let Waits { waits, mut ahead } = waits_of(
+            alloc, &times, &ends, &visits, &next.next, numbers,
+        )?;
         let rotations = find_rotations(alloc, plan, &times, &ends, &waits, &mut ahead)?;
         drop(ahead);
-        drop(times);
         let order = order_of(alloc, &visits, &next.next)?;
-        let again = paths_of(alloc, plan)?;
+        let again = entered_cells(alloc, plan, times.len())?;
         Ok(Graph {
             number,
-            cells: again.cells,
-            times: again.times,
+            cells: again,
+            times,
             ends,
             needs: waits,
             visits,

@@ -1,7 +1,7 @@
 //! The paths of the agents, and when they come into each cell.
 ghost use Rattle.std.specs.Prelude.{◌≡◌, ◌++◌, ◌<◌, ◌^◌, None, length, IfOk, OnOk};
 ghost use Rattle.depgraph.specs.Code.Arrivals.{is_new, entered, entry_times};
-ghost use Rattle.depgraph.specs.Code.Paths.{ArePaths};
+ghost use Rattle.depgraph.specs.Code.Paths.{all_entered, ArePaths};
 
 use grid::Cell;
 use plan::{Cells, CheckedPlan};
@@ -31,7 +31,36 @@ pub(crate) fn paths_of(alloc: Global, plan: &CheckedPlan) -> Result<Paths, Alloc
     Ok(Paths { cells, times, ends })
 }
 
-/// Adds an agent's cells, each once while it stays, and the times at which it comes into them, behind those of other agents.
+/// The cells of the paths of a plan's agents, for which there is room at once if there are so many.
+pub(crate) fn entered_cells(
+    alloc: Global,
+    plan: &CheckedPlan,
+    room: usize,
+) -> Result<Vec<Cell>, AllocError>
+    ensures { IfOk result (λ cells. cells.items ≡ all_entered plan.now.timetable.tracks) }
+{
+    let mut path = Vec::with_capacity(alloc, room)?;
+    for agent in 0..plan.agents() {
+        enter(plan.cells(agent).unwrap(), &mut path)?;
+    }
+    Ok(path)
+}
+
+/// Adds an agent's cells, each once while it stays, behind those of other agents.
+fn enter(cells: Cells<'_>, path: &mut Vec<Cell>) -> Result<(), AllocError>
+    ensures { OnOk result (path.new.items ≡ path.old.items ++ entered None cells.entry) }
+{
+    let mut here = None;
+    for cell in cells {
+        if is_new(here, cell) {
+            path.push(cell)?;
+        }
+        here = Some(cell);
+    }
+    Ok(())
+}
+
+/// Adds the same cells, and the times at which the agent comes into them.
 pub(crate) fn follow(
     cells: Cells<'_>,
     path: &mut Vec<Cell>,

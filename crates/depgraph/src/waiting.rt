@@ -25,13 +25,15 @@ pub(crate) struct Waits {
     pub(crate) ahead: Vec<u32>,
 }
 
-/// What the moves into all entries wait for, by the visits of each cell, which end there.
+/// What the moves into all entries wait for, by the visits of each cell, which end there. A list of numbers that are of no more use
+/// gives its room.
 pub(crate) fn waits_of(
     alloc: Global,
     times: &[u32],
     ends: &[usize],
     visits: &[Visit],
     visit_ends: &[u32],
+    mut spare: Vec<u32>,
 ) -> Result<Waits, AllocError>
     requires blocks { AreBlocks ends.now visits.now visit_ends.now }
     requires times { length times.now ≡ length visits.now }
@@ -39,9 +41,11 @@ pub(crate) fn waits_of(
     ensures waits { IfOk result (λ w. AreWaits ends.now visits.now visit_ends.now w.waits.items) }
     ensures ahead { IfOk result (λ w. AreAhead times.now ends.now visits.now visit_ends.now w.ahead.items) }
 {
+    spare.clear();
+    spare.resize(visits.len(), NO_ENTRY)?;
     let mut waits = Waits {
         waits: vec![in alloc; Wait { agent: 0, count: 0 }; visits.len()]?,
-        ahead: vec![in alloc; NO_ENTRY; visits.len()]?,
+        ahead: spare,
     };
     let mut at = 0;
     for n in 0..visit_ends.len() {

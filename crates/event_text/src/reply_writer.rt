@@ -1,8 +1,8 @@
 //! Writing replies as text.
-ghost use Rattle.std.specs.Prelude.{◌≡◌, ◌≤◌, [], ◌∷◌, ◌++◌, length, map, decimal, OnOk, OnErr, is_ok};
+ghost use Rattle.std.specs.Prelude.{◌≡◌, ◌≤◌, [], ◌∷◌, ◌++◌, length, map, OnOk, OnErr, is_ok};
 ghost use Rattle.hex.specs.Hex.{encode_lower};
 ghost use Rattle.grid.specs.Counted.{counted_inner, failures_of};
-ghost use Rattle.grid.specs.Text.{space, line_feed};
+ghost use Rattle.grid.specs.Text.{line_feed};
 ghost use Rattle.grid.specs.Sink.{held_back, Puts, Breaks};
 ghost use Rattle.grid.specs.Writing.{WritesText};
 ghost use Rattle.model.specs.History.{said, refused};
@@ -11,7 +11,6 @@ ghost use Rattle.event_text.specs.ReplyText.{spaced_numbers, refusal_name, stand
 
 use grid::{Counted, Sink, WriteFault};
 use hex::encode_to_slice;
-use itoa::Buffer;
 use model::{Reply, Why};
 use std::io::Write;
 
@@ -140,18 +139,9 @@ fn put_numbers<W: Write>(
 {
     sink.put(word)?;
     for number in numbers {
-        put_number(sink, *number)?;
+        sink.put_number_after(b' ', *number)?;
     }
     Ok(())
-}
-
-/// Puts a space and a number.
-fn put_number<W: Write>(sink: &mut Sink<'_, W>, number: u64) -> Result<(), WriteFault>
-    ensures ok { OnOk result (Puts W.contents sink.old sink.new (space ∷ decimal number)) }
-    ensures err { OnErr result (Breaks W.contents sink.old sink.new (space ∷ decimal number)) }
-{
-    sink.put_byte(b' ')?;
-    sink.put(Buffer::new().format(number).as_bytes())
 }
 
 /// Puts two digits for each byte.

@@ -5,6 +5,7 @@ ghost use Rattle.grid.specs.FaultWords.{words_of, words_text, write_fault_words}
 ghost use Rattle.grid.specs.Writing.{WritesText};
 
 use crate::{Counted, FaultWords};
+use itoa::{Buffer, Integer};
 use std::fmt;
 use std::io::Write;
 use thiserror::Error;
@@ -72,7 +73,8 @@ impl Piece {
 
     fn push(&mut self, byte: u8)
         requires { self.old.len < 65536 }
-        ensures { take self.new.len self.new.bytes ≡ take self.old.len self.old.bytes ++ byte ∷ [] }
+        ensures len { self.new.len ≡ self.old.len + 1 }
+        ensures bytes { take self.new.len self.new.bytes ≡ take self.old.len self.old.bytes ++ byte ∷ [] }
     {
         self.bytes[self.len] = byte;
         self.len += 1;
@@ -120,10 +122,21 @@ impl<'a, W: Write> Sink<'a, W> {
         ensures err { OnErr result (Breaks W.contents self.old self.new bytes.now) }
     {
         if self.piece.room() < bytes.len() {
-            self.hand_on()?;
-            if self.piece.room() < bytes.len() {
-                return send(self.writer, bytes);
-            }
+            return self.put_past(bytes);
+        }
+        self.piece.append(bytes);
+        Ok(())
+    }
+
+    /// Puts bytes for which the piece has no room: they are more than its rest.
+    #[cold]
+    fn put_past(&mut self, bytes: &[u8]) -> Result<(), WriteFault>
+        ensures ok { OnOk result (Puts W.contents self.old self.new bytes.now) }
+        ensures err { OnErr result (Breaks W.contents self.old self.new bytes.now) }
+    {
+        self.hand_on()?;
+        if self.piece.room() < bytes.len() {
+            return send(self.writer, bytes);
         }
         self.piece.append(bytes);
         Ok(())
@@ -135,10 +148,45 @@ impl<'a, W: Write> Sink<'a, W> {
         ensures err { OnErr result (Breaks W.contents self.old self.new (byte ∷ [])) }
     {
         if self.piece.room() == 0 {
-            return self.put(&[byte]);
+            return self.put_past(&[byte]);
         }
         self.piece.push(byte);
         Ok(())
+    }
+
+    /// Puts a byte that separates, and bytes behind it.
+    pub fn put_after(&mut self, separator: u8, bytes: &[u8]) -> Result<(), WriteFault>
+        ensures ok { OnOk result (Puts W.contents self.old self.new (separator ∷ bytes.now)) }
+        ensures err { OnErr result (Breaks W.contents self.old self.new (separator ∷ bytes.now)) }
+    {
+        if self.piece.room() <= bytes.len() {
+            return self.put_apart(separator, bytes);
+        }
+        self.piece.push(separator);
+        self.piece.append(bytes);
+        Ok(())
+    }
+
+    /// Puts the byte and then the bytes, where the piece has no room for both.
+    #[cold]
+    fn put_apart(&mut self, separator: u8, bytes: &[u8]) -> Result<(), WriteFault>
+        ensures ok { OnOk result (Puts W.contents self.old self.new (separator ∷ bytes.now)) }
+        ensures err { OnErr result (Breaks W.contents self.old self.new (separator ∷ bytes.now)) }
+    {
+        self.put_byte(separator)?;
+        self.put(bytes)
+    }
+
+    /// Puts a byte that separates, and a number behind it.
+    pub fn put_number_after<I: Integer>(
+        &mut self,
+        separator: u8,
+        number: I,
+    ) -> Result<(), WriteFault>
+        ensures ok { OnOk result (Puts W.contents self.old self.new (separator ∷ I.text number)) }
+        ensures err { OnErr result (Breaks W.contents self.old self.new (separator ∷ I.text number)) }
+    {
+        self.put_after(separator, Buffer::new().format(number).as_bytes())
     }
 
     /// Hands on all that is held back.

@@ -1,6 +1,6 @@
 //! The text of a plan's dependencies.
 ghost use Rattle.std.specs.Prelude.{◌≡◌, ◌<◌, [], ◌∷◌, ◌++◌, List, Some, length, map, sum_by, count_by, is_some, is_ok, OnOk, OnErr};
-ghost use Rattle.grid.specs.Text.{space, line_feed, ended, spaced_numbers};
+ghost use Rattle.grid.specs.Text.{line_feed, ended, spaced_numbers};
 ghost use Rattle.grid.specs.Counted.{counted_inner, failures_of};
 ghost use Rattle.grid.specs.Sink.{held_back, Puts, Breaks};
 ghost use Rattle.grid.specs.Writing.{WritesText};
@@ -162,9 +162,9 @@ fn put_need<W: Write>(
         return Ok(());
     };
     put_number(sink, b"need ", agent)?;
-    put_next(sink, k)?;
-    put_next(sink, other)?;
-    put_next(sink, count)?;
+    sink.put_number_after(b' ', k)?;
+    sink.put_number_after(b' ', other)?;
+    sink.put_number_after(b' ', count)?;
     sink.put_byte(b'\n')
 }
 
@@ -199,7 +199,7 @@ fn put_agents<W: Write>(sink: &mut Sink<'_, W>, agents: &[u16]) -> Result<(), Wr
     ensures err { OnErr result (Breaks W.contents sink.old sink.new (spaced_numbers agents.now)) }
 {
     for agent in agents {
-        put_next(sink, *agent)?;
+        sink.put_number_after(b' ', *agent)?;
     }
     Ok(())
 }
@@ -214,14 +214,5 @@ fn put_number<I: Integer, W: Write>(
     ensures err { OnErr result (Breaks W.contents sink.old sink.new (word.now ++ I.text number)) }
 {
     sink.put(word)?;
-    sink.put(Buffer::new().format(number).as_bytes())
-}
-
-/// Puts a number behind a space.
-fn put_next<I: Integer, W: Write>(sink: &mut Sink<'_, W>, number: I) -> Result<(), WriteFault>
-    ensures ok { OnOk result (Puts W.contents sink.old sink.new (space ∷ I.text number)) }
-    ensures err { OnErr result (Breaks W.contents sink.old sink.new (space ∷ I.text number)) }
-{
-    sink.put_byte(b' ')?;
     sink.put(Buffer::new().format(number).as_bytes())
 }

@@ -49,8 +49,8 @@ fn put_row<W: Write>(sink: &mut Sink<'_, W>, row: &Row) -> Result<(), WriteFault
 {
     let start = row.start();
     let goal = row.goal();
-    put_numbers(sink, &[row.bucket()])?;
-    put_field(sink, row.name())?;
+    sink.put(Buffer::new().format(row.bucket()).as_bytes())?;
+    sink.put_after(b'\t', row.name())?;
     put_numbers(
         sink,
         &[
@@ -62,28 +62,20 @@ fn put_row<W: Write>(sink: &mut Sink<'_, W>, row: &Row) -> Result<(), WriteFault
             u32::from(goal.y),
         ],
     )?;
+    sink.put_byte(b'\t')?;
     put_listed(sink, row.listed())?;
     sink.put_byte(b'\n')
 }
 
-/// Puts each number as a field.
+/// Puts each number behind a tab.
 fn put_numbers<W: Write>(sink: &mut Sink<'_, W>, numbers: &[u32]) -> Result<(), WriteFault>
-    ensures ok { OnOk result (Puts W.contents sink.old sink.new (flat_map (λ n. decimal n ++ tab ∷ []) numbers.now)) }
-    ensures err { OnErr result (Breaks W.contents sink.old sink.new (flat_map (λ n. decimal n ++ tab ∷ []) numbers.now)) }
+    ensures ok { OnOk result (Puts W.contents sink.old sink.new (flat_map (λ n. tab ∷ decimal n) numbers.now)) }
+    ensures err { OnErr result (Breaks W.contents sink.old sink.new (flat_map (λ n. tab ∷ decimal n) numbers.now)) }
 {
     for number in numbers {
-        put_field(sink, Buffer::new().format(*number).as_bytes())?;
+        sink.put_number_after(b'\t', *number)?;
     }
     Ok(())
-}
-
-/// Puts a field that another one follows.
-fn put_field<W: Write>(sink: &mut Sink<'_, W>, field: &[u8]) -> Result<(), WriteFault>
-    ensures ok { OnOk result (Puts W.contents sink.old sink.new (field.now ++ tab ∷ [])) }
-    ensures err { OnErr result (Breaks W.contents sink.old sink.new (field.now ++ tab ∷ [])) }
-{
-    sink.put(field)?;
-    sink.put_byte(b'\t')
 }
 
 /// Puts a listed length with as many decimals as it has.
@@ -97,8 +89,7 @@ pub fn put_listed<W: Write>(sink: &mut Sink<'_, W>, listed: Listed) -> Result<()
     if listed.d == 0 {
         return Ok(());
     }
-    sink.put_byte(b'.')?;
     // the 1 in front keeps the zeros that the decimals may begin with
     let decimals = buffer.format(scale + listed.n % scale).as_bytes();
-    sink.put(&decimals[1..])
+    sink.put_after(b'.', &decimals[1..])
 }

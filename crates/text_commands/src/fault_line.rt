@@ -1,6 +1,6 @@
 //! The line that says why a command ends as it does.
-ghost use Rattle.std.specs.Prelude.{◌≡◌, [], ◌∷◌, ◌++◌, Some, is_ok, OnOk, OnErr, decimal};
-ghost use Rattle.grid.specs.Text.{space, spaced_numbers};
+ghost use Rattle.std.specs.Prelude.{◌≡◌, [], ◌++◌, Some, is_ok, OnOk, OnErr};
+ghost use Rattle.grid.specs.Text.{spaced_numbers};
 ghost use Rattle.grid.specs.Counted.{counted_inner, failures_of};
 ghost use Rattle.grid.specs.FaultWords.{words_of};
 ghost use Rattle.grid.specs.Sink.{held_back, Puts, Breaks};
@@ -8,7 +8,6 @@ ghost use Rattle.grid.specs.Writing.{WritesText};
 ghost use Rattle.text_commands.specs.Telling.{Tells, fault_line};
 
 use grid::{Counted, FaultWords, Sink, WriteFault};
-use itoa::Buffer;
 use std::io::Write;
 
 /// Writes the line of a fault, as `mapf: ShortRow 6`, by one write where the writer takes it whole.
@@ -44,15 +43,7 @@ fn put_numbers<E: Write>(sink: &mut Sink<'_, E>, numbers: &[u64]) -> Result<(), 
     ensures err { OnErr result (Breaks E.contents sink.old sink.new (spaced_numbers numbers.now)) }
 {
     for number in numbers {
-        put_number(sink, *number)?;
+        sink.put_number_after(b' ', *number)?;
     }
     Ok(())
-}
-
-fn put_number<E: Write>(sink: &mut Sink<'_, E>, number: u64) -> Result<(), WriteFault>
-    ensures ok { OnOk result (Puts E.contents sink.old sink.new (space ∷ decimal number)) }
-    ensures err { OnErr result (Breaks E.contents sink.old sink.new (space ∷ decimal number)) }
-{
-    sink.put(b" ")?;
-    sink.put(Buffer::new().format(number).as_bytes())
 }

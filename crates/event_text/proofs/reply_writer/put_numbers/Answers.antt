@@ -19,17 +19,17 @@ loop-number-init g c =
     let rest = spaced_numbers c.args.numbers.now in
     Leaves-less g.W.Write.contents _ _ _ _ word rest _ (Leaves-all g.W.Write.contents _ (word ++ rest) (word ++ rest) refl) refl c.in_ok-put.ensures.ok
 
-pub returns-in_err-put_number-clause-err : goal.returns-in_err-put_number-clause-err
-returns-in_err-put_number-clause-err g c =
-    let p = err_from_is_err_and c.from_residual-in_err-put_number.result c.from_residual-in_err-put_number.ensures.1 in
+pub returns-in_err-put_number_after-clause-err : goal.returns-in_err-put_number_after-clause-err
+returns-in_err-put_number_after-clause-err g c =
+    let p = err_from_is_err_and c.from_residual-in_err-put_number_after.result c.from_residual-in_err-put_number_after.ensures.1 in
     let left = spaced_numbers (drop (c.loop-number.number-index + 1) c.args.numbers.now) in
     let next = subst (Leaves g.W.Write.contents _ _ _)
     (at_drop_more spaced_numbers c.args.numbers.now c.loop-number.number-index 0 c.loop-number-test.true) c.loop-number.invariant in
-    rw p.1 (Leaves-broken g.W.Write.contents _ _ _ _ _ left _ next refl c.in_err-put_number.ensures.err)
+    rw p.1 (Leaves-broken g.W.Write.contents _ _ _ _ _ left _ next refl c.in_err-put_number_after.ensures.err)
 
 pub loop-number-preserved : goal.loop-number-preserved
 loop-number-preserved g c =
     let left = spaced_numbers (drop (c.loop-number.number-index + 1) c.args.numbers.now) in
     let next = subst (Leaves g.W.Write.contents _ _ _)
     (at_drop_more spaced_numbers c.args.numbers.now c.loop-number.number-index 0 c.loop-number-test.true) c.loop-number.invariant in
-    Leaves-less g.W.Write.contents _ _ _ _ _ left _ next refl c.in_ok-put_number.ensures.ok
+    Leaves-less g.W.Write.contents _ _ _ _ _ left _ next refl c.in_ok-put_number_after.ensures.ok

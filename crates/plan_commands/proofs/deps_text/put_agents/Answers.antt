@@ -6,17 +6,17 @@ use Rattle.scen.proofs.PutLemmas.{Leaves, Leaves-less, Leaves-broken}
 use Rattle.grid.specs.Text.{spaced_numbers}
 use Rattle.plan_commands.proofs.deps_text.put_agents.Goals as goal
 
-pub returns-in_err-put_next-clause-err : goal.returns-in_err-put_next-clause-err
-returns-in_err-put_next-clause-err g c =
+pub returns-in_err-put_number_after-clause-err : goal.returns-in_err-put_number_after-clause-err
+returns-in_err-put_number_after-clause-err g c =
     let p = err_from_is_err_and c.from_residual.result c.from_residual.ensures.1 in
     let at = c.loop-agent.agent-index in
     let left = spaced_numbers (drop (at + 1) c.args.agents.now) in
     let next = subst (Leaves g.W.Write.contents _ _ _) (at_drop_more spaced_numbers c.args.agents.now at 0 c.loop-agent-test.true) c.loop-agent.invariant in
-    rw p.1 (Leaves-broken g.W.Write.contents _ _ _ _ _ left _ next refl c.in_err-put_next.ensures.err)
+    rw p.1 (Leaves-broken g.W.Write.contents _ _ _ _ _ left _ next refl c.in_err-put_number_after.ensures.err)
 
 pub loop-agent-preserved : goal.loop-agent-preserved
 loop-agent-preserved g c =
     let at = c.loop-agent.agent-index in
     let left = spaced_numbers (drop (at + 1) c.args.agents.now) in
     let next = subst (Leaves g.W.Write.contents _ _ _) (at_drop_more spaced_numbers c.args.agents.now at 0 c.loop-agent-test.true) c.loop-agent.invariant in
-    Leaves-less g.W.Write.contents _ _ _ _ _ left _ next refl c.in_ok-put_next.ensures.ok
+    Leaves-less g.W.Write.contents _ _ _ _ _ left _ next refl c.in_ok-put_number_after.ensures.ok

@@ -1,5 +1,5 @@
 -- Each turn puts the first of the fields that are left.
-use Rattle.std.proofs.Common.{◌≡◌, ◌+◌, [], ◌∷◌, ◌++◌, drop, get_or, ap, ◌∙◌, subst}
+use Rattle.std.proofs.Common.{◌+◌, ◌∷◌, drop, refl, subst}
 use Rattle.std.specs.Prelude.{decimal}
 use Rattle.std.specs.List.{flat_map}
 use Rattle.std.proofs.lemmas.List.{at_drop_more}
@@ -8,23 +8,19 @@ use Rattle.grid.specs.Text.{tab}
 use Rattle.scen.proofs.PutLemmas.{Leaves, Leaves-less, Leaves-broken}
 use Rattle.scen.proofs.scen_writer.put_numbers.Goals as goal
 
-pub returns-in_err-put_field-clause-err : goal.returns-in_err-put_field-clause-err
-returns-in_err-put_field-clause-err g c =
+pub returns-in_err-put_number_after-clause-err : goal.returns-in_err-put_number_after-clause-err
+returns-in_err-put_number_after-clause-err g c =
     let p = err_from_is_err_and c.from_residual.result c.from_residual.ensures.1 in
     let at = c.loop-number.number-index in
-    let left = flat_map (λ n. decimal n ++ tab ∷ []) (drop (at + 1) c.args.numbers.now) in
+    let left = flat_map (λ n. tab ∷ decimal n) (drop (at + 1) c.args.numbers.now) in
     let next = subst (Leaves g.W.Write.contents _ _ _)
-    (at_drop_more (flat_map (λ n. decimal n ++ tab ∷ [])) c.args.numbers.now at 0 c.loop-number-test.true) c.loop-number.invariant in
-    let field : c.as_bytes.result.now ++ tab ∷ [] ≡ decimal (get_or c.args.numbers.now at 0) ++ tab ∷ []
-    = ap (λ xs. xs ++ tab ∷ []) (c.as_bytes.ensures.value ∙ c.format.ensures.text) in
-    rw p.1 (Leaves-broken g.W.Write.contents _ _ _ _ _ left _ next field c.in_err-put_field.ensures.err)
+    (at_drop_more (flat_map (λ n. tab ∷ decimal n)) c.args.numbers.now at 0 c.loop-number-test.true) c.loop-number.invariant in
+    rw p.1 (Leaves-broken g.W.Write.contents _ _ _ _ _ left _ next refl c.in_err-put_number_after.ensures.err)
 
 pub loop-number-preserved : goal.loop-number-preserved
 loop-number-preserved g c =
     let at = c.loop-number.number-index in
-    let left = flat_map (λ n. decimal n ++ tab ∷ []) (drop (at + 1) c.args.numbers.now) in
+    let left = flat_map (λ n. tab ∷ decimal n) (drop (at + 1) c.args.numbers.now) in
     let next = subst (Leaves g.W.Write.contents _ _ _)
-    (at_drop_more (flat_map (λ n. decimal n ++ tab ∷ [])) c.args.numbers.now at 0 c.loop-number-test.true) c.loop-number.invariant in
-    let field : c.as_bytes.result.now ++ tab ∷ [] ≡ decimal (get_or c.args.numbers.now at 0) ++ tab ∷ []
-    = ap (λ xs. xs ++ tab ∷ []) (c.as_bytes.ensures.value ∙ c.format.ensures.text) in
-    Leaves-less g.W.Write.contents _ _ _ _ _ left _ next field c.in_ok-put_field.ensures.ok
+    (at_drop_more (flat_map (λ n. tab ∷ decimal n)) c.args.numbers.now at 0 c.loop-number-test.true) c.loop-number.invariant in
+    Leaves-less g.W.Write.contents _ _ _ _ _ left _ next refl c.in_ok-put_number_after.ensures.ok

@@ -6,17 +6,17 @@ use Rattle.grid.specs.Text.{spaced_numbers}
 use Rattle.scen.proofs.PutLemmas.{Leaves, Leaves-less, Leaves-broken}
 use Rattle.text_commands.proofs.fault_line.put_numbers.Goals as goal
 
-pub returns-in_err-put_number-clause-err : goal.returns-in_err-put_number-clause-err
-returns-in_err-put_number-clause-err g c =
+pub returns-in_err-put_number_after-clause-err : goal.returns-in_err-put_number_after-clause-err
+returns-in_err-put_number_after-clause-err g c =
     let p = err_from_is_err_and c.from_residual.result c.from_residual.ensures.1 in
     let at = c.loop-number.number-index in
     let left = spaced_numbers (drop (at + 1) c.args.numbers.now) in
     let next = subst (Leaves g.E.Write.contents _ _ _) (at_drop_more spaced_numbers c.args.numbers.now at 0 c.loop-number-test.true) c.loop-number.invariant in
-    rw p.1 (Leaves-broken g.E.Write.contents _ _ _ _ _ left _ next refl c.in_err-put_number.ensures.err)
+    rw p.1 (Leaves-broken g.E.Write.contents _ _ _ _ _ left _ next refl c.in_err-put_number_after.ensures.err)
 
 pub loop-number-preserved : goal.loop-number-preserved
 loop-number-preserved g c =
     let at = c.loop-number.number-index in
     let left = spaced_numbers (drop (at + 1) c.args.numbers.now) in
     let next = subst (Leaves g.E.Write.contents _ _ _) (at_drop_more spaced_numbers c.args.numbers.now at 0 c.loop-number-test.true) c.loop-number.invariant in
-    Leaves-less g.E.Write.contents _ _ _ _ _ left _ next refl c.in_ok-put_number.ensures.ok
+    Leaves-less g.E.Write.contents _ _ _ _ _ left _ next refl c.in_ok-put_number_after.ensures.ok

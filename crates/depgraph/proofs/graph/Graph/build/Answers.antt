@@ -103,9 +103,9 @@ module _ (checked : Checked) (is : IsChecked checked) (times ends : List ℕ) (h
     are_ahead = subst (λ l. AreAhead l ends visits visit_ends ahead) h.are_times also;
   }
 
-  abbrev kept : (cells : List Cell) (more : List ℕ) (waits : List Wait) (visits : List Visit) (visit_ends : List ℕ) → ArePaths checked.timetable.tracks cells more ends
-      → IsBuilt checked.timetable.tracks ends visits visit_ends → AreWaits ends visits visit_ends waits → IsKept checked.timetable cells more ends waits visits visit_ends
-  kept cells more waits visits visit_ends again b are = record {
+  abbrev kept : (cells : List Cell) (waits : List Wait) (visits : List Visit) (visit_ends : List ℕ) → ArePaths checked.timetable.tracks cells times ends
+      → IsBuilt checked.timetable.tracks ends visits visit_ends → AreWaits ends visits visit_ends waits → IsKept checked.timetable cells times ends waits visits visit_ends
+  kept cells waits visits visit_ends again b are = record {
     graphed = graphed checked is;
     are_cells = again.are_cells;
     are_times = again.are_times;
@@ -122,10 +122,9 @@ told checked number cells times ends is same h =
     ap {A = ℕ} {B = Timetable} (λ n. record { number = n; tracks = tracks_by cells times ends }) same
     ∙ ap {A = List Track} {B = Timetable} (λ l. record { number = checked.timetable.number; tracks = l }) (tracks_told checked.timetable.tracks cells times ends h is.at_rest)
 
--- the paths that were found again end where those before did
-same_ends : (tracks : List Track) (cells again : List Cell) (times more : List ℕ) (ends others : List ℕ) → ArePaths tracks cells times ends → ArePaths tracks again more others
-    → ArePaths tracks again more ends
-same_ends tracks cells again times more ends others h h2 = record { are_cells = h2.are_cells; are_times = h2.are_times; count = h.count; are_ends = h.are_ends }
+-- the cells that were found again are those of the paths
+same_paths : (tracks : List Track) (cells again : List Cell) (times ends : List ℕ) → ArePaths tracks cells times ends → again ≡ all_entered tracks → ArePaths tracks again times ends
+same_paths tracks cells again times ends h same = subst (λ l. ArePaths tracks l times ends) (h.are_cells ∙ sym same) h
 
 pub numbering_of-requires : goal.numbering_of-requires
 numbering_of-requires c =
@@ -308,16 +307,15 @@ invariant_of-result c =
     c.in_ok-placed.ensures.visits c.in_ok-placed.ensures.count in
     let waits = lent (λ x y z. AreWaits x y z w.waits.items) c.deref-6.result.now p.ends.items c.deref-7.result.now visits c.deref-8.result.now visit_ends
     (sym c.deref-6.ensures.value) (sym c.deref-7.ensures.value) (sym c.deref-8.ensures.value) c.in_ok-waits.ensures.waits in
-    let q = c.in_ok-again.again in
+    let again = c.in_ok-again.again.items in
     let tracks = checked.timetable.tracks in
-    let paths = same_ends tracks p.cells.items q.cells.items p.times.items q.times.items p.ends.items q.ends.items c.in_ok-cells.ensures c.in_ok-again.ensures in
-    let keeps = kept checked is p.times.items p.ends.items (by_cells tracks p.cells.items p.times.items p.ends.items c.in_ok-cells.ensures) q.cells.items q.times.items w.waits.items visits visit_ends
-    paths b waits in
+    let paths = same_paths tracks p.cells.items again p.times.items p.ends.items c.in_ok-cells.ensures c.in_ok-again.ensures in
+    let keeps = kept checked is p.times.items p.ends.items (by_cells tracks p.cells.items p.times.items p.ends.items c.in_ok-cells.ensures) again w.waits.items visits visit_ends paths b waits in
     let by = subst (λ l. AreByFirst visits l c.in_ok-order.order.items) c.deref-13.ensures.value
     (subst (λ l. AreByFirst l c.deref-13.result.now c.in_ok-order.order.items) c.deref-12.ensures.value c.in_ok-order.ensures) in
     let order : IsOrder keeps.placing.listed c.in_ok-order.order.items = is_order checked.timetable.number checked.timetable.tracks p.ends.items b.arrivals b.step_ends b.line visits visit_ends b.placing c.in_ok-order.order.items by in
-    let is_told = sym (told checked c.number-number.result q.cells.items q.times.items p.ends.items is c.number-number.ensures.number paths) in
-    let ordered = subst (λ tt. (k : IsKept tt q.cells.items q.times.items p.ends.items w.waits.items visits visit_ends) × IsOrder k.placing.listed c.in_ok-order.order.items) is_told (keeps, order) in (
+    let is_told = sym (told checked c.number-number.result again p.times.items p.ends.items is c.number-number.ensures.number paths) in
+    let ordered = subst (λ tt. (k : IsKept tt again p.times.items p.ends.items w.waits.items visits visit_ends) × IsOrder k.placing.listed c.in_ok-order.order.items) is_told (keeps, order) in (
       ordered.0,
       ordered.1,
       subst (λ tt. AreRotations tt (turns_of c.in_ok-rotations.rotations.items)) is_told c.in_ok-rotations.ensures,
@@ -327,6 +325,6 @@ pub returns : goal.returns
 returns c =
     let checked = c.args.plan.now in
     let p = c.in_ok-cells.field-0 in
-    let q = c.in_ok-again.again in
-    let paths = same_ends checked.timetable.tracks p.cells.items q.cells.items p.times.items q.times.items p.ends.items q.ends.items c.in_ok-cells.ensures c.in_ok-again.ensures in
-    told checked c.number-number.result q.cells.items q.times.items p.ends.items c.number-number.ensures.within c.number-number.ensures.number paths
+    let again = c.in_ok-again.again.items in
+    let paths = same_paths checked.timetable.tracks p.cells.items again p.times.items p.ends.items c.in_ok-cells.ensures c.in_ok-again.ensures in
+    told checked c.number-number.result again p.times.items p.ends.items c.number-number.ensures.within c.number-number.ensures.number paths

@@ -5,7 +5,7 @@ use Rattle.std.specs.Prelude.{Option, MatchOption, IsSomeAnd}
 use Rattle.std.proofs.lemmas.Option.{slice_get-get_or}
 use Rattle.depgraph.specs.Routes.{Route, IsRouteOf}
 use Rattle.depgraph.specs.Code.Keeping.{route_in}
-use Rattle.depgraph.proofs.TrackLemmas.{no_track}
+use Rattle.depgraph.proofs.PathLemmas.{no_track}
 use Rattle.depgraph.proofs.KeptLemmas.{ends_count, kept_route, no_track_at}
 use Rattle.depgraph.proofs.graph.Graph.route.Goals as goal
 
