@@ -3,11 +3,12 @@
 
 Usage: run.py [--program PATH] [--rounds N] [--side N] [--rows N] [--only COMMAND]
 Both programs run in turn over the same texts, many rounds, and at least ten seconds for each text. A line for each text: the
-best time of each in milliseconds, their ratio, and the most memory that each held, in megabytes. For `row` our program finds the
-lengths and certifies them, and the other one only finds them.
+best time of each in milliseconds, the median of the rounds' ratios, and the most memory that each held, in megabytes. For `row`
+our program finds the lengths and certifies them, and the other one only finds them.
 """
 import argparse
 import pathlib
+import statistics
 import subprocess
 import sys
 import tempfile
@@ -56,25 +57,21 @@ def whole_peak_memory(program, words):
 
 
 def measure(programs, words, folder, rounds, statuses=(0,)):
-    """The best time of each program in seconds, and the text that each wrote. A machine may be slow for seconds at a time, so
-    short texts get more rounds, until ten seconds are over."""
-    best = [float("inf")] * len(programs)
-    texts = [None] * len(programs)
+    """The best time of each program in seconds with the median of the rounds' ratios, and the text that each wrote. A machine may
+    be slow for seconds at a time: the two runs of a round share that, and short texts get more rounds, until ten seconds are over."""
+    outputs = [folder / f"out{i}" for i in range(len(programs))]
+    taken = []
     begun = time.perf_counter()
-    done = 0
-    while done < rounds or time.perf_counter() - begun < 10:
-        for i, program in enumerate(programs):
-            output = folder / f"out{i}"
-            best[i] = min(best[i], run_once(program, words, output, statuses))
-            if texts[i] is None:
-                texts[i] = output.read_bytes()
-        done += 1
-    return best, texts
+    while len(taken) < rounds or time.perf_counter() - begun < 10:
+        taken.append([run_once(program, words, output, statuses) for program, output in zip(programs, outputs)])
+    best = [min(times) for times in zip(*taken)]
+    ratio = statistics.median(ours / theirs for ours, theirs in taken)
+    return (*best, ratio), [output.read_bytes() for output in outputs]
 
 
-def report(name, best, most):
-    ours, theirs = (1000 * seconds for seconds in best)
-    print(f"{name:28} {ours:8.2f} {theirs:8.2f} {ours / theirs:6.2f} {most[0] / 1024:8.1f} {most[1] / 1024:8.1f}", flush=True)
+def report(name, measured, most):
+    ours, theirs, ratio = measured
+    print(f"{name:28} {1000 * ours:8.2f} {1000 * theirs:8.2f} {ratio:6.2f} {most[0] / 1024:8.1f} {most[1] / 1024:8.1f}", flush=True)
 
 
 def measure_text(programs, command, kind, text, folder, rounds):
@@ -82,10 +79,10 @@ def measure_text(programs, command, kind, text, folder, rounds):
     path = folder / f"{kind}.{command}"
     path.write_text(text)
     words = [command, str(path)]
-    best, written = measure(programs, words, folder, rounds)
+    measured, written = measure(programs, words, folder, rounds)
     if written[0] != written[1] or written[0] != path.read_bytes():
         sys.exit(f"the two programs wrote other texts for {command} {kind}")
-    report(f"{command} {kind}", best, [peak_memory(program, words, len(written[0])) for program in programs])
+    report(f"{command} {kind}", measured, [peak_memory(program, words, len(written[0])) for program in programs])
 
 
 def measure_row(programs, kind, side, folder, rounds):
@@ -99,10 +96,10 @@ def measure_row(programs, kind, side, folder, rounds):
     if found[:1] != ["shortest"]:
         sys.exit(f"no walk leads across the map {kind} {side}")
     scen_path.write_text(generate.row_text(kind, side, side, int(found[1]), int(found[2])))
-    best, written = measure(programs, words, folder, rounds)
+    measured, written = measure(programs, words, folder, rounds)
     if written[0] != written[1]:
         sys.exit(f"the two programs wrote other lines for row {kind}")
-    report(f"row {kind} {side}", best, [whole_peak_memory(program, words) for program in programs])
+    report(f"row {kind} {side}", measured, [whole_peak_memory(program, words) for program in programs])
 
 
 def measure_check(programs, kind, side, agents, acts, folder, rounds):
@@ -113,10 +110,10 @@ def measure_check(programs, kind, side, agents, acts, folder, rounds):
     for name, plan in ((kind, text), (f"{kind}, late fault", generate.with_late_fault(text))):
         plan_path.write_text(plan)
         words = ["check", str(map_path), str(plan_path)]
-        best, written = measure(programs, words, folder, rounds, statuses=(0, 1))
+        measured, written = measure(programs, words, folder, rounds, statuses=(0, 1))
         if written[0] != written[1]:
             sys.exit(f"the two programs wrote other lines for check {name}")
-        report(f"check {name} {acts}", best, [whole_peak_memory(program, words) for program in programs])
+        report(f"check {name} {acts}", measured, [whole_peak_memory(program, words) for program in programs])
 
 
 def measure_deps(programs, kind, side, agents, acts, folder, rounds):
@@ -125,10 +122,10 @@ def measure_deps(programs, kind, side, agents, acts, folder, rounds):
     map_path.write_text(generate.map_text("open", side, side, 1))
     plan_path.write_text(generate.plan_text(kind, side, side, 1, agents, acts))
     words = ["deps", str(map_path), str(plan_path)]
-    best, written = measure(programs, words, folder, rounds)
+    measured, written = measure(programs, words, folder, rounds)
     if written[0] != written[1]:
         sys.exit(f"the two programs wrote other lines for deps {kind}")
-    report(f"deps {kind} {acts}", best, [whole_peak_memory(program, words) for program in programs])
+    report(f"deps {kind} {acts}", measured, [whole_peak_memory(program, words) for program in programs])
 
 
 def measure_run(programs, name, events, mishaps, folder, rounds):
@@ -139,10 +136,10 @@ def measure_run(programs, name, events, mishaps, folder, rounds):
     plan_path.write_text(plan)
     events_path.write_text(generate.events_text(plan, 1, events, mishaps))
     words = ["run", str(map_path), str(plan_path), str(events_path)]
-    best, written = measure(programs, words, folder, rounds)
+    measured, written = measure(programs, words, folder, rounds)
     if written[0] != written[1]:
         sys.exit(f"the two programs wrote other replies for {name}")
-    report(f"run {name} {events}", best, [whole_peak_memory(program, words) for program in programs])
+    report(f"run {name} {events}", measured, [whole_peak_memory(program, words) for program in programs])
 
 
 def main():

@@ -1,14 +1,27 @@
 -- What an agent enters is its path, and each move ends when the next cell is entered.
 use Rattle.std.proofs.Common.{◌≡◌, ℕ, zero, suc, ◌+◌, ◌-◌, ◌<◌, true, false, cond, eqb, inl, inr, List, [], ◌∷◌, length, Some, None, arith, refl, sym, ap, subst, ◌∙◌}
-use Rattle.std.specs.Prelude.{◌==◌, not, if◌then◌else◌, slice_get}
+use Rattle.std.specs.Prelude.{◌==◌, Option, not, if◌then◌else◌, slice_get}
 use Rattle.std.proofs.lemmas.Bool.{cases_Bool, cond-true, cond-false, eqb-true}
 use Rattle.grid.specs.declared.cell.Cell.{Cell}
 use Rattle.model.specs.Timetable.{Track, same_cell, collapsed, path, moves_after, step_after}
 use Rattle.model.proofs.TrackLemmas.{same_cell-same}
 use Rattle.plan.specs.Checking.{cells_of}
-use Rattle.depgraph.specs.Code.Arrivals.{entered, entry_times}
+use Rattle.depgraph.specs.Code.Arrivals.{is_new, entered, entry_times}
 
--- by whether a cell is entered anew
+-- ---- by whether a cell is entered anew
+
+pub entered-new : (here : Option Cell) (c : Cell) (cells : List Cell) → is_new here c ≡ true → entered here (c ∷ cells) ≡ c ∷ entered (Some c) cells
+entered-new here c cells new = cond-true (is_new here c) (c ∷ entered (Some c) cells) (entered (Some c) cells) new
+
+pub entered-old : (here : Option Cell) (c : Cell) (cells : List Cell) → is_new here c ≡ false → entered here (c ∷ cells) ≡ entered (Some c) cells
+entered-old here c cells old = cond-false (is_new here c) (c ∷ entered (Some c) cells) (entered (Some c) cells) old
+
+pub times-new : (here : Option Cell) (c : Cell) (cells : List Cell) (t : ℕ) → is_new here c ≡ true → entry_times here (c ∷ cells) t ≡ t ∷ entry_times (Some c) cells (t + 1)
+times-new here c cells t new = cond-true (is_new here c) (t ∷ entry_times (Some c) cells (t + 1)) (entry_times (Some c) cells (t + 1)) new
+
+pub times-old : (here : Option Cell) (c : Cell) (cells : List Cell) (t : ℕ) → is_new here c ≡ false → entry_times here (c ∷ cells) t ≡ entry_times (Some c) cells (t + 1)
+times-old here c cells t old = cond-false (is_new here c) (t ∷ entry_times (Some c) cells (t + 1)) (entry_times (Some c) cells (t + 1)) old
+
 pub entered-stays : (c d : Cell) (cells : List Cell) → same_cell c d ≡ true → entered (Some c) (d ∷ cells) ≡ entered (Some d) cells
 entered-stays c d cells same = ap (λ b. cond (not b) (d ∷ entered (Some d) cells) (entered (Some d) cells)) same
 

@@ -1,10 +1,10 @@
 -- The cells of all paths, and the times at which they are entered, are few enough to be counted.
-use Rattle.std.proofs.Common.{◌≡◌, ℕ, zero, suc, ◌+◌, ◌-◌, ◌<◌, ◌≤◌, List, [], ◌∷◌, length, get_or, Some, None, inl, inr, arith, refl, sym, ap, subst}
+use Rattle.std.proofs.Common.{◌≡◌, ℕ, zero, suc, ◌+◌, ◌-◌, ◌^◌, ◌<◌, ◌≤◌, List, [], ◌∷◌, length, get_or, take, Some, None, inl, inr, arith, refl, sym, ap, subst}
 use Rattle.std.specs.Prelude.{Option, slice_get}
 use Rattle.std.specs.List.{AllByRecursion}
 use Rattle.std.proofs.lemmas.Bool.{cases_Bool, cases_lt, cond-true, cond-false}
-use Rattle.std.proofs.lemmas.List.{length-append, get_or_append_left, get_or-append_right}
-use Rattle.std.proofs.lemmas.Option.{same_Some, none-some}
+use Rattle.std.proofs.lemmas.List.{length-append, length-take-le, get_or_append_left, get_or-append_right}
+use Rattle.std.proofs.lemmas.Option.{same_Some, none-some, slice_get-get_or}
 use Rattle.grid.specs.declared.cell.Cell.{Cell}
 use Rattle.model.specs.Timetable.{Track}
 use Rattle.plan_text.specs.Limits.{most_agents, most_acts, most_acts_in_all}
@@ -52,6 +52,24 @@ are_few tracks cells times ends h agents steps whole = record {
       );
   all = (let few = few_of_all tracks in let same = ap length h.are_cells in omega (arith, few, same, agents, whole));
 }
+
+-- the steps of the first tracks and those of the next one
+steps_so_far : (tracks : List Track) (i : ℕ) (d : Track) → i < length tracks → steps_in (take i tracks) + length (get_or tracks i d).later ≤ steps_in tracks
+steps_so_far [] i d less = absurd (omega (arith, less))
+steps_so_far (track ∷ tracks) zero d less = omega arith
+steps_so_far (track ∷ tracks) (suc i) d less = (let rest = steps_so_far tracks i d (omega (arith, less)) in omega (arith, rest))
+
+-- the cells of the first paths and those along the next track can be counted
+pub few_so_far : (tracks : List Track) (i : ℕ) (d : Track) → i < length tracks → length tracks ≤ most_agents → steps_in tracks ≤ most_acts_in_all
+    → length (all_entered (take i tracks)) + length (cells_of (get_or tracks i d)) < 2 ^ 32
+few_so_far tracks i d less agents whole =
+    let most = few_of_all (take i tracks) in
+    let steps = steps_so_far tracks i d less in
+    let long = length-take-le i tracks (omega (arith, less)) in
+    omega (arith, most, steps, long, agents, whole)
+
+pub few_cells : (tracks : List Track) (i : ℕ) (d : Track) → i < length tracks → AllByRecursion (λ t. length t.later ≤ most_acts) tracks → length (cells_of (get_or tracks i d)) ≤ 2 ^ 16
+few_cells tracks i d less steps = (let own = few_steps tracks i (get_or tracks i d) steps (slice_get-get_or tracks i d less) in omega (arith, own))
 
 -- no later than after so many steps
 time_within : (here : Option Cell) (cells : List Cell) (t k : ℕ) → k < length (entry_times here cells t) → get_or (entry_times here cells t) k 0 < t + length cells

@@ -8,6 +8,7 @@ pub mod VisitLemmas
 pub mod ScheduleLemmas
 pub mod NumberLemmas
 pub mod TileLemmas
+pub mod NumberingLemmas
 pub mod OrderLemmas
 pub mod PartLemmas
 pub mod SortedLemmas
@@ -17,6 +18,7 @@ pub mod PlacedLemmas
 pub mod BlockLemmas
 pub mod WaitLemmas
 pub mod NoteLemmas
+pub mod LinkLemmas
 pub mod KeptLemmas
 pub mod RingLemmas
 pub mod WalkLemmas

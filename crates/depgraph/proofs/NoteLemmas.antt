@@ -155,7 +155,7 @@ module _ (number : ℕ) (tracks : List Track) (ends : List ℕ) (arrivals : List
       }
 
   -- who finds that another was there before has come after that one left, by the next move of its path
-  left_entry : (q p : ℕ) → q < length arrivals → p < length arrivals → IsJustBefore number tracks ends arrivals step_ends line visits visit_ends h free q p
+  pub left_entry : (q p : ℕ) → q < length arrivals → p < length arrivals → IsJustBefore number tracks ends arrivals step_ends line visits visit_ends h free q p
       → ((came q).agent ≡ (came p).agent → ⊥) → IsEntry ends (came q).agent ((came q).index + 1) (entry_for ends (came q) + 1)
   left_entry q p in_q in_p just other =
       let v = arrival-visit number tracks ends arrivals step_ends line q in_q in
@@ -191,6 +191,10 @@ module _ (number : ℕ) (tracks : List Track) (ends : List ℕ) (arrivals : List
       let just = just_before n k b.0 a.0 less begun b.1 a.1 a.2 b.2 in
       let entry = left_entry a.0 b.0 a.1 b.1 just (λ same. other (ap (λ v. v.agent) a.3 ∙ same ∙ sym (ap (λ v. v.agent) b.3))) in
       subst (λ v. IsEntry ends v.agent (v.index + 1) (entry_for ends v + 1)) (sym a.3) entry
+
+  -- a visit has the time of its entry
+  pub visit-time : (k : ℕ) → k < length visits → get_or (all_times tracks) (entry_for ends (get_or visits k no_visit)) 0 ≡ (get_or visits k no_visit).time
+  visit-time k less = (let at = at_place k less in subst (λ v. get_or (all_times tracks) (entry_for ends v) 0 ≡ v.time) (sym at.3) refl)
 
   pub are_blocks : AreBlocks ends visits visit_ends
   are_blocks = record {

@@ -1,12 +1,12 @@
 -- One number more, and the numbers of the arrivals.
-use Rattle.std.proofs.Common.{◌≡◌, ◌≢◌, ℕ, ◌+◌, ◌<◌, ◌≤◌, List, [], ◌∷◌, ◌++◌, length, get_or, Some, inl, inr, arith, refl, sym, ap, subst, ◌∙◌}
+use Rattle.std.proofs.Common.{◌≡◌, ℕ, suc, ◌+◌, ◌<◌, ◌≤◌, List, [], ◌∷◌, ◌++◌, length, get_or, Some, inl, inr, arith, refl, sym, ap, subst, ◌∙◌}
 use Rattle.std.specs.Prelude.{slice_get}
 use Rattle.std.proofs.lemmas.Bool.{cases_lt}
-use Rattle.std.proofs.lemmas.List.{length-append, get_or_push, get_or_append_left}
+use Rattle.std.proofs.lemmas.List.{length-append, length-map, map-append, get_or-map, get_or_push, get_or_append_left}
 use Rattle.std.proofs.lemmas.Option.{slice_get-get_or, slice_get_within, get_or_from_slice_get}
 use Rattle.grid.specs.declared.cell.Cell.{Cell}
 use Rattle.depgraph.specs.declared.placing.Arrival.{Arrival}
-use Rattle.depgraph.specs.Code.Numbers.{no_cell, AreDistinct, HasNumber, AreNumbered, AreListed}
+use Rattle.depgraph.specs.Code.Numbers.{no_cell, cells_by, AreKnown, AreDistinct, HasNumber, AreNumbered, AreListed}
 use Rattle.depgraph.specs.Code.Schedules.{entry_in, AreTaken}
 
 -- ---- one number more
@@ -39,15 +39,6 @@ module _ (cells names new : List Cell) (numbers : List ℕ) (cell : Cell) (n : �
     | inr stays ↦ (let long = ap length stays.1 in omega (arith, long))
   ]
 
-  pub count_more : HasNumber names new cell n → n ≡ length names → length new ≡ length names + 1
-  count_more h next = elim h.grown [
-    | inl added ↦ ap length added.1 ∙ length-append names (cell ∷ [])
-    | inr stays ↦ (let less = stays.0 in absurd (omega (arith, less, next)))
-  ]
-
-  pub count_same : HasNumber names new cell n → n ≢ length names → length new ≡ length names
-  count_same h other = elim h.grown [ inl added ↦ absurd (other added.0) | inr stays ↦ ap length stays.1 ]
-
   pub numbered-next : AreNumbered cells names numbers → HasNumber names new cell n → AreDistinct new → cell ≡ get_or cells (length numbers) no_cell
       → AreNumbered cells new (numbers ++ n ∷ [])
   numbered-next was h distinct is_cell =
@@ -73,6 +64,55 @@ module _ (cells names new : List Cell) (numbers : List ℕ) (cell : Cell) (n : �
         ];
         few = (let some = new-few h in let was_few = was.few in omega (arith, some, was_few, longer));
       }
+
+-- ---- the cells with these numbers
+
+pub length-cells_by : (names : List Cell) (numbers : List ℕ) → length (cells_by names numbers) ≡ length numbers
+length-cells_by names numbers = length-map numbers (λ n. get_or names n no_cell)
+
+pub get_or-cells_by : (names : List Cell) (numbers : List ℕ) (e : ℕ) → e < length numbers → get_or (cells_by names numbers) e no_cell ≡ get_or names (get_or numbers e 0) no_cell
+get_or-cells_by names numbers e less = get_or-map (λ n. get_or names n no_cell) numbers e 0 no_cell less
+
+pub are_known : (cells names : List Cell) (numbers : List ℕ) → AreNumbered cells names numbers → AreKnown names numbers
+are_known cells names numbers h e less = slice_get_within names (get_or numbers e 0) (get_or cells e no_cell) (h.named e less)
+
+-- names that are added change no cell
+same_cells : (names new : List Cell) (numbers : List ℕ) → ((n : ℕ) → n < length names → get_or new n no_cell ≡ get_or names n no_cell) → AreKnown names numbers
+    → cells_by new numbers ≡ cells_by names numbers
+same_cells names new [] same known = refl
+same_cells names new (n ∷ numbers) same known =
+    ap (λ c. c ∷ cells_by new numbers) (same n (known 0 (omega arith)))
+    ∙ ap (λ l. get_or names n no_cell ∷ l) (same_cells names new numbers same (λ e less. known (suc e) (omega (arith, less))))
+
+-- one cell more
+module _ (names new : List Cell) (numbers : List ℕ) (cell : Cell) (n : ℕ) (was : AreNumbered (cells_by names numbers) names numbers) (h : HasNumber names new cell n) where
+  pub cells-next : cells_by new (numbers ++ n ∷ []) ≡ cells_by names numbers ++ cell ∷ []
+  cells-next =
+      map-append {A = ℕ} {B = Cell} (λ m. get_or new m no_cell) numbers (n ∷ [])
+      ∙ ap {A = List Cell} (λ l. l ++ get_or new n no_cell ∷ []) (same_cells names new numbers old (are_known (cells_by names numbers) names numbers was))
+      ∙ ap (λ c. cells_by names numbers ++ c ∷ []) (get_or_from_slice_get new n cell no_cell h.is_at) where
+        old : (m : ℕ) → m < length names → get_or new m no_cell ≡ get_or names m no_cell
+        old m less = get_or_from_slice_get new m (get_or names m no_cell) no_cell (kept-name (cells_by names numbers) names new numbers cell n h m (get_or names m no_cell) (slice_get-get_or names m no_cell less))
+
+  pub numbered-more : AreDistinct new → AreNumbered (cells_by new (numbers ++ n ∷ [])) new (numbers ++ n ∷ [])
+  numbered-more distinct =
+      subst (λ l. AreNumbered l new (numbers ++ n ∷ [])) (sym cells-next) (numbered-next (cells_by names numbers ++ cell ∷ []) names new numbers cell n before h distinct last) where
+        before : AreNumbered (cells_by names numbers ++ cell ∷ []) names numbers
+        before = record {
+          distinct = was.distinct;
+          named = λ e less. was.named e less ∙ ap Some (sym (get_or_append_left (cells_by names numbers) (cell ∷ []) no_cell e (let long = length-cells_by names numbers in omega (arith, less, long))));
+          occurs = was.occurs;
+          few = was.few;
+        }
+
+        last : cell ≡ get_or (cells_by names numbers ++ cell ∷ []) (length numbers) no_cell
+        last = sym (get_or_push (cells_by names numbers) cell no_cell (length numbers) (length-cells_by names numbers))
+
+  pub names_more : n ≡ length names → new ≡ names ++ cell ∷ []
+  names_more next = elim h.grown [ inl added ↦ added.1 | inr stays ↦ (let less = stays.0 in absurd (omega (arith, less, next))) ]
+
+  pub names_same : (n ≡ length names → ⊥) → new ≡ names
+  names_same other = elim h.grown [ inl added ↦ absurd (other added.0) | inr stays ↦ stays.1 ]
 
 -- ---- the numbers of the arrivals
 

@@ -1,12 +1,14 @@
 -- The paths of agents in one list, with one agent more, and the part of one agent.
-use Rattle.std.proofs.Common.{◌≡◌, ℕ, ◌+◌, ◌-◌, ◌<◌, List, [], ◌∷◌, ◌++◌, length, get_or, take, drop, Some, None, inl, inr, arith, refl, sym, ap, append_assoc, ◌∙◌}
+use Rattle.std.proofs.Common.{◌≡◌, ℕ, zero, suc, ◌+◌, ◌-◌, ◌<◌, List, [], ◌∷◌, ◌++◌, length, get_or, take, drop, Some, None, inl, inr, arith, refl, sym, ap, append_assoc, ◌∙◌}
 use Rattle.std.specs.Prelude.{Option, option_map, slice_get}
 use Rattle.std.proofs.Math.Seq.{drop-append_seam, take-append_seam}
 use Rattle.std.proofs.lemmas.Bool.{cases_lt, cases_Bool, cond-true, cond-false}
 use Rattle.std.proofs.lemmas.Option.{slice_get-get_or}
 use Rattle.std.proofs.lemmas.List.{append-nil, length-append, take_more, drop_more, take_all, take-append-le, take-append-drop, get_or_push, get_or_append_left}
 use Rattle.grid.specs.declared.cell.Cell.{Cell}
-use Rattle.model.specs.Timetable.{Track, path}
+use Rattle.model.specs.Timetable.{Track, Timetable, Stands, cell_after, path}
+use Rattle.model.proofs.NeedLemmas.{stands-from}
+use Rattle.model.proofs.TrackLemmas.{cell_at-start}
 use Rattle.plan.specs.Checking.{cells_of}
 use Rattle.depgraph.specs.Code.Arrivals.{is_new, entered, entry_times}
 use Rattle.depgraph.specs.Code.Paths.{all_entered, all_times, ArePaths, begin_of}
@@ -19,6 +21,17 @@ no_track = record { start = record { x = 0; y = 0 }; later = [] }
 -- the cells of the track at a place, as a plan lends them
 pub track_cells : (tracks : List Track) (n : ℕ) (cells : List Cell) → n < length tracks → Some cells ≡ option_map cells_of (slice_get tracks n) → cells ≡ cells_of (get_or tracks n no_track)
 track_cells tracks n cells within told = some_one cells (cells_of (get_or tracks n no_track)) (told ∙ ap (option_map cells_of) (slice_get-get_or tracks n no_track within))
+
+-- the cells along a track are those of its times
+along : (c : Cell) (cells : List Cell) (t : ℕ) (d : Cell) → t < length (c ∷ cells) → cell_after c cells t ≡ get_or (c ∷ cells) t d
+along c cells zero d less = cell_at-start c cells
+along c [] (suc t) d less = absurd (omega (arith, less))
+along c (e ∷ cells) (suc t) d less = along e cells t d (omega (arith, less))
+
+pub cells_along : (tt : Timetable) (i t : ℕ) (d : Cell) → i < length tt.tracks → t < length (cells_of (get_or tt.tracks i no_track)) → Stands tt i t (get_or (cells_of (get_or tt.tracks i no_track)) t d)
+cells_along tt i t d less inside =
+    let track = get_or tt.tracks i no_track in
+    stands-from tt i t (get_or (cells_of track) t d) track (slice_get-get_or tt.tracks i no_track less) (along track.start track.later t d inside)
 
 pub all_entered-push : (tracks : List Track) (track : Track) → all_entered (tracks ++ track ∷ []) ≡ all_entered tracks ++ entered None (cells_of track)
 all_entered-push [] track = append-nil (entered None (cells_of track))

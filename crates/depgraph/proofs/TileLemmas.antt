@@ -10,7 +10,7 @@ use Rattle.model.specs.Timetable.{same_cell}
 use Rattle.model.proofs.TrackLemmas.{same_cell-same, same_cell-true}
 use Rattle.depgraph.specs.declared.tiles.Tiles.{Tiles}
 use Rattle.depgraph.specs.Code.Numbers.{AreDistinct, HasNumber}
-use Rattle.depgraph.specs.Code.Tiles.{tile_of, offset_of, part_of, place_of, held, IsCovered, AreTiles, IsSameMap}
+use Rattle.depgraph.specs.Code.Tiles.{tile_of, offset_of, part_of, place_of, held, IsCovered, AreTiles, IsSameMap, AreHeld}
 
 -- ---- places
 
@@ -45,13 +45,10 @@ still_covered old new c h covered = record {
       );
 }
 
--- ---- numbers
+pub still_same : (old now new : Tiles) → IsSameMap old now → IsSameMap now new → IsSameMap old new
+still_same old now new first then = record { across = then.across ∙ first.across; count = then.count ∙ first.count }
 
--- each name's number stands in its place, and no others do
-pub record AreHeld (t : Tiles) (names : List Cell) : Type 0 where
-  pub covered : (n : ℕ) (c : Cell) → slice_get names n ≡ Some c → IsCovered t c
-  pub named : (n : ℕ) (c : Cell) → slice_get names n ≡ Some c → held t c ≡ n + 1
-  pub known : (n : ℕ) (c : Cell) → IsCovered t c → held t c ≡ n + 1 → slice_get names n ≡ Some c
+-- ---- numbers
 
 pub held_distinct : (t : Tiles) (names : List Cell) → AreHeld t names → AreDistinct names
 held_distinct t names h a b c at_a at_b = let first = h.named a c at_a in let second = h.named b c at_b in omega (arith, first, second)

@@ -14,14 +14,16 @@ use Rattle.depgraph.specs.declared.waiting.Wait.{Wait}
 use Rattle.depgraph.specs.Code.Cycles.{Leads, AreLinks, IsCycle, IsWalked}
 use Rattle.depgraph.specs.Code.Entries.{begin_in, IsEntry}
 use Rattle.depgraph.specs.Code.Keeping.{IsKept}
+use Rattle.depgraph.specs.Code.Links.{entry_before, AreBound}
 use Rattle.depgraph.specs.Code.Numbers.{no_cell}
 use Rattle.depgraph.specs.Code.Paths.{all_entered, all_times}
 use Rattle.depgraph.specs.Code.Ranks.{rank}
 use Rattle.depgraph.specs.Code.Schedules.{entry_in}
 use Rattle.depgraph.specs.Code.Turning.{AreLaid, AreAllRotations, agents_of}
-use Rattle.depgraph.specs.Code.Waits.{no_wait, no_entry, entry_for, ahead_of}
+use Rattle.depgraph.specs.Code.Waits.{no_wait, no_entry, entry_for, wait_of, ahead_of}
 use Rattle.depgraph.proofs.CycleLemmas.{AreCycles, AreFound, cut-links, found-none, found-one, found-all, walked-cycle}
-use Rattle.depgraph.proofs.KeptLemmas.{rank-visit, in_block, before_of, before_is}
+use Rattle.depgraph.proofs.KeptLemmas.{rank-visit, in_block, before_of, before_is, looked_up}
+use Rattle.depgraph.proofs.NoteLemmas.{left_entry}
 use Rattle.depgraph.proofs.PositionLemmas.{times-rise}
 use Rattle.depgraph.proofs.RingLemmas.{map-get, map-from, one_at, same_at, following-next, following-first, follower, follower-within, same_by_places}
 use Rattle.depgraph.proofs.RotationLemmas.{kept, visit_of, is_visit, mover-arrival, not_own, waits-for, into-after, after-into}
@@ -184,6 +186,48 @@ module _ (tt : Timetable) (ends : List ℕ) (waits : List Wait) (ahead : List �
       sym (ap (λ x. get_or ahead x no_entry) at.1)
       ∙ subst (λ v. get_or ahead (entry_for ends v) no_entry ≡ ahead_of times ends v before) (rank-visit tt (all_entered tt.tracks) times ends waits l.visits l.visit_ends h p at.0)
       (l.are_ahead.each (get_or l.placing.listed p 0) (rank l.placing.listed p) block.0 block.1 block.2)
+
+  -- there is an entry for what an entry waits for
+  bound_at : (e : ℕ) → 0 < (get_or waits e no_wait).count
+      → ((get_or waits e no_wait).agent < length ends) × (entry_before ends (get_or waits e no_wait) < length (all_times tt.tracks))
+  bound_at e some = elim (cases_lt e (length (all_times tt.tracks))) [
+    | inr past ↦ absurd (let all = wait_count in let none = ap (λ w. w.count) (get_or_past waits e no_wait (omega (arith, past, all))) in omega (arith, none, some))
+    | inl less ↦ (
+        let at = arrival_of e less in
+        let p = rank times e in
+        let told : get_or waits e no_wait ≡ wait_of (came p).agent (before_of tt (all_entered tt.tracks) times ends waits l.visits l.visit_ends h p) =
+        sym (ap (λ x. get_or waits x no_wait) at.1) ∙ looked_up tt (all_entered tt.tracks) times ends waits l.visits l.visit_ends h p at.0 in
+        elim (before_is tt (all_entered tt.tracks) times ends waits l.visits l.visit_ends h p at.0) [
+          | inl none ↦ absurd (let is = ap (λ w. w.count) (told ∙ ap (wait_of (came p).agent) none.1) in omega (arith, is, some))
+          | inr before ↦ (
+              let q = before.0 in
+              let noted : Wait = record { agent = (came q).agent; count = (came q).index + 1 } in
+              let told_of : get_or waits e no_wait ≡ wait_of (came p).agent (Some (came q)) = told ∙ ap (wait_of (came p).agent) before.3 in
+              elim (cases_eq (came q).agent (came p).agent) [
+                | inl same ↦ absurd (
+                    let is = ap (λ w. w.count) (told_of ∙ cond-true ((came q).agent == (came p).agent) no_wait noted (eq-eqb (came q).agent (came p).agent same)) in
+                    omega (arith, is, some)
+                    )
+                | inr other ↦ (
+                    let is : get_or waits e no_wait ≡ noted = told_of ∙ cond-false ((came q).agent == (came p).agent) no_wait noted (ne_eqb (came q).agent (came p).agent other) in
+                    let entry = left_entry tt.number tt.tracks ends l.arrivals l.step_ends l.line l.visits l.visit_ends l.placing l.graphed.conflict_free q p before.1 at.0 before.2 other in
+                    let within = entry-within tt.tracks (all_entered tt.tracks) times ends l.line.paths (came q).agent ((came q).index + 1) (entry_for ends (came q) + 1) entry in
+                    let same = count in
+                    subst (λ w. (w.agent < length ends) × (entry_before ends w < length (all_times tt.tracks))) (sym is) (entry.is_agent, omega (arith, within, same))
+                    )
+              ]
+              )
+        ]
+        )
+  ]
+
+  pub bound : AreBound (all_times tt.tracks) ends waits
+  bound = record {
+    few = (let all = l.line.few.all in let same = count in omega (arith, all, same));
+    count = wait_count;
+    agent = λ e some. (bound_at e some).0;
+    entry = λ e some. (bound_at e some).1;
+  }
 
   -- Two entries of one time, by moves of one step: the first into the cell that the second leaves.
   record AreMoves (e f s : ℕ) : Type 0 where

@@ -16,6 +16,8 @@ pub mod Schedules
 pub mod Numbers
 -- where they stand
 pub mod Tiles
+-- cells that are kept as numbers
+pub mod Numbering
 -- their order of first visit
 pub mod Orders
 -- visits in their places
@@ -28,5 +30,7 @@ pub mod Parts
 pub mod Keeping
 -- the cycles of entries that follow one another
 pub mod Cycles
+-- what leads from one entry to the next
+pub mod Links
 -- who moves into whose cell in a step
 pub mod Turning

@@ -8,13 +8,13 @@ ghost use Rattle.depgraph.specs.Visits.{Visited, AreAllVisits};
 ghost use Rattle.depgraph.specs.Code.Keeping.{route_in};
 
 use crate::entries::{begin_in, entry_at};
-use crate::numbering::{Numbering, numbering_of};
+use crate::numbering::cell_at;
 use crate::order::order_of;
 use crate::out_of_memory::OutOfMemory;
-use crate::paths::{Paths, entered_cells, paths_of};
+use crate::paths::{Paths, paths_of};
 use crate::placing::{Placed, bounds_in, place_visits};
 use crate::rotations::find_rotations;
-use crate::waiting::{Wait, Waits, waits_of};
+use crate::waiting::{Wait, waits_of};
 use grid::Cell;
 use model::{Rotation, Visit};
 use plan::CheckedPlan;
@@ -25,9 +25,12 @@ use std::marker::Model;
 #[derive(Debug, Drop)]
 pub struct Graph {
     number: u32,
-    cells: Vec<Cell>,
-    /// When each of these cells is entered.
-    times: Vec<u32>,
+    /// The numbers of the cells of all paths.
+    numbers: Vec<u32>,
+    /// The cell with each number.
+    names: Vec<Cell>,
+    /// When each cell of the paths is entered.
+    times: Vec<u16>,
     ends: Vec<usize>,
     /// What the move into each waits for.
     needs: Vec<Wait>,
@@ -43,17 +46,19 @@ impl Model for Graph {
     ghost use Rattle.model.specs.Timetable.{Timetable};
     ghost use Rattle.depgraph.specs.Rotations.{AreRotations, turns_of};
     ghost use Rattle.depgraph.specs.Code.Keeping.{IsKept};
+    ghost use Rattle.depgraph.specs.Code.Numbers.{cells_by, AreKnown};
     ghost use Rattle.depgraph.specs.Code.Orders.{IsOrder};
     ghost use Rattle.depgraph.specs.Code.Tracks.{timetable_by};
 
     ghost Value = { Timetable };
 
-    ghost view = { λ g. timetable_by g.number g.cells.items g.times.items g.ends.items };
+    ghost view = { λ g. timetable_by g.number (cells_by g.names.items g.numbers.items) g.times.items g.ends.items };
 
-    ghost invariant = { λ g. (kept : IsKept (timetable_by g.number g.cells.items g.times.items g.ends.items) g.cells.items g.times.items g.ends.items g.needs.items
+    ghost invariant = { λ g. (kept : IsKept (timetable_by g.number (cells_by g.names.items g.numbers.items) g.times.items g.ends.items) (cells_by g.names.items g.numbers.items) g.times.items g.ends.items g.needs.items
         g.visits.items g.visit_ends.items)
         × IsOrder kept.placing.listed g.order.items
-        × AreRotations (timetable_by g.number g.cells.items g.times.items g.ends.items) (turns_of g.rotations.items) };
+        × AreRotations (timetable_by g.number (cells_by g.names.items g.numbers.items) g.times.items g.ends.items) (turns_of g.rotations.items)
+        × AreKnown g.names.items g.numbers.items };
 }
 
 impl Graph {
@@ -62,25 +67,24 @@ impl Graph {
         ensures { IfOk result (λ g. g ≡ plan.now.timetable) }
     {
         let number = plan.number();
-        let Paths { cells, times, ends } = paths_of(alloc, plan)?;
-        let Numbering { numbers, count } = numbering_of(alloc, &cells)?;
-        // Cells are found again in the end: to hold them all along would take more memory than the graph.
-        drop(cells);
-        let placed = place_visits(alloc, plan, &times, &ends, &numbers, count)?;
-        let Placed { visits, next } = placed;
-        let Waits { waits, mut ahead } = waits_of(
-            alloc, &times, &ends, &visits, &next.next, numbers,
-        )?;
-        let rotations = find_rotations(alloc, plan, &times, &ends, &waits, &mut ahead)?;
-        drop(ahead);
-        let order = order_of(alloc, &visits, &next.next)?;
-        let again = entered_cells(alloc, plan, times.len())?;
-        Ok(Graph {
-            number,
-            cells: again,
+        let Paths {
+            numbers,
+            names,
             times,
             ends,
-            needs: waits,
+        } = paths_of(alloc, plan)?;
+        let placed = place_visits(alloc, plan, &times, &ends, &numbers, names.len())?;
+        let Placed { visits, next } = placed;
+        let needs = waits_of(alloc, &ends, &visits, &next.next)?;
+        let rotations = find_rotations(alloc, plan, &times, &ends, &needs)?;
+        let order = order_of(alloc, &visits, &next.next)?;
+        Ok(Graph {
+            number,
+            numbers,
+            names,
+            times,
+            ends,
+            needs,
             visits,
             visit_ends: next.next,
             order,
@@ -142,8 +146,8 @@ impl Graph {
         let number = *self.order.get(n as usize)? as usize;
         let (begin, end) = bounds_in(&self.visit_ends, number);
         let first = self.visits[begin];
-        let cell = self.cells[begin_in(&self.ends, usize::from(first.agent))
-            + first.index as usize];
+        let entry = begin_in(&self.ends, usize::from(first.agent)) + first.index as usize;
+        let cell = cell_at(&self.names, &self.numbers, entry);
         Some((cell, &self.visits[begin..end]))
     }
 
@@ -158,14 +162,14 @@ impl Graph {
         ensures { result ≡ slice_get (route_in self.now agent).cells index }
     {
         let entry = entry_at(&self.ends, agent, index as usize)?;
-        Some(self.cells[entry])
+        Some(cell_at(&self.names, &self.numbers, entry))
     }
 
     fn step(&self, agent: u32, number: u32) -> Option<u32>
         ensures { result ≡ slice_get (route_in self.now agent).steps number }
     {
         let entry = entry_at(&self.ends, agent, number as usize + 1)?;
-        Some(self.times[entry] - 1)
+        Some(u32::from(self.times[entry]) - 1)
     }
 
     fn need(&self, agent: u32, number: u32) -> Option<(u16, u32)>

@@ -1,81 +1,70 @@
 //! The paths of the agents, and when they come into each cell.
-ghost use Rattle.std.specs.Prelude.{◌≡◌, ◌++◌, ◌<◌, ◌^◌, None, length, IfOk, OnOk};
+ghost use Rattle.std.specs.Prelude.{◌≡◌, ◌+◌, ◌++◌, ◌<◌, ◌≤◌, ◌^◌, All, None, length, IfOk, OnOk};
 ghost use Rattle.depgraph.specs.Code.Arrivals.{is_new, entered, entry_times};
-ghost use Rattle.depgraph.specs.Code.Paths.{all_entered, ArePaths};
+ghost use Rattle.depgraph.specs.Code.Numbering.{IsNumbering, cells_in};
+ghost use Rattle.depgraph.specs.Code.Numbers.{cells_by, AreNumbered};
+ghost use Rattle.depgraph.specs.Code.Paths.{ArePaths};
+ghost use Rattle.depgraph.specs.Code.Tiles.{IsCovered, IsSameMap};
 
+use crate::numbering::Numbering;
 use grid::Cell;
 use plan::{Cells, CheckedPlan};
 use std::alloc::{AllocError, Global};
 
-/// The paths of all agents, one after another: their cells, the time at which each is entered, and where each agent's end.
+/// The paths of all agents, one after another: the numbers of their cells, the time at which each is entered, and where each agent's
+/// end; and the cell with each number.
 #[derive(Debug, Drop)]
 pub(crate) struct Paths {
-    pub(crate) cells: Vec<Cell>,
-    pub(crate) times: Vec<u32>,
+    pub(crate) numbers: Vec<u32>,
+    pub(crate) names: Vec<Cell>,
+    pub(crate) times: Vec<u16>,
     pub(crate) ends: Vec<usize>,
 }
 
 /// The paths of a plan's agents.
 pub(crate) fn paths_of(alloc: Global, plan: &CheckedPlan) -> Result<Paths, AllocError>
-    ensures { IfOk result (λ p. ArePaths plan.now.timetable.tracks p.cells.items p.times.items p.ends.items) }
+    ensures numbered { IfOk result (λ p. AreNumbered (cells_by p.names.items p.numbers.items) p.names.items p.numbers.items) }
+    ensures paths { IfOk result (λ p. ArePaths plan.now.timetable.tracks (cells_by p.names.items p.numbers.items) p.times.items p.ends.items) }
 {
     // An agent enters no more cells than it has steps before it rests, and its first.
     let room = (plan.sum_of_costs() as usize).saturating_add(plan.agents() as usize);
-    let mut cells = Vec::with_capacity(alloc, room)?;
+    let mut cells = Numbering::new(alloc, plan.width(), plan.height(), room)?;
     let mut times = Vec::with_capacity(alloc, room)?;
     let mut ends = Vec::with_capacity(alloc, plan.agents() as usize)?;
     for agent in 0..plan.agents() {
         follow(plan.cells(agent).unwrap(), &mut cells, &mut times)?;
-        ends.push(cells.len())?;
+        ends.push(cells.numbers.len())?;
     }
-    Ok(Paths { cells, times, ends })
+    let Numbering {
+        tiles: _,
+        numbers,
+        names,
+    } = cells;
+    Ok(Paths {
+        numbers,
+        names,
+        times,
+        ends,
+    })
 }
 
-/// The cells of the paths of a plan's agents, for which there is room at once if there are so many.
-pub(crate) fn entered_cells(
-    alloc: Global,
-    plan: &CheckedPlan,
-    room: usize,
-) -> Result<Vec<Cell>, AllocError>
-    ensures { IfOk result (λ cells. cells.items ≡ all_entered plan.now.timetable.tracks) }
-{
-    let mut path = Vec::with_capacity(alloc, room)?;
-    for agent in 0..plan.agents() {
-        enter(plan.cells(agent).unwrap(), &mut path)?;
-    }
-    Ok(path)
-}
-
-/// Adds an agent's cells, each once while it stays, behind those of other agents.
-fn enter(cells: Cells<'_>, path: &mut Vec<Cell>) -> Result<(), AllocError>
-    ensures { OnOk result (path.new.items ≡ path.old.items ++ entered None cells.entry) }
-{
-    let mut here = None;
-    for cell in cells {
-        if is_new(here, cell) {
-            path.push(cell)?;
-        }
-        here = Some(cell);
-    }
-    Ok(())
-}
-
-/// Adds the same cells, and the times at which the agent comes into them.
-pub(crate) fn follow(
-    cells: Cells<'_>,
-    path: &mut Vec<Cell>,
-    times: &mut Vec<u32>,
-) -> Result<(), AllocError>
-    requires { length cells < 2 ^ 32 }
-    ensures path { OnOk result (path.new.items ≡ path.old.items ++ entered None cells.entry) }
+/// Adds an agent's cells, each once while it stays, behind those of other agents, and the times at which the agent comes into them.
+fn follow(cells: Cells<'_>, path: &mut Numbering, times: &mut Vec<u16>) -> Result<(), AllocError>
+    requires numbering { IsNumbering path.old }
+    requires covered { All (IsCovered path.old.tiles) cells }
+    requires few { length path.old.numbers.items + length cells < 2 ^ 32 }
+    requires steps { length cells ≤ 2 ^ 16 }
+    ensures numbering { OnOk result (IsNumbering path.new) }
+    ensures map { OnOk result (IsSameMap path.old.tiles path.new.tiles) }
+    ensures path { OnOk result (cells_in path.new ≡ cells_in path.old ++ entered None cells.entry) }
     ensures times { OnOk result (times.new.items ≡ times.old.items ++ entry_times None cells.entry 0) }
 {
     let mut here = None;
-    let mut time = 0;
+    let mut time = 0u32;
     for cell in cells {
         if is_new(here, cell) {
-            path.push(cell)?;
-            times.push(time)?;
+            path.add(cell)?;
+            times.push(time as u16)?;
         }
         here = Some(cell);
         time += 1;

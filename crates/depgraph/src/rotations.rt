@@ -1,46 +1,48 @@
 //! The rotations of a timetable: cycles of moves of one step, each of which waits for the next.
 ghost use Rattle.std.specs.Prelude.{◌≡◌, ◌<◌, All, length, IfOk};
 ghost use Rattle.depgraph.specs.Rotations.{AreRotations, turns_of};
+ghost use Rattle.depgraph.specs.Code.Links.{all_links, links_in, AreLinksIn};
 ghost use Rattle.depgraph.specs.Code.Paths.{all_times};
 ghost use Rattle.depgraph.specs.Code.Turning.{AreLaid, AreAllRotations, agents_of, key_by};
 
-use crate::cycles::walk;
+use crate::cycles::{Links, walk};
 use crate::waiting::Wait;
 use model::Rotation;
 use plan::CheckedPlan;
 use std::alloc::{AllocError, Global};
 
 /// All rotations of a plan's timetable, by step and then by least agent. `waits` has for each entry what the move into its cell
-/// waits for, and `ahead` the entry of that move if both are made in one step; these links are taken away.
+/// waits for.
 pub(crate) fn find_rotations(
     alloc: Global,
     plan: &CheckedPlan,
-    times: &[u32],
+    times: &[u16],
     ends: &[usize],
     waits: &[Wait],
-    ahead: &mut [u32],
 ) -> Result<Vec<Rotation>, AllocError>
     requires times { times.now ≡ all_times plan.now.timetable.tracks }
-    requires laid { AreLaid plan.now.timetable ends.now waits.now ahead.old }
+    requires laid { AreLaid plan.now.timetable ends.now waits.now (all_links times.now ends.now waits.now) }
     ensures { IfOk result (λ v. AreRotations plan.now.timetable (turns_of v.items)) }
 {
-    let mut rotations = rotations_by_agent(alloc, plan, times, ends, waits, ahead)?;
+    let mut links = Links::new(alloc, times, ends, waits)?;
+    let mut rotations = rotations_by_agent(alloc, plan, times, ends, waits, &mut links)?;
     rotations.sort_unstable_by_key(key_of);
     Ok(rotations)
 }
 
 /// The same by least agent, and then by step: the entries of a cycle have one time, so the least of them is that of its least
-/// agent, and each cycle is found from there.
+/// agent, and each cycle is found from there. The links are taken away.
 fn rotations_by_agent(
     alloc: Global,
     plan: &CheckedPlan,
-    times: &[u32],
+    times: &[u16],
     ends: &[usize],
     waits: &[Wait],
-    ahead: &mut [u32],
+    links: &mut Links<'_>,
 ) -> Result<Vec<Rotation>, AllocError>
     requires times { times.now ≡ all_times plan.now.timetable.tracks }
-    requires laid { AreLaid plan.now.timetable ends.now waits.now ahead.old }
+    requires whole { AreLinksIn links.old }
+    requires laid { AreLaid plan.now.timetable ends.now waits.now (links_in links.old) }
     ensures { IfOk result (λ v. AreAllRotations plan.now.timetable (turns_of v.items)) }
 {
     let mut trail = Vec::new(alloc);
@@ -48,10 +50,10 @@ fn rotations_by_agent(
     let mut entry = 0;
     for agent in 0..ends.len() {
         while entry < ends[agent] {
-            if walk(entry as u32, ahead, &mut trail)? {
+            if walk(entry as u32, links, &mut trail)? {
                 let agents = agents_on(alloc, agent as u16, &trail, waits)?;
                 // An entry has the time after the step of its move.
-                let step = times[entry] - 1;
+                let step = u32::from(times[entry]) - 1;
                 rotations.push(Rotation { step, agents })?;
             }
             trail.clear();

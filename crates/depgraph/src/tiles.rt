@@ -1,7 +1,6 @@
 //! Where the numbers of cells stand: those of a tile, 16 x 16 cells, side by side, so that the numbers along a path lie close.
 ghost use Rattle.std.specs.Prelude.{◌≡◌, ◌≢◌, ◌+◌, ◌/◌, ◌<◌, ◌≤◌, ◌^◌, ℕ, length, get_or, IfOk, OnOk};
 ghost use Rattle.grid.specs.declared.cell.Cell.{Cell};
-ghost use Rattle.depgraph.specs.Code.Numbers.{no_cell};
 ghost use Rattle.depgraph.specs.Code.Tiles.{tile_of, offset_of, place_of, held, AreTiles, IsCovered, IsSameMap, HasRoom, IsHeld};
 
 use grid::Cell;
@@ -24,14 +23,17 @@ pub(crate) struct Tiles {
 }
 
 impl Tiles {
-    /// Tiles for these cells, none of which has a number yet.
-    pub(crate) fn new(alloc: Global, cells: &[Cell]) -> Result<Tiles, AllocError>
+    /// Tiles for the cells of a map of this size, none of which has a number yet.
+    pub(crate) fn new(alloc: Global, width: u32, height: u32) -> Result<Tiles, AllocError>
+        requires width { width < 2 ^ 16 }
+        requires height { height < 2 ^ 16 }
         ensures tiles { IfOk result (λ t. AreTiles t) }
-        ensures covered { IfOk result (λ t. (e : ℕ) → e < length cells.now → IsCovered t (get_or cells.now e no_cell)) }
+        ensures covered { IfOk result (λ t. (c : Cell) → c.x < width → c.y < height → IsCovered t c) }
         ensures none { IfOk result (λ t. (c : Cell) → held t c ≡ 0) }
         ensures size { IfOk result (λ t. length t.numbers.items ≡ 256) }
     {
-        let (across, down) = extent_of(cells);
+        let across = width as usize / SIDE + 1;
+        let down = height as usize / SIDE + 1;
         Ok(Tiles {
             across,
             parts: vec![in alloc; 0u32; across * down]?,
@@ -77,22 +79,6 @@ impl Tiles {
         }
         Ok(self.parts[tile] as usize * TILE + offset_of(cell))
     }
-}
-
-/// So many tiles side by side, and so many one below another, cover these cells.
-fn extent_of(cells: &[Cell]) -> (usize, usize)
-    ensures across { result.0 ≤ 4096 }
-    ensures down { result.1 ≤ 4096 }
-    ensures columns { (e : ℕ) → e < length cells.now → (get_or cells.now e no_cell).x / 16 < result.0 }
-    ensures rows { (e : ℕ) → e < length cells.now → (get_or cells.now e no_cell).y / 16 < result.1 }
-{
-    let mut across = 0;
-    let mut down = 0;
-    for cell in cells {
-        across = across.max(usize::from(cell.x) / SIDE + 1);
-        down = down.max(usize::from(cell.y) / SIDE + 1);
-    }
-    (across, down)
 }
 
 /// The tile of a cell.

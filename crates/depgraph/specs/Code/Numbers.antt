@@ -1,11 +1,19 @@
 -- The numbers of cells.
-use Rattle.std.specs.Prelude.{◌≡◌, ℕ, ◌<◌, ◌≤◌, ◌⊎◌, List, [], ◌∷◌, ◌++◌, length, get_or, Some, slice_get}
+use Rattle.std.specs.Prelude.{◌≡◌, ℕ, ◌<◌, ◌≤◌, ◌⊎◌, List, [], ◌∷◌, ◌++◌, length, get_or, map, Some, slice_get}
 use Rattle.grid.specs.declared.cell.Cell.{Cell}
 use Rattle.depgraph.specs.declared.placing.Arrival.{Arrival}
 use Rattle.depgraph.specs.Code.Schedules.{entry_in}
 
 abbrev pub no_cell : Cell
 no_cell = record { x = 0; y = 0 }
+
+-- the cells with these numbers
+abbrev pub cells_by : List Cell → List ℕ → List Cell
+cells_by names numbers = map (λ n. get_or names n no_cell) numbers
+
+-- each of these numbers is one of a cell
+abbrev pub AreKnown : List Cell → List ℕ → Type 0
+AreKnown names numbers = (e : ℕ) → e < length numbers → get_or numbers e 0 < length names
 
 -- no cell stands twice in the list
 abbrev pub AreDistinct : List Cell → Type 0

@@ -1,5 +1,5 @@
 -- Where the numbers of cells stand: those of a tile, 16 x 16 cells, side by side.
-use Rattle.std.specs.Prelude.{◌≡◌, ℕ, ◌+◌, ◌*◌, ◌/◌, ◌%◌, ◌<◌, ◌≤◌, ◌⊎◌, length, get_or}
+use Rattle.std.specs.Prelude.{◌≡◌, ℕ, ◌+◌, ◌*◌, ◌/◌, ◌%◌, ◌<◌, ◌≤◌, ◌⊎◌, List, length, get_or, Some, slice_get}
 use Rattle.grid.specs.declared.cell.Cell.{Cell}
 use Rattle.depgraph.specs.declared.tiles.Tiles.{Tiles}
 
@@ -51,3 +51,9 @@ pub record HasRoom (old new : Tiles) (cell : Cell) : Type 0 where
 pub record IsHeld (old new : Tiles) (cell : Cell) (next number : ℕ) : Type 0 where
   pub now : held new cell ≡ number + 1
   pub before : ((held old cell ≡ 0) × (number ≡ next)) ⊎ (held old cell ≡ number + 1)
+
+-- each name's number stands in its place, and no others do
+pub record AreHeld (t : Tiles) (names : List Cell) : Type 0 where
+  pub covered : (n : ℕ) (c : Cell) → slice_get names n ≡ Some c → IsCovered t c
+  pub named : (n : ℕ) (c : Cell) → slice_get names n ≡ Some c → held t c ≡ n + 1
+  pub known : (n : ℕ) (c : Cell) → IsCovered t c → held t c ≡ n + 1 → slice_get names n ≡ Some c

@@ -1,6 +1,6 @@
 use Rattle.std.proofs.Common.{◌≡◌, ◌≤◌, ◌-◌, get_or}
 use Rattle.depgraph.specs.Code.Entries.{begin_in}
-use Rattle.depgraph.specs.Code.Waits.{no_wait, no_entry, ahead_of}
+use Rattle.depgraph.specs.Code.Waits.{no_wait}
 use Rattle.depgraph.proofs.NoteLemmas.{AreNoted, due_wait}
 use Rattle.depgraph.proofs.waiting.waits_of.Given as goal
 
@@ -8,8 +8,7 @@ use Rattle.depgraph.proofs.waiting.waits_of.Given as goal
 abbrev pub invariant-loop-n : goal.invariant-loop-n
 invariant-loop-n l = record {
   begin : l.at ≡ begin_in l.visit_ends l.n;
-  waits : AreNoted no_wait due_wait l.ends l.visits l.visit_ends l.n l.at l.waits.waits.items;
-  ahead : AreNoted no_entry (ahead_of l.times l.ends) l.ends l.visits l.visit_ends l.n l.at l.waits.ahead.items;
+  noted : AreNoted no_wait due_wait l.ends l.visits l.visit_ends l.n l.at l.waits.items;
 }
 
 abbrev pub invariant-loop-at : goal.invariant-loop-at
@@ -17,8 +16,7 @@ invariant-loop-at l = record {
   begun : l.begin ≡ begin_in l.visit_ends l.n;
   after : l.begin ≤ l.at;
   most : l.at ≤ get_or l.visit_ends l.n 0;
-  waits : AreNoted no_wait due_wait l.ends l.visits l.visit_ends l.n l.at l.waits.waits.items;
-  ahead : AreNoted no_entry (ahead_of l.times l.ends) l.ends l.visits l.visit_ends l.n l.at l.waits.ahead.items;
+  noted : AreNoted no_wait due_wait l.ends l.visits l.visit_ends l.n l.at l.waits.items;
 }
 
 abbrev pub decreases-loop-at : goal.decreases-loop-at

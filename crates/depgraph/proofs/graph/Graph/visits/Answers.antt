@@ -5,50 +5,51 @@ use Rattle.std.proofs.lemmas.Bool.{ltb-false}
 use Rattle.std.proofs.lemmas.List.{get_or_default}
 use Rattle.depgraph.specs.Code.Entries.{begin_in}
 use Rattle.depgraph.specs.Code.Keeping.{IsKept}
-use Rattle.depgraph.specs.Code.Numbers.{no_cell}
+use Rattle.depgraph.specs.Code.Numbers.{no_cell, cells_by}
 use Rattle.depgraph.specs.Code.Orders.{IsOrder}
 use Rattle.depgraph.specs.Code.Waits.{no_visit}
 use Rattle.depgraph.proofs.KeptLemmas.{visited_cells, kept_visits, kept_number, kept_block, past_visits}
+use Rattle.depgraph.proofs.NumberLemmas.{length-cells_by}
 use Rattle.depgraph.proofs.graph.Graph.visits.Goals as goal
 
 pub returns-in_err-number : goal.returns-in_err-number
 returns-in_err-number c =
     let g = c.self.inside in
-    let h = subst (λ v. (kept : IsKept v g.cells.items g.times.items g.ends.items g.needs.items g.visits.items g.visit_ends.items) × IsOrder kept.placing.listed g.order.items)
+    let h = subst (λ v. (kept : IsKept v (cells_by g.names.items g.numbers.items) g.times.items g.ends.items g.needs.items g.visits.items g.visit_ends.items) × IsOrder kept.placing.listed g.order.items)
     c.self.view_is (c.self.invariant.0, c.self.invariant.1) in
     let past = ltb-false c.args.n (length c.deref.result.now) (sym c.in_err-number.ensures.lookup.0) in
     let lent = ap length c.deref.ensures.value in (
-      visited_cells c.args.self.now g.cells.items g.times.items g.ends.items g.needs.items g.visits.items g.visit_ends.items h.0 g.order.items h.1,
-      kept_visits c.args.self.now g.cells.items g.times.items g.ends.items g.needs.items g.visits.items g.visit_ends.items h.0 g.order.items h.1,
+      visited_cells c.args.self.now (cells_by g.names.items g.numbers.items) g.times.items g.ends.items g.needs.items g.visits.items g.visit_ends.items h.0 g.order.items h.1,
+      kept_visits c.args.self.now (cells_by g.names.items g.numbers.items) g.times.items g.ends.items g.needs.items g.visits.items g.visit_ends.items h.0 g.order.items h.1,
       ap (option_map (λ at. record { cell = at.0; visits = at.1.now })) c.from_residual.ensures
-          ∙ sym (past_visits c.args.self.now g.cells.items g.times.items g.ends.items g.needs.items g.visits.items g.visit_ends.items h.0 g.order.items h.1 c.args.n (omega (arith, past, lent))),
+          ∙ sym (past_visits c.args.self.now (cells_by g.names.items g.numbers.items) g.times.items g.ends.items g.needs.items g.visits.items g.visit_ends.items h.0 g.order.items h.1 c.args.n (omega (arith, past, lent))),
     )
 
 pub bounds_in-begin-requires : goal.bounds_in-begin-requires
 bounds_in-begin-requires c =
     let g = c.self.inside in
-    let h = subst (λ v. (kept : IsKept v g.cells.items g.times.items g.ends.items g.needs.items g.visits.items g.visit_ends.items) × IsOrder kept.placing.listed g.order.items)
+    let h = subst (λ v. (kept : IsKept v (cells_by g.names.items g.numbers.items) g.times.items g.ends.items g.needs.items g.visits.items g.visit_ends.items) × IsOrder kept.placing.listed g.order.items)
     c.self.view_is (c.self.invariant.0, c.self.invariant.1) in
     let found = c.in_ok-number.ensures.lookup in
     let lent = ap length c.deref.ensures.value in
     let there = found.3.0 in
     let less : c.args.n < length g.order.items = omega (arith, there, lent) in
     let number = found.1 ∙ get_or_default c.deref.result.now c.args.n c.in_ok-number.field-0.now 0 found.3.0 ∙ ap (λ l. get_or l c.args.n 0) c.deref.ensures.value in
-    let known = kept_number c.args.self.now g.cells.items g.times.items g.ends.items g.needs.items g.visits.items g.visit_ends.items h.0 g.order.items h.1 c.args.n less in
+    let known = kept_number c.args.self.now (cells_by g.names.items g.numbers.items) g.times.items g.ends.items g.needs.items g.visits.items g.visit_ends.items h.0 g.order.items h.1 c.args.n less in
     let long = ap length c.deref-2.ensures.value in
     omega (arith, number, known, long)
 
 pub index-first-requires : goal.index-first-requires
 index-first-requires c =
     let g = c.self.inside in
-    let h = subst (λ v. (kept : IsKept v g.cells.items g.times.items g.ends.items g.needs.items g.visits.items g.visit_ends.items) × IsOrder kept.placing.listed g.order.items)
+    let h = subst (λ v. (kept : IsKept v (cells_by g.names.items g.numbers.items) g.times.items g.ends.items g.needs.items g.visits.items g.visit_ends.items) × IsOrder kept.placing.listed g.order.items)
     c.self.view_is (c.self.invariant.0, c.self.invariant.1) in
     let found = c.in_ok-number.ensures.lookup in
     let lent = ap length c.deref.ensures.value in
     let there = found.3.0 in
     let less : c.args.n < length g.order.items = omega (arith, there, lent) in
     let number = found.1 ∙ get_or_default c.deref.result.now c.args.n c.in_ok-number.field-0.now 0 found.3.0 ∙ ap (λ l. get_or l c.args.n 0) c.deref.ensures.value in
-    let block = kept_block c.args.self.now g.cells.items g.times.items g.ends.items g.needs.items g.visits.items g.visit_ends.items h.0 g.order.items h.1 c.args.n
+    let block = kept_block c.args.self.now (cells_by g.names.items g.numbers.items) g.times.items g.ends.items g.needs.items g.visits.items g.visit_ends.items h.0 g.order.items h.1 c.args.n
     c.in_ok-number.field-0.now c.bounds_in-begin.result.0 c.bounds_in-begin.result.1 less number
     (c.bounds_in-begin.ensures.begin ∙ ap (λ l. begin_in l c.in_ok-number.field-0.now) c.deref-2.ensures.value)
     (c.bounds_in-begin.ensures.end ∙ ap (λ l. get_or l c.in_ok-number.field-0.now 0) c.deref-2.ensures.value) in
@@ -60,14 +61,14 @@ index-first-requires c =
 pub begin_in-requires : goal.begin_in-requires
 begin_in-requires c =
     let g = c.self.inside in
-    let h = subst (λ v. (kept : IsKept v g.cells.items g.times.items g.ends.items g.needs.items g.visits.items g.visit_ends.items) × IsOrder kept.placing.listed g.order.items)
+    let h = subst (λ v. (kept : IsKept v (cells_by g.names.items g.numbers.items) g.times.items g.ends.items g.needs.items g.visits.items g.visit_ends.items) × IsOrder kept.placing.listed g.order.items)
     c.self.view_is (c.self.invariant.0, c.self.invariant.1) in
     let found = c.in_ok-number.ensures.lookup in
     let lent = ap length c.deref.ensures.value in
     let there = found.3.0 in
     let less : c.args.n < length g.order.items = omega (arith, there, lent) in
     let number = found.1 ∙ get_or_default c.deref.result.now c.args.n c.in_ok-number.field-0.now 0 found.3.0 ∙ ap (λ l. get_or l c.args.n 0) c.deref.ensures.value in
-    let block = kept_block c.args.self.now g.cells.items g.times.items g.ends.items g.needs.items g.visits.items g.visit_ends.items h.0 g.order.items h.1 c.args.n
+    let block = kept_block c.args.self.now (cells_by g.names.items g.numbers.items) g.times.items g.ends.items g.needs.items g.visits.items g.visit_ends.items h.0 g.order.items h.1 c.args.n
     c.in_ok-number.field-0.now c.bounds_in-begin.result.0 c.bounds_in-begin.result.1 less number
     (c.bounds_in-begin.ensures.begin ∙ ap (λ l. begin_in l c.in_ok-number.field-0.now) c.deref-2.ensures.value)
     (c.bounds_in-begin.ensures.end ∙ ap (λ l. get_or l c.in_ok-number.field-0.now 0) c.deref-2.ensures.value) in
@@ -80,17 +81,17 @@ begin_in-requires c =
     let ends = ap length c.deref-3.ensures.value in
     omega (arith, agent, from, ends)
 
-pub overflow_cast-first : goal.overflow_cast-first
-overflow_cast-first c =
+pub overflow_cast-entry : goal.overflow_cast-entry
+overflow_cast-entry c =
     let g = c.self.inside in
-    let h = subst (λ v. (kept : IsKept v g.cells.items g.times.items g.ends.items g.needs.items g.visits.items g.visit_ends.items) × IsOrder kept.placing.listed g.order.items)
+    let h = subst (λ v. (kept : IsKept v (cells_by g.names.items g.numbers.items) g.times.items g.ends.items g.needs.items g.visits.items g.visit_ends.items) × IsOrder kept.placing.listed g.order.items)
     c.self.view_is (c.self.invariant.0, c.self.invariant.1) in
     let found = c.in_ok-number.ensures.lookup in
     let lent = ap length c.deref.ensures.value in
     let there = found.3.0 in
     let less : c.args.n < length g.order.items = omega (arith, there, lent) in
     let number = found.1 ∙ get_or_default c.deref.result.now c.args.n c.in_ok-number.field-0.now 0 found.3.0 ∙ ap (λ l. get_or l c.args.n 0) c.deref.ensures.value in
-    let block = kept_block c.args.self.now g.cells.items g.times.items g.ends.items g.needs.items g.visits.items g.visit_ends.items h.0 g.order.items h.1 c.args.n
+    let block = kept_block c.args.self.now (cells_by g.names.items g.numbers.items) g.times.items g.ends.items g.needs.items g.visits.items g.visit_ends.items h.0 g.order.items h.1 c.args.n
     c.in_ok-number.field-0.now c.bounds_in-begin.result.0 c.bounds_in-begin.result.1 less number
     (c.bounds_in-begin.ensures.begin ∙ ap (λ l. begin_in l c.in_ok-number.field-0.now) c.deref-2.ensures.value)
     (c.bounds_in-begin.ensures.end ∙ ap (λ l. get_or l c.in_ok-number.field-0.now 0) c.deref-2.ensures.value) in
@@ -102,21 +103,22 @@ overflow_cast-first c =
     let from = c.begin_in.ensures ∙ ap (λ l. begin_in l c.from.result) c.deref-3.ensures.value ∙ ap (begin_in g.ends.items) (c.from.ensures ∙ ap (λ x. x.agent) first) in
     let index = ap (λ x. x.index) first in
     let there = block.entry in
-    let small = g.cells.ok.0 in
-    let limit = g.cells.small in
-    omega (arith, from, index, there, small, limit)
+    let cells = length-cells_by g.names.items g.numbers.items in
+    let small = g.numbers.ok.0 in
+    let limit = g.numbers.small in
+    omega (arith, from, index, there, cells, small, limit)
 
-pub overflow_add-begin_in : goal.overflow_add-begin_in
-overflow_add-begin_in c =
+pub overflow_add-entry : goal.overflow_add-entry
+overflow_add-entry c =
     let g = c.self.inside in
-    let h = subst (λ v. (kept : IsKept v g.cells.items g.times.items g.ends.items g.needs.items g.visits.items g.visit_ends.items) × IsOrder kept.placing.listed g.order.items)
+    let h = subst (λ v. (kept : IsKept v (cells_by g.names.items g.numbers.items) g.times.items g.ends.items g.needs.items g.visits.items g.visit_ends.items) × IsOrder kept.placing.listed g.order.items)
     c.self.view_is (c.self.invariant.0, c.self.invariant.1) in
     let found = c.in_ok-number.ensures.lookup in
     let lent = ap length c.deref.ensures.value in
     let there = found.3.0 in
     let less : c.args.n < length g.order.items = omega (arith, there, lent) in
     let number = found.1 ∙ get_or_default c.deref.result.now c.args.n c.in_ok-number.field-0.now 0 found.3.0 ∙ ap (λ l. get_or l c.args.n 0) c.deref.ensures.value in
-    let block = kept_block c.args.self.now g.cells.items g.times.items g.ends.items g.needs.items g.visits.items g.visit_ends.items h.0 g.order.items h.1 c.args.n
+    let block = kept_block c.args.self.now (cells_by g.names.items g.numbers.items) g.times.items g.ends.items g.needs.items g.visits.items g.visit_ends.items h.0 g.order.items h.1 c.args.n
     c.in_ok-number.field-0.now c.bounds_in-begin.result.0 c.bounds_in-begin.result.1 less number
     (c.bounds_in-begin.ensures.begin ∙ ap (λ l. begin_in l c.in_ok-number.field-0.now) c.deref-2.ensures.value)
     (c.bounds_in-begin.ensures.end ∙ ap (λ l. get_or l c.in_ok-number.field-0.now 0) c.deref-2.ensures.value) in
@@ -128,21 +130,22 @@ overflow_add-begin_in c =
     let from = c.begin_in.ensures ∙ ap (λ l. begin_in l c.from.result) c.deref-3.ensures.value ∙ ap (begin_in g.ends.items) (c.from.ensures ∙ ap (λ x. x.agent) first) in
     let index = ap (λ x. x.index) first in
     let there = block.entry in
-    let small = g.cells.ok.0 in
-    let limit = g.cells.small in
-    omega (arith, from, index, there, small, limit)
+    let cells = length-cells_by g.names.items g.numbers.items in
+    let small = g.numbers.ok.0 in
+    let limit = g.numbers.small in
+    omega (arith, from, index, there, cells, small, limit)
 
-pub index-cell-requires : goal.index-cell-requires
-index-cell-requires c =
+pub cell_at-cell-requires-clause-index : goal.cell_at-cell-requires-clause-index
+cell_at-cell-requires-clause-index c =
     let g = c.self.inside in
-    let h = subst (λ v. (kept : IsKept v g.cells.items g.times.items g.ends.items g.needs.items g.visits.items g.visit_ends.items) × IsOrder kept.placing.listed g.order.items)
+    let h = subst (λ v. (kept : IsKept v (cells_by g.names.items g.numbers.items) g.times.items g.ends.items g.needs.items g.visits.items g.visit_ends.items) × IsOrder kept.placing.listed g.order.items)
     c.self.view_is (c.self.invariant.0, c.self.invariant.1) in
     let found = c.in_ok-number.ensures.lookup in
     let lent = ap length c.deref.ensures.value in
     let there = found.3.0 in
     let less : c.args.n < length g.order.items = omega (arith, there, lent) in
     let number = found.1 ∙ get_or_default c.deref.result.now c.args.n c.in_ok-number.field-0.now 0 found.3.0 ∙ ap (λ l. get_or l c.args.n 0) c.deref.ensures.value in
-    let block = kept_block c.args.self.now g.cells.items g.times.items g.ends.items g.needs.items g.visits.items g.visit_ends.items h.0 g.order.items h.1 c.args.n
+    let block = kept_block c.args.self.now (cells_by g.names.items g.numbers.items) g.times.items g.ends.items g.needs.items g.visits.items g.visit_ends.items h.0 g.order.items h.1 c.args.n
     c.in_ok-number.field-0.now c.bounds_in-begin.result.0 c.bounds_in-begin.result.1 less number
     (c.bounds_in-begin.ensures.begin ∙ ap (λ l. begin_in l c.in_ok-number.field-0.now) c.deref-2.ensures.value)
     (c.bounds_in-begin.ensures.end ∙ ap (λ l. get_or l c.in_ok-number.field-0.now 0) c.deref-2.ensures.value) in
@@ -154,20 +157,21 @@ index-cell-requires c =
     let from = c.begin_in.ensures ∙ ap (λ l. begin_in l c.from.result) c.deref-3.ensures.value ∙ ap (begin_in g.ends.items) (c.from.ensures ∙ ap (λ x. x.agent) first) in
     let index = ap (λ x. x.index) first in
     let there = block.entry in
-    let count = g.cells.ok.0 in
-    omega (arith, from, index, there, count)
+    let cells = length-cells_by g.names.items g.numbers.items in
+    let long = ap length c.deref-5.ensures.value in
+    omega (arith, from, index, there, cells, long)
 
 pub slice_bounds-result-count : goal.slice_bounds-result-count
 slice_bounds-result-count c =
     let g = c.self.inside in
-    let h = subst (λ v. (kept : IsKept v g.cells.items g.times.items g.ends.items g.needs.items g.visits.items g.visit_ends.items) × IsOrder kept.placing.listed g.order.items)
+    let h = subst (λ v. (kept : IsKept v (cells_by g.names.items g.numbers.items) g.times.items g.ends.items g.needs.items g.visits.items g.visit_ends.items) × IsOrder kept.placing.listed g.order.items)
     c.self.view_is (c.self.invariant.0, c.self.invariant.1) in
     let found = c.in_ok-number.ensures.lookup in
     let lent = ap length c.deref.ensures.value in
     let there = found.3.0 in
     let less : c.args.n < length g.order.items = omega (arith, there, lent) in
     let number = found.1 ∙ get_or_default c.deref.result.now c.args.n c.in_ok-number.field-0.now 0 found.3.0 ∙ ap (λ l. get_or l c.args.n 0) c.deref.ensures.value in
-    let block = kept_block c.args.self.now g.cells.items g.times.items g.ends.items g.needs.items g.visits.items g.visit_ends.items h.0 g.order.items h.1 c.args.n
+    let block = kept_block c.args.self.now (cells_by g.names.items g.numbers.items) g.times.items g.ends.items g.needs.items g.visits.items g.visit_ends.items h.0 g.order.items h.1 c.args.n
     c.in_ok-number.field-0.now c.bounds_in-begin.result.0 c.bounds_in-begin.result.1 less number
     (c.bounds_in-begin.ensures.begin ∙ ap (λ l. begin_in l c.in_ok-number.field-0.now) c.deref-2.ensures.value)
     (c.bounds_in-begin.ensures.end ∙ ap (λ l. get_or l c.in_ok-number.field-0.now 0) c.deref-2.ensures.value) in
@@ -178,14 +182,14 @@ slice_bounds-result-count c =
 pub slice_bounds-result-start : goal.slice_bounds-result-start
 slice_bounds-result-start c =
     let g = c.self.inside in
-    let h = subst (λ v. (kept : IsKept v g.cells.items g.times.items g.ends.items g.needs.items g.visits.items g.visit_ends.items) × IsOrder kept.placing.listed g.order.items)
+    let h = subst (λ v. (kept : IsKept v (cells_by g.names.items g.numbers.items) g.times.items g.ends.items g.needs.items g.visits.items g.visit_ends.items) × IsOrder kept.placing.listed g.order.items)
     c.self.view_is (c.self.invariant.0, c.self.invariant.1) in
     let found = c.in_ok-number.ensures.lookup in
     let lent = ap length c.deref.ensures.value in
     let there = found.3.0 in
     let less : c.args.n < length g.order.items = omega (arith, there, lent) in
     let number = found.1 ∙ get_or_default c.deref.result.now c.args.n c.in_ok-number.field-0.now 0 found.3.0 ∙ ap (λ l. get_or l c.args.n 0) c.deref.ensures.value in
-    let block = kept_block c.args.self.now g.cells.items g.times.items g.ends.items g.needs.items g.visits.items g.visit_ends.items h.0 g.order.items h.1 c.args.n
+    let block = kept_block c.args.self.now (cells_by g.names.items g.numbers.items) g.times.items g.ends.items g.needs.items g.visits.items g.visit_ends.items h.0 g.order.items h.1 c.args.n
     c.in_ok-number.field-0.now c.bounds_in-begin.result.0 c.bounds_in-begin.result.1 less number
     (c.bounds_in-begin.ensures.begin ∙ ap (λ l. begin_in l c.in_ok-number.field-0.now) c.deref-2.ensures.value)
     (c.bounds_in-begin.ensures.end ∙ ap (λ l. get_or l c.in_ok-number.field-0.now 0) c.deref-2.ensures.value) in
@@ -196,33 +200,33 @@ slice_bounds-result-start c =
 pub slice_bounds-result-end : goal.slice_bounds-result-end
 slice_bounds-result-end c =
     let g = c.self.inside in
-    let h = subst (λ v. (kept : IsKept v g.cells.items g.times.items g.ends.items g.needs.items g.visits.items g.visit_ends.items) × IsOrder kept.placing.listed g.order.items)
+    let h = subst (λ v. (kept : IsKept v (cells_by g.names.items g.numbers.items) g.times.items g.ends.items g.needs.items g.visits.items g.visit_ends.items) × IsOrder kept.placing.listed g.order.items)
     c.self.view_is (c.self.invariant.0, c.self.invariant.1) in
     let found = c.in_ok-number.ensures.lookup in
     let lent = ap length c.deref.ensures.value in
     let there = found.3.0 in
     let less : c.args.n < length g.order.items = omega (arith, there, lent) in
     let number = found.1 ∙ get_or_default c.deref.result.now c.args.n c.in_ok-number.field-0.now 0 found.3.0 ∙ ap (λ l. get_or l c.args.n 0) c.deref.ensures.value in
-    let block = kept_block c.args.self.now g.cells.items g.times.items g.ends.items g.needs.items g.visits.items g.visit_ends.items h.0 g.order.items h.1 c.args.n
+    let block = kept_block c.args.self.now (cells_by g.names.items g.numbers.items) g.times.items g.ends.items g.needs.items g.visits.items g.visit_ends.items h.0 g.order.items h.1 c.args.n
     c.in_ok-number.field-0.now c.bounds_in-begin.result.0 c.bounds_in-begin.result.1 less number
     (c.bounds_in-begin.ensures.begin ∙ ap (λ l. begin_in l c.in_ok-number.field-0.now) c.deref-2.ensures.value)
     (c.bounds_in-begin.ensures.end ∙ ap (λ l. get_or l c.in_ok-number.field-0.now 0) c.deref-2.ensures.value) in
     let some = block.some in
     let most = block.most in
-    let long = ap length c.deref-4.ensures.value in
+    let long = ap length c.deref-6.ensures.value in
     omega (arith, some, most, long)
 
 pub offset_bounds-deref-begin : goal.offset_bounds-deref-begin
 offset_bounds-deref-begin c =
     let g = c.self.inside in
-    let h = subst (λ v. (kept : IsKept v g.cells.items g.times.items g.ends.items g.needs.items g.visits.items g.visit_ends.items) × IsOrder kept.placing.listed g.order.items)
+    let h = subst (λ v. (kept : IsKept v (cells_by g.names.items g.numbers.items) g.times.items g.ends.items g.needs.items g.visits.items g.visit_ends.items) × IsOrder kept.placing.listed g.order.items)
     c.self.view_is (c.self.invariant.0, c.self.invariant.1) in
     let found = c.in_ok-number.ensures.lookup in
     let lent = ap length c.deref.ensures.value in
     let there = found.3.0 in
     let less : c.args.n < length g.order.items = omega (arith, there, lent) in
     let number = found.1 ∙ get_or_default c.deref.result.now c.args.n c.in_ok-number.field-0.now 0 found.3.0 ∙ ap (λ l. get_or l c.args.n 0) c.deref.ensures.value in
-    let block = kept_block c.args.self.now g.cells.items g.times.items g.ends.items g.needs.items g.visits.items g.visit_ends.items h.0 g.order.items h.1 c.args.n
+    let block = kept_block c.args.self.now (cells_by g.names.items g.numbers.items) g.times.items g.ends.items g.needs.items g.visits.items g.visit_ends.items h.0 g.order.items h.1 c.args.n
     c.in_ok-number.field-0.now c.bounds_in-begin.result.0 c.bounds_in-begin.result.1 less number
     (c.bounds_in-begin.ensures.begin ∙ ap (λ l. begin_in l c.in_ok-number.field-0.now) c.deref-2.ensures.value)
     (c.bounds_in-begin.ensures.end ∙ ap (λ l. get_or l c.in_ok-number.field-0.now 0) c.deref-2.ensures.value) in
@@ -234,14 +238,14 @@ offset_bounds-deref-begin c =
 pub returns : goal.returns
 returns c =
     let g = c.self.inside in
-    let h = subst (λ v. (kept : IsKept v g.cells.items g.times.items g.ends.items g.needs.items g.visits.items g.visit_ends.items) × IsOrder kept.placing.listed g.order.items)
+    let h = subst (λ v. (kept : IsKept v (cells_by g.names.items g.numbers.items) g.times.items g.ends.items g.needs.items g.visits.items g.visit_ends.items) × IsOrder kept.placing.listed g.order.items)
     c.self.view_is (c.self.invariant.0, c.self.invariant.1) in
     let found = c.in_ok-number.ensures.lookup in
     let lent = ap length c.deref.ensures.value in
     let there = found.3.0 in
     let less : c.args.n < length g.order.items = omega (arith, there, lent) in
     let number = found.1 ∙ get_or_default c.deref.result.now c.args.n c.in_ok-number.field-0.now 0 found.3.0 ∙ ap (λ l. get_or l c.args.n 0) c.deref.ensures.value in
-    let block = kept_block c.args.self.now g.cells.items g.times.items g.ends.items g.needs.items g.visits.items g.visit_ends.items h.0 g.order.items h.1 c.args.n
+    let block = kept_block c.args.self.now (cells_by g.names.items g.numbers.items) g.times.items g.ends.items g.needs.items g.visits.items g.visit_ends.items h.0 g.order.items h.1 c.args.n
     c.in_ok-number.field-0.now c.bounds_in-begin.result.0 c.bounds_in-begin.result.1 less number
     (c.bounds_in-begin.ensures.begin ∙ ap (λ l. begin_in l c.in_ok-number.field-0.now) c.deref-2.ensures.value)
     (c.bounds_in-begin.ensures.end ∙ ap (λ l. get_or l c.in_ok-number.field-0.now 0) c.deref-2.ensures.value) in
@@ -254,12 +258,12 @@ returns c =
     let index = ap (λ x. x.index) first in
     let there = block.entry in
     let place : c.begin_in.result + c.index-first.result.now.index ≡ begin_in g.ends.items v.agent + v.index = omega (arith, from, index) in
-    let own = c.index-cell.ensures ∙ get_or_default g.cells.items (c.begin_in.result + c.index-first.result.now.index) c.index-cell.result.now no_cell (omega (arith, from, index, there))
-    ∙ ap (λ k. get_or g.cells.items k no_cell) place in
+    let cells = ap (λ l. cells_by l c.deref-5.result.now) c.deref-4.ensures.value ∙ ap (cells_by g.names.items) c.deref-5.ensures.value in
+    let own = c.cell_at-cell.ensures ∙ ap (λ l. get_or l (c.begin_in.result + c.index-first.result.now.index) no_cell) cells ∙ ap (λ k. get_or (cells_by g.names.items g.numbers.items) k no_cell) place in
     let count = c.bounds_in-begin.result.1 - begin in (
-      visited_cells c.args.self.now g.cells.items g.times.items g.ends.items g.needs.items g.visits.items g.visit_ends.items h.0 g.order.items h.1,
-      kept_visits c.args.self.now g.cells.items g.times.items g.ends.items g.needs.items g.visits.items g.visit_ends.items h.0 g.order.items h.1,
-      ap {B = _} (λ x. Some (record { cell = x; visits = take count (drop begin c.deref-4.result.now) })) own
-          ∙ ap (λ l. Some (record { cell = get_or g.cells.items (begin_in g.ends.items v.agent + v.index) no_cell; visits = take count (drop begin l) })) c.deref-4.ensures.value
+      visited_cells c.args.self.now (cells_by g.names.items g.numbers.items) g.times.items g.ends.items g.needs.items g.visits.items g.visit_ends.items h.0 g.order.items h.1,
+      kept_visits c.args.self.now (cells_by g.names.items g.numbers.items) g.times.items g.ends.items g.needs.items g.visits.items g.visit_ends.items h.0 g.order.items h.1,
+      ap {B = _} (λ x. Some (record { cell = x; visits = take count (drop begin c.deref-6.result.now) })) own
+          ∙ ap (λ l. Some (record { cell = get_or (cells_by g.names.items g.numbers.items) (begin_in g.ends.items v.agent + v.index) no_cell; visits = take count (drop begin l) })) c.deref-6.ensures.value
           ∙ sym block.listed,
     )

@@ -1,5 +1,5 @@
 -- All is 0 at first.
-use Rattle.std.proofs.Common.{ℕ, ◌≡◌, ◌*◌, length, get_or, replicate, inl, inr, ap, ◌∙◌, arith, rules}
+use Rattle.std.proofs.Common.{ℕ, ◌≡◌, ◌+◌, ◌*◌, ◌/◌, length, get_or, replicate, inl, inr, ap, ◌∙◌, arith, rules}
 use Rattle.std.proofs.lemmas.Bool.{cases_lt}
 use Rattle.std.proofs.lemmas.List.{get_or-replicate, get_or_past, length-replicate}
 use Rattle.depgraph.specs.declared.tiles.Tiles.{Tiles}
@@ -14,7 +14,7 @@ zeros n i = elim (cases_lt i n) [
 
 pub returns-clause-tiles : goal.returns-clause-tiles
 returns-clause-tiles c =
-    let parts : c.in_ok-vec.field-0.items ≡ replicate (c.extent_of-across.result.0 * c.extent_of-across.result.1) 0 = c.in_ok-vec.ensures.items_if_clones_equal (search rules) in
+    let parts : c.in_ok-vec.field-0.items ≡ replicate ((c.args.width / 16 + 1) * (c.args.height / 16 + 1)) 0 = c.in_ok-vec.ensures.items_if_clones_equal (search rules) in
     let numbers : c.in_ok-vec-2.field-0.items ≡ replicate 256 0 = c.in_ok-vec-2.ensures.items_if_clones_equal (search rules) in
     let none : (i : ℕ) → get_or c.in_ok-vec.field-0.items i 0 ≡ 0 = λ i. ap (λ l. get_or l i 0) parts ∙ zeros _ i in
     let long = ap length numbers ∙ length-replicate {A = ℕ} 256 0 in
@@ -28,5 +28,5 @@ returns-clause-tiles c =
 pub returns-clause-none : goal.returns-clause-none
 returns-clause-none c = λ cell.
     let numbers : c.in_ok-vec-2.field-0.items ≡ replicate 256 0 = c.in_ok-vec-2.ensures.items_if_clones_equal (search rules) in
-    let t : Tiles = record { across = c.extent_of-across.result.0; parts = c.in_ok-vec.field-0; numbers = c.in_ok-vec-2.field-0 } in
+    let t : Tiles = record { across = c.args.width / 16 + 1; parts = c.in_ok-vec.field-0; numbers = c.in_ok-vec-2.field-0 } in
     ap (λ l. get_or l (place_of t cell) 0) numbers ∙ zeros 256 (place_of t cell)
