@@ -1,5 +1,5 @@
 //! Agents that hear of many others.
-use crate::walks::opened;
+use crate::walks::new_agent;
 use agent::{Agent, Finished, HearFault, MemTape, encode};
 use depgraph::{Graph, OutOfMemory};
 use grid::{Cell, Counted, Map, read_map};
@@ -58,7 +58,7 @@ fn hear_all(rt: &impl Abort, agent: &mut Agent<'_, MemTape>, is_first: bool) {
 #[test]
 fn ten_thousand_senders(rt: HostRuntime) -> Result<(), Fail> {
     let graph = wide_graph(rt.alloc(), 100)?;
-    let mut agent = opened(rt.alloc(), &graph, 0, MemTape::new(rt.alloc(), 20)?)?;
+    let mut agent = new_agent(rt.alloc(), &graph, 0, 20)?;
     hear_all(&rt, &mut agent, true);
     hear_all(&rt, &mut agent, false);
     for id in 0..10_000 {

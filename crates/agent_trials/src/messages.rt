@@ -23,21 +23,28 @@ fn twelve_bytes(rt: HostRuntime) {
     assert_eq!(rt; decode(&bytes), Ok(other));
 }
 
+/// Bytes that are no message.
+static NO_MESSAGES: [(&[u8], MsgFault); 9] = [
+    (&[], MsgFault::BadLength),
+    (&[0x46], MsgFault::BadLength),
+    (&[0x46, 1], MsgFault::BadLength),
+    (&[0x46, 1, 0, 0, 0, 0, 0, 7, 0, 0, 0], MsgFault::BadLength),
+    (
+        &[0x46, 1, 0, 0, 0, 0, 0, 7, 0, 0, 0, 1, 0],
+        MsgFault::BadLength,
+    ),
+    (
+        &[0x46, 2, 0, 0, 0, 0, 0, 7, 0, 0, 0, 1],
+        MsgFault::BadVersion,
+    ),
+    (&[0x46, 2], MsgFault::BadVersion),
+    (&[0x47, 2, 0, 0, 0, 0, 0, 7, 0, 0, 0, 1], MsgFault::BadMagic),
+    (&[0x47], MsgFault::BadLength),
+];
+
 #[test]
 fn no_messages(rt: HostRuntime) {
-    for (length, bytes) in [&MESSAGE[..0], &MESSAGE[..1], &MESSAGE[..2], &MESSAGE[..11]]
-        .into_iter()
-        .enumerate()
-    {
-        assert_eq!(rt; decode(bytes), Err(MsgFault::BadLength), "case {length}");
+    for &(bytes, fault) in &NO_MESSAGES {
+        assert_eq!(rt; decode(bytes), Err(fault), "at {bytes:?}");
     }
-    let longer = [0x46, 1, 0, 0, 0, 0, 0, 7, 0, 0, 0, 1, 0];
-    assert_eq!(rt; decode(&longer), Err(MsgFault::BadLength));
-    let mut bytes = MESSAGE;
-    bytes[1] = 2;
-    assert_eq!(rt; decode(&bytes), Err(MsgFault::BadVersion));
-    assert_eq!(rt; decode(&bytes[..2]), Err(MsgFault::BadVersion));
-    bytes[0] = 0x47;
-    assert_eq!(rt; decode(&bytes), Err(MsgFault::BadMagic));
-    assert_eq!(rt; decode(&bytes[..1]), Err(MsgFault::BadLength));
 }

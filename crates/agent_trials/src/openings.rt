@@ -1,5 +1,6 @@
 //! Which tapes are opened.
 use crate::texts::one_behind;
+use crate::walks::opened;
 use agent::{Agent, Held, MemTape, OpenFault, Refusal, Tape, TapeMakeFault};
 use depgraph::Graph;
 use fake_tapes::FailTape;
@@ -85,10 +86,8 @@ fn refused_tapes(rt: HostRuntime) -> Result<(), Fail> {
 fn no_such_agent(rt: HostRuntime) -> Result<(), Fail> {
     let graph = one_behind(rt.alloc())?;
     let tape = MemTape::new(rt.alloc(), 0)?;
-    match Agent::open(rt.alloc(), &graph, 2, tape) {
-        Ok(_) => Err("agent 2 was opened")?,
-        Err((fault, _)) => assert_eq!(rt; fault, OpenFault::NoSuchAgent),
-    }
+    let fault = Agent::open(rt.alloc(), &graph, 2, tape).map_err(|refused| refused.0);
+    assert_eq!(rt; fault.err(), Some(OpenFault::NoSuchAgent));
     Ok(())
 }
 
@@ -96,11 +95,11 @@ fn no_such_agent(rt: HostRuntime) -> Result<(), Fail> {
 fn a_tail_counts_as_nothing(rt: HostRuntime) -> Result<(), Fail> {
     let graph = one_behind(rt.alloc())?;
     let tape = MemTape::from_bytes(rt.alloc(), &MOVING[..9], 20)?;
-    let Ok(mut agent) = Agent::open(rt.alloc(), &graph, 0, tape) else {
-        return Err("the tape was refused")?;
-    };
-    assert_eq!(rt; agent.held(), Held::At(Cell { x: 1, y: 0 }));
-    assert_eq!(rt; agent.done(), 0);
+    let mut agent = opened(rt.alloc(), &graph, 0, tape)?;
+    assert_eq!(rt;
+        (agent.held(), agent.done()),
+        (Held::At(Cell { x: 1, y: 0 }), 0)
+    );
     assert_eq!(rt; agent.start(), Ok(Cell { x: 2, y: 0 }));
     assert_eq!(rt; agent.into_tape().bytes(), MOVING.as_slice());
     Ok(())

@@ -59,27 +59,46 @@ fn ended<'g>(
     Ok(agent)
 }
 
+/// What the agent holds and says after its move, of which a write may be torn.
+fn moved(
+    alloc: Global,
+    graph: &Graph,
+    id: u16,
+    tear: Option<(u32, u8)>,
+    heard: &[u8],
+) -> Result<(Held, [u8; 12]), Fail> {
+    let agent = begun(alloc, graph, id, torn(alloc, graph, id, tear)?, heard)?;
+    let agent = ended(alloc, graph, id, agent)?;
+    Ok((agent.held(), agent.say()?))
+}
+
+/// Whether both agents make their moves, one behind the other.
+fn both_move(
+    alloc: Global,
+    graph: &Graph,
+    front_tear: Option<(u32, u8)>,
+    back_tear: Option<(u32, u8)>,
+) -> Result<bool, Fail> {
+    let nothing_yet = [0x46, 1, 0, 1, 0, 0, 0, 7, 0, 0, 0, 0];
+    let (front, message) = moved(alloc, graph, 0, front_tear, &nothing_yet)?;
+    let (back, _) = moved(alloc, graph, 1, back_tear, &message)?;
+    Ok(front == Held::At(Cell { x: 2, y: 0 }) && back == Held::At(Cell { x: 1, y: 0 }))
+}
+
 #[test]
 fn each_write_is_torn(rt: HostRuntime) -> Result<(), Fail> {
-    let alloc = rt.alloc();
-    let graph = one_behind(alloc)?;
-    let nothing_yet = [0x46, 1, 0, 1, 0, 0, 0, 7, 0, 0, 0, 0];
+    let graph = one_behind(rt.alloc())?;
     for stored in 0..11 {
         for write in 0..2 {
-            for (front_tear, back_tear) in [
-                (Some((write, stored)), None),
-                (None, Some((write, stored))),
-            ] {
-                let front = torn(alloc, &graph, 0, front_tear)?;
-                let back = torn(alloc, &graph, 1, back_tear)?;
-                let front = begun(alloc, &graph, 0, front, &nothing_yet)?;
-                let front = ended(alloc, &graph, 0, front)?;
-                let message = front.say()?;
-                let back = begun(alloc, &graph, 1, back, &message)?;
-                let back = ended(alloc, &graph, 1, back)?;
-                assert_eq!(rt; front.held(), Held::At(Cell { x: 2, y: 0 }));
-                assert_eq!(rt; back.held(), Held::At(Cell { x: 1, y: 0 }));
-            }
+            let tear = Some((write, stored));
+            assert!(rt;
+                both_move(rt.alloc(), &graph, tear, None)?,
+                "front: {tear:?}"
+            );
+            assert!(rt;
+                both_move(rt.alloc(), &graph, None, tear)?,
+                "back: {tear:?}"
+            );
         }
     }
     Ok(())

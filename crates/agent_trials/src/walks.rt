@@ -36,16 +36,33 @@ enum Row {
     Done(u32),
 }
 
-/// Asks an agent, and compares its answer.
-fn expect<T: Tape>(rt: &impl Abort, agent: &mut Agent<'_, T>, row: Row) {
+/// The agent over a new tape of this room.
+pub fn new_agent(
+    alloc: Global,
+    graph: &Graph,
+    id: u16,
+    room: u32,
+) -> Result<Agent<'_, MemTape>, Fail> {
+    opened(alloc, graph, id, MemTape::new(alloc, room)?)
+}
+
+/// Asks an agent. Whether it answers as it has to.
+fn answers<T: Tape>(agent: &mut Agent<'_, T>, row: Row) -> bool {
     match row {
-        Row::Start(answer) => assert_eq!(rt; agent.start(), answer),
-        Row::Finish(answer) => assert_eq!(rt; agent.finish(), answer),
-        Row::Say(answer) => assert_eq!(rt; agent.say(), answer),
-        Row::Hear(message, answer) => assert_eq!(rt; agent.hear(&message), answer),
-        Row::Known(id, answer) => assert_eq!(rt; agent.known(id), answer),
-        Row::Held(answer) => assert_eq!(rt; agent.held(), answer),
-        Row::Done(answer) => assert_eq!(rt; agent.done(), answer),
+        Row::Start(answer) => agent.start() == answer,
+        Row::Finish(answer) => agent.finish() == answer,
+        Row::Say(answer) => agent.say() == answer,
+        Row::Hear(message, answer) => agent.hear(&message) == answer,
+        Row::Known(id, answer) => agent.known(id) == answer,
+        Row::Held(answer) => agent.held() == answer,
+        Row::Done(answer) => agent.done() == answer,
+    }
+}
+
+/// Asks an agent one thing after another.
+fn expect<T: Tape>(rt: &impl Abort, agent: &mut Agent<'_, T>, rows: &[Row]) {
+    for (n, &row) in rows.iter().enumerate() {
+        assert!(rt; answers(agent, row), "at row {n}");
     }
 }
 
@@ -56,12 +73,13 @@ fn expect_all<T: Tape>(
     second: &mut Agent<'_, T>,
     rows: &[(u16, Row)],
 ) {
-    for &(id, row) in rows {
-        if id == 0 {
-            expect(rt, first, row);
+    for (n, &(id, row)) in rows.iter().enumerate() {
+        let is_right = if id == 0 {
+            answers(first, row)
         } else {
-            expect(rt, second, row);
-        }
+            answers(second, row)
+        };
+        assert!(rt; is_right, "at row {n}");
     }
 }
 
@@ -104,8 +122,8 @@ static OPENED_AGAIN: [(u16, Row); 5] = [
 #[test]
 fn one_behind_another(rt: HostRuntime) -> Result<(), Fail> {
     let graph = one_behind(rt.alloc())?;
-    let mut front = opened(rt.alloc(), &graph, 0, MemTape::new(rt.alloc(), 20)?)?;
-    let mut back = opened(rt.alloc(), &graph, 1, MemTape::new(rt.alloc(), 20)?)?;
+    let mut front = new_agent(rt.alloc(), &graph, 0, 20)?;
+    let mut back = new_agent(rt.alloc(), &graph, 1, 20)?;
     expect_all(&rt, &mut front, &mut back, &ONE_BEHIND_ANOTHER);
     let mut back = opened(rt.alloc(), &graph, 1, back.into_tape())?;
     expect_all(&rt, &mut front, &mut back, &OPENED_AGAIN);
@@ -128,8 +146,8 @@ static OUT_OF_ORDER: [(u16, Row); 10] = [
 #[test]
 fn messages_out_of_order(rt: HostRuntime) -> Result<(), Fail> {
     let graph = graph_of(rt.alloc(), "agent 1 0 ew\nagent 0 0 =\n")?;
-    let mut goer = opened(rt.alloc(), &graph, 0, MemTape::new(rt.alloc(), 40)?)?;
-    let mut stayer = opened(rt.alloc(), &graph, 1, MemTape::new(rt.alloc(), 0)?)?;
+    let mut goer = new_agent(rt.alloc(), &graph, 0, 40)?;
+    let mut stayer = new_agent(rt.alloc(), &graph, 1, 0)?;
     expect_all(&rt, &mut goer, &mut stayer, &OUT_OF_ORDER);
     Ok(())
 }
@@ -158,10 +176,8 @@ static HEARD_OR_NOT: [Row; 5] = [
 #[test]
 fn messages_that_are_not_heard(rt: HostRuntime) -> Result<(), Fail> {
     let graph = one_behind(rt.alloc())?;
-    let mut agent = opened(rt.alloc(), &graph, 0, MemTape::new(rt.alloc(), 20)?)?;
-    for &row in &HEARD_OR_NOT {
-        expect(&rt, &mut agent, row);
-    }
+    let mut agent = new_agent(rt.alloc(), &graph, 0, 20)?;
+    expect(&rt, &mut agent, &HEARD_OR_NOT);
     Ok(())
 }
 
@@ -186,11 +202,25 @@ fn torn_start(
     let mut tape = FailTape::new(MemTape::new(alloc, 20)?, 0);
     tape.fail_after(0, stored.min(10));
     let mut agent = opened(alloc, graph, 0, tape)?;
-    for &row in &BROKEN {
-        expect(rt, &mut agent, row);
-    }
-    expect(rt, &mut agent, Row::Held(held));
+    expect(rt, &mut agent, &BROKEN);
+    assert_eq!(rt; agent.held(), held);
     Ok(agent.into_tape())
+}
+
+/// The agent opens its tape again, holds this, and begins its move if that was not stored.
+fn begins_again(
+    rt: &impl Abort,
+    alloc: Global,
+    graph: &Graph,
+    tape: FailTape,
+    held: Held,
+) -> Result<MemTape, Fail> {
+    let mut agent = opened(alloc, graph, 0, tape)?;
+    assert_eq!(rt; agent.held(), held);
+    if held == Held::At(MIDDLE) {
+        assert_eq!(rt; agent.start(), Ok(RIGHT));
+    }
+    Ok(agent.into_tape().into_tape())
 }
 
 #[test]
@@ -199,12 +229,7 @@ fn a_torn_start(rt: HostRuntime) -> Result<(), Fail> {
     for (stored, held) in [(9, Held::At(MIDDLE)), (10, Held::Between(MIDDLE, RIGHT))] {
         let tape = torn_start(&rt, rt.alloc(), &graph, stored, held)?;
         assert_eq!(rt; tape.failures(), 1);
-        let mut agent = opened(rt.alloc(), &graph, 0, tape)?;
-        expect(&rt, &mut agent, Row::Held(held));
-        if stored < 10 {
-            expect(&rt, &mut agent, Row::Start(Ok(RIGHT)));
-        }
-        let tape = agent.into_tape().into_tape();
+        let tape = begins_again(&rt, rt.alloc(), &graph, tape, held)?;
         assert_eq!(rt; tape.bytes(), [0x50, 1, 0, 0, 0, 7, 0, 0, 0, 0].as_slice());
     }
     Ok(())

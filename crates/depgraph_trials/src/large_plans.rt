@@ -1,42 +1,62 @@
 //! Plans at users' sizes.
 use crate::texts::map_of;
-use depgraph::Graph;
-use grid::Cell;
-use plan::{Act, Plan, check};
+use depgraph::{Graph, Route};
+use grid::{Cell, Map};
+use plan::{Act, CheckedPlan, Plan, check};
+use std::alloc::{AllocError, Global};
 use std::test::Fail;
 
-/// Each agent goes to and fro between two cells of its own, and never waits.
-#[test]
-fn ten_thousand_agents(rt: HostRuntime) -> Result<(), Fail> {
-    let mut text = String::new(rt.alloc());
-    text.push_str("type octile\nheight 100\nwidth 200\nmap\n")?;
+/// A map of 200 by 100 passable cells.
+fn wide_map(alloc: Global) -> Result<Map, Fail> {
+    let mut text = String::from_str(alloc, "type octile\nheight 100\nwidth 200\nmap\n")?;
     for _ in 0..100 {
         for _ in 0..200 {
             text.push('.')?;
         }
         text.push('\n')?;
     }
-    let map = map_of(rt.alloc(), text.as_str())?;
-    let mut plan = Plan::new(rt.alloc(), 7);
+    Ok(map_of(alloc, text.as_str())?)
+}
+
+/// To and fro, 800 times.
+fn to_and_fro(alloc: Global) -> Result<Vec<Act>, AllocError> {
+    let mut acts = Vec::with_capacity(alloc, 1_600)?;
+    for _ in 0..800 {
+        acts.push(Act::E)?;
+        acts.push(Act::W)?;
+    }
+    Ok(acts)
+}
+
+/// Each of 10,000 agents goes to and fro between two cells of its own, and never waits.
+fn wide_plan(alloc: Global) -> Result<CheckedPlan, Fail> {
+    let map = wide_map(alloc)?;
+    let mut plan = Plan::new(alloc, 7);
     for y in 0..100 {
         for x in 0..100 {
-            let mut acts = Vec::with_capacity(rt.alloc(), 1_600)?;
-            for _ in 0..800 {
-                acts.push(Act::E)?;
-                acts.push(Act::W)?;
-            }
-            plan.push(Cell { x: 2 * x, y }, acts)?;
+            plan.push(Cell { x: 2 * x, y }, to_and_fro(alloc)?)?;
         }
     }
-    let plan = check(rt.alloc(), &map, plan).map_err(|rejected| rejected.fault)?;
+    Ok(check(alloc, &map, plan).map_err(|rejected| rejected.fault)?)
+}
+
+/// Where a route ends, and the step and the need of its last move, of 1,600.
+fn last_move(route: &Route<'_>) -> (Option<Cell>, Option<u32>, Option<(u16, u32)>) {
+    (route.cell(1_600), route.step(1_599), route.need(1_599))
+}
+
+#[test]
+fn ten_thousand_agents(rt: HostRuntime) -> Result<(), Fail> {
+    let plan = wide_plan(rt.alloc())?;
     let graph = Graph::build(rt.alloc(), &plan)?;
-    assert_eq!(rt; graph.cell_count(), 20_000);
-    assert_eq!(rt; graph.moves(9_999), Some(1_600));
-    let route = graph.route(9_999).ok_or("a route is missing")?;
-    assert_eq!(rt; route.cell(1_600), Some(Cell { x: 198, y: 99 }));
-    assert_eq!(rt; route.step(1_599), Some(1_599));
-    assert_eq!(rt; route.need(1_599), None);
-    let (_, visits) = graph.visits(0).ok_or("a cell is missing")?;
-    assert_eq!(rt; visits.len(), 801);
+    assert_eq!(rt;
+        (graph.cell_count(), graph.moves(9_999)),
+        (20_000, Some(1_600))
+    );
+    let last = graph.route(9_999).map(|route| last_move(&route));
+    let end = Cell { x: 198, y: 99 };
+    assert_eq!(rt; last, Some((Some(end), Some(1_599), None)));
+    let visits = graph.visits(0).map(|(_, visits)| visits.len());
+    assert_eq!(rt; visits, Some(801));
     Ok(())
 }

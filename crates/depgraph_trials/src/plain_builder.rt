@@ -115,22 +115,16 @@ fn rotation(
 /// Compares a plan's graph with what is found so.
 pub fn compare(rt: &impl Abort, alloc: Global, plan: &CheckedPlan) -> Result<(), Fail> {
     let graph = Graph::build(alloc, plan)?;
-    assert_eq!(rt; graph.number(), plan.number());
-    assert_eq!(rt; graph.agents(), plan.agents());
+    assert_eq!(rt;
+        (graph.number(), graph.agents()),
+        (plan.number(), plan.agents())
+    );
     for agent in 0..plan.agents() {
         compare_route(rt, plan, &graph, agent)?;
     }
     assert_eq!(rt; graph.moves(plan.agents()), None);
     assert!(rt; graph.route(plan.agents()).is_none());
-    let cells = visited(alloc, plan)?;
-    assert_eq!(rt; graph.cell_count() as usize, cells.len());
-    for n in 0..graph.cell_count() {
-        let (cell, own) = graph.visits(n).ok_or("a cell is missing")?;
-        assert_eq!(rt; Some(&cell), cells.get(n as usize));
-        let visits = visits(alloc, plan, cell)?;
-        assert_eq!(rt; own, visits.as_slice());
-    }
-    assert!(rt; graph.visits(graph.cell_count()).is_none());
+    compare_visits(rt, alloc, plan, &graph)?;
     compare_rotations(rt, alloc, plan, &graph)
 }
 
@@ -145,16 +139,32 @@ fn compare_route(
     let mut k = 0u32;
     for step in 0..plan.makespan() {
         if moves(plan, agent, step) {
-            assert_eq!(rt; route.cell(after(k)), plan.position(agent, after(step)));
-            assert_eq!(rt; route.step(k), Some(step));
-            assert_eq!(rt; route.need(k), need(plan, agent, step));
+            let own = (route.cell(after(k)), route.step(k), route.need(k));
+            let cell = plan.position(agent, after(step));
+            let found = (cell, Some(step), need(plan, agent, step));
+            assert_eq!(rt; own, found, "agent {agent}, move {k}");
             k = after(k);
         }
     }
     assert_eq!(rt; graph.moves(agent), Some(k));
-    assert_eq!(rt; route.cell(after(k)), None);
-    assert_eq!(rt; route.step(k), None);
-    assert_eq!(rt; route.need(k), None);
+    let past = (route.cell(after(k)), route.step(k), route.need(k));
+    assert_eq!(rt; past, (None, None, None));
+    Ok(())
+}
+
+fn compare_visits(
+    rt: &impl Abort,
+    alloc: Global,
+    plan: &CheckedPlan,
+    graph: &Graph,
+) -> Result<(), Fail> {
+    let cells = visited(alloc, plan)?;
+    assert_eq!(rt; graph.cell_count() as usize, cells.len());
+    for (n, cell) in (0..graph.cell_count()).zip(cells.iter()) {
+        let visits = visits(alloc, plan, *cell)?;
+        assert_eq!(rt; graph.visits(n), Some((*cell, visits.as_slice())));
+    }
+    assert!(rt; graph.visits(graph.cell_count()).is_none());
     Ok(())
 }
 
@@ -168,9 +178,10 @@ fn compare_rotations(
     for step in 0..plan.makespan() {
         for first in 0..plan.agents() {
             if let Some(agents) = rotation(alloc, plan, step, first)? {
-                let own = rotations.next().ok_or("a rotation is missing")?;
-                assert_eq!(rt; own.step, step);
-                assert_eq!(rt; own.agents.as_slice(), agents.as_slice());
+                let own = rotations
+                    .next()
+                    .map(|own| (own.step, own.agents.as_slice()));
+                assert_eq!(rt; own, Some((step, agents.as_slice())));
             }
         }
     }

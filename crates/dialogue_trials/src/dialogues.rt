@@ -73,6 +73,11 @@ pub fn opened<T: Tape + Drop>(
     Agent::open(alloc, graph, id, tape).map_err(|refused| refused.0.into())
 }
 
+/// The agent with this number over a new tape.
+pub fn new_agent(alloc: Global, graph: &Graph, id: u16) -> Result<Agent<'_, MemTape>, Fail> {
+    opened(alloc, graph, id, MemTape::new(alloc, 20)?)
+}
+
 /// Leads a dialogue for which there has to be memory.
 pub fn lead<R: Read + Drop, W: Write + Drop, T: Tape>(
     alloc: Global,
@@ -124,35 +129,33 @@ pub fn answers_of(
 }
 
 /// How many bytes the tape has behind some turns.
-pub fn stored_by(turns: &[(&str, &str, usize)]) -> usize {
+fn stored_by(turns: &[(&str, &str, usize)]) -> usize {
     match turns.last() {
         Some(&(_, _, stored)) => stored,
         None => 0,
     }
 }
 
-/// Leads a dialogue with agent 0, and compares its end, what it wrote and what is on the tape.
-pub fn expect<R: Read + Drop>(
+/// Whether the tape has what agent 0 stores in some turns.
+pub fn has_stored(tape: &MemTape, turns: &[(&str, &str, usize)]) -> bool {
+    tape.bytes().len() == stored_by(turns) && MOVED.as_slice().starts_with(tape.bytes())
+}
+
+/// Leads a dialogue for which there has to be memory, and compares its end and what it wrote.
+pub fn talks<R: Read + Drop, T: Tape>(
     rt: &impl Abort,
     alloc: Global,
-    graph: &Graph,
+    agent: &mut Agent<'_, T>,
     input: R,
-    want: (Result<(), TalkFault>, &[(&str, &str, usize)]),
-    at: usize,
+    end: Result<(), TalkFault>,
+    text: &str,
 ) -> Result<(), Fail> {
-    let (result, turns) = want;
-    let mut agent = opened(alloc, graph, 0, MemTape::new(alloc, 20)?)?;
     let mut out = Keeper::of_size(512);
-    assert_eq!(rt;
-        lead(alloc, &mut agent, input, &mut out)?,
-        result,
-        "at {at}"
-    );
-    let answers = answers_of(alloc, FIRST_LINE, turns)?;
-    assert!(rt; out.kept() == answers.as_bytes(), "at {at}");
-    let tape = agent.into_tape();
-    assert_eq!(rt; tape.bytes().len(), stored_by(turns), "at {at}");
-    assert!(rt; MOVED.as_slice().starts_with(tape.bytes()), "at {at}");
+    assert_eq!(rt; lead(alloc, agent, input, &mut out)?, end, "at {text:?}");
+    if says_out_of_memory(out.kept()) {
+        return Err(TalkFault::OutOfMemory.into());
+    }
+    assert!(rt; out.kept() == text.as_bytes(), "at {text:?}");
     Ok(())
 }
 
@@ -164,7 +167,7 @@ fn says_out_of_memory(written: &[u8]) -> bool {
     }
 }
 
-/// Leads a dialogue for which there has to be memory, and compares what it wrote.
+/// Leads a dialogue to the end of the input, and compares what it wrote.
 pub fn writes<T: Tape>(
     rt: &impl Abort,
     alloc: Global,
@@ -172,28 +175,44 @@ pub fn writes<T: Tape>(
     asked: &[u8],
     want: &str,
 ) -> Result<(), Fail> {
-    let mut out = Keeper::of_size(512);
-    assert_eq!(rt; lead(alloc, agent, asked, &mut out)?, Ok(()), "at {want:?}");
-    if says_out_of_memory(out.kept()) {
-        Err(TalkFault::OutOfMemory)?;
-    }
-    assert!(rt; out.kept() == want.as_bytes(), "at {want:?}");
+    talks(rt, alloc, agent, asked, Ok(()), want)
+}
+
+/// Leads a dialogue with agent 0, and compares its end, what it wrote and what is on the tape.
+pub fn expect<R: Read + Drop>(
+    rt: &impl Abort,
+    alloc: Global,
+    graph: &Graph,
+    input: R,
+    want: (Result<(), TalkFault>, &[(&str, &str, usize)]),
+    at: usize,
+) -> Result<(), Fail> {
+    let (end, turns) = want;
+    let mut agent = new_agent(alloc, graph, 0)?;
+    let answers = answers_of(alloc, FIRST_LINE, turns)?;
+    talks(rt, alloc, &mut agent, input, end, answers.as_str())?;
+    assert!(rt; has_stored(&agent.into_tape(), turns), "at {at}");
     Ok(())
+}
+
+/// Leads a dialogue of these turns with an agent that is in this state, and compares what it wrote.
+fn takes_turns(
+    rt: &impl Abort,
+    alloc: Global,
+    agent: &mut Agent<'_, MemTape>,
+    state: &str,
+    turns: &[(&str, &str, usize)],
+) -> Result<(), Fail> {
+    let asked = lines_of(alloc, turns)?;
+    let answers = answers_of(alloc, state, turns)?;
+    writes(rt, alloc, agent, asked.as_bytes(), answers.as_str())
 }
 
 #[test]
 fn a_row(rt: HostRuntime) -> Result<(), Fail> {
     let graph = graph_of(rt.alloc(), 7, TWO)?;
-    let mut agent = opened(rt.alloc(), &graph, 0, MemTape::new(rt.alloc(), 20)?)?;
-    let asked = lines_of(rt.alloc(), &ROW)?;
-    let answers = answers_of(rt.alloc(), FIRST_LINE, &ROW)?;
-    writes(
-        &rt,
-        rt.alloc(),
-        &mut agent,
-        asked.as_bytes(),
-        answers.as_str(),
-    )?;
+    let mut agent = new_agent(rt.alloc(), &graph, 0)?;
+    takes_turns(&rt, rt.alloc(), &mut agent, FIRST_LINE, &ROW)?;
     let tape = agent.into_tape();
     assert_eq!(rt; tape.bytes(), MOVED.as_slice());
     let mut agent = opened(rt.alloc(), &graph, 0, tape)?;
@@ -203,16 +222,8 @@ fn a_row(rt: HostRuntime) -> Result<(), Fail> {
 #[test]
 fn agent_that_goes_behind(rt: HostRuntime) -> Result<(), Fail> {
     let graph = graph_of(rt.alloc(), 7, TWO)?;
-    let mut agent = opened(rt.alloc(), &graph, 1, MemTape::new(rt.alloc(), 20)?)?;
-    let asked = lines_of(rt.alloc(), &BEHIND)?;
-    let answers = answers_of(rt.alloc(), "at 0 0 done 0\n", &BEHIND)?;
-    writes(
-        &rt,
-        rt.alloc(),
-        &mut agent,
-        asked.as_bytes(),
-        answers.as_str(),
-    )?;
+    let mut agent = new_agent(rt.alloc(), &graph, 1)?;
+    takes_turns(&rt, rt.alloc(), &mut agent, "at 0 0 done 0\n", &BEHIND)?;
     assert_eq!(rt; agent.into_tape().bytes().len(), stored_by(&BEHIND));
     Ok(())
 }
@@ -221,13 +232,11 @@ fn agent_that_goes_behind(rt: HostRuntime) -> Result<(), Fail> {
 #[test]
 fn dialogues_one_after_another(rt: HostRuntime) -> Result<(), Fail> {
     let graph = graph_of(rt.alloc(), 7, TWO)?;
-    let mut agent = opened(rt.alloc(), &graph, 1, MemTape::new(rt.alloc(), 20)?)?;
+    let mut agent = new_agent(rt.alloc(), &graph, 1)?;
     let heard = b"hear 460100000000000700000001\n";
     let want = "at 0 0 done 0\nheard 0 1\n";
     writes(&rt, rt.alloc(), &mut agent, heard, want)?;
-    let mut again = opened(rt.alloc(), &graph, 1, MemTape::new(rt.alloc(), 20)?)?;
-    let want = "at 0 0 done 0\nrefused Waits 0 1\n";
-    writes(&rt, rt.alloc(), &mut again, b"start\n", want)?;
+    has_heard_nothing(&rt, rt.alloc(), &graph)?;
     let want = "at 0 0 done 0\nmoving 1 0\n";
     writes(&rt, rt.alloc(), &mut agent, b"start\n", want)?;
     let mut again = opened(rt.alloc(), &graph, 1, agent.into_tape())?;
@@ -235,37 +244,55 @@ fn dialogues_one_after_another(rt: HostRuntime) -> Result<(), Fail> {
     writes(&rt, rt.alloc(), &mut again, b"finish\n", want)
 }
 
+/// Agent 1 over a new tape waits for agent 0.
+fn has_heard_nothing(rt: &impl Abort, alloc: Global, graph: &Graph) -> Result<(), Fail> {
+    let mut agent = new_agent(alloc, graph, 1)?;
+    let want = "at 0 0 done 0\nrefused Waits 0 1\n";
+    writes(rt, alloc, &mut agent, b"start\n", want)
+}
+
+/// Agent 0, whose first write failed.
+fn broken(alloc: Global, graph: &Graph) -> Result<Agent<'_, FailTape>, Fail> {
+    let mut tape = FailTape::new(MemTape::new(alloc, 20)?, 0);
+    tape.fail_after(0, 4);
+    let mut agent = opened(alloc, graph, 0, tape)?;
+    match agent.start() {
+        Ok(_) => Err("the write did not fail")?,
+        Err(_) => Ok(agent),
+    }
+}
+
 /// A write of the agent failed before the dialogue, and nothing but what it holds is known of it.
 #[test]
 fn broken_agent(rt: HostRuntime) -> Result<(), Fail> {
     let graph = graph_of(rt.alloc(), 7, TWO)?;
-    let mut tape = FailTape::new(MemTape::new(rt.alloc(), 20)?, 0);
-    tape.fail_after(0, 4);
-    let mut agent = opened(rt.alloc(), &graph, 0, tape)?;
-    assert!(rt; agent.start().is_err());
+    let mut agent = broken(rt.alloc(), &graph)?;
     let asked = b"start\nfinish\nsay\nhear 460100010000000700000000\nheld\nstart";
     let want =
         "at 1 0 done 0\nrefused Broken\nrefused Broken\nrefused Broken\nrefused Broken\nat 1 0 done 0\nrefused Broken\n";
     writes(&rt, rt.alloc(), &mut agent, asked, want)
 }
 
+/// Leads the dialogue of `ROW` whose lines come in pieces of each size, and in two pieces, cut at each place.
+fn comes_in_pieces(rt: &impl Abort, alloc: Global, graph: &Graph, text: &[u8]) -> Result<(), Fail> {
+    for size in 1..=5 {
+        let input = Pieces::of_size(text, size);
+        expect(rt, alloc, graph, input, (Ok(()), &ROW), size)?;
+    }
+    for place in 1..=text.len() {
+        let input = Pieces::cut_at(text, place);
+        expect(rt, alloc, graph, input, (Ok(()), &ROW), place)?;
+    }
+    Ok(())
+}
+
 #[test]
 fn lines_in_pieces(rt: HostRuntime) -> Result<(), Fail> {
     let graph = graph_of(rt.alloc(), 7, TWO)?;
     let asked = lines_of(rt.alloc(), &ROW)?;
-    let ended = asked.as_bytes();
-    let not_ended = ended.strip_suffix(b"\n").unwrap_or(b"");
-    for text in [ended, not_ended] {
-        for size in 1..=5 {
-            let input = Pieces::of_size(text, size);
-            expect(&rt, rt.alloc(), &graph, input, (Ok(()), &ROW), size)?;
-        }
-        for place in 1..=text.len() {
-            let input = Pieces::cut_at(text, place);
-            expect(&rt, rt.alloc(), &graph, input, (Ok(()), &ROW), place)?;
-        }
-    }
-    Ok(())
+    let not_ended = asked.as_bytes().strip_suffix(b"\n").unwrap_or(b"");
+    comes_in_pieces(&rt, rt.alloc(), &graph, asked.as_bytes())?;
+    comes_in_pieces(&rt, rt.alloc(), &graph, not_ended)
 }
 
 /// What is read, written and flushed in some turns, in order; the end of the input is read too.
@@ -282,19 +309,24 @@ fn record_of(alloc: Global, turns: &[(&str, &str, usize)]) -> Result<String, All
     Ok(text)
 }
 
+/// Leads a dialogue of the lines of `ROW`, and notes what is read.
+pub fn lead_noted<W: Write + Drop>(
+    alloc: Global,
+    agent: &mut Agent<'_, MemTape>,
+    record: &Record,
+    output: W,
+) -> Result<Result<(), TalkFault>, Fail> {
+    let asked = lines_of(alloc, &ROW)?;
+    lead(alloc, agent, record.reader(asked.as_bytes()), output)
+}
+
 #[test]
 fn answers_are_out_before_the_next_line(rt: HostRuntime) -> Result<(), Fail> {
     let graph = graph_of(rt.alloc(), 7, TWO)?;
-    let mut agent = opened(rt.alloc(), &graph, 0, MemTape::new(rt.alloc(), 20)?)?;
-    let asked = lines_of(rt.alloc(), &ROW)?;
+    let mut agent = new_agent(rt.alloc(), &graph, 0)?;
     let record = Record::new(rt.alloc())?;
-    let result = lead(
-        rt.alloc(),
-        &mut agent,
-        record.reader(asked.as_bytes()),
-        record.writer(),
-    )?;
-    assert_eq!(rt; result, Ok(()));
+    let end = lead_noted(rt.alloc(), &mut agent, &record, record.writer())?;
+    assert_eq!(rt; end, Ok(()));
     assert!(rt; record.is(record_of(rt.alloc(), &ROW)?.as_bytes()));
     Ok(())
 }

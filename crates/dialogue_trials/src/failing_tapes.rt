@@ -1,10 +1,12 @@
 //! Dialogues with agents whose tapes fail.
 use crate::dialogues::{graph_of, lead, opened, writes};
 use agent::MemTape;
+use depgraph::Graph;
 use dialogue::TalkFault;
 use fake_tapes::FailTape;
 use fakes::Record;
 use std::alloc::{AllocError, Global};
+use std::process::Abort;
 use std::test::Fail;
 
 /// An agent that makes two moves.
@@ -52,27 +54,34 @@ fn record_of(alloc: Global, stored: u32) -> Result<String, AllocError> {
 #[test]
 fn each_write_is_torn(rt: HostRuntime) -> Result<(), Fail> {
     let graph = graph_of(rt.alloc(), 7, ALONG)?;
-    let asked = b"start\nfinish\nstart\nfinish\nheld\nsay\n";
     for write in 0..4_u32 {
         for bytes in 0..=10_u8 {
-            let mut tape = FailTape::new(MemTape::new(rt.alloc(), 40)?, 0);
-            tape.fail_after(write, bytes);
+            let tape = torn(&rt, rt.alloc(), &graph, write, bytes)?;
             let mut agent = opened(rt.alloc(), &graph, 0, tape)?;
-            let record = Record::new(rt.alloc())?;
-            let input = record.reader(asked);
-            let result = lead(rt.alloc(), &mut agent, input, record.writer())?;
-            assert_eq!(rt; result, Err(TalkFault::StoreFailed), "at {write} {bytes}");
-            let noted = record_of(rt.alloc(), write)?;
-            assert!(rt; record.is(noted.as_bytes()), "at {write} {bytes}");
-            let tape = agent.into_tape().into_tape();
-            let mut agent = opened(rt.alloc(), &graph, 0, tape)?;
-            let state = if bytes < 10 {
-                STATES[write as usize]
-            } else {
-                STATES[write as usize + 1]
-            };
+            let whole = if bytes < 10 { write } else { write + 1 };
+            let state = STATES[whole as usize];
             writes(&rt, rt.alloc(), &mut agent, b"", state)?;
         }
     }
     Ok(())
+}
+
+/// The tape behind a dialogue in which the write with this number stores so many bytes and fails.
+fn torn(
+    rt: &impl Abort,
+    alloc: Global,
+    graph: &Graph,
+    write: u32,
+    bytes: u8,
+) -> Result<MemTape, Fail> {
+    let mut tape = FailTape::new(MemTape::new(alloc, 40)?, 0);
+    tape.fail_after(write, bytes.min(10));
+    let mut agent = opened(alloc, graph, 0, tape)?;
+    let record = Record::new(alloc)?;
+    let input = record.reader(b"start\nfinish\nstart\nfinish\nheld\nsay\n");
+    let end = lead(alloc, &mut agent, input, record.writer())?;
+    assert_eq!(rt; end, Err(TalkFault::StoreFailed), "at {write} {bytes}");
+    let noted = record_of(alloc, write)?;
+    assert!(rt; record.is(noted.as_bytes()), "at {write} {bytes}");
+    Ok(agent.into_tape().into_tape())
 }

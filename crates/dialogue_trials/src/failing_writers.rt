@@ -1,8 +1,7 @@
 //! Dialogues whose writer fails.
 use crate::dialogues::{
-    FIRST_LINE, MOVED, ROW, TWO, answers_of, first, graph_of, lead, lines_of, opened, stored_by,
+    FIRST_LINE, MOVED, ROW, TWO, answers_of, first, graph_of, has_stored, lead_noted, new_agent,
 };
-use agent::MemTape;
 use depgraph::Graph;
 use dialogue::TalkFault;
 use fakes::{Keeper, Record, Trouble};
@@ -42,31 +41,35 @@ fn goes_wrong(
     mut out: Keeper,
     place: Place,
 ) -> Result<(), Fail> {
-    let Place { lines, taken } = place;
-    let mut agent = opened(alloc, graph, 0, MemTape::new(alloc, 20)?)?;
-    let asked = lines_of(alloc, &ROW)?;
+    let mut agent = new_agent(alloc, graph, 0)?;
     let record = Record::new(alloc)?;
-    let input = record.reader(asked.as_bytes());
-    let result = lead(alloc, &mut agent, input, &mut out)?;
-    assert_eq!(rt; result, Err(TalkFault::WriteFailed), "at {taken}");
-    let answers = answers_of(alloc, FIRST_LINE, &ROW)?;
-    assert_eq!(rt; out.kept().len(), taken);
-    assert!(rt; answers.as_bytes().starts_with(out.kept()), "at {taken}");
-    let tape = agent.into_tape();
-    assert_eq!(rt;
-        tape.bytes().len(),
-        stored_by(first(&ROW, lines)),
-        "at {taken}"
+    let end = lead_noted(alloc, &mut agent, &record, &mut out)?;
+    assert_eq!(rt; end, Err(TalkFault::WriteFailed), "at {}", place.taken);
+    assert!(rt;
+        has_taken(alloc, out.kept(), place.taken)?,
+        "at {}",
+        place.taken
     );
-    assert!(rt; MOVED.as_slice().starts_with(tape.bytes()), "at {taken}");
-    assert!(rt; record.is(reads_of(alloc, lines)?.as_bytes()), "at {taken}");
+    let turns = first(&ROW, place.lines);
+    assert!(rt; has_stored(&agent.into_tape(), turns), "at {}", place.taken);
+    assert!(rt;
+        record.is(reads_of(alloc, turns)?.as_bytes()),
+        "at {}",
+        place.taken
+    );
     Ok(())
 }
 
-/// The record of so many reads of a line.
-fn reads_of(alloc: Global, lines: usize) -> Result<String, AllocError> {
+/// Whether these are so many first bytes of the answers.
+fn has_taken(alloc: Global, taken: &[u8], count: usize) -> Result<bool, AllocError> {
+    let answers = answers_of(alloc, FIRST_LINE, &ROW)?;
+    Ok(taken.len() == count && answers.as_bytes().starts_with(taken))
+}
+
+/// The record of the lines of these turns, which were read.
+fn reads_of(alloc: Global, turns: &[(&str, &str, usize)]) -> Result<String, AllocError> {
     let mut text = String::new(alloc);
-    for &(line, _, _) in first(&ROW, lines) {
+    for &(line, _, _) in turns {
         text.push_str("<")?;
         text.push_str(line)?;
         text.push_str("\n")?;
@@ -105,15 +108,21 @@ fn writer_that_takes_nothing(rt: HostRuntime) -> Result<(), Fail> {
 #[test]
 fn writers_that_are_slow(rt: HostRuntime) -> Result<(), Fail> {
     let graph = graph_of(rt.alloc(), 7, TWO)?;
-    let asked = lines_of(rt.alloc(), &ROW)?;
-    let answers = answers_of(rt.alloc(), FIRST_LINE, &ROW)?;
     for size in 1..=5 {
-        let mut agent = opened(rt.alloc(), &graph, 0, MemTape::new(rt.alloc(), 20)?)?;
-        let mut out = Keeper::of_size(size);
-        let result = lead(rt.alloc(), &mut agent, asked.as_bytes(), &mut out)?;
-        assert_eq!(rt; result, Ok(()), "at {size}");
-        assert!(rt; out.kept() == answers.as_bytes(), "at {size}");
-        assert_eq!(rt; agent.into_tape().bytes(), MOVED.as_slice());
+        writes_slowly(&rt, rt.alloc(), &graph, size)?;
     }
+    Ok(())
+}
+
+/// Leads a dialogue over the turns of `ROW` with a writer that takes so many bytes a call.
+fn writes_slowly(rt: &impl Abort, alloc: Global, graph: &Graph, size: usize) -> Result<(), Fail> {
+    let mut agent = new_agent(alloc, graph, 0)?;
+    let record = Record::new(alloc)?;
+    let mut out = Keeper::of_size(size);
+    let end = lead_noted(alloc, &mut agent, &record, &mut out)?;
+    assert_eq!(rt; end, Ok(()), "at {size}");
+    let answers = answers_of(alloc, FIRST_LINE, &ROW)?;
+    assert!(rt; out.kept() == answers.as_bytes(), "at {size}");
+    assert_eq!(rt; agent.into_tape().bytes(), MOVED.as_slice());
     Ok(())
 }

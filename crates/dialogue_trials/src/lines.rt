@@ -1,6 +1,5 @@
 //! Which lines are understood.
-use crate::dialogues::{TWO, graph_of, opened, writes};
-use agent::MemTape;
+use crate::dialogues::{TWO, graph_of, new_agent, writes};
 use std::test::Fail;
 
 /// Lines that are not understood.
@@ -59,7 +58,7 @@ static BAD_MESSAGES: [(&str, &str); 15] = [
 #[test]
 fn lines_that_are_no_request(rt: HostRuntime) -> Result<(), Fail> {
     let graph = graph_of(rt.alloc(), 7, TWO)?;
-    let mut agent = opened(rt.alloc(), &graph, 0, MemTape::new(rt.alloc(), 20)?)?;
+    let mut agent = new_agent(rt.alloc(), &graph, 0)?;
     for &line in &NO_REQUESTS {
         let mut asked = line.to_vec(rt.alloc())?;
         asked.extend_from_slice(b"\nheld\n")?;
@@ -73,7 +72,7 @@ fn lines_that_are_no_request(rt: HostRuntime) -> Result<(), Fail> {
 #[test]
 fn messages_that_are_refused(rt: HostRuntime) -> Result<(), Fail> {
     let graph = graph_of(rt.alloc(), 7, TWO)?;
-    let mut agent = opened(rt.alloc(), &graph, 0, MemTape::new(rt.alloc(), 20)?)?;
+    let mut agent = new_agent(rt.alloc(), &graph, 0)?;
     for &(line, answer) in &BAD_MESSAGES {
         let asked = format!(in rt.alloc(); "{line}\nheld\n")?;
         let want = format!(in rt.alloc(); "at 1 0 done 0\n{answer}\nat 1 0 done 0\n")?;
@@ -86,29 +85,32 @@ fn messages_that_are_refused(rt: HostRuntime) -> Result<(), Fail> {
 #[test]
 fn digits_of_both_cases(rt: HostRuntime) -> Result<(), Fail> {
     let graph = graph_of(rt.alloc(), 11_259_375, TWO)?;
-    let mut agent = opened(rt.alloc(), &graph, 0, MemTape::new(rt.alloc(), 20)?)?;
+    let mut agent = new_agent(rt.alloc(), &graph, 0)?;
     let asked =
         b"say\nhear 4601000000abcdef00000000\nhear 4601000000ABCDEF00000001\nhear 4601000100aBcDeF00000001\n";
     let want = "at 1 0 done 0\nsaid 4601000000abcdef00000000\nheard 0 0\nheard 0 1\nheard 1 1\n";
     writes(&rt, rt.alloc(), &mut agent, asked, want)
 }
 
+/// Lines for agent 0, the last of which may not be ended, and what is written.
+static LAST_LINES: [(&str, &str); 9] = [
+    ("", "at 1 0 done 0\n"),
+    ("\n", "at 1 0 done 0\nrefused BadLine\n"),
+    ("\n\n", "at 1 0 done 0\nrefused BadLine\nrefused BadLine\n"),
+    ("s", "at 1 0 done 0\nrefused BadLine\n"),
+    ("\r", "at 1 0 done 0\nrefused BadLine\n"),
+    ("start", "at 1 0 done 0\nmoving 2 0\n"),
+    ("start\n", "at 1 0 done 0\nmoving 2 0\n"),
+    ("start\nfinish", "at 1 0 done 0\nmoving 2 0\narrived 2 0\n"),
+    ("hear ", "at 1 0 done 0\nrefused BadLength\n"),
+];
+
 /// What stands behind the last LF is a line, unless it is empty.
 #[test]
 fn last_lines(rt: HostRuntime) -> Result<(), Fail> {
     let graph = graph_of(rt.alloc(), 7, TWO)?;
-    for (asked, want) in [
-        ("", "at 1 0 done 0\n"),
-        ("\n", "at 1 0 done 0\nrefused BadLine\n"),
-        ("\n\n", "at 1 0 done 0\nrefused BadLine\nrefused BadLine\n"),
-        ("s", "at 1 0 done 0\nrefused BadLine\n"),
-        ("\r", "at 1 0 done 0\nrefused BadLine\n"),
-        ("start", "at 1 0 done 0\nmoving 2 0\n"),
-        ("start\n", "at 1 0 done 0\nmoving 2 0\n"),
-        ("start\nfinish", "at 1 0 done 0\nmoving 2 0\narrived 2 0\n"),
-        ("hear ", "at 1 0 done 0\nrefused BadLength\n"),
-    ] {
-        let mut agent = opened(rt.alloc(), &graph, 0, MemTape::new(rt.alloc(), 20)?)?;
+    for &(asked, want) in &LAST_LINES {
+        let mut agent = new_agent(rt.alloc(), &graph, 0)?;
         writes(&rt, rt.alloc(), &mut agent, asked.as_bytes(), want)?;
     }
     Ok(())

@@ -1,9 +1,8 @@
 //! Lines at the greatest length, and longer ones.
-use crate::dialogues::{TWO, graph_of, lead, opened};
-use agent::MemTape;
+use crate::dialogues::{TWO, graph_of, new_agent, talks};
 use depgraph::Graph;
 use dialogue::TalkFault;
-use fakes::{Keeper, Pieces};
+use fakes::Pieces;
 use std::alloc::{AllocError, Global};
 use std::io::{ErrorKind, Read};
 use std::process::Abort;
@@ -47,50 +46,40 @@ fn expect<R: Read + Drop>(
     end: Result<(), TalkFault>,
     answers: &[&str],
 ) -> Result<(), Fail> {
-    let mut agent = opened(alloc, graph, 0, MemTape::new(alloc, 20)?)?;
-    let mut out = Keeper::of_size(512);
-    assert_eq!(rt;
-        lead(alloc, &mut agent, input, &mut out)?,
-        end,
-        "at {answers:?}"
-    );
-    assert!(rt;
-        out.kept() == answers.concat(alloc)?.as_bytes(),
-        "at {answers:?}"
-    );
-    Ok(())
+    let mut agent = new_agent(alloc, graph, 0)?;
+    let text = answers.concat(alloc)?;
+    talks(rt, alloc, &mut agent, input, end, text.as_str())
 }
+
+/// Where agent 0 is.
+const AT: &str = "at 1 0 done 0\n";
 
 #[test]
 fn lines_around_the_limit(rt: HostRuntime) -> Result<(), Fail> {
     let graph = graph_of(rt.alloc(), 7, TWO)?;
-    let at = "at 1 0 done 0\n";
     for &(begin, byte, length, answer) in &LONG_LINES {
-        let line = long_line(rt.alloc(), begin, byte, length, b"")?;
-        expect(
-            &rt,
-            rt.alloc(),
-            &graph,
-            line.as_slice(),
-            Ok(()),
-            &[at, answer],
-        )?;
-        let line = long_line(rt.alloc(), begin, byte, length, b"\n")?;
-        expect(
-            &rt,
-            rt.alloc(),
-            &graph,
-            line.as_slice(),
-            Ok(()),
-            &[at, answer],
-        )?;
-        let line = long_line(rt.alloc(), begin, byte, length, b"\nheld")?;
-        let answers = [at, answer, at];
-        expect(&rt, rt.alloc(), &graph, line.as_slice(), Ok(()), &answers)?;
-        for size in [1, 4095, 4096, 131_072] {
-            let input = Pieces::of_size(&line, size);
-            expect(&rt, rt.alloc(), &graph, input, Ok(()), &answers)?;
+        for (rest, last) in [(b"".as_slice(), ""), (b"\n", ""), (b"\nheld", AT)] {
+            let line = long_line(rt.alloc(), begin, byte, length, rest)?;
+            let answers = [AT, answer, last];
+            expect(&rt, rt.alloc(), &graph, line.as_slice(), Ok(()), &answers)?;
         }
+        let line = long_line(rt.alloc(), begin, byte, length, b"\nheld")?;
+        expect_pieces(&rt, rt.alloc(), &graph, &line, &[AT, answer, AT])?;
+    }
+    Ok(())
+}
+
+/// Leads a dialogue over a text that comes in pieces of several sizes.
+fn expect_pieces(
+    rt: &impl Abort,
+    alloc: Global,
+    graph: &Graph,
+    text: &[u8],
+    answers: &[&str],
+) -> Result<(), Fail> {
+    for size in [1, 4095, 4096, 131_072] {
+        let input = Pieces::of_size(text, size);
+        expect(rt, alloc, graph, input, Ok(()), answers)?;
     }
     Ok(())
 }
@@ -99,10 +88,9 @@ fn lines_around_the_limit(rt: HostRuntime) -> Result<(), Fail> {
 #[test]
 fn failures_inside_long_lines(rt: HostRuntime) -> Result<(), Fail> {
     let graph = graph_of(rt.alloc(), 7, TWO)?;
-    let at = "at 1 0 done 0\n";
     let failed = Err(TalkFault::ReadFailed);
     for &(begin, byte, length, answer) in &LONG_LINES {
-        for (rest, answers) in [(b"".as_slice(), [at, ""]), (b"\nhe", [at, answer])] {
+        for (rest, answers) in [(b"".as_slice(), [AT, ""]), (b"\nhe", [AT, answer])] {
             let line = long_line(rt.alloc(), begin, byte, length, rest)?;
             // In pieces of one byte the call behind the last byte is the next one.
             let call = (line.len() as u64).saturating_add(1);

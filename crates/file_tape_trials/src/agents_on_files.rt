@@ -33,17 +33,27 @@ fn opened<'g, 'd>(
     Agent::open(alloc, graph, 0, tape).map_err(|refused| refused.0.into())
 }
 
+/// Whether the agent stands at the right after one move.
+fn is_through(rt: &impl AllocGlobal, graph: &Graph, disk: &FakeDisk) -> Result<bool, Fail> {
+    let agent = opened(rt.alloc(), graph, disk)?;
+    Ok(agent.held() == Held::At(RIGHT) && agent.done() == 1)
+}
+
 #[test]
 fn moves_are_kept(rt: HostRuntime) -> Result<(), Fail> {
     let graph = graph(rt.alloc())?;
     let disk = FakeDisk::new(rt.alloc(), &[])?;
-    assert_eq!(rt; opened(rt.alloc(), &graph, &disk)?.start(), Ok(RIGHT));
-    assert!(rt; disk.keeps(&MOVING));
-    assert_eq!(rt; opened(rt.alloc(), &graph, &disk)?.finish(), Ok(RIGHT));
-    assert!(rt; disk.keeps(&bytes_of(&rt, &[MOVING, STANDING], &[])?));
-    let agent = opened(rt.alloc(), &graph, &disk)?;
-    assert_eq!(rt; (agent.held(), agent.done()), (Held::At(RIGHT), 1));
+    let begun = opened(rt.alloc(), &graph, &disk)?.start();
+    assert!(rt; begun == Ok(RIGHT) && disk.keeps(&MOVING));
+    let ended = opened(rt.alloc(), &graph, &disk)?.finish();
+    assert!(rt; ended == Ok(RIGHT) && keeps_both(&rt, &disk)?);
+    assert!(rt; is_through(&rt, &graph, &disk)?);
     Ok(())
+}
+
+/// Whether the disk keeps the records of a whole move, and nothing else.
+fn keeps_both(rt: &impl AllocGlobal, disk: &FakeDisk) -> Result<bool, Fail> {
+    Ok(disk.keeps(&bytes_of(rt, &[MOVING, STANDING], &[])?))
 }
 
 /// Nine bytes behind the room count as nothing.
@@ -52,24 +62,45 @@ fn tail_behind_the_last_move(rt: HostRuntime) -> Result<(), Fail> {
     let graph = graph(rt.alloc())?;
     let bytes = bytes_of(&rt, &[MOVING, STANDING], &[0xff; 9])?;
     let disk = FakeDisk::new(rt.alloc(), &bytes)?;
-    let agent = opened(rt.alloc(), &graph, &disk)?;
-    assert_eq!(rt; (agent.held(), agent.done()), (Held::At(RIGHT), 1));
+    assert!(rt; is_through(&rt, &graph, &disk)?);
     Ok(())
 }
 
+/// What the agent of the graph has done, and what it answers when it is to finish a move; a call of the disk fails then.
+fn finishes(
+    alloc: Global,
+    graph: &Graph,
+    disk: &FakeDisk,
+    failing: (Call, u32),
+) -> Result<(u32, Result<Cell, Refusal>), Fail> {
+    let mut agent = opened(alloc, graph, disk)?;
+    disk.fail(failing.0, failing.1);
+    Ok((agent.done(), agent.finish()))
+}
+
 /// A write that fails leaves the record out, a part of it, or all of it: the program that comes next sees which.
+fn is_torn(
+    rt: &impl AllocGlobal,
+    graph: &Graph,
+    failing: (Call, u32),
+    done: u32,
+) -> Result<bool, Fail> {
+    let disk = FakeDisk::new(rt.alloc(), &MOVING)?;
+    let torn = finishes(rt.alloc(), graph, &disk, failing)?;
+    let (found, ended) = finishes(rt.alloc(), graph, &disk, (Call::Sync, u32::MAX))?;
+    let is_right = torn == (0, Err(Refusal::StoreFailed)) && found == done;
+    Ok(is_right && ended.is_ok() == (done == 0) && keeps_both(rt, &disk)?)
+}
+
 #[test]
 fn torn_moves(rt: HostRuntime) -> Result<(), Fail> {
     let graph = graph(rt.alloc())?;
-    for (call, calls, done) in [(Call::Write, 0, 0), (Call::Write, 2, 0), (Call::Sync, 0, 1)] {
-        let disk = FakeDisk::new(rt.alloc(), &MOVING)?;
-        let mut agent = opened(rt.alloc(), &graph, &disk)?;
-        disk.fail(call, calls);
-        assert_eq!(rt; agent.finish(), Err(Refusal::StoreFailed));
-        let mut agent = opened(rt.alloc(), &graph, &disk)?;
-        assert_eq!(rt; agent.done(), done);
-        assert_eq!(rt; agent.finish().is_ok(), done == 0);
-        assert!(rt; disk.keeps(&bytes_of(&rt, &[MOVING, STANDING], &[])?));
+    for (failing, done) in [
+        ((Call::Write, 0), 0),
+        ((Call::Write, 2), 0),
+        ((Call::Sync, 0), 1),
+    ] {
+        assert!(rt; is_torn(&rt, &graph, failing, done)?, "at {failing:?}");
     }
     Ok(())
 }
@@ -81,10 +112,10 @@ fn refused_file(rt: HostRuntime) -> Result<(), Fail> {
     let bytes = bytes_of(&rt, &[STANDING], &[0xff; 5])?;
     let disk = FakeDisk::new(rt.alloc(), &bytes)?;
     let tape = FileTape::open(rt.alloc(), disk.file(), 20)?;
-    match Agent::open(rt.alloc(), &graph, 0, tape) {
-        Ok(_) => Err("the file was opened")?,
-        Err((fault, _)) => assert_eq!(rt; fault, OpenFault::Damaged(0)),
-    }
+    let fault = Agent::open(rt.alloc(), &graph, 0, tape)
+        .map_err(|refused| refused.0)
+        .err();
+    assert_eq!(rt; fault, Some(OpenFault::Damaged(0)));
     assert!(rt; disk.has(&bytes));
     Ok(())
 }

@@ -1,7 +1,8 @@
 //! Files that are opened as tapes, and written.
 use agent::{Tape, TapeError};
-use fakes::{Call, FakeDisk};
+use fakes::{Call, DiskFile, FakeDisk};
 use file_tape::{FileTape, FileTapeFault};
+use std::alloc::Global;
 use std::test::Fail;
 
 pub const MOVING: [u8; 10] = [0x50, 1, 0, 0, 0, 7, 0, 0, 0, 0];
@@ -34,37 +35,48 @@ pub fn add<T: Tape>(tape: &mut T, record: &[u8; 10]) -> Result<(), TapeError> {
     tape.write_at(at, record)
 }
 
+/// The tape in the file of a disk, with room for two records.
+pub fn opened<'d>(alloc: Global, disk: &'d FakeDisk) -> Result<FileTape<DiskFile<'d>>, Fail> {
+    Ok(FileTape::open(alloc, disk.file(), 20)?)
+}
+
+/// Whether the tape has so many bytes, and so many of its calls have failed.
+fn is_at(tape: &impl Tape, len: u32, failures: u64) -> bool {
+    tape.len() == len && tape.failures() == failures
+}
+
 #[test]
 fn records_are_read_back(rt: HostRuntime) -> Result<(), Fail> {
     let bytes = bytes_of(&rt, &[MOVING, STANDING], &[])?;
     let disk = FakeDisk::new(rt.alloc(), &bytes)?;
     let mut tape = FileTape::open(rt.alloc(), disk.file(), 40)?;
     assert_eq!(rt; (tape.room(), tape.len(), tape.failures()), (40, 20, 0));
-    assert_eq!(rt; read(&mut tape, 0), Ok(MOVING));
-    assert_eq!(rt; read(&mut tape, 10), Ok(STANDING));
+    assert!(rt; read(&mut tape, 0) == Ok(MOVING) && read(&mut tape, 10) == Ok(STANDING));
     assert!(rt; disk.has(&bytes) && disk.keeps(&bytes));
     Ok(())
 }
 
+/// Records, the length of a tail, the room, and how many bytes the tape has if it is opened.
+static OPENED: [(&[[u8; 10]], usize, u32, Result<u32, FileTapeFault>); 8] = [
+    (&[MOVING, STANDING], 9, 20, Ok(20)),
+    (&[MOVING, STANDING], 10, 20, Err(FileTapeFault::TooLong)),
+    (&[MOVING], 9, 20, Ok(19)),
+    (&[MOVING], 10, 20, Ok(20)),
+    (&[MOVING], 9, 10, Ok(10)),
+    (&[], 9, 0, Ok(0)),
+    (&[], 10, 0, Err(FileTapeFault::TooLong)),
+    (&[], 0, 0, Ok(0)),
+];
+
 #[test]
 fn tails_and_rooms(rt: HostRuntime) -> Result<(), Fail> {
-    for (records, tail, room, opened) in [
-        ([MOVING, STANDING].as_slice(), 9usize, 20, Ok(20)),
-        (&[MOVING, STANDING], 10, 20, Err(FileTapeFault::TooLong)),
-        (&[MOVING], 9, 20, Ok(19)),
-        (&[MOVING], 10, 20, Ok(20)),
-        (&[MOVING], 9, 10, Ok(10)),
-        (&[], 9, 0, Ok(0)),
-        (&[], 10, 0, Err(FileTapeFault::TooLong)),
-        (&[], 0, 0, Ok(0)),
-    ] {
+    for &(records, tail, room, opened) in &OPENED {
         let bytes = bytes_of(&rt, records, &[0xff; 10][..tail.min(10)])?;
         let disk = FakeDisk::new(rt.alloc(), &bytes)?;
         let len = FileTape::open(rt.alloc(), disk.file(), room).map(|tape| tape.len());
         assert_eq!(rt; len, opened);
-        assert!(rt; disk.has(&bytes));
         let has_record = opened.is_ok_and(|len| len >= 10);
-        assert!(rt; !has_record || disk.keeps(&bytes));
+        assert!(rt; disk.has(&bytes) && (!has_record || disk.keeps(&bytes)));
     }
     Ok(())
 }
@@ -74,8 +86,7 @@ fn file_without_a_record_is_not_synced(rt: HostRuntime) -> Result<(), Fail> {
     let bytes = [0xff; 9];
     let disk = FakeDisk::new(rt.alloc(), &bytes)?;
     disk.fail(Call::Sync, 0);
-    let tape = FileTape::open(rt.alloc(), disk.file(), 20)?;
-    assert_eq!(rt; tape.len(), 9);
+    assert_eq!(rt; opened(rt.alloc(), &disk)?.len(), 9);
     assert!(rt; disk.has(&bytes) && !disk.keeps(&bytes));
     Ok(())
 }
@@ -98,17 +109,26 @@ fn files_that_fail_to_open(rt: HostRuntime) -> Result<(), Fail> {
     Ok(())
 }
 
+/// Writes the second record, which is then read back, is all that is behind the first one, and is kept.
+fn writes_second(
+    rt: &impl AllocGlobal,
+    disk: &FakeDisk,
+    tape: &mut impl Tape,
+    failures: u64,
+) -> Result<bool, Fail> {
+    add(tape, &STANDING)?;
+    let is_read = is_at(tape, 20, failures) && read(tape, 10) == Ok(STANDING);
+    let written = bytes_of(rt, &[MOVING, STANDING], &[])?;
+    Ok(is_read && disk.has(&written) && disk.keeps(&written))
+}
+
 #[test]
 fn records_are_written_over_tails(rt: HostRuntime) -> Result<(), Fail> {
-    let written = bytes_of(&rt, &[MOVING, STANDING], &[])?;
     for tail in [0usize, 1, 9] {
         let bytes = bytes_of(&rt, &[MOVING], &[0xff; 10][..tail.min(10)])?;
         let disk = FakeDisk::new(rt.alloc(), &bytes)?;
-        let mut tape = FileTape::open(rt.alloc(), disk.file(), 20)?;
-        add(&mut tape, &STANDING)?;
-        assert_eq!(rt; (tape.len(), tape.failures()), (20, 0));
-        assert_eq!(rt; read(&mut tape, 10), Ok(STANDING));
-        assert!(rt; disk.has(&written) && disk.keeps(&written));
+        let mut tape = opened(rt.alloc(), &disk)?;
+        assert!(rt; writes_second(&rt, &disk, &mut tape, 0)?, "{tail}");
     }
     Ok(())
 }
@@ -116,7 +136,6 @@ fn records_are_written_over_tails(rt: HostRuntime) -> Result<(), Fail> {
 /// Where a write fails the tape is as before, and the next one may succeed.
 #[test]
 fn writes_that_fail(rt: HostRuntime) -> Result<(), Fail> {
-    let written = bytes_of(&rt, &[MOVING, STANDING], &[])?;
     for (call, calls) in [
         (Call::Seek, 0),
         (Call::Write, 0),
@@ -126,15 +145,15 @@ fn writes_that_fail(rt: HostRuntime) -> Result<(), Fail> {
         (Call::Sync, 0),
     ] {
         let disk = FakeDisk::new(rt.alloc(), &MOVING)?;
-        let mut tape = FileTape::open(rt.alloc(), disk.file(), 20)?;
+        let mut tape = opened(rt.alloc(), &disk)?;
         disk.fail(call, calls);
         assert_eq!(rt; add(&mut tape, &STANDING), Err(TapeError), "{call:?}");
-        assert_eq!(rt; (tape.len(), tape.failures()), (10, 1));
-        assert_eq!(rt; read(&mut tape, 0), Ok(MOVING));
-        assert!(rt; disk.keeps(&MOVING));
-        add(&mut tape, &STANDING)?;
-        assert_eq!(rt; (tape.len(), tape.failures()), (20, 1));
-        assert!(rt; disk.has(&written) && disk.keeps(&written));
+        assert!(rt;
+            is_at(&tape, 10, 1) && read(&mut tape, 0) == Ok(MOVING),
+            "{call:?}"
+        );
+        assert!(rt; disk.keeps(&MOVING), "{call:?}");
+        assert!(rt; writes_second(&rt, &disk, &mut tape, 1)?, "{call:?}");
     }
     Ok(())
 }

@@ -34,11 +34,8 @@ pub fn all_apart(rt: &impl Abort, runner: &Runner<'_>, agents: u32) -> Result<()
         let one = runner.held(i).ok_or("an agent is missing")?;
         for j in 0..i {
             let other = runner.held(j).ok_or("an agent is missing")?;
-            assert!(rt; !share(one, other), "agents {i} and {j}: {one:?} {other:?}");
-            assert!(rt;
-                !exchange(one, other),
-                "agents {i} and {j}: {one:?} {other:?}"
-            );
+            let are_apart = !share(one, other) && !exchange(one, other);
+            assert!(rt; are_apart, "agents {i} and {j}: {one:?} {other:?}");
         }
     }
     Ok(())
@@ -67,8 +64,7 @@ fn what_two_agents_share(rt: HostRuntime) {
             true,
         ),
     ] {
-        assert_eq!(rt; share(one, other), is_shared);
-        assert_eq!(rt; share(other, one), is_shared);
-        assert_eq!(rt; exchange(one, other), is_exchanged);
+        let found = (share(one, other), share(other, one), exchange(one, other));
+        assert_eq!(rt; found, (is_shared, is_shared, is_exchanged));
     }
 }

@@ -1,5 +1,6 @@
 //! Replies as lines of text.
-use runner::{Event, Reply, Runner, Why};
+use depgraph::{Graph, OutOfMemory};
+use runner::{Event, Reply, Runner, Why, run};
 use std::alloc::{AllocError, Global};
 use std::process::Abort;
 use std::test::Fail;
@@ -43,6 +44,31 @@ pub fn expect(
 ) -> Result<(), Fail> {
     for (event, expected) in rows {
         let reply = line(alloc, &runner.step(*event)?)?;
+        assert_eq!(rt; reply.as_str(), *expected, "after {event:?}");
+    }
+    Ok(())
+}
+
+/// The events of these rows.
+fn events_of(alloc: Global, rows: &[(Event, &str)]) -> Result<Vec<Event>, AllocError> {
+    let mut events = Vec::with_capacity(alloc, rows.len())?;
+    for (event, _) in rows {
+        events.push(*event)?;
+    }
+    Ok(events)
+}
+
+/// Answers events at once, and compares each reply with its line.
+pub fn expect_list(
+    rt: &impl Abort,
+    alloc: Global,
+    graph: &Graph,
+    rows: &[(Event, &str)],
+) -> Result<(), OutOfMemory> {
+    let replies = run(alloc, graph, events_of(alloc, rows)?.as_slice())?;
+    assert_eq!(rt; replies.len(), rows.len());
+    for (reply, (event, expected)) in replies.iter().zip(rows) {
+        let reply = line(alloc, reply)?;
         assert_eq!(rt; reply.as_str(), *expected, "after {event:?}");
     }
     Ok(())

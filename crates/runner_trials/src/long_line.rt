@@ -1,11 +1,11 @@
 //! A thousand agents one behind another.
 use crate::holdings::all_apart;
 use depgraph::Graph;
-use grid::{Cell, Counted, read_map};
+use grid::{Cell, Counted, Map, read_map};
 use model::Held;
 use plan::{Act, CheckedPlan, Plan, check};
 use runner::{Event, Reply, Runner};
-use std::alloc::Global;
+use std::alloc::{AllocError, Global};
 use std::process::Abort;
 use std::test::Fail;
 
@@ -15,22 +15,32 @@ const AGENTS: u32 = 1_000;
 /// How many cells each of them goes.
 const MOVES: u32 = 100;
 
-/// The agents stand in the first cells of a corridor, agent 0 foremost, and all go at once, without waiting.
-fn line_of_agents(alloc: Global) -> Result<CheckedPlan, Fail> {
+/// A row of free cells, as long as all of them and the way of the foremost.
+fn corridor(alloc: Global) -> Result<Map, Fail> {
     let width = AGENTS + MOVES;
     let mut text = format!(in alloc; "type octile\nheight 1\nwidth {width}\nmap\n")?;
     for _ in 0..width {
         text.push('.')?;
     }
     text.push('\n')?;
-    let map = read_map(alloc, &mut Counted::new(text.as_bytes()))?;
+    Ok(read_map(alloc, &mut Counted::new(text.as_bytes()))?)
+}
+
+/// The acts of an agent that never waits.
+fn all_east(alloc: Global) -> Result<Vec<Act>, AllocError> {
+    let mut acts = Vec::new(alloc);
+    for _ in 0..MOVES {
+        acts.push(Act::E)?;
+    }
+    Ok(acts)
+}
+
+/// The agents stand in the first cells of a corridor, agent 0 foremost, and all go at once, without waiting.
+fn line_of_agents(alloc: Global) -> Result<CheckedPlan, Fail> {
+    let map = corridor(alloc)?;
     let mut plan = Plan::new(alloc, 7);
     for x in (0..AGENTS).rev() {
-        let mut acts = Vec::new(alloc);
-        for _ in 0..MOVES {
-            acts.push(Act::E)?;
-        }
-        plan.push(Cell { x: x as u16, y: 0 }, acts)?;
+        plan.push(Cell { x: x as u16, y: 0 }, all_east(alloc)?)?;
     }
     Ok(check(alloc, &map, plan).map_err(|rejected| rejected.fault)?)
 }
@@ -48,6 +58,12 @@ fn advances(rt: &impl Abort, runner: &mut Runner<'_>, agent: u32) -> Result<bool
             "agent {agent} goes to {cell:?}, and before it {ahead:?}"
         );
     }
+    arrives(runner, agent)?;
+    Ok(true)
+}
+
+/// The agent ends its move, and tells the one behind it.
+fn arrives(runner: &mut Runner<'_>, agent: u32) -> Result<(), Fail> {
     let Reply::Arrived(_) = runner.step(Event::Finish(agent))? else {
         return Err("an agent did not arrive")?;
     };
@@ -60,7 +76,7 @@ fn advances(rt: &impl Abort, runner: &mut Runner<'_>, agent: u32) -> Result<bool
             return Err("a message was not heard")?;
         };
     }
-    Ok(true)
+    Ok(())
 }
 
 /// In each round the hindmost comes first, so what it is told it can use in the next round.

@@ -74,7 +74,51 @@ impl Numbers {
     }
 }
 
-/// Events at random, each looked at; the replies to the same events at once are the same. Whether all agents came to their ends.
+/// Events at random, with the lines of their replies.
+#[derive(Drop)]
+struct Noted {
+    events: Vec<Event>,
+    lines: Vec<String>,
+}
+
+/// Events at random among so many agents, each of which is looked at.
+fn watched(
+    rt: &impl Abort,
+    alloc: Global,
+    watch: &mut Watch<'_>,
+    agents: u32,
+    seed: u64,
+) -> Result<Noted, Fail> {
+    let mut numbers = Numbers { state: seed };
+    let mut noted = Noted {
+        events: Vec::new(alloc),
+        lines: Vec::new(alloc),
+    };
+    let mut said = 0u32;
+    for _ in 0..EVENTS {
+        let event = numbers.event(agents, said);
+        let reply = watch.step(rt, event)?;
+        if matches!(&reply, Reply::Said(_, _)) {
+            said = said.saturating_add(1);
+        }
+        noted.events.push(event)?;
+        noted.lines.push(line(alloc, &reply)?)?;
+    }
+    Ok(noted)
+}
+
+/// The replies to the same events at once are the same.
+fn compare(rt: &impl Abort, alloc: Global, graph: &Graph, noted: &Noted) -> Result<(), Fail> {
+    let replies = run(alloc, graph, noted.events.as_slice())?;
+    assert_eq!(rt; replies.len(), noted.lines.len());
+    for (reply, expected) in replies.iter().zip(noted.lines.iter()) {
+        let reply = line(alloc, reply)?;
+        assert_eq!(rt; reply.as_str(), expected.as_str());
+    }
+    Ok(())
+}
+
+/// Runs a plan on events at random. Whether all agents came to their ends.
 fn is_run_to_the_end(
     rt: &impl Abort,
     alloc: Global,
@@ -84,25 +128,8 @@ fn is_run_to_the_end(
     let plan = checked(alloc, FIELD, agents)?;
     let graph = Graph::build(alloc, &plan)?;
     let mut watch = Watch::new(alloc, &plan, &graph)?;
-    let mut numbers = Numbers { state: seed };
-    let mut events = Vec::new(alloc);
-    let mut lines = Vec::new(alloc);
-    let mut said = 0u32;
-    for _ in 0..EVENTS {
-        let event = numbers.event(plan.agents(), said);
-        let reply = watch.step(rt, event)?;
-        if matches!(&reply, Reply::Said(_, _)) {
-            said = said.saturating_add(1);
-        }
-        events.push(event)?;
-        lines.push(line(alloc, &reply)?)?;
-    }
-    let replies = run(alloc, &graph, events.as_slice())?;
-    assert_eq!(rt; replies.len(), lines.len());
-    for (reply, expected) in replies.iter().zip(lines.iter()) {
-        let reply = line(alloc, reply)?;
-        assert_eq!(rt; reply.as_str(), expected.as_str());
-    }
+    let noted = watched(rt, alloc, &mut watch, plan.agents(), seed)?;
+    compare(rt, alloc, &graph, &noted)?;
     Ok(watch.is_over())
 }
 

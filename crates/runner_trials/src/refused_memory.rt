@@ -1,10 +1,10 @@
 //! Runs in which any one allocation may fail, as the one with the number N does under `rt try --test --fail-alloc N`.
-use crate::lines::line;
+use crate::lines::{expect_list, line};
 use crate::texts::{ONE_BEHIND, ROW, SQUARE, TURNING};
 use depgraph::{Graph, OutOfMemory};
-use grid::{Counted, MapFault, read_map};
-use plan::{PlanFault, PlanTextFault, check, read_plan};
-use runner::{Event, Reply, Runner, run};
+use grid::{Counted, Map, MapFault, read_map};
+use plan::{Plan, PlanFault, PlanTextFault, check, read_plan};
+use runner::{Event, Reply, Runner};
 use std::alloc::Global;
 use std::process::Abort;
 use std::test::Fail;
@@ -26,31 +26,40 @@ const MESSAGE_ROWS: [(Event, &str); 7] = [
     (Event::Start(1), "moving 1 0"),
 ];
 
-/// The graph of the agents of these lines; nothing but memory is lacking.
-fn graph_of(rt: &impl Abort, alloc: Global, map: &str, agents: &str) -> Result<Graph, OutOfMemory> {
-    let map = match read_map(alloc, &mut Counted::new(map.as_bytes())) {
-        Ok(map) => map,
+/// The map of a text; nothing but memory is lacking.
+fn map_of(rt: &impl Abort, alloc: Global, text: &str) -> Result<Map, OutOfMemory> {
+    match read_map(alloc, &mut Counted::new(text.as_bytes())) {
+        Ok(map) => Ok(map),
         Err(fault) => {
             assert_eq!(rt; fault, MapFault::OutOfMemory);
-            return Err(OutOfMemory);
+            Err(OutOfMemory)
         }
-    };
+    }
+}
+
+/// The plan of the agents of these lines; nothing but memory is lacking.
+fn plan_of(rt: &impl Abort, alloc: Global, agents: &str) -> Result<Plan, OutOfMemory> {
     let text = format!(in alloc; "mapf-plan 1\nnumber 7\n{agents}")?;
-    let plan = match read_plan(alloc, &mut Counted::new(text.as_bytes())) {
-        Ok(plan) => plan,
+    match read_plan(alloc, &mut Counted::new(text.as_bytes())) {
+        Ok(plan) => Ok(plan),
         Err(fault) => {
             assert_eq!(rt; fault, PlanTextFault::OutOfMemory);
-            return Err(OutOfMemory);
+            Err(OutOfMemory)
         }
-    };
-    let plan = match check(alloc, &map, plan) {
-        Ok(plan) => plan,
+    }
+}
+
+/// The graph of the agents of these lines; nothing but memory is lacking.
+fn graph_of(rt: &impl Abort, alloc: Global, map: &str, agents: &str) -> Result<Graph, OutOfMemory> {
+    let map = map_of(rt, alloc, map)?;
+    let plan = plan_of(rt, alloc, agents)?;
+    match check(alloc, &map, plan) {
+        Ok(plan) => Graph::build(alloc, &plan),
         Err(rejected) => {
             assert_eq!(rt; rejected.fault, PlanFault::OutOfMemory);
-            return Err(OutOfMemory);
+            Err(OutOfMemory)
         }
-    };
-    Graph::build(alloc, &plan)
+    }
 }
 
 /// The reply to an event, which is asked again where memory was refused, as only saying and delivering may be.
@@ -75,21 +84,11 @@ fn attempt(
 ) -> Result<(), OutOfMemory> {
     let graph = graph_of(rt, alloc, map, agents)?;
     let mut runner = Runner::new(alloc, &graph)?;
-    let mut events = Vec::new(alloc);
     for (event, expected) in rows {
         let reply = line(alloc, &answer(rt, &mut runner, *event)?)?;
         assert_eq!(rt; reply.as_str(), *expected, "after {event:?}");
-        let Ok(()) = events.push(*event) else {
-            return Err(OutOfMemory);
-        };
     }
-    let replies = run(alloc, &graph, events.as_slice())?;
-    assert_eq!(rt; replies.len(), rows.len());
-    for (reply, (event, expected)) in replies.iter().zip(rows) {
-        let reply = line(alloc, reply)?;
-        assert_eq!(rt; reply.as_str(), *expected, "after {event:?}");
-    }
-    Ok(())
+    expect_list(rt, alloc, &graph, rows)
 }
 
 /// At most one allocation fails, so the second attempt needs to succeed where the first did not.
