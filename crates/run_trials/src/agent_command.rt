@@ -1,9 +1,10 @@
 //! `mapf agent` over readers, writers and a disk: its status, standard output, standard error and tape file.
-use crate::run_command::{FILE, LANE, PLAN_FAULTS};
+use crate::run_command::{FILE, LANE, PLAN_FAULTS, expect_outputs};
 use agent_commands::agent_cmd;
 use fakes::{DiskFiles, FakeDisk, Keeper, Pieces, Record};
 use grid::Counted;
 use std::alloc::{AllocError, Global};
+use std::fmt::Debug;
 use std::io::{ErrorKind, Read, Write};
 use std::process::Abort;
 use std::test::Fail;
@@ -109,9 +110,38 @@ pub fn expect<I: Read + Drop>(
     let (mut out, mut err) = (Keeper::of_size(512), Keeper::of_size(512));
     let got = answer(&files, 0, input, &mut out, &mut err);
     assert_eq!(rt; got, status, "at {answers:?} {line:?}");
-    assert!(rt; out.kept() == answers.as_bytes(), "at {answers:?} {line:?}");
-    assert!(rt; err.kept() == line.as_bytes(), "at {answers:?} {line:?}");
+    expect_outputs(rt, &out, &err, (answers, line), &want);
     assert!(rt; files.were_opened("robot.tape\n"));
+}
+
+/// Answers for an agent on a map or a plan that is refused, and compares the status and the fault's line. Neither a tape file nor
+/// the input is touched.
+pub fn refuses<M: Read + Drop, P: Read + Drop>(
+    rt: &impl Abort,
+    alloc: Global,
+    texts: (M, P),
+    id: u16,
+    want: (u8, &str),
+    at: &impl Debug,
+) -> Result<(), AllocError> {
+    let disk = FakeDisk::new(alloc, b"")?;
+    let files = DiskFiles::new(alloc, &disk);
+    let (mut out, mut err) = (Keeper::of_size(256), Keeper::of_size(256));
+    let mut input = Counted::new(unread());
+    let status = agent_cmd(
+        &files,
+        &mut Counted::new(texts.0),
+        &mut Counted::new(texts.1),
+        id,
+        TAPE,
+        &mut input,
+        &mut Counted::new(&mut out),
+        &mut Counted::new(&mut err),
+    );
+    assert_eq!(rt; (status, input.failures()), (want.0, 0), "at {at:?}");
+    expect_outputs(rt, &out, &err, ("", want.1), at);
+    assert!(rt; files.were_opened(""), "at {at:?}");
+    Ok(())
 }
 
 /// A reader that fails, so that it is seen whether it is called.
@@ -133,41 +163,51 @@ fn a_row_of_lines(rt: HostRuntime) -> Result<(), Fail> {
     Ok(())
 }
 
+/// Inputs of processes one after another, and what each writes.
+static PROCESSES: [(&str, &str); 6] = [
+    ("start\n", "at 1 0 done 0\nmoving 2 0\n"),
+    ("start\n", "between 1 0 2 0 done 0\nrefused AlreadyMoving\n"),
+    (
+        "say\n",
+        "between 1 0 2 0 done 0\nsaid 460100000000000700000000\n",
+    ),
+    ("finish", "between 1 0 2 0 done 0\narrived 2 0\n"),
+    ("finish\n", "at 2 0 done 1\nrefused NotMoving\n"),
+    ("\n", "at 2 0 done 1\nrefused BadLine\n"),
+];
+
 /// The process is ended after each line, and what comes next goes on by the tape file.
 #[test]
 fn a_process_for_each_line(rt: HostRuntime) -> Result<(), Fail> {
     let disk = FakeDisk::new(rt.alloc(), b"")?;
-    for (asked, answers) in [
-        ("start\n", "at 1 0 done 0\nmoving 2 0\n"),
-        ("start\n", "between 1 0 2 0 done 0\nrefused AlreadyMoving\n"),
-        (
-            "say\n",
-            "between 1 0 2 0 done 0\nsaid 460100000000000700000000\n",
-        ),
-        ("finish", "between 1 0 2 0 done 0\narrived 2 0\n"),
-        ("finish\n", "at 2 0 done 1\nrefused NotMoving\n"),
-        ("\n", "at 2 0 done 1\nrefused BadLine\n"),
-    ] {
+    for &(asked, answers) in &PROCESSES {
         expect(&rt, rt.alloc(), &disk, asked.as_bytes(), (0, answers, ""));
     }
     assert!(rt; disk.has(&MOVED) && disk.keeps(&MOVED));
     Ok(())
 }
 
+/// The records and the tail of tape files, and where the agent is by them.
+static OPENED: [(&[[u8; 10]], &[u8], &str); 9] = [
+    (&[], &[], "at 1 0 done 0\n"),
+    (&[], &[0x50, 1, 0, 0, 0, 7, 0, 0, 0], "at 1 0 done 0\n"),
+    (&[], &[0xff; 9], "at 1 0 done 0\n"),
+    (&[MOVING], &[], "between 1 0 2 0 done 0\n"),
+    (
+        &[MOVING],
+        &[0x50, 2, 0, 0, 0, 7, 0, 0, 0],
+        "between 1 0 2 0 done 0\n",
+    ),
+    (&[MOVING], &[0xff; 9], "between 1 0 2 0 done 0\n"),
+    (&[MOVING, STANDING], &[], "at 2 0 done 1\n"),
+    (&[MOVING, STANDING], &[0xff], "at 2 0 done 1\n"),
+    (&[MOVING, STANDING], &[0xff; 9], "at 2 0 done 1\n"),
+];
+
 /// What is said of where an agent is holds after a power cut too.
 #[test]
 fn tape_files_that_are_opened(rt: HostRuntime) -> Result<(), Fail> {
-    for (records, tail, state) in [
-        ([].as_slice(), [].as_slice(), "at 1 0 done 0\n"),
-        (&[], &MOVING[..9], "at 1 0 done 0\n"),
-        (&[], &NOISE[..9], "at 1 0 done 0\n"),
-        (&[MOVING], &[], "between 1 0 2 0 done 0\n"),
-        (&[MOVING], &STANDING[..9], "between 1 0 2 0 done 0\n"),
-        (&[MOVING], &NOISE[..9], "between 1 0 2 0 done 0\n"),
-        (&[MOVING, STANDING], &[], "at 2 0 done 1\n"),
-        (&[MOVING, STANDING], &NOISE[..1], "at 2 0 done 1\n"),
-        (&[MOVING, STANDING], &NOISE[..9], "at 2 0 done 1\n"),
-    ] {
+    for &(records, tail, state) in &OPENED {
         let bytes = bytes_of(rt.alloc(), records, tail)?;
         let disk = FakeDisk::new(rt.alloc(), &bytes)?;
         let nothing = b"".as_slice();
@@ -179,38 +219,37 @@ fn tape_files_that_are_opened(rt: HostRuntime) -> Result<(), Fail> {
     Ok(())
 }
 
+const OTHER_PLAN: [u8; 10] = [0x50, 1, 0, 0, 0, 8, 0, 1, 0, 0];
+
+const OTHER_AGENT: [u8; 10] = [0x50, 1, 0, 0, 0, 7, 0, 1, 0, 0];
+
+const ARRIVED_IN_OTHER_PLAN: [u8; 10] = [0x50, 2, 0, 0, 0, 8, 0, 0, 0, 1];
+
+const ARRIVED_AS_OTHER: [u8; 10] = [0x50, 2, 0, 0, 0, 7, 0, 1, 0, 1];
+
+/// The records and the tail of tape files that are refused, and the fault's line.
+static REFUSED: [(&[[u8; 10]], &[u8], &str); 16] = [
+    (&[MOVING, STANDING], &NOISE, "mapf: TooLong\n"),
+    (&[MOVING, STANDING], &MOVING, "mapf: TooLong\n"),
+    (&[NOISE, NOISE], &NOISE, "mapf: TooLong\n"),
+    (&[OTHER_PLAN, NOISE], &NOISE, "mapf: TooLong\n"),
+    (&[MOVING, MOVING], &[], "mapf: Damaged 1\n"),
+    (&[MOVING, MOVING], &[0xff; 9], "mapf: Damaged 1\n"),
+    (&[MOVING], &NOISE, "mapf: Damaged 1\n"),
+    (&[STANDING], &[], "mapf: Damaged 0\n"),
+    (&[STANDING, MOVING], &[], "mapf: Damaged 0\n"),
+    (&[NOISE], &[], "mapf: Damaged 0\n"),
+    (&[ARRIVED_IN_OTHER_PLAN], &[], "mapf: Damaged 0\n"),
+    (&[OTHER_PLAN], &[], "mapf: WrongPlan 0\n"),
+    (&[OTHER_PLAN, NOISE], &[], "mapf: WrongPlan 0\n"),
+    (&[MOVING, ARRIVED_IN_OTHER_PLAN], &[], "mapf: WrongPlan 1\n"),
+    (&[OTHER_AGENT], &[], "mapf: WrongAgent 0\n"),
+    (&[MOVING, ARRIVED_AS_OTHER], &[], "mapf: WrongAgent 1\n"),
+];
+
 #[test]
 fn tape_files_that_are_refused(rt: HostRuntime) -> Result<(), Fail> {
-    let other_plan = [0x50, 1, 0, 0, 0, 8, 0, 1, 0, 0];
-    let other_agent = [0x50, 1, 0, 0, 0, 7, 0, 1, 0, 0];
-    let arrived_in_another_plan = [0x50, 2, 0, 0, 0, 8, 0, 0, 0, 1];
-    let arrived_as_another = [0x50, 2, 0, 0, 0, 7, 0, 1, 0, 1];
-    for (records, tail, line) in [
-        (
-            [MOVING, STANDING].as_slice(),
-            NOISE.as_slice(),
-            "mapf: TooLong\n",
-        ),
-        (&[MOVING, STANDING], &MOVING, "mapf: TooLong\n"),
-        (&[NOISE, NOISE], &NOISE, "mapf: TooLong\n"),
-        (&[other_plan, NOISE], &NOISE, "mapf: TooLong\n"),
-        (&[MOVING, MOVING], &[], "mapf: Damaged 1\n"),
-        (&[MOVING, MOVING], &NOISE[..9], "mapf: Damaged 1\n"),
-        (&[MOVING], &NOISE, "mapf: Damaged 1\n"),
-        (&[STANDING], &[], "mapf: Damaged 0\n"),
-        (&[STANDING, MOVING], &[], "mapf: Damaged 0\n"),
-        (&[NOISE], &[], "mapf: Damaged 0\n"),
-        (&[arrived_in_another_plan], &[], "mapf: Damaged 0\n"),
-        (&[other_plan], &[], "mapf: WrongPlan 0\n"),
-        (&[other_plan, NOISE], &[], "mapf: WrongPlan 0\n"),
-        (
-            &[MOVING, arrived_in_another_plan],
-            &[],
-            "mapf: WrongPlan 1\n",
-        ),
-        (&[other_agent], &[], "mapf: WrongAgent 0\n"),
-        (&[MOVING, arrived_as_another], &[], "mapf: WrongAgent 1\n"),
-    ] {
+    for &(records, tail, line) in &REFUSED {
         let bytes = bytes_of(rt.alloc(), records, tail)?;
         let disk = FakeDisk::new(rt.alloc(), &bytes)?;
         expect(&rt, rt.alloc(), &disk, unread(), (1, "", line));
@@ -227,8 +266,7 @@ fn no_such_agent(rt: HostRuntime) -> Result<(), Fail> {
         let (mut out, mut err) = (Keeper::of_size(512), Keeper::of_size(512));
         let status = answer(&files, id, unread(), &mut out, &mut err);
         assert_eq!(rt; status, 1);
-        assert!(rt; out.kept() == b"".as_slice());
-        assert!(rt; err.kept() == b"mapf: NoSuchAgent\n".as_slice());
+        expect_outputs(&rt, &out, &err, ("", "mapf: NoSuchAgent\n"), &id);
         assert!(rt; files.were_opened("") && disk.has(&NOISE));
     }
     Ok(())
@@ -241,9 +279,8 @@ fn another_agent_of_the_plan(rt: HostRuntime) -> Result<(), Fail> {
     let (mut out, mut err) = (Keeper::of_size(512), Keeper::of_size(512));
     let asked = b"start\nhear 460100000000000700000001\nstart\n".as_slice();
     assert_eq!(rt; answer(&files, 1, asked, &mut out, &mut err), 0);
-    let answers = b"at 0 0 done 0\nrefused Waits 0 1\nheard 0 1\nmoving 1 0\n";
-    assert!(rt; out.kept() == answers.as_slice());
-    assert!(rt; err.kept() == b"".as_slice());
+    let answers = "at 0 0 done 0\nrefused Waits 0 1\nheard 0 1\nmoving 1 0\n";
+    expect_outputs(&rt, &out, &err, (answers, ""), &1);
     assert!(rt; disk.keeps(&[0x50, 1, 0, 0, 0, 7, 0, 1, 0, 0]));
     Ok(())
 }
@@ -256,37 +293,19 @@ fn tape_file_that_cannot_be_opened(rt: HostRuntime) -> Result<(), Fail> {
         let (mut out, mut err) = (Keeper::of_size(512), Keeper::of_size(512));
         let status = answer(&files, 0, unread(), &mut out, &mut err);
         assert_eq!(rt; status, 3);
-        assert!(rt; out.kept() == b"".as_slice());
-        assert!(rt; err.kept() == b"mapf: OpenFailed\n".as_slice());
+        expect_outputs(&rt, &out, &err, ("", "mapf: OpenFailed\n"), &kind);
         assert!(rt; files.were_opened("robot.tape\n"));
     }
     Ok(())
 }
 
-/// Neither the tape file nor the input is touched, whether or not the plan would have the agent.
+/// It is all the same whether the plan would have the agent.
 #[test]
 fn faults_before_the_tape_file(rt: HostRuntime) -> Result<(), Fail> {
     for &(map, plan, line) in &PLAN_FAULTS {
         for id in [0, 65535] {
-            let disk = FakeDisk::new(rt.alloc(), b"")?;
-            let files = DiskFiles::new(rt.alloc(), &disk);
-            let (mut out, mut err) = (Keeper::of_size(256), Keeper::of_size(256));
-            let mut input = Counted::new(unread());
-            let status = agent_cmd(
-                &files,
-                &mut Counted::new(map.as_bytes()),
-                &mut Counted::new(plan.as_bytes()),
-                id,
-                TAPE,
-                &mut input,
-                &mut Counted::new(&mut out),
-                &mut Counted::new(&mut err),
-            );
-            assert_eq!(rt; status, 1, "at {plan:?}");
-            assert!(rt; out.kept() == b"".as_slice(), "at {plan:?}");
-            assert!(rt; err.kept() == line.as_bytes(), "at {plan:?}");
-            assert_eq!(rt; input.failures(), 0, "at {plan:?}");
-            assert!(rt; files.were_opened(""), "at {plan:?}");
+            let texts = (map.as_bytes(), plan.as_bytes());
+            refuses(&rt, rt.alloc(), texts, id, (1, line), &plan)?;
         }
     }
     Ok(())

@@ -3,6 +3,7 @@ use fakes::{Keeper, Pieces};
 use grid::Counted;
 use run_commands::run_cmd;
 use std::alloc::{AllocError, Global};
+use std::fmt::Debug;
 use std::io::{ErrorKind, Read, Write};
 use std::process::Abort;
 use std::test::Fail;
@@ -203,6 +204,21 @@ pub fn replay<M: Read + Drop, P: Read + Drop, V: Read + Drop, W: Write>(
     )
 }
 
+/// Compares what standard output and standard error took with two texts.
+pub fn expect_outputs(
+    rt: &impl Abort,
+    out: &Keeper,
+    err: &Keeper,
+    want: (&str, &str),
+    at: &impl Debug,
+) {
+    assert!(rt;
+        out.kept() == want.0.as_bytes(),
+        "standard output at {at:?}"
+    );
+    assert!(rt; err.kept() == want.1.as_bytes(), "standard error at {at:?}");
+}
+
 /// Replays events of the plan `FILE`, and compares the status and both outputs.
 pub fn expect<V: Read + Drop>(
     rt: &impl Abort,
@@ -213,17 +229,10 @@ pub fn expect<V: Read + Drop>(
 ) {
     let (status, replies, line) = want;
     let (mut out, mut err) = (Keeper::of_size(512), Keeper::of_size(512));
-    let got = replay(
-        alloc,
-        LANE.as_bytes(),
-        FILE.as_bytes(),
-        events,
-        &mut out,
-        &mut err,
-    );
+    let (map, plan) = (LANE.as_bytes(), FILE.as_bytes());
+    let got = replay(alloc, map, plan, events, &mut out, &mut err);
     assert_eq!(rt; got, status, "at {at:?}");
-    assert!(rt; out.kept() == replies.as_bytes(), "at {at:?}");
-    assert!(rt; err.kept() == line.as_bytes(), "at {at:?}");
+    expect_outputs(rt, &out, &err, (replies, line), &at);
 }
 
 /// How many lines are ended in a text.
@@ -310,10 +319,8 @@ fn faults_before_events(rt: HostRuntime) {
             &mut Counted::new(&mut out),
             &mut Counted::new(&mut err),
         );
-        assert_eq!(rt; status, 1, "at {plan:?}");
-        assert!(rt; out.kept() == b"".as_slice(), "at {plan:?}");
-        assert!(rt; err.kept() == line.as_bytes(), "at {plan:?}");
-        assert_eq!(rt; events.failures(), 0, "at {plan:?}");
+        assert_eq!(rt; (status, events.failures()), (1, 0), "at {plan:?}");
+        expect_outputs(&rt, &out, &err, ("", line), &plan);
     }
 }
 

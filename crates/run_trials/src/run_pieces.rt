@@ -2,6 +2,8 @@
 use crate::run_command::{FILE, LANE, replay};
 use fakes::{Keeper, Pieces, Repeats};
 use std::alloc::{AllocError, Global};
+use std::io::Read;
+use std::process::Abort;
 use std::test::Fail;
 
 /// A line that names no agent, and its reply.
@@ -20,14 +22,17 @@ fn repeated(alloc: Global, parts: &[(&str, u32)]) -> Result<String, AllocError> 
     Ok(text)
 }
 
+/// Lines of events, and the reply to each.
+static LINES: [(&str, &str); 3] = [
+    ("finish 0\n", "refused NotMoving\n"),
+    ("restart 0\n", "at 1 0 done 0\n"),
+    ("tear 0 100\n", "refused BadTear\n"),
+];
+
 #[test]
 fn lines_that_end_around_a_piece(rt: HostRuntime) -> Result<(), Fail> {
     // Before the line there are 4,086 bytes, so that its LF is the byte 4,095, 4,096 or 4,097; and so in the next piece.
-    for &(line, reply) in &[
-        ("finish 0\n", "refused NotMoving\n"),
-        ("restart 0\n", "at 1 0 done 0\n"),
-        ("tear 0 100\n", "refused BadTear\n"),
-    ] {
+    for &(line, reply) in &LINES {
         let lines = [
             ("mapf-events 1\n", 1),
             (NOBODY, 509),
@@ -35,36 +40,30 @@ fn lines_that_end_around_a_piece(rt: HostRuntime) -> Result<(), Fail> {
             (NOBODY, 600),
             ("start 0\n", 1),
         ];
-        let text = repeated(rt.alloc(), &lines)?;
         let replies = [
             (REFUSED, 509),
             (reply, 1),
             (REFUSED, 600),
             ("moving 2 0\n", 1),
         ];
+        let text = repeated(rt.alloc(), &lines)?;
         let want = repeated(rt.alloc(), &replies)?;
         for size in [1, 7, 4095, 4096, 4097] {
-            let (mut out, mut err) = (Vec::new(rt.alloc()), Keeper::of_size(256));
-            let status = replay(
-                rt.alloc(),
-                LANE.as_bytes(),
-                FILE.as_bytes(),
-                Pieces::of_size(text.as_bytes(), size),
-                &mut out,
-                &mut err,
-            );
-            assert_eq!(rt; status, 0, "at {line:?} in pieces of {size}");
-            assert!(rt;
-                out.as_slice() == want.as_bytes(),
-                "at {line:?} in pieces of {size}"
-            );
-            assert!(rt;
-                err.kept() == b"".as_slice(),
-                "at {line:?} in pieces of {size}"
-            );
+            let events = Pieces::of_size(text.as_bytes(), size);
+            expect_long(&rt, rt.alloc(), events, want.as_str());
         }
     }
     Ok(())
+}
+
+/// Replays a long text of events of the plan `FILE` to its end, and compares what was written.
+fn expect_long<V: Read + Drop>(rt: &impl Abort, alloc: Global, events: V, want: &str) {
+    let (mut out, mut err) = (Vec::new(alloc), Keeper::of_size(256));
+    let (map, plan) = (LANE.as_bytes(), FILE.as_bytes());
+    let status = replay(alloc, map, plan, events, &mut out, &mut err);
+    assert_eq!(rt; status, 0);
+    assert!(rt; out.as_slice() == want.as_bytes());
+    assert!(rt; err.kept() == b"".as_slice());
 }
 
 #[test]
@@ -74,18 +73,7 @@ fn ten_thousand_lines(rt: HostRuntime) -> Result<(), Fail> {
         (b"mapf-events 1\n".as_slice(), 1),
         (NOBODY.as_bytes(), 10_000),
     ];
-    let (mut out, mut err) = (Vec::new(rt.alloc()), Keeper::of_size(256));
-    let status = replay(
-        rt.alloc(),
-        LANE.as_bytes(),
-        FILE.as_bytes(),
-        Repeats::new(&lines),
-        &mut out,
-        &mut err,
-    );
-    assert_eq!(rt; status, 0);
-    assert!(rt; out.as_slice() == want.as_bytes());
-    assert!(rt; err.kept() == b"".as_slice());
+    expect_long(&rt, rt.alloc(), Repeats::new(&lines), want.as_str());
     Ok(())
 }
 
@@ -107,8 +95,7 @@ fn full_output(rt: HostRuntime) -> Result<(), Fail> {
         &mut out,
         &mut err,
     );
-    assert_eq!(rt; status, 3);
-    assert_eq!(rt; out.kept().len(), 4096);
+    assert_eq!(rt; (status, out.kept().len()), (3, 4096));
     assert!(rt; want.as_bytes().starts_with(out.kept()));
     assert!(rt; err.kept() == b"mapf: WriteFailed\n".as_slice());
     Ok(())

@@ -1,6 +1,6 @@
 //! `mapf run` with readers and writers that fail.
 use crate::run_command::{
-    ASKING, ASKING_REPLIES, FILE, JUMPING, LANE, SWAP, expect, replay, replies_to,
+    ASKING, ASKING_REPLIES, FILE, JUMPING, LANE, SWAP, expect, expect_outputs, replay, replies_to,
 };
 use fakes::{Keeper, Pieces, Record, Trouble};
 use grid::Counted;
@@ -59,11 +59,7 @@ fn unread<M: Read + Drop, P: Read + Drop>(
     let (mut out, mut err) = (Keeper::of_size(256), Keeper::of_size(256));
     let status = replay(alloc, map, plan, ASKING.as_bytes(), &mut out, &mut err);
     assert_eq!(rt; status, 3, "at call {call}");
-    assert!(rt; out.kept() == b"".as_slice(), "at call {call}");
-    assert!(rt;
-        err.kept() == b"mapf: ReadFailed\n".as_slice(),
-        "at call {call}"
-    );
+    expect_outputs(rt, &out, &err, ("", "mapf: ReadFailed\n"), &call);
 }
 
 /// Replays events on the plan `FILE` with an output that fails at a call, before which it took a byte at each.
@@ -77,16 +73,9 @@ fn unwritten<V: Read + Drop>(
 ) {
     let mut out = Keeper::of_size(1).in_trouble_at(call, trouble);
     let mut err = Keeper::of_size(256);
-    let status = replay(
-        alloc,
-        LANE.as_bytes(),
-        FILE.as_bytes(),
-        events,
-        &mut out,
-        &mut err,
-    );
-    assert_eq!(rt; status, 3, "at call {call}");
-    assert_eq!(rt; out.kept().len() as u64 + 1, call);
+    let (map, plan) = (LANE.as_bytes(), FILE.as_bytes());
+    let status = replay(alloc, map, plan, events, &mut out, &mut err);
+    assert_eq!(rt; (status, out.kept().len() as u64 + 1), (3, call));
     assert!(rt;
         replies.as_bytes().starts_with(out.kept()),
         "at call {call}"
