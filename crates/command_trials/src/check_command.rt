@@ -1,5 +1,6 @@
 //! `mapf check` over readers and writers: its status, standard output and standard error; and the text of verdicts.
-use fakes::{Keeper, Pieces, Trouble};
+use crate::outputs::Outputs;
+use fakes::{Keeper, Pieces};
 use grid::Counted;
 use mapf_cmd::{Verdict, check_cmd, check_fit_cmd, verdict_json};
 use std::alloc::Global;
@@ -178,18 +179,18 @@ fn check_fit<M: Read + Drop, P: Read + Drop, S: Read + Drop>(
 fn verdicts(rt: HostRuntime) {
     for &(plan, status, words, object) in &VERDICTS {
         for (json, line) in [(false, words), (true, object)] {
-            let (mut out, mut err) = (Keeper::of_size(256), Keeper::of_size(256));
+            let mut outputs = Outputs::new();
+            let (map, text) = (LANE.as_bytes(), plan.as_bytes());
             let got = check(
                 rt.alloc(),
-                LANE.as_bytes(),
-                plan.as_bytes(),
+                map,
+                text,
                 json,
-                &mut out,
-                &mut err,
+                &mut outputs.out,
+                &mut outputs.err,
             );
             assert_eq!(rt; got, status, "at {plan:?}");
-            assert!(rt; out.kept() == line.as_bytes(), "at {plan:?}");
-            assert!(rt; err.kept() == b"".as_slice(), "at {plan:?}");
+            outputs.expect(&rt, line, "", plan);
         }
     }
 }
@@ -197,148 +198,149 @@ fn verdicts(rt: HostRuntime) {
 #[test]
 fn fits(rt: HostRuntime) {
     for &(scen, status, line) in &FITS {
-        let (mut out, mut err) = (Keeper::of_size(256), Keeper::of_size(256));
+        let mut outputs = Outputs::new();
+        let (map, plan) = (LANE.as_bytes(), FILE.as_bytes());
         let got = check_fit(
             rt.alloc(),
-            LANE.as_bytes(),
-            FILE.as_bytes(),
+            map,
+            plan,
             scen.as_bytes(),
-            &mut out,
-            &mut err,
+            &mut outputs.out,
+            &mut outputs.err,
         );
         assert_eq!(rt; got, status, "at {scen:?}");
-        assert!(rt; out.kept() == line.as_bytes(), "at {scen:?}");
-        assert!(rt; err.kept() == b"".as_slice(), "at {scen:?}");
+        outputs.expect(&rt, line, "", scen);
     }
 }
 
 #[test]
 fn faults(rt: HostRuntime) {
     for &(map, plan, scen, line) in &FAULTS {
-        let (mut out, mut err) = (Keeper::of_size(256), Keeper::of_size(256));
+        let mut outputs = Outputs::new();
+        let (grid, text) = (map.as_bytes(), plan.as_bytes());
         let got = check_fit(
             rt.alloc(),
-            map.as_bytes(),
-            plan.as_bytes(),
+            grid,
+            text,
             scen.as_bytes(),
-            &mut out,
-            &mut err,
+            &mut outputs.out,
+            &mut outputs.err,
         );
         assert_eq!(rt; got, 1, "at {plan:?}");
-        assert!(rt; out.kept() == b"".as_slice(), "at {plan:?}");
-        assert!(rt; err.kept() == line.as_bytes(), "at {plan:?}");
+        outputs.expect(&rt, "", line, plan);
     }
 }
 
 #[test]
 fn scenario_of_a_rejected_plan(rt: HostRuntime) {
     // The reader would fail, but is not called.
-    let (mut out, mut err) = (Keeper::of_size(256), Keeper::of_size(256));
+    let mut outputs = Outputs::new();
     let scen = Pieces::of_size(TASKS.as_bytes(), 1).failing_at(1, ErrorKind::Other);
-    let status = check_fit(
-        rt.alloc(),
-        LANE.as_bytes(),
-        SWAP.as_bytes(),
-        scen,
-        &mut out,
-        &mut err,
+    let (map, plan) = (LANE.as_bytes(), SWAP.as_bytes());
+    assert_eq!(rt;
+        check_fit(
+            rt.alloc(),
+            map,
+            plan,
+            scen,
+            &mut outputs.out,
+            &mut outputs.err
+        ),
+        1
     );
-    assert_eq!(rt; status, 1);
-    assert!(rt; out.kept() == b"rejected Swap 0 1 0\n".as_slice());
-    assert!(rt; err.kept() == b"".as_slice());
+    outputs.expect(&rt, "rejected Swap 0 1 0\n", "", SWAP);
 }
 
 #[test]
-fn failing_readers(rt: HostRuntime) {
+fn failing_map_reader(rt: HostRuntime) {
     // One byte at a time, a text takes a call for each byte and one more for its end.
     for call in 1..=38 {
-        let (mut out, mut err) = (Keeper::of_size(256), Keeper::of_size(256));
+        let mut outputs = Outputs::new();
         let map = Pieces::of_size(LANE.as_bytes(), 1).failing_at(call, ErrorKind::Other);
-        let status = check(rt.alloc(), map, FILE.as_bytes(), true, &mut out, &mut err);
-        assert_eq!(rt; status, 3, "at call {call}");
-        assert!(rt; out.kept() == b"".as_slice(), "at call {call}");
-        assert!(rt;
-            err.kept() == b"mapf: ReadFailed\n".as_slice(),
-            "at call {call}"
+        let status = check(
+            rt.alloc(),
+            map,
+            FILE.as_bytes(),
+            true,
+            &mut outputs.out,
+            &mut outputs.err,
         );
+        assert_eq!(rt; status, 3, "at call {call}");
+        outputs.expect(&rt, "", "mapf: ReadFailed\n", call);
     }
+}
+
+#[test]
+fn failing_plan_reader(rt: HostRuntime) {
     for call in 1..=56 {
-        let (mut out, mut err) = (Keeper::of_size(256), Keeper::of_size(256));
+        let mut outputs = Outputs::new();
         let plan = Pieces::of_size(FILE.as_bytes(), 1).failing_at(call, ErrorKind::Other);
-        let status = check(rt.alloc(), LANE.as_bytes(), plan, false, &mut out, &mut err);
-        assert_eq!(rt; status, 3, "at call {call}");
-        assert!(rt; out.kept() == b"".as_slice(), "at call {call}");
-        assert!(rt;
-            err.kept() == b"mapf: ReadFailed\n".as_slice(),
-            "at call {call}"
-        );
-    }
-    for call in 1..=55 {
-        let (mut out, mut err) = (Keeper::of_size(256), Keeper::of_size(256));
-        let scen = Pieces::of_size(TASKS.as_bytes(), 1).failing_at(call, ErrorKind::Other);
-        let status = check_fit(
+        let status = check(
             rt.alloc(),
             LANE.as_bytes(),
-            FILE.as_bytes(),
-            scen,
-            &mut out,
-            &mut err,
+            plan,
+            false,
+            &mut outputs.out,
+            &mut outputs.err,
         );
         assert_eq!(rt; status, 3, "at call {call}");
-        assert!(rt; out.kept() == b"".as_slice(), "at call {call}");
-        assert!(rt;
-            err.kept() == b"mapf: ReadFailed\n".as_slice(),
-            "at call {call}"
+        outputs.expect(&rt, "", "mapf: ReadFailed\n", call);
+    }
+}
+
+#[test]
+fn failing_scenario_reader(rt: HostRuntime) {
+    for call in 1..=55 {
+        let mut outputs = Outputs::new();
+        let scen = Pieces::of_size(TASKS.as_bytes(), 1).failing_at(call, ErrorKind::Other);
+        let (map, plan) = (LANE.as_bytes(), FILE.as_bytes());
+        let status = check_fit(
+            rt.alloc(),
+            map,
+            plan,
+            scen,
+            &mut outputs.out,
+            &mut outputs.err,
         );
+        assert_eq!(rt; status, 3, "at call {call}");
+        outputs.expect(&rt, "", "mapf: ReadFailed\n", call);
     }
 }
 
 #[test]
 fn failing_writer(rt: HostRuntime) {
-    // The line's 36 bytes are written one at a time and then flushed.
+    // The line's 36 bytes are written and then flushed.
     for call in 1..=37 {
-        let mut out = Keeper::of_size(1).in_trouble_at(call, Trouble::Failure);
-        let mut err = Keeper::of_size(256);
+        let mut outputs = Outputs::failing_at(call);
+        let (map, plan) = (LANE.as_bytes(), FILE.as_bytes());
         let status = check(
             rt.alloc(),
-            LANE.as_bytes(),
-            FILE.as_bytes(),
+            map,
+            plan,
             false,
-            &mut out,
-            &mut err,
+            &mut outputs.out,
+            &mut outputs.err,
         );
         assert_eq!(rt; status, 3, "at call {call}");
-        assert_eq!(rt; out.kept().len() as u64 + 1, call);
-        assert!(rt;
-            ACCEPTED.as_bytes().starts_with(out.kept()),
-            "at call {call}"
-        );
-        assert!(rt;
-            err.kept() == b"mapf: WriteFailed\n".as_slice(),
-            "at call {call}"
-        );
+        outputs.expect_cut(&rt, ACCEPTED, call);
     }
 }
 
 #[test]
 fn failing_standard_error(rt: HostRuntime) {
     for call in 1..=4 {
-        let mut out = Keeper::of_size(256);
-        let mut err = Keeper::of_size(1).in_trouble_at(call, Trouble::Failure);
+        let mut outputs = Outputs::failing_error_at(call);
+        let (map, plan) = (LANE.as_bytes(), b"mapf-plan 2\n".as_slice());
         let status = check(
             rt.alloc(),
-            LANE.as_bytes(),
-            b"mapf-plan 2\n".as_slice(),
+            map,
+            plan,
             false,
-            &mut out,
-            &mut err,
+            &mut outputs.out,
+            &mut outputs.err,
         );
         assert_eq!(rt; status, 1, "at call {call}");
-        assert!(rt; out.kept() == b"".as_slice(), "at call {call}");
-        assert!(rt;
-            b"mapf: BadHeader 1\n".starts_with(err.kept()),
-            "at call {call}"
-        );
+        outputs.expect_cut_error(&rt, "mapf: BadHeader 1\n", call);
     }
 }
 

@@ -1,6 +1,7 @@
 //! Command lines and what each is read as.
 use mapf_cmd::{Line, LineFault, line};
 use std::alloc::{AllocError, Global};
+use std::process::Abort;
 use std::test::Fail;
 
 /// The words of a command line, divided by single blanks.
@@ -36,522 +37,542 @@ fn shown(fault: &LineFault) -> &str {
     }
 }
 
+/// Command lines, and what each is read as. After `--` each word is a word, and none an option.
+static LINES: [(&str, &str); 48] = [
+    ("mapf map F", "Map { file: \"F\" }"),
+    ("mapf map ./a/b.map", "Map { file: \"./a/b.map\" }"),
+    ("other map map", "Map { file: \"map\" }"),
+    ("mapf map -- -h", "Map { file: \"-h\" }"),
+    ("mapf map -", "Map { file: \"-\" }"),
+    ("mapf scen F", "Scen { file: \"F\" }"),
+    ("mapf scen scen", "Scen { file: \"scen\" }"),
+    ("mapf row M S 0", "Row { map: \"M\", scen: \"S\", row: 0 }"),
+    (
+        "mapf row M S 007",
+        "Row { map: \"M\", scen: \"S\", row: 7 }",
+    ),
+    (
+        "mapf row M S 4294967295",
+        "Row { map: \"M\", scen: \"S\", row: 4294967295 }",
+    ),
+    (
+        "mapf row M S 000000004294967295",
+        "Row { map: \"M\", scen: \"S\", row: 4294967295 }",
+    ),
+    (
+        "mapf row -- M S 12",
+        "Row { map: \"M\", scen: \"S\", row: 12 }",
+    ),
+    (
+        "mapf check M P",
+        "Check { map: \"M\", plan: \"P\", scen: None, json: false }",
+    ),
+    (
+        "mapf check M P --json",
+        "Check { map: \"M\", plan: \"P\", scen: None, json: true }",
+    ),
+    (
+        "mapf check M --json P",
+        "Check { map: \"M\", plan: \"P\", scen: None, json: true }",
+    ),
+    (
+        "mapf check --json M P",
+        "Check { map: \"M\", plan: \"P\", scen: None, json: true }",
+    ),
+    (
+        "mapf check M P --scen S",
+        "Check { map: \"M\", plan: \"P\", scen: Some(\"S\"), json: false }",
+    ),
+    (
+        "mapf check M --scen S P",
+        "Check { map: \"M\", plan: \"P\", scen: Some(\"S\"), json: false }",
+    ),
+    (
+        "mapf check --scen S M P",
+        "Check { map: \"M\", plan: \"P\", scen: Some(\"S\"), json: false }",
+    ),
+    (
+        "mapf check M P --scen=S",
+        "Check { map: \"M\", plan: \"P\", scen: Some(\"S\"), json: false }",
+    ),
+    (
+        "mapf check M --scen=S P",
+        "Check { map: \"M\", plan: \"P\", scen: Some(\"S\"), json: false }",
+    ),
+    (
+        "mapf check --scen=S M P",
+        "Check { map: \"M\", plan: \"P\", scen: Some(\"S\"), json: false }",
+    ),
+    (
+        "mapf check M P --scen S --json",
+        "Check { map: \"M\", plan: \"P\", scen: Some(\"S\"), json: true }",
+    ),
+    (
+        "mapf check M P --json --scen S",
+        "Check { map: \"M\", plan: \"P\", scen: Some(\"S\"), json: true }",
+    ),
+    (
+        "mapf check --scen=S --json M P",
+        "Check { map: \"M\", plan: \"P\", scen: Some(\"S\"), json: true }",
+    ),
+    (
+        "mapf check --json --scen=S M P",
+        "Check { map: \"M\", plan: \"P\", scen: Some(\"S\"), json: true }",
+    ),
+    (
+        "mapf check M --scen S --json P",
+        "Check { map: \"M\", plan: \"P\", scen: Some(\"S\"), json: true }",
+    ),
+    (
+        "mapf check --json M --scen=S P",
+        "Check { map: \"M\", plan: \"P\", scen: Some(\"S\"), json: true }",
+    ),
+    (
+        "mapf check --scen S M --json P",
+        "Check { map: \"M\", plan: \"P\", scen: Some(\"S\"), json: true }",
+    ),
+    (
+        "mapf check --scen S -- M P",
+        "Check { map: \"M\", plan: \"P\", scen: Some(\"S\"), json: false }",
+    ),
+    (
+        "mapf check --json -- M P",
+        "Check { map: \"M\", plan: \"P\", scen: None, json: true }",
+    ),
+    (
+        "mapf check M P --scen -",
+        "Check { map: \"M\", plan: \"P\", scen: Some(\"-\"), json: false }",
+    ),
+    (
+        "mapf check M P --scen=--json",
+        "Check { map: \"M\", plan: \"P\", scen: Some(\"--json\"), json: false }",
+    ),
+    (
+        "mapf check M -- --json",
+        "Check { map: \"M\", plan: \"--json\", scen: None, json: false }",
+    ),
+    (
+        "mapf check -- --json --scen",
+        "Check { map: \"--json\", plan: \"--scen\", scen: None, json: false }",
+    ),
+    ("mapf deps M P", "Deps { map: \"M\", plan: \"P\" }"),
+    (
+        "mapf deps deps map",
+        "Deps { map: \"deps\", plan: \"map\" }",
+    ),
+    ("mapf deps M -- -h", "Deps { map: \"M\", plan: \"-h\" }"),
+    (
+        "mapf deps -- --json P",
+        "Deps { map: \"--json\", plan: \"P\" }",
+    ),
+    (
+        "mapf run M P E",
+        "Run { map: \"M\", plan: \"P\", events: \"E\" }",
+    ),
+    (
+        "mapf run run map run",
+        "Run { map: \"run\", plan: \"map\", events: \"run\" }",
+    ),
+    (
+        "mapf run M P -- -h",
+        "Run { map: \"M\", plan: \"P\", events: \"-h\" }",
+    ),
+    (
+        "mapf run -- --json P -",
+        "Run { map: \"--json\", plan: \"P\", events: \"-\" }",
+    ),
+    (
+        "mapf agent M P 0 T",
+        "Agent { map: \"M\", plan: \"P\", id: 0, tape: \"T\" }",
+    ),
+    (
+        "mapf agent M P 007 T",
+        "Agent { map: \"M\", plan: \"P\", id: 7, tape: \"T\" }",
+    ),
+    (
+        "mapf agent M P 65535 T",
+        "Agent { map: \"M\", plan: \"P\", id: 65535, tape: \"T\" }",
+    ),
+    (
+        "mapf agent M P 00065535 T",
+        "Agent { map: \"M\", plan: \"P\", id: 65535, tape: \"T\" }",
+    ),
+    (
+        "mapf agent -- M P 12 T",
+        "Agent { map: \"M\", plan: \"P\", id: 12, tape: \"T\" }",
+    ),
+];
+
+/// What the words of a text are read as.
+fn line_of(alloc: Global, text: &str) -> Result<Line, Fail> {
+    let words = words(alloc, text)?;
+    Ok(line(alloc, words.as_slice())?)
+}
+
+#[test]
+fn lines(rt: HostRuntime) -> Result<(), Fail> {
+    for &(text, want) in &LINES {
+        let line = line_of(rt.alloc(), text)?;
+        let got = format!(in rt.alloc(); "{line:?}")?;
+        assert_eq!(rt; got.as_str(), want, "at {text:?}");
+    }
+    Ok(())
+}
+
+/// What is no number of a row.
+static NO_ROWS: [&str; 12] = [
+    "4294967296",
+    "18446744073709551616",
+    "+1",
+    "-1",
+    "1x",
+    "x1",
+    "",
+    " 1",
+    "1 ",
+    "1.0",
+    "0x1",
+    "١",
+];
+
+/// What is no number of an agent.
+static NO_IDS: [&str; 10] = [
+    "65536",
+    "131072",
+    "4294967295",
+    "4294967296",
+    "18446744073709551616",
+    "-1",
+    "+1",
+    "1x",
+    "",
+    "1 ",
+];
+
+/// The words of a text, one more word, whatever it has, and words behind it.
+fn words_with(
+    alloc: Global,
+    text: &str,
+    word: &str,
+    behind: &[&str],
+) -> Result<Vec<String>, AllocError> {
+    let mut words = words(alloc, text)?;
+    words.push(String::from_str(alloc, word)?)?;
+    for &word in behind {
+        words.push(String::from_str(alloc, word)?)?;
+    }
+    Ok(words)
+}
+
+#[test]
+fn numbers_that_are_none(rt: HostRuntime) -> Result<(), Fail> {
+    for &row in &NO_ROWS {
+        let words = words_with(rt.alloc(), "mapf row M S", row, &[])?;
+        expect_kind(&rt, rt.alloc(), words.as_slice(), FaultKind::BadCommand)?;
+    }
+    for &id in &NO_IDS {
+        let words = words_with(rt.alloc(), "mapf agent M P", id, &["T"])?;
+        expect_kind(&rt, rt.alloc(), words.as_slice(), FaultKind::BadCommand)?;
+    }
+    Ok(())
+}
+
+/// Command lines that are none.
+static BAD_LINES: [&str; 55] = [
+    "mapf",
+    "mapf map",
+    "mapf map a b",
+    "mapf scen",
+    "mapf scen a b",
+    "mapf map scen F",
+    "mapf row",
+    "mapf row M",
+    "mapf row M S",
+    "mapf row M S 0 1",
+    "mapf row M 0 S",
+    "mapf check",
+    "mapf check M",
+    "mapf check M P X",
+    "mapf check M --scen S",
+    "mapf check M --json",
+    "mapf check M P --scen",
+    "mapf check M P --scen --json",
+    "mapf check M P --scen -x",
+    "mapf check M P --scen S T",
+    "mapf check M P --scen S --scen S",
+    "mapf check --scen=S M P --scen=T",
+    "mapf check M P --json --json",
+    "mapf check --json M P --json",
+    "mapf check M P --json=x",
+    "mapf check M P --json=true",
+    "mapf check M P --other",
+    "mapf check M P --js",
+    "mapf check M P -j",
+    "mapf check M P -s S",
+    "mapf --json check M P",
+    "mapf map F --json",
+    "mapf row M S 0 --scen S",
+    "mapf deps",
+    "mapf deps M",
+    "mapf deps M P X",
+    "mapf deps M P --json",
+    "mapf deps M P --scen S",
+    "mapf run",
+    "mapf run M",
+    "mapf run M P",
+    "mapf run M P E X",
+    "mapf run M P E --json",
+    "mapf run M P E --complete",
+    "mapf agent",
+    "mapf agent M P 0",
+    "mapf agent M P 0 T X",
+    "mapf agent M P T 0",
+    "mapf agent M P 0 T --json",
+    "mapf check M P --version",
+    "mapf version",
+    "mapf map -x",
+    "mapf nosuch",
+    "mapf -x",
+    "mapf Map F",
+];
+
+/// Command lines that ask for help, or for the version.
+static HELP_LINES: [&str; 26] = [
+    "mapf -h",
+    "mapf --help",
+    "mapf help",
+    "mapf help map",
+    "mapf scen --help",
+    "mapf map -h",
+    "mapf map --help",
+    "mapf map F --help",
+    "mapf row --help",
+    "mapf row M S x --help",
+    "mapf help check",
+    "mapf help deps",
+    "mapf deps --help",
+    "mapf deps M P -h",
+    "mapf help run",
+    "mapf run --help",
+    "mapf run M P -h",
+    "mapf run M P E --help",
+    "mapf help agent",
+    "mapf agent --help",
+    "mapf agent M P x T -h",
+    "mapf --version",
+    "mapf -V",
+    "mapf check --help",
+    "mapf check -h",
+    "mapf check M P --json --scen S -h",
+];
+
+#[test]
+fn refused_lines(rt: HostRuntime) -> Result<(), Fail> {
+    for &text in &BAD_LINES {
+        let words = words(rt.alloc(), text)?;
+        expect_kind(&rt, rt.alloc(), words.as_slice(), FaultKind::BadCommand)?;
+    }
+    for &text in &HELP_LINES {
+        let words = words(rt.alloc(), text)?;
+        expect_kind(&rt, rt.alloc(), words.as_slice(), FaultKind::Help)?;
+    }
+    expect_kind(&rt, rt.alloc(), &[], FaultKind::BadCommand)
+}
+
+/// Compares what is wrong with these words.
+fn expect_kind(
+    rt: &impl Abort,
+    alloc: Global,
+    words: &[String],
+    want: FaultKind,
+) -> Result<(), Fail> {
+    let got = line(alloc, words).err();
+    assert_eq!(rt; got.as_ref().map(kind_of), Some(want), "at {words:?}");
+    Ok(())
+}
+
 /// Why the words of this text are no command.
 fn fault_of(alloc: Global, text: &str) -> Result<Option<LineFault>, AllocError> {
     let words = words(alloc, text)?;
     Ok(line(alloc, words.as_slice()).err())
 }
 
-#[test]
-fn map_lines(rt: HostRuntime) -> Result<(), Fail> {
-    for &(text, want) in &[
-        ("mapf map F", "F"),
-        ("mapf map ./a/b.map", "./a/b.map"),
-        ("other map map", "map"),
-        ("mapf map -- -h", "-h"),
-        ("mapf map -", "-"),
-    ] {
-        let words = words(rt.alloc(), text)?;
-        let Line::Map { file } = line(rt.alloc(), words.as_slice())? else {
-            assert!(rt; false, "another command at {text:?}");
-            return Ok(());
-        };
-        assert_eq!(rt; file.as_str(), want, "at {text:?}");
-    }
-    Ok(())
+/// What the user is told about the words of a text that are no command, and which fault it is.
+fn told(alloc: Global, text: &str) -> Result<(FaultKind, String), Fail> {
+    let Some(fault) = fault_of(alloc, text)? else {
+        return Err("a command".into());
+    };
+    Ok((kind_of(&fault), String::from_str(alloc, shown(&fault))?))
 }
 
-#[test]
-fn scen_lines(rt: HostRuntime) -> Result<(), Fail> {
-    for (text, want) in [("mapf scen F", "F"), ("mapf scen scen", "scen")] {
-        let words = words(rt.alloc(), text)?;
-        let Line::Scen { file } = line(rt.alloc(), words.as_slice())? else {
-            assert!(rt; false, "another command at {text:?}");
-            return Ok(());
-        };
-        assert_eq!(rt; file.as_str(), want, "at {text:?}");
-    }
-    Ok(())
+/// Whether a text begins so, ends so, and has these parts.
+fn has(text: &str, begin: &str, end: &str, parts: &[&str]) -> bool {
+    text.starts_with(begin) && text.ends_with(end) && parts.iter().all(|&part| text.contains(part))
 }
 
-#[test]
-fn row_lines(rt: HostRuntime) -> Result<(), Fail> {
-    for &(text, want) in &[
-        ("mapf row M S 0", 0),
-        ("mapf row M S 007", 7),
-        ("mapf row M S 4294967295", 4_294_967_295),
-        ("mapf row M S 000000004294967295", 4_294_967_295),
-        ("mapf row -- M S 12", 12),
-    ] {
-        let words = words(rt.alloc(), text)?;
-        let Line::Row { map, scen, row } = line(rt.alloc(), words.as_slice())? else {
-            assert!(rt; false, "another command at {text:?}");
-            return Ok(());
-        };
-        assert_eq!(rt; map.as_str(), "M", "at {text:?}");
-        assert_eq!(rt; scen.as_str(), "S", "at {text:?}");
-        assert_eq!(rt; row, want, "at {text:?}");
-    }
-    Ok(())
-}
-
-#[test]
-fn check_lines(rt: HostRuntime) -> Result<(), Fail> {
-    for &(text, scen, json) in &[
-        ("mapf check M P", None, false),
-        ("mapf check M P --json", None, true),
-        ("mapf check M --json P", None, true),
-        ("mapf check --json M P", None, true),
-        ("mapf check M P --scen S", Some("S"), false),
-        ("mapf check M --scen S P", Some("S"), false),
-        ("mapf check --scen S M P", Some("S"), false),
-        ("mapf check M P --scen=S", Some("S"), false),
-        ("mapf check M --scen=S P", Some("S"), false),
-        ("mapf check --scen=S M P", Some("S"), false),
-        ("mapf check M P --scen S --json", Some("S"), true),
-        ("mapf check M P --json --scen S", Some("S"), true),
-        ("mapf check --scen=S --json M P", Some("S"), true),
-        ("mapf check --json --scen=S M P", Some("S"), true),
-        ("mapf check M --scen S --json P", Some("S"), true),
-        ("mapf check --json M --scen=S P", Some("S"), true),
-        ("mapf check --scen S M --json P", Some("S"), true),
-        ("mapf check --scen S -- M P", Some("S"), false),
-        ("mapf check --json -- M P", None, true),
-        ("mapf check M P --scen -", Some("-"), false),
-        ("mapf check M P --scen=--json", Some("--json"), false),
-    ] {
-        let words = words(rt.alloc(), text)?;
-        let Line::Check {
-            map,
-            plan,
-            scen: got_scen,
-            json: got_json,
-        } = line(rt.alloc(), words.as_slice())?
-        else {
-            assert!(rt; false, "another command at {text:?}");
-            return Ok(());
-        };
-        assert_eq!(rt; map.as_str(), "M", "at {text:?}");
-        assert_eq!(rt; plan.as_str(), "P", "at {text:?}");
-        assert_eq!(rt; got_scen.as_deref(), scen, "at {text:?}");
-        assert_eq!(rt; got_json, json, "at {text:?}");
-    }
-    Ok(())
-}
-
-/// After `--` each word is a word, and none an option.
-#[test]
-fn check_lines_with_dashes(rt: HostRuntime) -> Result<(), Fail> {
-    for &(text, want_map, want_plan) in &[
-        ("mapf check M -- --json", "M", "--json"),
-        ("mapf check -- --json --scen", "--json", "--scen"),
-    ] {
-        let words = words(rt.alloc(), text)?;
-        let Line::Check {
-            map,
-            plan,
-            scen,
-            json,
-        } = line(rt.alloc(), words.as_slice())?
-        else {
-            assert!(rt; false, "another command at {text:?}");
-            return Ok(());
-        };
-        assert_eq!(rt; map.as_str(), want_map, "at {text:?}");
-        assert_eq!(rt; plan.as_str(), want_plan, "at {text:?}");
-        assert_eq!(rt; scen, None, "at {text:?}");
-        assert!(rt; !json, "at {text:?}");
-    }
-    Ok(())
-}
-
-#[test]
-fn deps_lines(rt: HostRuntime) -> Result<(), Fail> {
-    for &(text, want_map, want_plan) in &[
-        ("mapf deps M P", "M", "P"),
-        ("mapf deps deps map", "deps", "map"),
-        ("mapf deps M -- -h", "M", "-h"),
-        ("mapf deps -- --json P", "--json", "P"),
-    ] {
-        let words = words(rt.alloc(), text)?;
-        let Line::Deps { map, plan } = line(rt.alloc(), words.as_slice())? else {
-            assert!(rt; false, "another command at {text:?}");
-            return Ok(());
-        };
-        assert_eq!(rt; map.as_str(), want_map, "at {text:?}");
-        assert_eq!(rt; plan.as_str(), want_plan, "at {text:?}");
-    }
-    Ok(())
-}
-
-#[test]
-fn run_lines(rt: HostRuntime) -> Result<(), Fail> {
-    for &(text, want_map, want_plan, want_events) in &[
-        ("mapf run M P E", "M", "P", "E"),
-        ("mapf run run map run", "run", "map", "run"),
-        ("mapf run M P -- -h", "M", "P", "-h"),
-        ("mapf run -- --json P -", "--json", "P", "-"),
-    ] {
-        let words = words(rt.alloc(), text)?;
-        let Line::Run { map, plan, events } = line(rt.alloc(), words.as_slice())? else {
-            assert!(rt; false, "another command at {text:?}");
-            return Ok(());
-        };
-        assert_eq!(rt; map.as_str(), want_map, "at {text:?}");
-        assert_eq!(rt; plan.as_str(), want_plan, "at {text:?}");
-        assert_eq!(rt; events.as_str(), want_events, "at {text:?}");
-    }
-    Ok(())
-}
-
-#[test]
-fn agent_lines(rt: HostRuntime) -> Result<(), Fail> {
-    for &(text, want) in &[
-        ("mapf agent M P 0 T", 0),
-        ("mapf agent M P 007 T", 7),
-        ("mapf agent M P 65535 T", 65535),
-        ("mapf agent M P 00065535 T", 65535),
-        ("mapf agent -- M P 12 T", 12),
-    ] {
-        let words = words(rt.alloc(), text)?;
-        let Line::Agent {
-            map,
-            plan,
-            id,
-            tape,
-        } = line(rt.alloc(), words.as_slice())?
-        else {
-            assert!(rt; false, "another command at {text:?}");
-            return Ok(());
-        };
-        assert_eq!(rt; map.as_str(), "M", "at {text:?}");
-        assert_eq!(rt; plan.as_str(), "P", "at {text:?}");
-        assert_eq!(rt; id, want, "at {text:?}");
-        assert_eq!(rt; tape.as_str(), "T", "at {text:?}");
-    }
-    Ok(())
-}
-
-#[test]
-fn numbers_that_are_none(rt: HostRuntime) -> Result<(), Fail> {
-    for &number in &[
-        "4294967296",
-        "18446744073709551616",
-        "+1",
-        "-1",
-        "1x",
-        "x1",
-        "",
-        " 1",
-        "1 ",
-        "1.0",
-        "0x1",
-        "١",
-    ] {
-        let mut words = words(rt.alloc(), "mapf row M S")?;
-        words.push(String::from_str(rt.alloc(), number)?)?;
-        let got = line(rt.alloc(), words.as_slice()).err();
-        assert_eq!(rt;
-            got.as_ref().map(kind_of),
-            Some(FaultKind::BadCommand),
-            "at {number:?}"
-        );
-    }
-    Ok(())
-}
-
-#[test]
-fn ids_that_are_none(rt: HostRuntime) -> Result<(), Fail> {
-    for &id in &[
-        "65536",
-        "131072",
-        "4294967295",
-        "4294967296",
-        "18446744073709551616",
-        "-1",
-        "+1",
-        "1x",
-        "",
-        "1 ",
-    ] {
-        let mut words = words(rt.alloc(), "mapf agent M P")?;
-        words.push(String::from_str(rt.alloc(), id)?)?;
-        words.push(String::from_str(rt.alloc(), "T")?)?;
-        let got = line(rt.alloc(), words.as_slice()).err();
-        assert_eq!(rt;
-            got.as_ref().map(kind_of),
-            Some(FaultKind::BadCommand),
-            "at {id:?}"
-        );
-    }
-    Ok(())
-}
-
-#[test]
-fn refused_lines(rt: HostRuntime) -> Result<(), Fail> {
-    for &(text, want) in &[
-        ("mapf", FaultKind::BadCommand),
-        ("mapf map", FaultKind::BadCommand),
-        ("mapf map a b", FaultKind::BadCommand),
-        ("mapf scen", FaultKind::BadCommand),
-        ("mapf scen a b", FaultKind::BadCommand),
-        ("mapf map scen F", FaultKind::BadCommand),
-        ("mapf row", FaultKind::BadCommand),
-        ("mapf row M", FaultKind::BadCommand),
-        ("mapf row M S", FaultKind::BadCommand),
-        ("mapf row M S 0 1", FaultKind::BadCommand),
-        ("mapf row M 0 S", FaultKind::BadCommand),
-        ("mapf check", FaultKind::BadCommand),
-        ("mapf check M", FaultKind::BadCommand),
-        ("mapf check M P X", FaultKind::BadCommand),
-        ("mapf check M --scen S", FaultKind::BadCommand),
-        ("mapf check M --json", FaultKind::BadCommand),
-        ("mapf check M P --scen", FaultKind::BadCommand),
-        ("mapf check M P --scen --json", FaultKind::BadCommand),
-        ("mapf check M P --scen -x", FaultKind::BadCommand),
-        ("mapf check M P --scen S T", FaultKind::BadCommand),
-        ("mapf check M P --scen S --scen S", FaultKind::BadCommand),
-        ("mapf check --scen=S M P --scen=T", FaultKind::BadCommand),
-        ("mapf check M P --json --json", FaultKind::BadCommand),
-        ("mapf check --json M P --json", FaultKind::BadCommand),
-        ("mapf check M P --json=x", FaultKind::BadCommand),
-        ("mapf check M P --json=true", FaultKind::BadCommand),
-        ("mapf check M P --other", FaultKind::BadCommand),
-        ("mapf check M P --js", FaultKind::BadCommand),
-        ("mapf check M P -j", FaultKind::BadCommand),
-        ("mapf check M P -s S", FaultKind::BadCommand),
-        ("mapf --json check M P", FaultKind::BadCommand),
-        ("mapf map F --json", FaultKind::BadCommand),
-        ("mapf row M S 0 --scen S", FaultKind::BadCommand),
-        ("mapf deps", FaultKind::BadCommand),
-        ("mapf deps M", FaultKind::BadCommand),
-        ("mapf deps M P X", FaultKind::BadCommand),
-        ("mapf deps M P --json", FaultKind::BadCommand),
-        ("mapf deps M P --scen S", FaultKind::BadCommand),
-        ("mapf run", FaultKind::BadCommand),
-        ("mapf run M", FaultKind::BadCommand),
-        ("mapf run M P", FaultKind::BadCommand),
-        ("mapf run M P E X", FaultKind::BadCommand),
-        ("mapf run M P E --json", FaultKind::BadCommand),
-        ("mapf run M P E --complete", FaultKind::BadCommand),
-        ("mapf agent", FaultKind::BadCommand),
-        ("mapf agent M P 0", FaultKind::BadCommand),
-        ("mapf agent M P 0 T X", FaultKind::BadCommand),
-        ("mapf agent M P T 0", FaultKind::BadCommand),
-        ("mapf agent M P 0 T --json", FaultKind::BadCommand),
-        ("mapf check M P --version", FaultKind::BadCommand),
-        ("mapf version", FaultKind::BadCommand),
-        ("mapf map -x", FaultKind::BadCommand),
-        ("mapf nosuch", FaultKind::BadCommand),
-        ("mapf -x", FaultKind::BadCommand),
-        ("mapf Map F", FaultKind::BadCommand),
-        ("mapf -h", FaultKind::Help),
-        ("mapf --help", FaultKind::Help),
-        ("mapf help", FaultKind::Help),
-        ("mapf help map", FaultKind::Help),
-        ("mapf scen --help", FaultKind::Help),
-        ("mapf map -h", FaultKind::Help),
-        ("mapf map --help", FaultKind::Help),
-        ("mapf map F --help", FaultKind::Help),
-        ("mapf row --help", FaultKind::Help),
-        ("mapf row M S x --help", FaultKind::Help),
-        ("mapf help check", FaultKind::Help),
-        ("mapf help deps", FaultKind::Help),
-        ("mapf deps --help", FaultKind::Help),
-        ("mapf deps M P -h", FaultKind::Help),
-        ("mapf help run", FaultKind::Help),
-        ("mapf run --help", FaultKind::Help),
-        ("mapf run M P -h", FaultKind::Help),
-        ("mapf run M P E --help", FaultKind::Help),
-        ("mapf help agent", FaultKind::Help),
-        ("mapf agent --help", FaultKind::Help),
-        ("mapf agent M P x T -h", FaultKind::Help),
-        ("mapf --version", FaultKind::Help),
-        ("mapf -V", FaultKind::Help),
-        ("mapf check --help", FaultKind::Help),
-        ("mapf check -h", FaultKind::Help),
-        ("mapf check M P --json --scen S -h", FaultKind::Help),
-    ] {
-        let got = fault_of(rt.alloc(), text)?;
-        assert_eq!(rt; got.as_ref().map(kind_of), Some(want), "at {text:?}");
-    }
-    let none: [String; 0] = [];
-    let got = line(rt.alloc(), none.as_slice()).err();
-    assert_eq!(rt; got.as_ref().map(kind_of), Some(FaultKind::BadCommand));
-    Ok(())
-}
-
-#[test]
-fn versions(rt: HostRuntime) -> Result<(), Fail> {
-    for &text in &["mapf --version", "mapf -V"] {
-        let Some(fault) = fault_of(rt.alloc(), text)? else {
-            assert!(rt; false, "a command at {text:?}");
-            return Ok(());
-        };
-        assert_eq!(rt; kind_of(&fault), FaultKind::Help, "at {text:?}");
-        assert_eq!(rt; shown(&fault), "mapf 0.1.0\n", "at {text:?}");
-    }
-    Ok(())
-}
-
-/// A bad command line is told with the word that is wrong or missing, and with what the command takes.
-#[test]
-fn texts_of_bad_commands(rt: HostRuntime) -> Result<(), Fail> {
-    for &(text, named, usage) in &[
-        ("mapf", "subcommand", "Usage: mapf <COMMAND>"),
-        ("mapf chek", "'chek'", "Usage: mapf <COMMAND>"),
-        ("mapf chek", "'check'", "Usage: mapf <COMMAND>"),
-        ("mapf --nope", "'--nope'", "Usage: mapf <COMMAND>"),
-        ("mapf map", "<file>", "Usage: mapf map <file>"),
-        ("mapf map A B", "'B'", "Usage: mapf map <file>"),
-        (
-            "mapf row M S x",
-            "'x'",
-            "Usage: mapf row <map> <scen> <row>",
-        ),
-        (
-            "mapf row M S x",
-            "a number from 0 to 4294967295",
-            "Usage: mapf row",
-        ),
-        ("mapf row M S", "<row>", "Usage: mapf row"),
-        ("mapf check M P --nope", "--nope", "Usage: mapf check"),
-        ("mapf check M P --scen", "--scen", "--help"),
-        ("mapf deps M", "<plan>", "Usage: mapf deps <map> <plan>"),
-        ("mapf run M P", "<events>", "Usage: mapf run"),
-        (
-            "mapf agent M P 65536 T",
-            "'65536' for '<id>'",
-            "Usage: mapf agent <map> <plan> <id> <tape>",
-        ),
-        (
-            "mapf agent M P 0",
-            "<tape>",
-            "Usage: mapf agent <map> <plan> <id> <tape>",
-        ),
-    ] {
-        let Some(fault) = fault_of(rt.alloc(), text)? else {
-            assert!(rt; false, "a command at {text:?}");
-            return Ok(());
-        };
-        let told = shown(&fault);
-        assert_eq!(rt; kind_of(&fault), FaultKind::BadCommand, "at {text:?}");
-        assert!(rt; told.starts_with("error: "), "at {text:?}: {told}");
-        assert!(rt; told.contains(named), "at {text:?}: {told}");
-        assert!(rt; told.contains(usage), "at {text:?}: {told}");
-        assert!(rt; told.contains("--help"), "at {text:?}: {told}");
-        assert!(rt; told.ends_with('\n'), "at {text:?}: {told}");
-    }
-    Ok(())
-}
-
-#[test]
-fn whole_texts_of_numbers_that_are_none(rt: HostRuntime) -> Result<(), Fail> {
-    for &(text, want) in &[
-        (
-            "mapf row M S 1x",
-            "error: invalid value '1x' for '<row>': a number from 0 to 4294967295 is wanted, in digits alone
+/// Texts that are no command, with the whole text that is told about each.
+static WHOLE_TEXTS: [(&str, &str); 4] = [
+    ("mapf --version", "mapf 0.1.0\n"),
+    ("mapf -V", "mapf 0.1.0\n"),
+    (
+        "mapf row M S 1x",
+        "error: invalid value '1x' for '<row>': a number from 0 to 4294967295 is wanted, in digits alone
 
 Usage: mapf row <map> <scen> <row>
 
 For more information, try '--help'.
 ",
-        ),
-        (
-            "mapf agent M P 65536 T",
-            "error: invalid value '65536' for '<id>': the number of an agent, from 0 to 65535, is wanted, in digits alone
+    ),
+    (
+        "mapf agent M P 65536 T",
+        "error: invalid value '65536' for '<id>': the number of an agent, from 0 to 65535, is wanted, in digits alone
 
 Usage: mapf agent <map> <plan> <id> <tape>
 
 For more information, try '--help'.
 ",
-        ),
-    ] {
-        let got = fault_of(rt.alloc(), text)?;
-        assert_eq!(rt; got.as_ref().map(shown), Some(want), "at {text:?}");
+    ),
+];
+
+#[test]
+fn whole_texts(rt: HostRuntime) -> Result<(), Fail> {
+    for &(text, want) in &WHOLE_TEXTS {
+        let (_, got) = told(rt.alloc(), text)?;
+        assert_eq!(rt; got.as_str(), want, "at {text:?}");
     }
     Ok(())
 }
 
+/// Bad command lines, each with what is named as wrong or missing, and how the command is used.
+static BAD_TEXTS: [(&str, &str, &str); 15] = [
+    ("mapf", "subcommand", "Usage: mapf <COMMAND>"),
+    ("mapf chek", "'chek'", "Usage: mapf <COMMAND>"),
+    ("mapf chek", "'check'", "Usage: mapf <COMMAND>"),
+    ("mapf --nope", "'--nope'", "Usage: mapf <COMMAND>"),
+    ("mapf map", "<file>", "Usage: mapf map <file>"),
+    ("mapf map A B", "'B'", "Usage: mapf map <file>"),
+    (
+        "mapf row M S x",
+        "'x'",
+        "Usage: mapf row <map> <scen> <row>",
+    ),
+    (
+        "mapf row M S x",
+        "a number from 0 to 4294967295",
+        "Usage: mapf row",
+    ),
+    ("mapf row M S", "<row>", "Usage: mapf row"),
+    ("mapf check M P --nope", "--nope", "Usage: mapf check"),
+    ("mapf check M P --scen", "--scen", "--help"),
+    ("mapf deps M", "<plan>", "Usage: mapf deps <map> <plan>"),
+    ("mapf run M P", "<events>", "Usage: mapf run"),
+    (
+        "mapf agent M P 65536 T",
+        "'65536' for '<id>'",
+        "Usage: mapf agent <map> <plan> <id> <tape>",
+    ),
+    (
+        "mapf agent M P 0",
+        "<tape>",
+        "Usage: mapf agent <map> <plan> <id> <tape>",
+    ),
+];
+
+#[test]
+fn texts_of_bad_commands(rt: HostRuntime) -> Result<(), Fail> {
+    for &(text, named, usage) in &BAD_TEXTS {
+        let (kind, got) = told(rt.alloc(), text)?;
+        assert_eq!(rt; kind, FaultKind::BadCommand, "at {text:?}");
+        let is_told = has(got.as_str(), "error: ", "\n", &[named, usage, "--help"]);
+        assert!(rt; is_told, "at {text:?}: {got}");
+    }
+    Ok(())
+}
+
+/// Commands, each with how it is used, and the call that its help shows.
+static HELP_TEXTS: [(&str, &str, &str); 7] = [
+    (
+        "map",
+        "Usage: mapf map <file>",
+        "mapf map examples/corner.map\n",
+    ),
+    (
+        "scen",
+        "Usage: mapf scen <file>",
+        "mapf scen examples/corner.scen\n",
+    ),
+    (
+        "row",
+        "Usage: mapf row <map> <scen> <row>",
+        "mapf row examples/corner.map examples/corner.scen 0\n",
+    ),
+    (
+        "check",
+        "Usage: mapf check [OPTIONS] <map> <plan>",
+        "mapf check examples/corner.map examples/corner.plan --scen examples/corner.scen\n",
+    ),
+    (
+        "deps",
+        "Usage: mapf deps <map> <plan>",
+        "mapf deps examples/turn.map examples/turn.plan\n",
+    ),
+    (
+        "run",
+        "Usage: mapf run <map> <plan> <events>",
+        "mapf run examples/plain.map examples/behind.plan examples/behind.events\n",
+    ),
+    (
+        "agent",
+        "Usage: mapf agent <map> <plan> <id> <tape>",
+        "mapf agent examples/plain.map examples/behind.plan 0 robot0.tape\n",
+    ),
+];
+
 /// Help on a command is the same text however it is asked for, and shows a call of the command.
 #[test]
 fn texts_of_help(rt: HostRuntime) -> Result<(), Fail> {
-    for &(command, usage, example) in &[
-        (
-            "map",
-            "Usage: mapf map <file>",
-            "mapf map examples/corner.map\n",
-        ),
-        (
-            "scen",
-            "Usage: mapf scen <file>",
-            "mapf scen examples/corner.scen\n",
-        ),
-        (
-            "row",
-            "Usage: mapf row <map> <scen> <row>",
-            "mapf row examples/corner.map examples/corner.scen 0\n",
-        ),
-        (
-            "check",
-            "Usage: mapf check [OPTIONS] <map> <plan>",
-            "mapf check examples/corner.map examples/corner.plan --scen examples/corner.scen\n",
-        ),
-        (
-            "deps",
-            "Usage: mapf deps <map> <plan>",
-            "mapf deps examples/turn.map examples/turn.plan\n",
-        ),
-        (
-            "run",
-            "Usage: mapf run <map> <plan> <events>",
-            "mapf run examples/plain.map examples/behind.plan examples/behind.events\n",
-        ),
-        (
-            "agent",
-            "Usage: mapf agent <map> <plan> <id> <tape>",
-            "mapf agent examples/plain.map examples/behind.plan 0 robot0.tape\n",
-        ),
-    ] {
-        let by_word = fault_of(rt.alloc(), &format!(in rt.alloc(); "mapf help {command}")?)?;
-        let by_flag = fault_of(
-            rt.alloc(),
-            &format!(in rt.alloc(); "mapf {command} --help")?,
-        )?;
-        let Some(fault) = by_word else {
-            assert!(rt; false, "a command at {command}");
-            return Ok(());
-        };
-        let text = shown(&fault);
-        assert_eq!(rt; kind_of(&fault), FaultKind::Help, "at {command}");
-        assert_eq!(rt; by_flag.as_ref().map(shown), Some(text), "at {command}");
-        assert!(rt; text.contains(usage), "at {command}: {text}");
-        assert!(rt; text.contains("Status:"), "at {command}: {text}");
-        assert!(rt; text.contains("Example:"), "at {command}: {text}");
-        assert!(rt; text.ends_with(example), "at {command}: {text}");
+    for &(command, usage, example) in &HELP_TEXTS {
+        let (by_word, by_flag) = help_on(rt.alloc(), command)?;
+        assert_eq!(rt; by_word.as_str(), by_flag.as_str(), "at {command}");
+        let is_help = has(
+            by_word.as_str(),
+            "",
+            example,
+            &[usage, "Status:", "Example:"],
+        );
+        assert!(rt; is_help, "at {command}: {by_word}");
     }
     Ok(())
+}
+
+/// The help on a command, asked for by the word `help` and by the option.
+fn help_on(alloc: Global, command: &str) -> Result<(String, String), Fail> {
+    let by_word = told(alloc, &format!(in alloc; "mapf help {command}")?)?;
+    let by_flag = told(alloc, &format!(in alloc; "mapf {command} --help")?)?;
+    match (by_word, by_flag) {
+        ((FaultKind::Help, by_word), (FaultKind::Help, by_flag)) => Ok((by_word, by_flag)),
+        _ => Err("a help was told as a fault")?,
+    }
 }
 
 /// Help on the program lists its commands.
 #[test]
 fn text_of_all_commands(rt: HostRuntime) -> Result<(), Fail> {
-    let Some(fault) = fault_of(rt.alloc(), "mapf --help")? else {
-        assert!(rt; false, "a command");
-        return Ok(());
-    };
-    let text = shown(&fault);
-    assert_eq!(rt;
-        fault_of(rt.alloc(), "mapf help")?.as_ref().map(shown),
-        Some(text)
-    );
-    assert!(rt; text.contains("Usage: mapf <COMMAND>"), "{text}");
-    for &command in &[
-        "map", "scen", "row", "check", "deps", "run", "agent", "help",
-    ] {
-        let line = format!(in rt.alloc(); "\n  {command} ")?;
-        assert!(rt; text.contains(&line), "no {command}: {text}");
-    }
+    let (_, by_flag) = told(rt.alloc(), "mapf --help")?;
+    let (_, by_word) = told(rt.alloc(), "mapf help")?;
+    assert_eq!(rt; by_flag.as_str(), by_word.as_str());
+    let commands = [
+        "Usage: mapf <COMMAND>",
+        "\n  map ",
+        "\n  scen ",
+        "\n  row ",
+        "\n  check ",
+        "\n  deps ",
+        "\n  run ",
+        "\n  agent ",
+        "\n  help ",
+    ];
+    assert!(rt; has(by_flag.as_str(), "", "\n", &commands), "{by_flag}");
     Ok(())
 }
 
@@ -563,25 +584,25 @@ fn bad_commands_with_a_text(rt: HostRuntime) -> Result<(), Fail> {
     Ok(())
 }
 
-/// A list of many words is a bad command like any other, and a long word is a name like any other.
+/// A list of many words is a bad command like any other.
 #[test]
 fn many_words(rt: HostRuntime) -> Result<(), Fail> {
     let mut many = words(rt.alloc(), "mapf map")?;
     for _ in 0..5_000 {
         many.push(String::from_str(rt.alloc(), "word")?)?;
     }
-    let fault = line(rt.alloc(), many.as_slice()).err();
-    assert_eq!(rt; fault.as_ref().map(kind_of), Some(FaultKind::BadCommand));
+    expect_kind(&rt, rt.alloc(), many.as_slice(), FaultKind::BadCommand)
+}
+
+/// A long word is a name like any other.
+#[test]
+fn long_word(rt: HostRuntime) -> Result<(), Fail> {
     let mut name = String::new(rt.alloc());
     for _ in 0..100_000 {
         name.push('n')?;
     }
-    let mut long = words(rt.alloc(), "mapf map")?;
-    long.push(name)?;
-    let Line::Map { file } = line(rt.alloc(), long.as_slice())? else {
-        assert!(rt; false, "another command");
-        return Ok(());
-    };
-    assert_eq!(rt; file.len(), 100_000);
+    let words = words_with(rt.alloc(), "mapf map", name.as_str(), &[])?;
+    let line = line(rt.alloc(), words.as_slice())?;
+    assert!(rt; line == Line::Map { file: name });
     Ok(())
 }

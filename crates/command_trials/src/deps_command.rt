@@ -1,5 +1,6 @@
 //! `mapf deps` over readers and writers: its status, standard output and standard error.
-use fakes::{Keeper, Pieces, Trouble};
+use crate::outputs::Outputs;
+use fakes::{Keeper, Pieces};
 use grid::Counted;
 use mapf_cmd::deps_cmd;
 use std::alloc::Global;
@@ -125,107 +126,99 @@ fn deps<M: Read + Drop, P: Read + Drop>(
 #[test]
 fn dependencies(rt: HostRuntime) {
     for &(map, plan, text) in &PLANS {
-        let (mut out, mut err) = (Keeper::of_size(512), Keeper::of_size(512));
+        let mut outputs = Outputs::new();
         let status = deps(
             rt.alloc(),
             map.as_bytes(),
             plan.as_bytes(),
-            &mut out,
-            &mut err,
+            &mut outputs.out,
+            &mut outputs.err,
         );
         assert_eq!(rt; status, 0, "at {plan:?}");
-        assert!(rt; out.kept() == text.as_bytes(), "at {plan:?}");
-        assert!(rt; err.kept() == b"".as_slice(), "at {plan:?}");
+        outputs.expect(&rt, text, "", plan);
     }
 }
 
 #[test]
 fn faults(rt: HostRuntime) {
     for &(map, plan, line) in &FAULTS {
-        let (mut out, mut err) = (Keeper::of_size(256), Keeper::of_size(256));
+        let mut outputs = Outputs::new();
         let status = deps(
             rt.alloc(),
             map.as_bytes(),
             plan.as_bytes(),
-            &mut out,
-            &mut err,
+            &mut outputs.out,
+            &mut outputs.err,
         );
         assert_eq!(rt; status, 1, "at {plan:?}");
-        assert!(rt; out.kept() == b"".as_slice(), "at {plan:?}");
-        assert!(rt; err.kept() == line.as_bytes(), "at {plan:?}");
+        outputs.expect(&rt, "", line, plan);
     }
 }
 
 #[test]
-fn failing_readers(rt: HostRuntime) {
+fn failing_map_reader(rt: HostRuntime) {
     // One byte at a time, a text takes a call for each byte and one more for its end.
     for call in 1..=38 {
-        let (mut out, mut err) = (Keeper::of_size(256), Keeper::of_size(256));
+        let mut outputs = Outputs::new();
         let map = Pieces::of_size(LANE.as_bytes(), 1).failing_at(call, ErrorKind::Other);
-        let status = deps(rt.alloc(), map, FILE.as_bytes(), &mut out, &mut err);
-        assert_eq!(rt; status, 3, "at call {call}");
-        assert!(rt; out.kept() == b"".as_slice(), "at call {call}");
-        assert!(rt;
-            err.kept() == b"mapf: ReadFailed\n".as_slice(),
-            "at call {call}"
+        let status = deps(
+            rt.alloc(),
+            map,
+            FILE.as_bytes(),
+            &mut outputs.out,
+            &mut outputs.err,
         );
+        assert_eq!(rt; status, 3, "at call {call}");
+        outputs.expect(&rt, "", "mapf: ReadFailed\n", call);
     }
+}
+
+#[test]
+fn failing_plan_reader(rt: HostRuntime) {
     for call in 1..=56 {
-        let (mut out, mut err) = (Keeper::of_size(256), Keeper::of_size(256));
+        let mut outputs = Outputs::new();
         let plan = Pieces::of_size(FILE.as_bytes(), 1).failing_at(call, ErrorKind::Other);
-        let status = deps(rt.alloc(), LANE.as_bytes(), plan, &mut out, &mut err);
-        assert_eq!(rt; status, 3, "at call {call}");
-        assert!(rt; out.kept() == b"".as_slice(), "at call {call}");
-        assert!(rt;
-            err.kept() == b"mapf: ReadFailed\n".as_slice(),
-            "at call {call}"
+        let status = deps(
+            rt.alloc(),
+            LANE.as_bytes(),
+            plan,
+            &mut outputs.out,
+            &mut outputs.err,
         );
+        assert_eq!(rt; status, 3, "at call {call}");
+        outputs.expect(&rt, "", "mapf: ReadFailed\n", call);
     }
 }
 
 #[test]
 fn failing_writer(rt: HostRuntime) {
-    // The 50 bytes are written one at a time and then flushed.
+    // The 50 bytes are written and then flushed.
     for call in 1..=51 {
-        let mut out = Keeper::of_size(1).in_trouble_at(call, Trouble::Failure);
-        let mut err = Keeper::of_size(256);
+        let mut outputs = Outputs::failing_at(call);
         let status = deps(
             rt.alloc(),
             LANE.as_bytes(),
             FILE.as_bytes(),
-            &mut out,
-            &mut err,
+            &mut outputs.out,
+            &mut outputs.err,
         );
         assert_eq!(rt; status, 3, "at call {call}");
-        assert_eq!(rt; out.kept().len() as u64 + 1, call);
-        assert!(rt;
-            FILE_WRITTEN.as_bytes().starts_with(out.kept()),
-            "at call {call}"
-        );
-        assert!(rt;
-            err.kept() == b"mapf: WriteFailed\n".as_slice(),
-            "at call {call}"
-        );
+        outputs.expect_cut(&rt, FILE_WRITTEN, call);
     }
 }
 
 #[test]
 fn failing_standard_error(rt: HostRuntime) {
     for call in 1..=4 {
-        let mut out = Keeper::of_size(256);
-        let mut err = Keeper::of_size(1).in_trouble_at(call, Trouble::Failure);
+        let mut outputs = Outputs::failing_error_at(call);
         let status = deps(
             rt.alloc(),
             LANE.as_bytes(),
             SWAP.as_bytes(),
-            &mut out,
-            &mut err,
+            &mut outputs.out,
+            &mut outputs.err,
         );
         assert_eq!(rt; status, 1, "at call {call}");
-        assert!(rt; out.kept() == b"".as_slice(), "at call {call}");
-        assert!(rt;
-            b"mapf: Swap 0 1 0\n".starts_with(err.kept()),
-            "at call {call}"
-        );
+        outputs.expect_cut_error(&rt, "mapf: Swap 0 1 0\n", call);
     }
 }

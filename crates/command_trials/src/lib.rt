@@ -10,6 +10,8 @@ mod deps_command;
 #[cfg(test)]
 mod map_command;
 #[cfg(test)]
+mod outputs;
+#[cfg(test)]
 mod program;
 #[cfg(test)]
 mod row_command;

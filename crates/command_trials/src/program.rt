@@ -1,5 +1,6 @@
 //! The program over files that record what was opened: its status, standard output and standard error.
 use crate::command_lines::words;
+use crate::outputs::Outputs;
 use fakes::{CORNER, CORNER_WRITTEN, FakeFiles, Keeper, ROW, ROW_WRITTEN, Trouble};
 use grid::Counted;
 use mapf_cmd::run;
@@ -228,6 +229,25 @@ fn files_that_are_not_there(rt: HostRuntime) -> Result<(), Fail> {
     Ok(())
 }
 
+/// Runs the program over the files and this input. Answers its status.
+fn run_words(
+    alloc: Global,
+    files: &FakeFiles,
+    text: &str,
+    input: &str,
+    out: &mut Keeper,
+    err: &mut Keeper,
+) -> Result<u8, Fail> {
+    let words = words(alloc, text)?;
+    Ok(run(
+        files,
+        words.as_slice(),
+        &mut Counted::new(input.as_bytes()),
+        &mut Counted::new(out),
+        &mut Counted::new(err),
+    ))
+}
+
 #[test]
 fn words_that_are_no_command(rt: HostRuntime) -> Result<(), Fail> {
     for &text in &[
@@ -243,22 +263,21 @@ fn words_that_are_no_command(rt: HostRuntime) -> Result<(), Fail> {
         "mapf agent corner.map corner.plan 0",
         "mapf agent corner.map corner.plan 65536 corner.tape",
     ] {
-        let files = FakeFiles::new(rt.alloc(), FILES);
-        let (mut out, mut err) = (Keeper::of_size(2048), Keeper::of_size(2048));
-        let words = words(rt.alloc(), text)?;
-        let status = run(
-            &files,
-            words.as_slice(),
-            &mut Counted::new(b"".as_slice()),
-            &mut Counted::new(&mut out),
-            &mut Counted::new(&mut err),
-        );
-        assert_eq!(rt; status, 2, "at {text:?}");
-        assert!(rt; out.kept() == b"".as_slice(), "at {text:?}");
-        assert!(rt; err.kept().starts_with(b"error: "), "at {text:?}");
-        assert!(rt; files.were_opened(""), "at {text:?}");
+        let outputs = told(&rt, rt.alloc(), text, 2)?;
+        assert!(rt; outputs.out.kept() == b"".as_slice(), "at {text:?}");
+        assert!(rt; outputs.err.kept().starts_with(b"error: "), "at {text:?}");
     }
     Ok(())
+}
+
+/// Runs the program on words for which it opens no file, and compares its status.
+fn told(rt: &impl Abort, alloc: Global, text: &str, want: u8) -> Result<Outputs, Fail> {
+    let files = FakeFiles::new(alloc, FILES);
+    let mut outputs = Outputs::new();
+    let status = run_words(alloc, &files, text, "", &mut outputs.out, &mut outputs.err)?;
+    assert_eq!(rt; status, want, "at {text:?}");
+    assert!(rt; files.were_opened(""), "at {text:?}");
+    Ok(outputs)
 }
 
 /// Where the help of `mapf row` begins.
@@ -274,20 +293,12 @@ fn help(rt: HostRuntime) -> Result<(), Fail> {
         ("mapf help row", ABOUT_ROW),
         ("mapf --version", "mapf 0.1.0\n"),
     ] {
-        let files = FakeFiles::new(rt.alloc(), FILES);
-        let (mut out, mut err) = (Keeper::of_size(2048), Keeper::of_size(2048));
-        let words = words(rt.alloc(), text)?;
-        let status = run(
-            &files,
-            words.as_slice(),
-            &mut Counted::new(b"".as_slice()),
-            &mut Counted::new(&mut out),
-            &mut Counted::new(&mut err),
+        let outputs = told(&rt, rt.alloc(), text, 0)?;
+        assert!(rt;
+            outputs.out.kept().starts_with(begins.as_bytes()),
+            "at {text:?}"
         );
-        assert_eq!(rt; status, 0, "at {text:?}");
-        assert!(rt; out.kept().starts_with(begins.as_bytes()), "at {text:?}");
-        assert!(rt; err.kept() == b"".as_slice(), "at {text:?}");
-        assert!(rt; files.were_opened(""), "at {text:?}");
+        assert!(rt; outputs.err.kept() == b"".as_slice(), "at {text:?}");
     }
     Ok(())
 }
@@ -297,19 +308,19 @@ fn help_that_cannot_be_written(rt: HostRuntime) -> Result<(), Fail> {
     // The text is written at once, and then flushed.
     for call in 1..=2 {
         let files = FakeFiles::new(rt.alloc(), FILES);
-        let mut out = Keeper::of_size(2048).in_trouble_at(call, Trouble::Failure);
-        let mut err = Keeper::of_size(2048);
-        let words = words(rt.alloc(), "mapf help")?;
-        let status = run(
+        let mut outputs = Outputs::new();
+        outputs.out = Keeper::of_size(2048).in_trouble_at(call, Trouble::Failure);
+        let status = run_words(
+            rt.alloc(),
             &files,
-            words.as_slice(),
-            &mut Counted::new(b"".as_slice()),
-            &mut Counted::new(&mut out),
-            &mut Counted::new(&mut err),
-        );
+            "mapf help",
+            "",
+            &mut outputs.out,
+            &mut outputs.err,
+        )?;
         assert_eq!(rt; status, 3, "at call {call}");
         assert!(rt;
-            err.kept() == b"mapf: WriteFailed\n".as_slice(),
+            outputs.err.kept() == b"mapf: WriteFailed\n".as_slice(),
             "at call {call}"
         );
     }
@@ -319,21 +330,17 @@ fn help_that_cannot_be_written(rt: HostRuntime) -> Result<(), Fail> {
 /// Runs the program over the files and this input, and compares what it did.
 fn does(rt: &impl Abort, alloc: Global, input: &str, want: &Done) -> Result<(), Fail> {
     let files = FakeFiles::new(alloc, FILES);
-    let mut out = Keeper::of_size(2048);
-    // What is said on it is written at once, so nothing fails.
-    let mut err = Keeper::of_size(2048).in_trouble_at(2, Trouble::Failure);
-    let words = words(alloc, want.words)?;
-    let status = run(
+    let mut outputs = Outputs::new();
+    let status = run_words(
+        alloc,
         &files,
-        words.as_slice(),
-        &mut Counted::new(input.as_bytes()),
-        &mut Counted::new(&mut out),
-        &mut Counted::new(&mut err),
-    );
-    let at = want.words;
-    assert_eq!(rt; status, want.status, "at {at:?}");
-    assert!(rt; out.kept() == want.out.as_bytes(), "at {at:?}");
-    assert!(rt; err.kept() == want.err.as_bytes(), "at {at:?}");
-    assert!(rt; files.were_opened(want.opened), "at {at:?}");
+        want.words,
+        input,
+        &mut outputs.out,
+        &mut outputs.err,
+    )?;
+    assert_eq!(rt; status, want.status, "at {:?}", want.words);
+    assert!(rt; files.were_opened(want.opened), "at {:?}", want.words);
+    outputs.expect(rt, want.out, want.err, want.words);
     Ok(())
 }

@@ -1,5 +1,6 @@
 //! `mapf row` over readers and writers: its status, standard output and standard error.
-use fakes::{CORNER, Keeper, Pieces, ROW, Trouble};
+use crate::outputs::Outputs;
+use fakes::{CORNER, Keeper, Pieces, ROW};
 use grid::Counted;
 use mapf_cmd::row_cmd;
 use std::alloc::Global;
@@ -120,36 +121,36 @@ fn judge<M: Read + Drop, S: Read + Drop>(
 #[test]
 fn verdicts(rt: HostRuntime) {
     for &(map, scen, row, status, line) in &VERDICTS {
-        let (mut out, mut err) = (Keeper::of_size(256), Keeper::of_size(256));
+        let mut outputs = Outputs::new();
+        let (grid, rows) = (map.as_bytes(), scen.as_bytes());
         let got = judge(
             rt.alloc(),
-            map.as_bytes(),
-            scen.as_bytes(),
+            grid,
+            rows,
             row,
-            &mut out,
-            &mut err,
+            &mut outputs.out,
+            &mut outputs.err,
         );
         assert_eq!(rt; got, status, "at row {row} of {scen:?}");
-        assert!(rt; out.kept() == line.as_bytes(), "at row {row} of {scen:?}");
-        assert!(rt; err.kept() == b"".as_slice(), "at row {row} of {scen:?}");
+        outputs.expect(&rt, line, "", (row, scen));
     }
 }
 
 #[test]
 fn faults(rt: HostRuntime) {
     for &(map, scen, row, line) in &FAULTS {
-        let (mut out, mut err) = (Keeper::of_size(256), Keeper::of_size(256));
+        let mut outputs = Outputs::new();
+        let (grid, rows) = (map.as_bytes(), scen.as_bytes());
         let got = judge(
             rt.alloc(),
-            map.as_bytes(),
-            scen.as_bytes(),
+            grid,
+            rows,
             row,
-            &mut out,
-            &mut err,
+            &mut outputs.out,
+            &mut outputs.err,
         );
         assert_eq!(rt; got, 1, "at row {row} of {scen:?}");
-        assert!(rt; out.kept() == b"".as_slice(), "at row {row} of {scen:?}");
-        assert!(rt; err.kept() == line.as_bytes(), "at row {row} of {scen:?}");
+        outputs.expect(&rt, "", line, (row, scen));
     }
 }
 
@@ -157,78 +158,58 @@ fn faults(rt: HostRuntime) {
 fn failing_map_reader(rt: HostRuntime) {
     // One byte at a time, the text takes a call for each byte and one more for its end.
     for call in 1..=46 {
-        let (mut out, mut err) = (Keeper::of_size(256), Keeper::of_size(256));
+        let mut outputs = Outputs::new();
         let map = Pieces::of_size(CORNER.as_bytes(), 1).failing_at(call, ErrorKind::Other);
-        let status = judge(rt.alloc(), map, b"".as_slice(), 0, &mut out, &mut err);
-        assert_eq!(rt; status, 3, "at call {call}");
-        assert!(rt; out.kept() == b"".as_slice(), "at call {call}");
-        assert!(rt;
-            err.kept() == b"mapf: ReadFailed\n".as_slice(),
-            "at call {call}"
+        let status = judge(
+            rt.alloc(),
+            map,
+            b"".as_slice(),
+            0,
+            &mut outputs.out,
+            &mut outputs.err,
         );
+        assert_eq!(rt; status, 3, "at call {call}");
+        outputs.expect(&rt, "", "mapf: ReadFailed\n", call);
     }
 }
 
 #[test]
 fn failing_scenario_reader(rt: HostRuntime) {
     for call in 1..=46 {
-        let (mut out, mut err) = (Keeper::of_size(256), Keeper::of_size(256));
+        let mut outputs = Outputs::new();
         let scen = Pieces::of_size(ROW.as_bytes(), 1).failing_at(call, ErrorKind::Other);
-        let status = judge(rt.alloc(), CORNER.as_bytes(), scen, 0, &mut out, &mut err);
-        assert_eq!(rt; status, 3, "at call {call}");
-        assert!(rt; out.kept() == b"".as_slice(), "at call {call}");
-        assert!(rt;
-            err.kept() == b"mapf: ReadFailed\n".as_slice(),
-            "at call {call}"
+        let status = judge(
+            rt.alloc(),
+            CORNER.as_bytes(),
+            scen,
+            0,
+            &mut outputs.out,
+            &mut outputs.err,
         );
+        assert_eq!(rt; status, 3, "at call {call}");
+        outputs.expect(&rt, "", "mapf: ReadFailed\n", call);
     }
 }
 
 #[test]
 fn failing_writer(rt: HostRuntime) {
-    // The line has 38 bytes, which are written one at a time and then flushed.
+    // The line has 38 bytes, which are written and then flushed.
     for call in 1..=39 {
-        let mut out = Keeper::of_size(1).in_trouble_at(call, Trouble::Failure);
-        let mut err = Keeper::of_size(256);
-        let status = judge(
-            rt.alloc(),
-            CORNER.as_bytes(),
-            ROW.as_bytes(),
-            0,
-            &mut out,
-            &mut err,
-        );
+        let mut outputs = Outputs::failing_at(call);
+        let (map, scen) = (CORNER.as_bytes(), ROW.as_bytes());
+        let status = judge(rt.alloc(), map, scen, 0, &mut outputs.out, &mut outputs.err);
         assert_eq!(rt; status, 3, "at call {call}");
-        assert_eq!(rt; out.kept().len() as u64 + 1, call);
-        assert!(rt;
-            ROW_JUDGED.as_bytes().starts_with(out.kept()),
-            "at call {call}"
-        );
-        assert!(rt;
-            err.kept() == b"mapf: WriteFailed\n".as_slice(),
-            "at call {call}"
-        );
+        outputs.expect_cut(&rt, ROW_JUDGED, call);
     }
 }
 
 #[test]
 fn failing_standard_error(rt: HostRuntime) {
     for call in 1..=4 {
-        let mut out = Keeper::of_size(256);
-        let mut err = Keeper::of_size(1).in_trouble_at(call, Trouble::Failure);
-        let status = judge(
-            rt.alloc(),
-            CORNER.as_bytes(),
-            ROW.as_bytes(),
-            1,
-            &mut out,
-            &mut err,
-        );
+        let mut outputs = Outputs::failing_error_at(call);
+        let (map, scen) = (CORNER.as_bytes(), ROW.as_bytes());
+        let status = judge(rt.alloc(), map, scen, 1, &mut outputs.out, &mut outputs.err);
         assert_eq!(rt; status, 1, "at call {call}");
-        assert!(rt; out.kept() == b"".as_slice(), "at call {call}");
-        assert!(rt;
-            b"mapf: NoSuchRow\n".starts_with(err.kept()),
-            "at call {call}"
-        );
+        outputs.expect_cut_error(&rt, "mapf: NoSuchRow\n", call);
     }
 }

@@ -1,5 +1,6 @@
 //! `mapf scen` over readers and writers: its status, standard output and standard error.
-use fakes::{Keeper, Pieces, ROW, ROW_WRITTEN, Trouble};
+use crate::outputs::Outputs;
+use fakes::{Keeper, Pieces, ROW, ROW_WRITTEN};
 use grid::Counted;
 use mapf_cmd::scen_cmd;
 use std::alloc::Global;
@@ -44,70 +45,74 @@ fn rewrite<R: Read + Drop>(alloc: Global, scen: R, out: &mut Keeper, err: &mut K
 
 #[test]
 fn answers(rt: HostRuntime) {
-    for &(text, status, told_out, told_err) in &ANSWERS {
-        let mut out = Keeper::of_size(256);
-        // A line is written at once, so nothing fails.
-        let mut err = Keeper::of_size(256).in_trouble_at(2, Trouble::Failure);
-        let got = rewrite(rt.alloc(), text.as_bytes(), &mut out, &mut err);
+    for &(text, status, out, err) in &ANSWERS {
+        let mut outputs = Outputs::new();
+        let got = rewrite(
+            rt.alloc(),
+            text.as_bytes(),
+            &mut outputs.out,
+            &mut outputs.err,
+        );
         assert_eq!(rt; got, status, "at {text:?}");
-        assert!(rt; out.kept() == told_out.as_bytes(), "at {text:?}");
-        assert!(rt; err.kept() == told_err.as_bytes(), "at {text:?}");
+        outputs.expect(&rt, out, err, text);
     }
 }
 
 #[test]
 fn line_that_is_too_long(rt: HostRuntime) {
-    let (mut out, mut err) = (Keeper::of_size(256), Keeper::of_size(256));
+    let mut outputs = Outputs::new();
     let text = [b' '; 4097];
-    let status = rewrite(rt.alloc(), text.as_slice(), &mut out, &mut err);
-    assert_eq!(rt; status, 1);
-    assert!(rt; out.kept() == b"".as_slice());
-    assert!(rt; err.kept() == b"mapf: LineTooLong 1\n".as_slice());
+    assert_eq!(rt;
+        rewrite(
+            rt.alloc(),
+            text.as_slice(),
+            &mut outputs.out,
+            &mut outputs.err
+        ),
+        1
+    );
+    outputs.expect(&rt, "", "mapf: LineTooLong 1\n", 4097);
 }
 
 #[test]
 fn failing_reader(rt: HostRuntime) {
-    let (mut out, mut err) = (Keeper::of_size(256), Keeper::of_size(256));
+    let mut outputs = Outputs::new();
     let reader = Pieces::of_size(ROW.as_bytes(), 7).failing_at(3, ErrorKind::Other);
-    let status = rewrite(rt.alloc(), reader, &mut out, &mut err);
-    assert_eq!(rt; status, 3);
-    assert!(rt; out.kept() == b"".as_slice());
-    assert!(rt; err.kept() == b"mapf: ReadFailed\n".as_slice());
+    assert_eq!(rt;
+        rewrite(rt.alloc(), reader, &mut outputs.out, &mut outputs.err),
+        3
+    );
+    outputs.expect(&rt, "", "mapf: ReadFailed\n", 3);
 }
 
 #[test]
 fn failing_writer(rt: HostRuntime) {
-    // The text has 41 bytes, which are written one at a time and then flushed.
+    // The text has 41 bytes, which are written and then flushed.
     for call in 1..=42 {
-        let mut out = Keeper::of_size(1).in_trouble_at(call, Trouble::Failure);
-        let mut err = Keeper::of_size(256);
-        let status = rewrite(rt.alloc(), ROW.as_bytes(), &mut out, &mut err);
+        let mut outputs = Outputs::failing_at(call);
+        let status = rewrite(
+            rt.alloc(),
+            ROW.as_bytes(),
+            &mut outputs.out,
+            &mut outputs.err,
+        );
         assert_eq!(rt; status, 3, "at call {call}");
-        assert_eq!(rt; out.kept().len() as u64 + 1, call);
-        assert!(rt;
-            ROW_WRITTEN.as_bytes().starts_with(out.kept()),
-            "at call {call}"
-        );
-        assert!(rt;
-            err.kept() == b"mapf: WriteFailed\n".as_slice(),
-            "at call {call}"
-        );
+        outputs.expect_cut(&rt, ROW_WRITTEN, call);
     }
 }
 
 #[test]
 fn failing_standard_error(rt: HostRuntime) {
-    // The line has 20 bytes, which are written one at a time.
+    // The line has 20 bytes.
     for call in 1..=20 {
-        let mut out = Keeper::of_size(256);
-        let mut err = Keeper::of_size(1).in_trouble_at(call, Trouble::Failure);
-        let status = rewrite(rt.alloc(), BAD_NUMBER.as_bytes(), &mut out, &mut err);
-        assert_eq!(rt; status, 1, "at call {call}");
-        assert!(rt; out.kept() == b"".as_slice(), "at call {call}");
-        assert_eq!(rt; err.kept().len() as u64 + 1, call);
-        assert!(rt;
-            b"mapf: BadNumber 4 5\n".starts_with(err.kept()),
-            "at call {call}"
+        let mut outputs = Outputs::failing_error_at(call);
+        let status = rewrite(
+            rt.alloc(),
+            BAD_NUMBER.as_bytes(),
+            &mut outputs.out,
+            &mut outputs.err,
         );
+        assert_eq!(rt; status, 1, "at call {call}");
+        outputs.expect_cut_error(&rt, "mapf: BadNumber 4 5\n", call);
     }
 }
