@@ -1,0 +1,242 @@
+"""Files, outputs and inputs that fail, and what is out before what: on real files, pipes and terminals."""
+import os
+import pathlib
+import pty
+import resource
+import shlex
+import signal
+import subprocess
+import time
+import tty
+from typing import Iterator, Optional, Sequence
+
+from harness import LONGEST, Ended, Harness, Outcome, compared, ended_as
+from texts import BEHIND, CORNER, CORNER_WRITTEN, LANE, ROW, ROW_WRITTEN, SHORT, SWAP, TASKS, events
+
+FILES = {
+    "M": LANE.encode(),
+    "C": CORNER.encode(),
+    "B": SHORT.encode(),
+    "P": BEHIND.encode(),
+    "X": SWAP.encode(),
+    "S": ROW.encode(),
+    "F": TASKS.encode(),
+    "E": events("start 1", "start 0", "finish 0", "start 1").encode(),
+    "J": events("start 0", "jump").encode(),
+}
+REPLIES = "refused Waits 0 1\nmoving 2 0\narrived 2 0\nrefused Waits 0 1\n"
+
+# Commands, and all that each writes.
+WRITING = [
+    ("map C", CORNER_WRITTEN),
+    ("scen S", ROW_WRITTEN),
+    ("row C S 0", "shortest 2 0 listed 2.00000000 agrees\n"),
+    ("check M P", "accepted agents 2 cost 2 makespan 1\n"),
+    ("check M P --json", '{"accepted":true,"agents":2,"cost":2,"makespan":1}\n'),
+    ("check M X", "rejected Swap 0 1 0\n"),
+    ("check M P --scen F", "accepted agents 2 cost 2 makespan 1\n"),
+    ("deps M P", "agents 2 moves 2 needs 1 rotations 0\nneed 1 0 0 1\n"),
+    ("run M P E", REPLIES),
+    ("run M P J", "moving 2 0\n"),
+    ("agent M P 0 T", "at 1 0 done 0\n"),
+    ("--version", "mapf 0.1.0\n"),
+]
+# Commands with a fault, and the line of it.
+FAULTY = [
+    ("map B", "mapf: ShortRow 6\n"),
+    ("scen M", "mapf: NoVersion\n"),
+    ("row C S 1", "mapf: NoSuchRow\n"),
+    ("check M M", "mapf: BadHeader 1\n"),
+    ("deps M X", "mapf: Swap 0 1 0\n"),
+    ("run M X E", "mapf: Swap 0 1 0\n"),
+    ("agent M P 2 T", "mapf: NoSuchAgent\n"),
+]
+
+# Commands that read a folder.
+UNREADABLE = [
+    *("map D", "scen D", "row D S 0", "row C D 0", "check D P", "check M D", "check M P --scen D"),
+    *("deps D P", "deps M D", "run D P E", "run M D E", "run M P D", "agent D P 0 T", "agent M D 0 T"),
+]
+# Commands with a file that is not there, and one in front of it, which is opened all the same, or behind it, which is not.
+OPENED = [
+    *(("row M no 0", "M"), ("check M no", "M"), ("check M P --scen no", "M"), ("check M P --scen no", "P")),
+    *(("deps M no", "M"), ("run M no E", "M"), ("run M P no", "P"), ("agent M no 0 T", "M")),
+]
+NOT_OPENED = [
+    *(("row no S 0", "S"), ("check no P", "P"), ("check M no --scen F", "F"), ("deps no P", "P")),
+    *(("run no P E", "P"), ("run M no E", "E"), ("agent no P 0 T", "P")),
+]
+
+
+def limited(harness: Harness, words: Sequence[str], folder: pathlib.Path, most: int, **streams) -> subprocess.CompletedProcess:
+    """Runs a command in whose files no write goes past so many bytes."""
+
+    def limit() -> None:
+        # Past the limit a write fails, in place of a signal.
+        signal.signal(signal.SIGXFSZ, signal.SIG_IGN)
+        resource.setrlimit(resource.RLIMIT_FSIZE, (most, most))
+
+    return subprocess.run([str(harness.program), *words], cwd=folder, preexec_fn=limit, timeout=LONGEST, **streams)
+
+
+def cut_short(harness: Harness, words: str, most: int, to_error: bool) -> Ended:
+    """Runs a command, one of whose outputs is a file that takes so many bytes at most. Answers what that file has then."""
+    folder = harness.folder(FILES)
+    with open(folder / "written", "wb") as file:
+        streams = {"stdout": subprocess.PIPE, "stderr": file} if to_error else {"stdout": file, "stderr": subprocess.PIPE}
+        ran = limited(harness, words.split(), folder, most, stdin=subprocess.DEVNULL, **streams)
+    written = (folder / "written").read_bytes()
+    return Ended(ran.returncode, ran.stdout, written) if to_error else Ended(ran.returncode, written, ran.stderr)
+
+
+def outputs_that_end(harness: Harness) -> Iterator[Outcome]:
+    """An output that takes only so many bytes has just these, and the status says that it failed."""
+    for words, text in WRITING:
+        for most in range(len(text)):
+            ended, due = cut_short(harness, words, most, False), Ended(3, text[:most].encode(), b"mapf: WriteFailed\n")
+            yield ended_as(f"{words}, an output of {most} bytes", f"mapf {words} > a file of {most} bytes at most", ended, due)
+    for words, line in FAULTY:
+        for most in range(len(line)):
+            ended, due = cut_short(harness, words, most, True), Ended(1, b"", line[:most].encode())
+            yield ended_as(f"{words}, an error output of {most} bytes", f"mapf {words} 2> a file of {most} bytes at most", ended, due)
+
+
+def by_shell(harness: Harness, line: str, folder: pathlib.Path) -> Ended:
+    """Runs the program by a line of the shell, for what the shell does with its outputs."""
+    return harness.run(["sh", "-c", f"{shlex.quote(str(harness.program))} {line}"], folder=folder)
+
+
+def outputs_that_are_full(harness: Harness) -> Iterator[Outcome]:
+    """A full device, and a pipe that nobody reads."""
+    folder = harness.folder(FILES)
+    due = Ended(3, b"", b"mapf: WriteFailed\n")
+    writing = [*(words for words, _ in WRITING), "help", "help check"]
+    for words in writing:
+        yield ended_as(f"{words}, to a closed pipe", f"mapf {words} | (no reader)", to_nobody(harness, words, folder), due)
+    if not os.path.exists("/dev/full"):
+        yield Outcome("outputs to a full device", lacks="/dev/full")
+        return
+    for words in writing:
+        full = f"{words} > /dev/full"
+        yield ended_as(full, f"mapf {full}", by_shell(harness, full, folder), due)
+    for words, _ in FAULTY:
+        full = f"{words} 2> /dev/full"
+        yield ended_as(full, f"mapf {full}", by_shell(harness, full, folder), Ended(1, b"", b""))
+
+
+def to_nobody(harness: Harness, words: str, folder: pathlib.Path) -> Ended:
+    """Runs a command whose output is a pipe that has no reader any more, and that doesn't die of it."""
+    reading, writing = os.pipe()
+    os.close(reading)
+    try:
+        how = {"cwd": folder, "stdin": subprocess.DEVNULL, "stdout": writing, "stderr": subprocess.PIPE, "restore_signals": False}
+        ran = subprocess.run([str(harness.program), *words.split()], timeout=LONGEST, **how)
+    finally:
+        os.close(writing)
+    return Ended(ran.returncode, b"", ran.stderr)
+
+
+def inputs_that_fail(harness: Harness) -> Iterator[Outcome]:
+    """A folder can be opened and not be read."""
+    due = Ended(3, b"", b"mapf: ReadFailed\n")
+    for words in UNREADABLE:
+        folder = harness.folder(FILES)
+        (folder / "D").mkdir()
+        yield ended_as(words, f"mapf {words}  with a folder D", harness.mapf(words.split(), folder=folder), due)
+        yield compared(f"{words} makes no tape", f"mapf {words}", (folder / "T").exists(), False)
+    try:
+        ends = pty.openpty()
+    except OSError:
+        yield Outcome("an agent's input that fails", lacks="terminal")
+        return
+    for end in ends:
+        os.close(end)
+    for given, answers in ((b"", ""), (b"start\nfin", "moving 2 0\n"), (b"start\nfinish\n", "moving 2 0\narrived 2 0\n")):
+        ended = over_a_line_that_breaks(harness, given)
+        due = Ended(3, f"at 1 0 done 0\n{answers}".encode(), b"mapf: ReadFailed\n")
+        yield ended_as(f"agent, its input fails behind {given!r}", f"mapf agent M P 0 T  with the input {given!r}, which then fails", ended, due)
+
+
+def over_a_line_that_breaks(harness: Harness, given: bytes) -> Ended:
+    """Runs an agent whose input gives these bytes and then fails: it reads a terminal's far end, whose near end is closed."""
+    far, near = pty.openpty()
+    tty.setraw(near)
+    how = {"cwd": harness.folder(FILES), "stdin": far, "stdout": subprocess.PIPE, "stderr": subprocess.PIPE}
+    with subprocess.Popen([str(harness.program), "agent", "M", "P", "0", "T"], **how) as process:
+        os.close(far)
+        os.write(near, given)
+        os.close(near)
+        out, err = process.communicate(timeout=LONGEST)
+    return Ended(process.returncode, out, err)
+
+
+def is_opened(harness: Harness, words: str, name: str) -> Optional[bool]:
+    """Whether a command opens this file, here a pipe, before it finds that another one is not there. None where it says something else."""
+    folder = harness.folder(FILES)
+    os.replace(folder / name, folder / "kept")
+    os.mkfifo(folder / name)
+    how = {"cwd": folder, "stdin": subprocess.DEVNULL, "stdout": subprocess.PIPE, "stderr": subprocess.PIPE}
+    with subprocess.Popen([str(harness.program), *words.split()], **how) as process:
+        opened = False
+        for _ in range(100 * LONGEST):
+            try:
+                # Fails as long as nobody has opened it for reading.
+                os.close(os.open(folder / name, os.O_WRONLY | os.O_NONBLOCK))
+                opened = True
+                break
+            except OSError:
+                if process.poll() is not None:
+                    break
+                time.sleep(0.01)
+        _, err = process.communicate(timeout=LONGEST)
+    return opened if (process.returncode, err) == (3, b"mapf: OpenFailed\n") else None
+
+
+def order_of_files(harness: Harness) -> Iterator[Outcome]:
+    """All files are opened in the order of the words, and before any is read."""
+    for table, is_due in ((OPENED, True), (NOT_OPENED, False)):
+        for words, name in table:
+            ran = f"mapf {words}  with a pipe for {name}"
+            yield compared(f"{words}: is {name} opened?", ran, is_opened(harness, words, name), is_due)
+
+
+def order_of_outputs(harness: Harness) -> Iterator[Outcome]:
+    """Replies are out before the line of a fault; an answer of an agent is out before its next line is waited for."""
+    folder = harness.folder(FILES)
+    ended = by_shell(harness, "run M P J 2>&1", folder)
+    yield ended_as("replies before a fault", "mapf run M P J 2>&1", ended, Ended(1, b"moving 2 0\nmapf: BadEvent 3\n", b""))
+    how = {"cwd": folder, "stdin": subprocess.PIPE, "stdout": subprocess.PIPE}
+    with subprocess.Popen([str(harness.program), "agent", "M", "P", "0", "T"], **how) as process:
+        told = [process.stdout.readline()]
+        for line in (b"start\n", b"finish\n", b"held\n"):
+            process.stdin.write(line)
+            process.stdin.flush()
+            told.append(process.stdout.readline())
+        process.stdin.close()
+    due = [b"at 1 0 done 0\n", b"moving 2 0\n", b"arrived 2 0\n", b"at 2 0 done 1\n"]
+    yield compared("answers before the next line", "mapf agent M P 0 T, line after line", told, due)
+
+
+def stores_that_fail(harness: Harness) -> Iterator[Outcome]:
+    """A tape file that takes only so many bytes: the answer says so, the status is 3, and the file has whole records and a tail."""
+    moving, standing = bytes.fromhex("50010000000700000000"), bytes.fromhex("50020000000700000001")
+    for most in range(20):
+        folder, words = harness.folder(FILES), ["agent", "M", "P", "0", "T"]
+        ran = limited(harness, words, folder, most, input=b"start\nfinish\nheld\n", capture_output=True)
+        answers = "at 1 0 done 0\n" + ("" if most < 10 else "moving 2 0\n") + "refused StoreFailed\n"
+        name = f"a tape file of {most} bytes"
+        command = f"mapf agent M P 0 T  with the lines start, finish and held, and a tape of {most} bytes at most"
+        yield ended_as(name, command, Ended(ran.returncode, ran.stdout, ran.stderr), Ended(3, answers.encode(), b""))
+        yield compared(f"{name}, looked into", command, (folder / "T").read_bytes().hex(), (moving + standing)[:most].hex())
+        again = harness.mapf(words, folder=folder)
+        state = "at 1 0 done 0\n" if most < 10 else "between 1 0 2 0 done 0\n"
+        yield ended_as(f"{name}, opened again", command, again, Ended(0, state.encode(), b""))
+
+
+def outcomes(harness: Harness) -> Iterator[Outcome]:
+    yield from outputs_that_end(harness)
+    yield from outputs_that_are_full(harness)
+    yield from inputs_that_fail(harness)
+    yield from order_of_files(harness)
+    yield from order_of_outputs(harness)
+    yield from stores_that_fail(harness)

@@ -1,0 +1,153 @@
+"""What the parts of ./test share: how commands are run, and how it is told whether they did what was due."""
+import contextlib
+import dataclasses
+import os
+import pathlib
+import signal
+import subprocess
+import sys
+from typing import Iterator, Mapping, Optional, Sequence
+
+ROOT = pathlib.Path(__file__).resolve().parent.parent
+# No run of a part takes nearly as long: a command that hangs fails its test.
+LONGEST = 120
+# The status of a command that could not be started, as a shell has it.
+CANNOT_START = 126
+
+
+@dataclasses.dataclass(frozen=True)
+class Ended:
+    """What a command did: its status, or the signal that ended it as a negative number, and what it wrote."""
+
+    status: int
+    out: bytes
+    err: bytes
+
+
+@dataclasses.dataclass(frozen=True)
+class Outcome:
+    """A test that was run. The fault says which command was run, what it wrote and what was due; it is empty where all is well. A test that
+    this machine has no device for says what it lacks, and is not counted."""
+
+    name: str
+    fault: str = ""
+    lacks: str = ""
+
+
+class Harness:
+    """The program under test, and a folder for what the tests write."""
+
+    def __init__(self, program: pathlib.Path, room: pathlib.Path, is_long: bool = False, is_proved: bool = False):
+        self.program = program
+        self.room = room
+        self.is_long = is_long
+        self.is_proved = is_proved
+        self._folders = 0
+
+    def folder(self, files: Mapping[str, bytes] = {}) -> pathlib.Path:
+        """A new folder with these files."""
+        self._folders += 1
+        folder = self.room / str(self._folders)
+        folder.mkdir()
+        for name, content in files.items():
+            (folder / name).write_bytes(content)
+        return folder
+
+    def mapf(self, words: Sequence[str], given: bytes = b"", folder: Optional[pathlib.Path] = None) -> Ended:
+        """Runs the program under test."""
+        return self.run([str(self.program), *words], given, folder)
+
+    def run(
+        self,
+        command: Sequence[str],
+        given: bytes = b"",
+        folder: Optional[pathlib.Path] = None,
+        more: Mapping[str, str] = {},
+    ) -> Ended:
+        """Runs a command. Where this call is interrupted, the command and all that it started end too."""
+        environment = {**os.environ, "TMPDIR": str(self.room), "PYTHONDONTWRITEBYTECODE": "1", **more}
+        pipes = {"stdin": subprocess.PIPE, "stdout": subprocess.PIPE, "stderr": subprocess.PIPE}
+        try:
+            process = subprocess.Popen(command, cwd=folder or self.room, env=environment, start_new_session=True, **pipes)
+        except OSError as error:
+            return Ended(CANNOT_START, b"", str(error).encode())
+        with process:
+            try:
+                out, err = process.communicate(given, timeout=LONGEST)
+            except BaseException as error:
+                with contextlib.suppress(ProcessLookupError):
+                    os.killpg(process.pid, signal.SIGKILL)
+                out, err = process.communicate()
+                if not isinstance(error, subprocess.TimeoutExpired):
+                    raise
+                err += f"(it had not ended after {LONGEST} seconds)".encode()
+            return Ended(process.returncode, out, err)
+
+
+def shown(command: Sequence[str], given: bytes = b"") -> str:
+    """A command as one would type it, shortened, and its input."""
+    words = " ".join(word if word and word.isprintable() and " " not in word else repr(word) for word in map(cut, command))
+    return f"{words}  with the input {cut(given)!r}" if given else words
+
+
+def cut(text, most: int = 400):
+    """A text, or its beginning where it is long."""
+    return text if len(text) <= most else text[:most] + (b".." if isinstance(text, bytes) else "..")
+
+
+def compared(name: str, ran: str, wrote: object, due: object) -> Outcome:
+    """The outcome of a test that compares what a command wrote with what was due."""
+    return Outcome(name) if wrote == due else Outcome(name, f"ran    {ran}\n    wrote  {wrote!r}\n    due    {due!r}")
+
+
+def ended_as(name: str, ran: str, ended: Ended, due: Ended) -> Outcome:
+    """The outcome of a test that compares all that a command did, and tells only what differs."""
+    differ = [field.name for field in dataclasses.fields(Ended) if getattr(ended, field.name) != getattr(due, field.name)]
+    return compared(name, ran, {it: getattr(ended, it) for it in differ}, {it: getattr(due, it) for it in differ})
+
+
+class Report:
+    """Counts outcomes, tells the faults, and shows on a terminal how far it is."""
+
+    def __init__(self) -> None:
+        self.passed = self.failed = 0
+        self.is_terminal = sys.stdout.isatty()
+
+    def take(self, part: str, outcomes: Iterator[Outcome]) -> None:
+        """Runs the tests of a part to their end."""
+        passed, failed = self.passed, self.failed
+        try:
+            for outcome in outcomes:
+                if outcome.lacks:
+                    self.say(f"skipped {part}: {outcome.name}: there is no {outcome.lacks} here")
+                elif outcome.fault:
+                    self.fail(f"{part}: {outcome.name}\n    {outcome.fault}")
+                else:
+                    self.passed += 1
+                self.show(f"{part}: {self.passed - passed} passed, {self.failed - failed} failed")
+        except (OSError, ValueError) as error:
+            # The other parts still have something to say.
+            self.fail(f"{part}: not run to its end: {error!r}")
+        self.say(f"{part}: {self.passed - passed} passed, {self.failed - failed} failed")
+
+    def show(self, text: str) -> None:
+        if self.is_terminal:
+            print(f"\r\033[K{text}", end="", flush=True)
+
+    def say(self, text: str) -> None:
+        self.show("")
+        print(text, flush=True)
+
+    def fail(self, why: str) -> None:
+        self.failed += 1
+        self.say(f"FAILED {why}")
+
+    def count(self, passed: int, failed: int) -> None:
+        """Adds what another program counted."""
+        self.passed += passed
+        self.failed += failed
+
+    def end(self) -> int:
+        """Writes the last line, and answers the status."""
+        self.say(f"{self.passed} passed, {self.failed} failed")
+        return 1 if self.failed or not self.passed else 0
