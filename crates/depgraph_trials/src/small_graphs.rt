@@ -1,5 +1,5 @@
 //! Small plans, and who waits for whom in them.
-use crate::texts::{ROW, SQUARE, graph_of};
+use crate::texts::{ROW, graph_of};
 use depgraph::{Graph, Visit};
 use grid::Cell;
 use std::process::Abort;
@@ -66,76 +66,6 @@ fn expect_visits_one_behind_another(rt: &impl Abort, graph: &Graph) {
 }
 
 #[test]
-fn back_to_its_own_cell(rt: HostRuntime) -> Result<(), Fail> {
-    let graph = graph_of(rt.alloc(), ROW, 2, "agent 1 0 ew\nagent 0 0 =\n")?;
-    expect_needs(&rt, &graph, 0, &[None, None])?;
-    expect_needs(&rt, &graph, 1, &[])
-}
-
-#[test]
-fn back_after_another(rt: HostRuntime) -> Result<(), Fail> {
-    let graph = graph_of(rt.alloc(), SQUARE, 2, "agent 0 0 e--w\nagent 0 1 -ns\n")?;
-    expect_needs(&rt, &graph, 0, &[None, Some((1, 2))])?;
-    expect_needs(&rt, &graph, 1, &[Some((0, 1)), None])
-}
-
-#[test]
-fn a_third_passes_between(rt: HostRuntime) -> Result<(), Fail> {
-    // Agents 1 and 2 pass through the cell one after another before agent 0 comes back to it.
-    let graph = graph_of(
-        rt.alloc(),
-        HALL,
-        3,
-        "agent 1 0 e-----w\nagent 1 1 -ns\nagent 0 0 ---ew\n",
-    )?;
-    expect_needs(&rt, &graph, 0, &[None, Some((2, 2))])?;
-    expect_needs(&rt, &graph, 1, &[Some((0, 1)), None])?;
-    expect_needs(&rt, &graph, 2, &[Some((1, 2)), None])
-}
-
-#[test]
-fn one_rotation(rt: HostRuntime) -> Result<(), Fail> {
-    let graph = graph_of(
-        rt.alloc(),
-        SQUARE,
-        4,
-        "agent 0 0 e\nagent 1 0 s\nagent 1 1 w\nagent 0 1 n\n",
-    )?;
-    for (agent, other) in [(0, 1), (1, 2), (2, 3), (3, 0)] {
-        expect_needs(&rt, &graph, agent, &[Some((other, 1))])?;
-    }
-    expect_rotations(&rt, &graph, &[(0, &[0, 1, 2, 3])]);
-    Ok(())
-}
-
-#[test]
-fn the_other_way_round(rt: HostRuntime) -> Result<(), Fail> {
-    // Each agent moves into the cell of the one before it in the plan.
-    let graph = graph_of(
-        rt.alloc(),
-        SQUARE,
-        4,
-        "agent 0 0 s\nagent 1 0 w\nagent 1 1 n\nagent 0 1 e\n",
-    )?;
-    expect_rotations(&rt, &graph, &[(0, &[0, 3, 2, 1])]);
-    Ok(())
-}
-
-#[test]
-fn a_rotation_beside_a_chain(rt: HostRuntime) -> Result<(), Fail> {
-    let graph = graph_of(
-        rt.alloc(),
-        HALL,
-        6,
-        "agent 2 1 n\nagent 2 0 e\nagent 0 0 e\nagent 1 0 s\nagent 1 1 w\nagent 0 1 n\n",
-    )?;
-    expect_needs(&rt, &graph, 0, &[Some((1, 1))])?;
-    expect_needs(&rt, &graph, 1, &[None])?;
-    expect_rotations(&rt, &graph, &[(0, &[2, 3, 4, 5])]);
-    Ok(())
-}
-
-#[test]
 fn two_rotations_in_a_step(rt: HostRuntime) -> Result<(), Fail> {
     // The agents of both are listed in turn, and the second rotation is the one of the least agent.
     let graph = graph_of(
@@ -145,18 +75,5 @@ fn two_rotations_in_a_step(rt: HostRuntime) -> Result<(), Fail> {
         "agent 2 1 n\nagent 0 0 e\nagent 3 1 w\nagent 1 0 s\nagent 3 0 s\nagent 1 1 w\nagent 2 0 e\nagent 0 1 n\n",
     )?;
     expect_rotations(&rt, &graph, &[(0, &[0, 6, 4, 2]), (0, &[1, 3, 5, 7])]);
-    Ok(())
-}
-
-#[test]
-fn rotations_of_two_steps(rt: HostRuntime) -> Result<(), Fail> {
-    // The rotation of the greater agents comes first.
-    let graph = graph_of(
-        rt.alloc(),
-        HALL,
-        8,
-        "agent 2 1 -n\nagent 3 1 -w\nagent 3 0 -s\nagent 2 0 -e\nagent 0 0 e\nagent 1 0 s\nagent 1 1 w\nagent 0 1 n\n",
-    )?;
-    expect_rotations(&rt, &graph, &[(0, &[4, 5, 6, 7]), (1, &[0, 3, 2, 1])]);
     Ok(())
 }

@@ -37,22 +37,6 @@ pub static ROW: [(&str, &str, usize); 11] = [
     ("hear 460100090000000700000001", "refused NoSuchAgent", 20),
 ];
 
-/// Lines for agent 1, which goes behind agent 0.
-static BEHIND: [(&str, &str, usize); 11] = [
-    ("finish", "refused NotMoving", 0),
-    ("start", "refused Waits 0 1", 0),
-    ("hear 460100000000000700000000", "heard 0 0", 0),
-    ("start", "refused Waits 0 1", 0),
-    ("hear 460100000000000700000001", "heard 0 1", 0),
-    // old news
-    ("hear 460100000000000700000000", "heard 0 1", 0),
-    ("start", "moving 1 0", 10),
-    ("held", "between 0 0 1 0 done 0", 10),
-    ("start", "refused AlreadyMoving", 10),
-    ("finish", "arrived 1 0", 20),
-    ("say", "said 460100010000000700000001", 20),
-];
-
 /// The graph of agents on a row of three cells.
 pub fn graph_of(alloc: Global, number: u32, agents: &str) -> Result<Graph, Fail> {
     let map = "type octile\nheight 1\nwidth 3\nmap\n...\n";
@@ -192,39 +176,6 @@ pub fn expect<R: Read + Drop>(
     let answers = answers_of(alloc, FIRST_LINE, turns)?;
     talks(rt, alloc, &mut agent, input, end, answers.as_str())?;
     assert!(rt; has_stored(&agent.into_tape(), turns), "at {at}");
-    Ok(())
-}
-
-/// Leads a dialogue of these turns with an agent that is in this state, and compares what it wrote.
-fn takes_turns(
-    rt: &impl Abort,
-    alloc: Global,
-    agent: &mut Agent<'_, MemTape>,
-    state: &str,
-    turns: &[(&str, &str, usize)],
-) -> Result<(), Fail> {
-    let asked = lines_of(alloc, turns)?;
-    let answers = answers_of(alloc, state, turns)?;
-    writes(rt, alloc, agent, asked.as_bytes(), answers.as_str())
-}
-
-#[test]
-fn a_row(rt: HostRuntime) -> Result<(), Fail> {
-    let graph = graph_of(rt.alloc(), 7, TWO)?;
-    let mut agent = new_agent(rt.alloc(), &graph, 0)?;
-    takes_turns(&rt, rt.alloc(), &mut agent, FIRST_LINE, &ROW)?;
-    let tape = agent.into_tape();
-    assert_eq!(rt; tape.bytes(), MOVED.as_slice());
-    let mut agent = opened(rt.alloc(), &graph, 0, tape)?;
-    writes(&rt, rt.alloc(), &mut agent, b"", "at 2 0 done 1\n")
-}
-
-#[test]
-fn agent_that_goes_behind(rt: HostRuntime) -> Result<(), Fail> {
-    let graph = graph_of(rt.alloc(), 7, TWO)?;
-    let mut agent = new_agent(rt.alloc(), &graph, 1)?;
-    takes_turns(&rt, rt.alloc(), &mut agent, "at 0 0 done 0\n", &BEHIND)?;
-    assert_eq!(rt; agent.into_tape().bytes().len(), stored_by(&BEHIND));
     Ok(())
 }
 

@@ -10,8 +10,6 @@ mod failing_tapes;
 #[cfg(test)]
 mod failing_writers;
 #[cfg(test)]
-mod lines;
-#[cfg(test)]
 mod long_lines;
 #[cfg(test)]
 mod memory;

@@ -54,36 +54,6 @@ fn expect<R: Read + Drop>(
 /// Where agent 0 is.
 const AT: &str = "at 1 0 done 0\n";
 
-#[test]
-fn lines_around_the_limit(rt: HostRuntime) -> Result<(), Fail> {
-    let graph = graph_of(rt.alloc(), 7, TWO)?;
-    for &(begin, byte, length, answer) in &LONG_LINES {
-        for (rest, last) in [(b"".as_slice(), ""), (b"\n", ""), (b"\nheld", AT)] {
-            let line = long_line(rt.alloc(), begin, byte, length, rest)?;
-            let answers = [AT, answer, last];
-            expect(&rt, rt.alloc(), &graph, line.as_slice(), Ok(()), &answers)?;
-        }
-        let line = long_line(rt.alloc(), begin, byte, length, b"\nheld")?;
-        expect_pieces(&rt, rt.alloc(), &graph, &line, &[AT, answer, AT])?;
-    }
-    Ok(())
-}
-
-/// Leads a dialogue over a text that comes in pieces of several sizes.
-fn expect_pieces(
-    rt: &impl Abort,
-    alloc: Global,
-    graph: &Graph,
-    text: &[u8],
-    answers: &[&str],
-) -> Result<(), Fail> {
-    for size in [1, 4095, 4096, 131_072] {
-        let input = Pieces::of_size(text, size);
-        expect(rt, alloc, graph, input, Ok(()), answers)?;
-    }
-    Ok(())
-}
-
 /// A line whose LF didn't come before the reader failed has no answer, however long it is.
 #[test]
 fn failures_inside_long_lines(rt: HostRuntime) -> Result<(), Fail> {

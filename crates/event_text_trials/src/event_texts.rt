@@ -1,4 +1,4 @@
-//! Texts of events and what each is answered with, by the format's rules.
+//! Texts of events, all at once, one after another and in pieces.
 use crate::answers::{answer, stepwise};
 use event_text::read_events;
 use fakes::Pieces;
@@ -12,87 +12,12 @@ const EACH: &str = "mapf-events 1\nstart 0\nfinish 1\nsay 2\ndeliver 3 4\nrestar
 
 const EACH_ANSWER: &str = "Start(0) Finish(1) Say(2) Deliver(3, 4) Restart(5) Tear(6, 7) ";
 
-/// Whole texts, and what each is answered with.
-static TEXTS: [(&str, &str); 12] = [
-    ("", "NoHeader"),
-    ("\n", "NoHeader"),
-    ("mapf-events 1", "NoHeader"),
-    ("mapf-events 1\r\n", "NoHeader"),
-    ("mapf-events 1 \n", "NoHeader"),
-    ("mapf-events 2\nsay 0\n", "NoHeader"),
-    ("say 0\n", "NoHeader"),
-    ("\nmapf-events 1\n", "NoHeader"),
-    ("mapf-events 1\n", ""),
-    ("mapf-events 1\nsay 0\nx\n", "BadEvent 3"),
-    ("mapf-events 1\nsay 0\nx", "Unfinished 3"),
-    ("mapf-events 1\nx\nsay 0", "BadEvent 2"),
-];
-
-/// Lines behind the header, and what each is answered with.
-static LINES: [(&str, &str); 33] = [
-    ("", "BadEvent 2"),
-    ("start", "BadEvent 2"),
-    ("start ", "BadEvent 2"),
-    ("start 0 ", "BadEvent 2"),
-    ("start  0", "BadEvent 2"),
-    (" start 0", "BadEvent 2"),
-    ("start\t0", "BadEvent 2"),
-    ("start 0\r", "BadEvent 2"),
-    ("Start 0", "BadEvent 2"),
-    ("starts 0", "BadEvent 2"),
-    ("start 00", "BadEvent 2"),
-    ("start 01", "BadEvent 2"),
-    ("start +1", "BadEvent 2"),
-    ("start -1", "BadEvent 2"),
-    ("start x", "BadEvent 2"),
-    ("start 0 0", "BadEvent 2"),
-    ("start 4294967295", "Start(4294967295) "),
-    ("start 4294967296", "BadEvent 2"),
-    ("deliver 0", "BadEvent 2"),
-    ("deliver 0 ", "BadEvent 2"),
-    ("deliver  0", "BadEvent 2"),
-    ("deliver 0 0 0", "BadEvent 2"),
-    ("deliver 4294967296 0", "BadEvent 2"),
-    (
-        "deliver 4294967295 18446744073709551615",
-        "Deliver(4294967295, 18446744073709551615) ",
-    ),
-    ("deliver 0 18446744073709551616", "BadEvent 2"),
-    ("deliver 0 99999999999999999999999", "BadEvent 2"),
-    ("deliver 0 00", "BadEvent 2"),
-    ("tear 0 4294967295", "Tear(0, 4294967295) "),
-    ("tear 0 4294967296", "BadEvent 2"),
-    ("tear 0", "BadEvent 2"),
-    ("restart 10", "Restart(10) "),
-    ("finish 20", "Finish(20) "),
-    ("says 0", "BadEvent 2"),
-];
-
 #[test]
 fn each_event(rt: HostRuntime) -> Result<(), Fail> {
     let got = answer(rt.alloc(), EACH.as_bytes())?;
     assert_eq!(rt; got.as_str(), EACH_ANSWER);
     let got = stepwise(rt.alloc(), EACH.as_bytes())?;
     assert_eq!(rt; got.as_str(), EACH_ANSWER);
-    Ok(())
-}
-
-#[test]
-fn texts(rt: HostRuntime) -> Result<(), Fail> {
-    for &(text, want) in &TEXTS {
-        let got = answer(rt.alloc(), text.as_bytes())?;
-        assert_eq!(rt; got.as_str(), want, "at {text:?}");
-    }
-    Ok(())
-}
-
-#[test]
-fn lines(rt: HostRuntime) -> Result<(), Fail> {
-    for &(line, want) in &LINES {
-        let text = format!(in rt.alloc(); "mapf-events 1\n{line}\n")?;
-        let got = answer(rt.alloc(), text.as_bytes())?;
-        assert_eq!(rt; got.as_str(), want, "at {line:?}");
-    }
     Ok(())
 }
 

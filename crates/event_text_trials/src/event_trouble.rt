@@ -60,19 +60,3 @@ fn long_lines_are_known_at_once(rt: HostRuntime) -> Result<(), Fail> {
     }
     Ok(())
 }
-
-#[test]
-fn long_lines_at_the_end(rt: HostRuntime) -> Result<(), Fail> {
-    for &(length, want) in &[
-        (64, EventFault::Unfinished(2)),
-        (65, EventFault::BadEvent(2)),
-    ] {
-        let mut text = String::from_str(rt.alloc(), "mapf-events 1\n")?;
-        for _ in 0..length {
-            text.push('0')?;
-        }
-        let fault = read_events(rt.alloc(), &mut Counted::new(text.as_bytes())).err();
-        assert_eq!(rt; fault, Some(want), "at {length}");
-    }
-    Ok(())
-}

@@ -1,52 +1,26 @@
 //! The file of a disk, in place of the files of the system.
-use crate::fake_disk::{DiskFile, FakeDisk};
-use crate::fake_files::unsupported;
-use crate::opened_names::OpenedNames;
+use crate::fake_disk::{DiskFile, FakeDisk, unsupported};
 use std::alloc::{Allocator, Global};
 use std::fs::{Metadata, OpenOptions};
 use std::io;
 use std::io::ErrorKind;
 use std::rt::Files;
 
-/// The file of a disk under each name, and the names that were opened.
+/// The file of a disk under each name.
 pub struct DiskFiles<'a> {
     alloc: Global,
     disk: &'a FakeDisk,
-    refusal: Option<ErrorKind>,
-    opened: OpenedNames,
 }
 
 impl<'a> DiskFiles<'a> {
-    /// Nothing is opened yet.
     pub fn new(alloc: Global, disk: &'a FakeDisk) -> DiskFiles<'a> {
-        DiskFiles {
-            alloc,
-            disk,
-            refusal: None,
-            opened: OpenedNames::new(alloc),
-        }
-    }
-
-    /// The same files, of which none can be opened.
-    pub fn refusing(mut self, kind: ErrorKind) -> DiskFiles<'a> {
-        self.refusal = Some(kind);
-        self
-    }
-
-    /// Whether just these names were asked for, in this order, each ended by an LF.
-    pub fn were_opened(&self, names: &str) -> bool {
-        self.opened.are(names)
+        DiskFiles { alloc, disk }
     }
 }
 
 impl Drop for DiskFiles<'_> {
     fn drop(self) {
-        let DiskFiles {
-            alloc: _,
-            disk: _,
-            refusal: _,
-            opened: _,
-        } = self;
+        let DiskFiles { alloc: _, disk: _ } = self;
     }
 }
 
@@ -69,15 +43,11 @@ impl<'a> Files for DiskFiles<'a> {
 
     type Dir = DiskFile<'a>;
 
-    fn open_file(&self, how: &OpenOptions, path: &str) -> io::Result<DiskFile<'a>> {
-        self.opened.note(path)?;
+    fn open_file(&self, how: &OpenOptions, _path: &str) -> io::Result<DiskFile<'a>> {
         if !goes_on(how) {
             return Err(io::Error::from(ErrorKind::InvalidInput));
         }
-        match self.refusal {
-            Some(kind) => Err(io::Error::from(kind)),
-            None => Ok(self.disk.file()),
-        }
+        Ok(self.disk.file())
     }
 
     fn open_dir(&self, _path: &str) -> io::Result<DiskFile<'a>> {

@@ -1,5 +1,4 @@
 //! A disk of a test's own, with one file.
-use crate::fake_files::unsupported;
 use std::alloc::{AllocError, Global};
 use std::cell::{Cell, RefCell};
 use std::fs::{Metadata, OpenFile};
@@ -8,6 +7,11 @@ use std::io::{ErrorKind, Read, Seek, SeekFrom, Write};
 
 /// How many bytes a read or a write takes at the most.
 const PIECE: usize = 4;
+
+/// Of a call that no test makes.
+pub(crate) fn unsupported() -> io::Error {
+    io::Error::from(ErrorKind::Unsupported)
+}
 
 /// A call of a file.
 #[derive(Clone, Copy, Debug, PartialEq, Eq)]

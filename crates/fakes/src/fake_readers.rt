@@ -1,4 +1,4 @@
-//! Readers that cut a text, fail, or repeat themselves.
+//! Readers that cut a text or fail.
 ghost use Rattle.std.specs.Prelude.{◌≡◌};
 ghost use Rattle.fakes.specs.Held.{left_of};
 
@@ -75,51 +75,6 @@ impl Read for Pieces<'_> {
         buf[..count].copy_from_slice(piece);
         self.rest = rest;
         self.next = self.size;
-        Ok(count)
-    }
-}
-
-/// Hands out some texts one after another, each so many times, and once at least.
-pub struct Repeats<'a> {
-    parts: &'a [(&'a [u8], u32)],
-    at: usize,
-    given: u32,
-}
-
-impl<'a> Repeats<'a> {
-    /// Nothing is handed out yet.
-    pub fn new(parts: &'a [(&'a [u8], u32)]) -> Repeats<'a> {
-        Repeats {
-            parts,
-            at: 0,
-            given: 0,
-        }
-    }
-}
-
-impl Drop for Repeats<'_> {
-    fn drop(self) {
-        let Repeats {
-            parts: _,
-            at: _,
-            given: _,
-        } = self;
-    }
-}
-
-impl Read for Repeats<'_> {
-    fn read(&mut self, buf: &mut [u8]) -> io::Result<usize> {
-        if self.at >= self.parts.len() {
-            return Ok(0);
-        }
-        let (text, times) = self.parts[self.at];
-        let count = text.len().min(buf.len());
-        buf[..count].copy_from_slice(&text[..count]);
-        self.given = self.given.saturating_add(1);
-        if self.given >= times {
-            self.given = 0;
-            self.at += 1;
-        }
         Ok(count)
     }
 }

@@ -2,8 +2,4 @@
 #![tactic(auto)]
 
 #[cfg(test)]
-mod agents_on_files;
-#[cfg(test)]
-mod real_files;
-#[cfg(test)]
 mod tape_files;

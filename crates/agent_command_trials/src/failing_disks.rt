@@ -1,162 +1,90 @@
-//! `mapf agent` with readers, writers and disks that fail.
-use crate::agent_command::{
-    FIRST_LINE, MOVED, MOVING, NOISE, ROW, STANDING, answer, answers_of, bytes_of, expect, first,
-    lines_of_row, refuses, unread,
-};
-use crate::run_command::{FILE, LANE};
-use fakes::{Call, DiskFiles, FakeDisk, Keeper, Pieces, Trouble};
+//! `mapf agent` over a disk that fails at each of its calls, and after power cuts.
+use agent_commands::agent_cmd;
+use fakes::{Call, DiskFiles, FakeDisk, Keeper};
+use grid::Counted;
 use std::alloc::{AllocError, Global};
-use std::io::ErrorKind;
+use std::io::Write;
 use std::process::Abort;
 use std::test::Fail;
 
-#[test]
-fn failing_texts(rt: HostRuntime) -> Result<(), Fail> {
-    let want = (3, "mapf: ReadFailed\n");
-    // One byte at a time, a text takes a call for each byte and one more for its end.
-    for call in 1..=38 {
-        let map = Pieces::of_size(LANE.as_bytes(), 1).failing_at(call, ErrorKind::Other);
-        refuses(&rt, rt.alloc(), (map, FILE.as_bytes()), 0, want, &call)?;
-    }
-    for call in 1..=56 {
-        let plan = Pieces::of_size(FILE.as_bytes(), 1).failing_at(call, ErrorKind::Other);
-        refuses(&rt, rt.alloc(), (LANE.as_bytes(), plan), 0, want, &call)?;
-    }
-    Ok(())
+/// A map of a row of three free cells.
+const LANE: &str = "type octile\nheight 1\nwidth 3\nmap\n...\n";
+
+/// Two agents that go one cell east, behind one another.
+const FILE: &str = "mapf-plan 1\nnumber 7\nagents 2\nagent 1 0 e-\nagent 0 0 e\n";
+
+/// The name of the tape file.
+const TAPE: &str = "robot.tape";
+
+/// Where agent 0 is by a tape without a record.
+const FIRST_LINE: &str = "at 1 0 done 0\n";
+
+/// The records of the move of agent 0.
+const MOVING: [u8; 10] = [0x50, 1, 0, 0, 0, 7, 0, 0, 0, 0];
+
+const STANDING: [u8; 10] = [0x50, 2, 0, 0, 0, 7, 0, 0, 0, 1];
+
+/// Bytes of no record.
+const NOISE: [u8; 10] = [0xff; 10];
+
+/// The bytes of a tape file: records, and a tail.
+fn bytes_of(alloc: Global, records: &[[u8; 10]], tail: &[u8]) -> Result<Vec<u8>, AllocError> {
+    let mut bytes = records.concat(alloc)?;
+    bytes.extend_from_slice(tail)?;
+    Ok(bytes)
 }
 
-/// How many lines are ended in a text.
-fn ended_lines(text: &[u8]) -> usize {
-    let mut count = 0_usize;
-    for &byte in text {
-        if byte == b'\n' {
-            count = count.saturating_add(1);
-        }
-    }
-    count
+/// Answers for agent 0, and says with which status.
+fn answer<W: Write, E: Write>(files: &DiskFiles<'_>, input: &[u8], out: &mut W, err: &mut E) -> u8 {
+    agent_cmd(
+        files,
+        &mut Counted::new(LANE.as_bytes()),
+        &mut Counted::new(FILE.as_bytes()),
+        0,
+        TAPE,
+        &mut Counted::new(input),
+        &mut Counted::new(out),
+        &mut Counted::new(err),
+    )
 }
 
-/// What is synced behind so many turns of `ROW`.
-fn synced_by(turns: usize) -> &'static [u8] {
-    match first(turns).last() {
-        Some(&(_, _, 10)) => &MOVED[..10],
-        Some(_) => &MOVED,
-        None => &[],
-    }
-}
-
-#[test]
-fn failing_input(rt: HostRuntime) -> Result<(), Fail> {
-    let asked = lines_of_row(rt.alloc())?;
-    let text = asked.as_bytes();
-    for given in 0..=text.len() {
-        let lines = ended_lines(&text[..given]);
-        let answers = answers_of(rt.alloc(), first(lines))?;
-        let call = (given as u64).saturating_add(1);
-        for kind in [ErrorKind::Other, ErrorKind::Interrupted] {
-            let disk = FakeDisk::new(rt.alloc(), b"")?;
-            let input = Pieces::of_size(text, 1).failing_at(call, kind);
-            let want = (3, answers.as_str(), "mapf: ReadFailed\n");
-            expect(&rt, rt.alloc(), &disk, input, want);
-            assert!(rt; disk.keeps(synced_by(lines)), "at {given}");
-        }
-    }
-    Ok(())
-}
-
-/// Leads the dialogue of `ROW` with an output that goes wrong at one of its lines, as it is written or as it is flushed.
-fn output_fails(
-    rt: &impl Abort,
-    alloc: Global,
-    line: usize,
-    flushes: bool,
-    trouble: Trouble,
-) -> Result<(), AllocError> {
-    let disk = FakeDisk::new(alloc, b"")?;
-    // Each line is written at once, and then flushed.
-    let call = (line as u64).saturating_mul(2).saturating_add(1);
-    let call = call.saturating_add(u64::from(flushes));
-    let mut out = Keeper::of_size(512).in_trouble_at(call, trouble);
-    let mut err = Keeper::of_size(256);
-    answer_row(rt, alloc, &disk, &mut out, &mut err)?;
-    assert!(rt;
-        err.kept() == b"mapf: WriteFailed\n".as_slice(),
-        "at line {line}"
-    );
-    let lines = line.saturating_add(usize::from(flushes));
-    assert!(rt; has_lines(alloc, out.kept(), lines)?, "at line {line}");
-    // The line before the one that failed is the first, of the state, or the answer to one of so many lines.
-    assert!(rt; disk.keeps(synced_by(line)), "at line {line}");
-    Ok(())
-}
-
-/// Leads the dialogue of `ROW`, which fails.
-fn answer_row(
-    rt: &impl Abort,
-    alloc: Global,
-    disk: &FakeDisk,
-    out: &mut Keeper,
-    err: &mut Keeper,
-) -> Result<(), AllocError> {
+/// Answers for agent 0 over the file of a disk, to the end of the input, and compares what it wrote.
+fn expect(rt: &impl Abort, alloc: Global, disk: &FakeDisk, input: &[u8], answers: &str) {
     let files = DiskFiles::new(alloc, disk);
-    let asked = lines_of_row(alloc)?;
-    assert_eq!(rt; answer(&files, 0, asked.as_bytes(), out, err), 3);
-    Ok(())
+    let (mut out, mut err) = (Keeper::of_size(512), Keeper::of_size(512));
+    let status = answer(&files, input, &mut out, &mut err);
+    assert_eq!(rt; status, 0, "at {answers:?}");
+    assert!(rt; out.kept() == answers.as_bytes(), "at {answers:?}");
+    assert!(rt; err.kept() == b"".as_slice(), "at {answers:?}");
 }
 
-/// Whether this is so many first lines of the dialogue of `ROW`.
-fn has_lines(alloc: Global, written: &[u8], lines: usize) -> Result<bool, AllocError> {
-    let answers = answers_of(alloc, &ROW)?;
-    Ok(ended_lines(written) == lines && answers.as_bytes().starts_with(written))
-}
+/// The records and the tail of tape files, and where the agent is by them.
+static OPENED: [(&[[u8; 10]], &[u8], &str); 9] = [
+    (&[], &[], "at 1 0 done 0\n"),
+    (&[], &[0x50, 1, 0, 0, 0, 7, 0, 0, 0], "at 1 0 done 0\n"),
+    (&[], &[0xff; 9], "at 1 0 done 0\n"),
+    (&[MOVING], &[], "between 1 0 2 0 done 0\n"),
+    (
+        &[MOVING],
+        &[0x50, 2, 0, 0, 0, 7, 0, 0, 0],
+        "between 1 0 2 0 done 0\n",
+    ),
+    (&[MOVING], &[0xff; 9], "between 1 0 2 0 done 0\n"),
+    (&[MOVING, STANDING], &[], "at 2 0 done 1\n"),
+    (&[MOVING, STANDING], &[0xff], "at 2 0 done 1\n"),
+    (&[MOVING, STANDING], &[0xff; 9], "at 2 0 done 1\n"),
+];
 
+/// What is said of where an agent is holds after a power cut too.
 #[test]
-fn failing_output(rt: HostRuntime) -> Result<(), Fail> {
-    for line in 0..=ROW.len() {
-        for trouble in [
-            Trouble::Failure,
-            Trouble::Interrupted,
-            Trouble::NothingTaken,
-        ] {
-            output_fails(&rt, rt.alloc(), line, false, trouble)?;
-            output_fails(&rt, rt.alloc(), line, true, trouble)?;
-        }
-    }
-    Ok(())
-}
-
-#[test]
-fn failing_standard_error(rt: HostRuntime) -> Result<(), Fail> {
-    for call in 1..=4 {
-        for (bytes, input_fails, status) in [
-            (NOISE.as_slice(), false, 1),
-            (MOVED.as_slice(), true, 3),
-            (b"", true, 3),
-        ] {
-            let disk = FakeDisk::new(rt.alloc(), bytes)?;
-            let files = DiskFiles::new(rt.alloc(), &disk);
-            let mut out = Keeper::of_size(256);
-            let mut err = Keeper::of_size(1).in_trouble_at(call, Trouble::Failure);
-            let got = answer(&files, 0, unread(), &mut out, &mut err);
-            assert_eq!(rt; got, status, "at call {call}");
-            assert!(rt; b"map".starts_with(err.kept()), "at call {call}");
-            assert_eq!(rt; !out.kept().is_empty(), input_fails);
-        }
-    }
-    Ok(())
-}
-
-#[test]
-fn failing_outputs(rt: HostRuntime) -> Result<(), Fail> {
-    for call in 1..=4 {
-        let disk = FakeDisk::new(rt.alloc(), b"")?;
-        let files = DiskFiles::new(rt.alloc(), &disk);
-        let mut out = Keeper::of_size(1).in_trouble_at(call, Trouble::Failure);
-        let mut err = Keeper::of_size(1).in_trouble_at(call, Trouble::Failure);
-        let status = answer(&files, 0, unread(), &mut out, &mut err);
-        assert_eq!(rt; status, 3, "at call {call}");
-        assert!(rt; b"at ".starts_with(out.kept()), "at call {call}");
-        assert!(rt; b"map".starts_with(err.kept()), "at call {call}");
+fn tape_files_that_are_opened(rt: HostRuntime) -> Result<(), Fail> {
+    for &(records, tail, state) in &OPENED {
+        let bytes = bytes_of(rt.alloc(), records, tail)?;
+        let disk = FakeDisk::new(rt.alloc(), &bytes)?;
+        expect(&rt, rt.alloc(), &disk, b"", state);
+        assert!(rt; disk.has(&bytes), "at {state:?}");
+        let after = disk.after_power_cut(rt.alloc())?;
+        expect(&rt, rt.alloc(), &after, b"", state);
     }
     Ok(())
 }
@@ -221,7 +149,7 @@ fn found(rt: &impl Abort, alloc: Global, disk: &FakeDisk) -> Option<usize> {
     disk.fail(Call::Read, u32::MAX);
     let files = DiskFiles::new(alloc, disk);
     let (mut out, mut err) = (Keeper::of_size(256), Keeper::of_size(256));
-    let status = answer(&files, 0, b"".as_slice(), &mut out, &mut err);
+    let status = answer(&files, b"", &mut out, &mut err);
     assert!(rt; status == 0 && err.kept() == b"".as_slice());
     STATES
         .iter()
@@ -232,7 +160,7 @@ fn found(rt: &impl Abort, alloc: Global, disk: &FakeDisk) -> Option<usize> {
 fn end_on(alloc: Global, disk: &FakeDisk, records: usize) -> Result<End, Fail> {
     let files = DiskFiles::new(alloc, disk);
     let (mut out, mut err) = (Keeper::of_size(256), Keeper::of_size(256));
-    let status = answer(&files, 0, ASKED, &mut out, &mut err);
+    let status = answer(&files, ASKED, &mut out, &mut err);
     match end_of(alloc, records, status, out.kept(), err.kept())? {
         Some(end) => Ok(end),
         None => Err("the dialogue may not end so")?,
@@ -282,7 +210,7 @@ fn goes_on(
     let index = records.min(2);
     let [(first, _), (second, _)] = ANSWERS[index];
     let answers = [STATES[index], first, second].concat(alloc)?;
-    expect(rt, alloc, disk, ASKED, (0, answers.as_str(), ""));
+    expect(rt, alloc, disk, ASKED, answers.as_str());
     assert_eq!(rt; found(rt, alloc, disk), Some(2));
     Ok(())
 }
