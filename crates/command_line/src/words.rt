@@ -101,18 +101,7 @@ fn read_command(alloc: Global, name: &str, given: &ArgMatches<'_>) -> Result<Lin
             scen: word(alloc, given, "scen")?,
             row: row_number(alloc, given)?,
         }),
-        "check" => {
-            let map = word(alloc, given, "map")?;
-            let plan = word(alloc, given, "plan")?;
-            let scen = optional_word(alloc, given, "scen")?;
-            let json = has_flag(given, "json");
-            Ok(Line::Check {
-                map,
-                plan,
-                scen,
-                json,
-            })
-        }
+        "check" => read_check(alloc, given),
         "deps" => Ok(Line::Deps {
             map: word(alloc, given, "map")?,
             plan: word(alloc, given, "plan")?,
@@ -122,14 +111,38 @@ fn read_command(alloc: Global, name: &str, given: &ArgMatches<'_>) -> Result<Lin
             plan: word(alloc, given, "plan")?,
             events: word(alloc, given, "events")?,
         }),
-        "agent" => Ok(Line::Agent {
-            map: word(alloc, given, "map")?,
-            plan: word(alloc, given, "plan")?,
-            id: agent_id(alloc, given)?,
-            tape: word(alloc, given, "tape")?,
-        }),
+        "agent" => read_agent(alloc, given),
         _ => Err(no_command(alloc)),
     }
+}
+
+/// Reads `check` by the words that it was given.
+fn read_check(alloc: Global, given: &ArgMatches<'_>) -> Result<Line, LineFault>
+    ensures ok { IfOk result (IsCommand (codes "check") (rows_of (found_of given.now))) }
+    ensures err { IfErr result (λ e. HasWords (codes "check") (rows_of (found_of given.now)) → e ≡ LineFault.OutOfMemory) }
+    ensures refusal { IfErr result IsRefusal }
+{
+    Ok(Line::Check {
+        map: word(alloc, given, "map")?,
+        plan: word(alloc, given, "plan")?,
+        scen: optional_word(alloc, given, "scen")?,
+        json: has_flag(given, "json"),
+    })
+}
+
+/// Reads `agent` by the words that it was given.
+fn read_agent(alloc: Global, given: &ArgMatches<'_>) -> Result<Line, LineFault>
+    ensures ok { IfOk result (IsCommand (codes "agent") (rows_of (found_of given.now))) }
+    ensures err { IfErr result (λ e. HasWords (codes "agent") (rows_of (found_of given.now)) → HasNumbers (codes "agent") (rows_of (found_of given.now))
+        → e ≡ LineFault.OutOfMemory) }
+    ensures refusal { IfErr result IsRefusal }
+{
+    Ok(Line::Agent {
+        map: word(alloc, given, "map")?,
+        plan: word(alloc, given, "plan")?,
+        id: agent_id(alloc, given)?,
+        tape: word(alloc, given, "tape")?,
+    })
 }
 
 /// The number of the row that was given.
