@@ -20,12 +20,12 @@ def checkout(harness: Harness) -> pathlib.Path:
     return folder
 
 
-def flipped(name: str) -> Callable[[pathlib.Path], None]:
-    """Changes one bit of the last byte of a file."""
+def flipped(name: str, part: float = 1.0) -> Callable[[pathlib.Path], None]:
+    """Changes one bit of a file, so far into it; of its last byte where nothing else is said."""
 
     def change(folder: pathlib.Path) -> None:
         content = bytearray((folder / name).read_bytes())
-        content[-1] ^= 1
+        content[int(part * (len(content) - 1))] ^= 1
         (folder / name).write_bytes(content)
 
     return change
@@ -50,10 +50,13 @@ def with_other_crates(folder: pathlib.Path) -> None:
 
 
 SPOILED = [
-    ("one byte of the program", flipped("dist/x86_64-linux/mapf"), "dist: dist/x86_64-linux/mapf has not the SHA-256"),
+    ("one byte of the program", flipped("dist/x86_64-linux/mapf", 0.5), "dist: dist/x86_64-linux/mapf has not the SHA-256"),
     ("the last byte of the program gone", shortened, "dist: dist/x86_64-linux/mapf has not the SHA-256"),
     ("a program that may not be executed", unmarked, "dist: dist/x86_64-linux/mapf may not be executed"),
-    ("one byte of the text beside it", flipped("dist/x86_64-linux/made-from.txt"), "dist: "),
+    *(
+        (f"one byte of the text beside it, at {part} of it", flipped("dist/x86_64-linux/made-from.txt", part), "dist: ")
+        for part in (0.0, 0.1, 0.2, 0.28, 0.32, 0.4, 0.5, 0.6, 0.7, 0.8, 0.9, 1.0)
+    ),
     ("one byte of a source", flipped("crates/grid/src/lib.rt"), "dist: the sources are others"),
     ("one byte of the program's own source", flipped("crates/mapf/src/main.rt"), "dist: the sources are others"),
     ("a source more", with_a_source_more, "dist: the sources are others"),

@@ -19,8 +19,8 @@ import build  # noqa: E402
 import product  # noqa: E402
 
 FACTS = product.SHIPPED.with_name("made-from.txt")
-# The names of the facts, in the order in which they stand.
-SUM, KIT, SOURCES = "sha256", "kit", "sources"
+# The names of the facts, in the order in which they stand. The last is the SHA-256 of the lines before it, so that none changes unseen.
+SUM, KIT, SOURCES, LINES = "sha256", "kit", "sources", "lines"
 
 
 class Fault(Exception):
@@ -32,15 +32,17 @@ def sum_of(path) -> str:
 
 
 def written_facts(facts: dict[str, str]) -> str:
-    return "".join(f"{name} {value}\n" for name, value in facts.items())
+    """The text of the facts, one a line, with the digest of these lines behind them."""
+    text = "".join(f"{name} {facts[name]}\n" for name in (SUM, KIT, SOURCES))
+    return f"{text}{LINES} {hashlib.sha256(text.encode()).hexdigest()}\n"
 
 
 def read_facts() -> dict[str, str]:
-    """What dist/ says of its program, one fact a line."""
+    """What dist/ says of its program."""
     text = FACTS.read_text(encoding="utf-8", errors="replace")
     facts = dict(line.partition(" ")[::2] for line in text.splitlines())
-    if list(facts) != [SUM, KIT, SOURCES] or written_facts(facts) != text:
-        raise Fault(f"{FACTS.relative_to(product.ROOT)} has another form than `dist.py` writes")
+    if list(facts) != [SUM, KIT, SOURCES, LINES] or written_facts(facts) != text:
+        raise Fault(f"{FACTS.relative_to(product.ROOT)} is not as `dist.py` wrote it")
     return facts
 
 
