@@ -9,6 +9,8 @@ import sys
 from typing import Iterator, Mapping, Optional, Sequence
 
 ROOT = pathlib.Path(__file__).resolve().parent.parent
+# Where the program lies in a checkout.
+SHIPPED = pathlib.Path("dist") / "x86_64-linux" / "mapf"
 # No run of a part takes nearly as long: a command that hangs fails its test.
 LONGEST = 120
 # The status of a command that could not be started, as a shell has it.
@@ -125,7 +127,7 @@ class Report:
                 else:
                     self.passed += 1
                 self.show(f"{part}: {self.passed - passed} passed, {self.failed - failed} failed")
-        except (OSError, ValueError) as error:
+        except (OSError, ValueError, subprocess.SubprocessError) as error:
             # The other parts still have something to say.
             self.fail(f"{part}: not run to its end: {error!r}")
         self.say(f"{part}: {self.passed - passed} passed, {self.failed - failed} failed")

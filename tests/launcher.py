@@ -6,10 +6,8 @@ import signal
 import subprocess
 from typing import Callable, Iterator, Sequence
 
-from harness import LONGEST, ROOT, Ended, Harness, Outcome, compared, ended_as
+from harness import LONGEST, ROOT, SHIPPED, Ended, Harness, Outcome, compared, ended_as
 from texts import BEHIND, LANE, SWAP
-
-SHIPPED = pathlib.Path("dist") / "x86_64-linux" / "mapf"
 
 
 def checkout(harness: Harness) -> pathlib.Path:

@@ -18,9 +18,7 @@ import formats
 import launcher
 import shipping
 import vectors
-from harness import ROOT, Harness, Outcome, Report
-
-SHIPPED = ROOT / "dist" / "x86_64-linux" / "mapf"
+from harness import ROOT, SHIPPED, Harness, Outcome, Report
 
 # Each part with what it tests, in the order in which they run: what is soonest done and tells most first.
 PARTS: dict[str, tuple[str, Callable[[Harness], Iterator[Outcome]]]] = {
@@ -45,7 +43,7 @@ def read_words(words: list[str]) -> argparse.Namespace:
         formatter_class=argparse.RawDescriptionHelpFormatter,
     )
     parser.add_argument("parts", nargs="*", metavar="PART", help="runs the parts whose name begins so (all)")
-    parser.add_argument("--program", type=pathlib.Path, default=SHIPPED, metavar="PATH", help="tests this program")
+    parser.add_argument("--program", type=pathlib.Path, default=ROOT / SHIPPED, metavar="PATH", help="tests this program")
     parser.add_argument("--long", action="store_true", help="runs what takes longer than two minutes too")
     parser.add_argument("--prove", action="store_true", help="proves everything first (`rt ci`), and then tests all, --long too")
     given = parser.parse_args(words)

@@ -4,7 +4,7 @@ import shutil
 import sys
 from typing import Callable, Iterator
 
-from harness import ROOT, Harness, Outcome, compared
+from harness import ROOT, SHIPPED, Harness, Outcome, compared
 
 TOOL = pathlib.Path("tools") / "dist.py"
 
@@ -32,12 +32,11 @@ def flipped(name: str, part: float = 1.0) -> Callable[[pathlib.Path], None]:
 
 
 def shortened(folder: pathlib.Path) -> None:
-    program = folder / "dist" / "x86_64-linux" / "mapf"
-    program.write_bytes(program.read_bytes()[:-1])
+    (folder / SHIPPED).write_bytes((folder / SHIPPED).read_bytes()[:-1])
 
 
 def unmarked(folder: pathlib.Path) -> None:
-    (folder / "dist" / "x86_64-linux" / "mapf").chmod(0o644)
+    (folder / SHIPPED).chmod(0o644)
 
 
 def with_a_source_more(folder: pathlib.Path) -> None:

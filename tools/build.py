@@ -121,7 +121,7 @@ def prove_and_build() -> bool:
     with tempfile.TemporaryDirectory(prefix="mapf-build-") as room:
         folder = pathlib.Path(room)
         count = copy_product(folder)
-        say(f"proving and building the program from {count} crates; it takes some twenty minutes on four processors")
+        say(f"proving and building the program from {count} crates; it takes half an hour on four processors")
         if not gate(folder, count):
             return False
         product.BUILT.parent.mkdir(parents=True, exist_ok=True)
