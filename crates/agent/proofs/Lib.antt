@@ -1,4 +1,10 @@
 -- Lemmas that several proofs share.
 pub mod RecordLemmas
 pub mod CounterLemmas
+pub mod MergeLemmas
 pub mod OwnLemmas
+pub mod SpellingLemmas
+pub mod ToldLemmas
+pub mod TakingLemmas
+pub mod TellLemmas
+pub mod PutLemmas

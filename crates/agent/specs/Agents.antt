@@ -1,15 +1,18 @@
 -- An agent over a tape.
-use Rattle.std.specs.Prelude.{◌≡◌, ℕ, ◌*◌, Bool, List, is_ok, Option, None, Some, Result, Err}
+use Rattle.std.specs.Prelude.{◌≡◌, ℕ, ◌*◌, Bool, List, is_ok, Option, None, Some, Vec, Result, Ok, Err}
 use Rattle.grid.specs.declared.cell.Cell.{Cell}
 use Rattle.model.specs.declared.held.Held.{Held}
 use Rattle.model.specs.History.{record_length}
+use Rattle.model.specs.Messages.{Message}
 use Rattle.model.specs.Timetable.{Track, Timetable, track_of}
 use Rattle.agent.specs.declared.counters.Counter.{Counter}
+use Rattle.agent.specs.declared.finished.Finished.{Finished}
 use Rattle.agent.specs.declared.refusal.HearFault.{HearFault}
+use Rattle.agent.specs.declared.refusal.TellFault.{TellFault}
 use Rattle.agent.specs.declared.refusal.Refusal.{Refusal}
 use Rattle.agent.specs.declared.refusal.Refusal.TheVariants.{StoreFailed}
 use Rattle.agent.specs.Records.{due_record}
-use Rattle.agent.specs.States.{State, held, start_refusal, finish_refusal, next_cell, Answers, IsSaid, IsHeard}
+use Rattle.agent.specs.States.{State, held, start_refusal, finish_refusal, next_cell, Answers, IsSaid, IsToldBy, IsHeard, IsHeardOf, IsHeardFrom}
 use Rattle.agent.specs.Tape.{TapeState, whole_records, HasFailed}
 
 -- the timetable of its graph, its number in it, its tape, what it has heard, and whether a write has failed
@@ -57,6 +60,25 @@ pub record Hears {T : Type 0} (seen : T → TapeState) (old new : AgentOn T) (by
 abbrev pub Holds : {T : Type 0} → (T → TapeState) → AgentOn T → Held → Type 0
 Holds seen a answer = (track : Track) × (track_of a.timetable a.id ≡ Some track) × (answer ≡ held track (state_of seen a))
 
+-- the same of a message of version 2 by its entries
+pub record HearsOf {T : Type 0} (seen : T → TapeState) (old new : AgentOn T) (message : Message) (answer : Result (ℕ × ℕ) HearFault) : Type 0 where
+  pub state : IsHeardOf old.timetable (state_of seen old) (state_of seen new) message answer
+  pub same : new ≡ record old { heard = new.heard }
+
+-- and of version 1 by what the sender has finished
+pub record HearsFrom {T : Type 0} (seen : T → TapeState) (old new : AgentOn T) (f : Finished) (answer : Result (ℕ × ℕ) HearFault) : Type 0 where
+  pub state : IsHeardFrom old.timetable (state_of seen old) (state_of seen new) f answer
+  pub same : new ≡ record old { heard = new.heard }
+
 -- what it says
 abbrev pub Says : {T : Type 0} → (T → TapeState) → AgentOn T → Result (List ℕ) Refusal → Type 0
 Says seen a answer = IsSaid a.timetable a.id (state_of seen a) answer
+
+-- the bytes of an answer
+abbrev pub bytes_told : {A : Type 0} → Result (Vec ℕ A) TellFault → Result (List ℕ) TellFault
+bytes_told (Ok bytes) = Ok bytes.items
+bytes_told (Err fault) = Err fault
+
+-- what it tells of all that it knows
+abbrev pub TellsAll : {T : Type 0} → (T → TapeState) → AgentOn T → Result (List ℕ) TellFault → Type 0
+TellsAll seen a answer = IsToldBy a.timetable a.id (state_of seen a) answer

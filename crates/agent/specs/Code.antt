@@ -2,9 +2,17 @@
 
 -- how a record differs from the one that is due
 pub mod Differences
+-- entries as bytes spell them, or as a list
+pub mod Listing
+-- counters raised by entries, both going forward
+pub mod Merging
 -- where the counter of an agent is, or would go
 pub mod Places
 -- a reading of records that stopped
 pub mod Stops
 -- the write of a due record
 pub mod Stores
+-- what an agent takes of a message
+pub mod Taking
+-- the entries that counters tell
+pub mod Told

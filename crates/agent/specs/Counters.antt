@@ -1,5 +1,8 @@
 -- What an agent has heard: counters, each of an agent and how many moves it is known to have finished.
-use Rattle.std.specs.Prelude.{◌≡◌, ◌≢◌, ℕ, ◌<◌, ◌==◌, if◌then◌else◌, Bool, List, [], ◌∷◌, length, slice_index_or, Option, None, Some, is_some, unwrap_or}
+use Rattle.std.specs.Prelude.{◌≡◌, ◌≢◌, ℕ, ◌<◌, ◌==◌, if◌then◌else◌, Bool, true, false, List, [], ◌∷◌, length, max, Any, slice_index_or, Option, None, Some, is_some, unwrap_or}
+use Rattle.std.specs.List.{list_any}
+use Rattle.model.specs.declared.entry.Entry.{Entry}
+use Rattle.model.specs.Messages.{told_by}
 use Rattle.agent.specs.declared.counters.Counter.{Counter}
 
 -- the number of the counter of an agent, if there is one
@@ -18,6 +21,26 @@ is_heard_of counters j = is_some (heard_of counters j)
 pub record SetsOnly (old new : List Counter) (agent done : ℕ) : Type 0 where
   pub this_agent : heard_of new agent ≡ Some done
   pub other_agents : (j : ℕ) → j ≢ agent → heard_of new j ≡ heard_of old j
+
+-- some entry tells of the agent
+abbrev pub tells_of : List Entry → ℕ → Bool
+tells_of entries j = list_any (λ entry. entry.agent == j) entries
+
+-- what an agent's counter comes to by entries: the greater of the old and the new number where they tell of it, and else it stays
+abbrev pub raised : List Counter → List Entry → ℕ → Option ℕ
+raised old entries j = if tells_of entries j then Some (max (known_in old j) (told_by entries j)) else heard_of old j
+
+-- the counter of each agent is raised by the entries
+abbrev pub Raises : List Counter → List Counter → List Entry → Type 0
+Raises old new entries = (j : ℕ) → heard_of new j ≡ raised old entries j
+
+-- some entry tells of an agent that was not heard of
+abbrev pub TellsOfNew : List Counter → List Entry → Type 0
+TellsOfNew old entries = Any (λ entry. is_heard_of old entry.agent ≡ false) entries
+
+-- only so many first agents were heard of
+abbrev pub AreWithin : ℕ → List Counter → Type 0
+AreWithin agents counters = (j : ℕ) → is_heard_of counters j ≡ true → j < agents
 
 -- the agent of the counter at a place
 abbrev pub agent_at : List Counter → ℕ → ℕ

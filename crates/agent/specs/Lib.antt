@@ -2,6 +2,10 @@
 
 -- which bytes are no message, and why
 pub mod Decoding
+-- what bytes tell, at either version
+pub mod Tellings
+-- what bytes are read as
+pub mod Reading
 -- what a tape is, and what its reads and writes may come to
 pub mod Tape
 -- the records of a tape

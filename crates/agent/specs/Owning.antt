@@ -1,7 +1,9 @@
 -- What the tape of an agent keeps.
-use Rattle.std.specs.Prelude.{◌≡◌, ℕ, ◌*◌, ◌≤◌, Some}
+use Rattle.std.specs.Prelude.{◌≡◌, ℕ, ◌*◌, ◌≤◌, List, length, Some}
 use Rattle.model.specs.History.{record_length}
 use Rattle.model.specs.Timetable.{Track, Timetable, moves, track_of}
+use Rattle.agent.specs.declared.counters.Counter.{Counter}
+use Rattle.agent.specs.Counters.{AreWithin}
 use Rattle.agent.specs.Records.{AreDue}
 use Rattle.agent.specs.Tape.{TapeState, whole_records}
 
@@ -16,3 +18,8 @@ pub record IsOwn (tt : Timetable) (i : ℕ) (t : TapeState) : Type 0 where
   pub is_track : track_of tt i ≡ Some track
   pub size : HasSize track t
   pub due : AreDue tt.number i t.contents (whole_records t)
+
+-- What an agent keeps: its tape is its own, and it has heard of agents of the timetable alone.
+pub record IsSound (tt : Timetable) (i : ℕ) (t : TapeState) (heard : List Counter) : Type 0 where
+  pub own : IsOwn tt i t
+  pub within : AreWithin (length tt.tracks) heard

@@ -6,7 +6,7 @@ use Rattle.model.specs.declared.held.Held.TheVariants.{At, Between}
 use Rattle.model.specs.declared.why.Why.{Why}
 use Rattle.model.specs.declared.why.Why.TheVariants as why
 use Rattle.model.specs.History.{Answer, heard, at, between, refused}
-use Rattle.model.specs.declared.msg_fault.MsgFault.TheVariants.{BadLength, BadMagic, BadVersion}
+use Rattle.model.specs.declared.msg_fault.MsgFault.TheVariants.{BadLength, BadMagic, BadVersion, BadEntry}
 use Rattle.agent.specs.declared.refusal.HearFault.{HearFault}
 use Rattle.agent.specs.declared.refusal.HearFault.TheVariants as fault
 use Rattle.agent.specs.declared.refusal.Refusal.{Refusal}
@@ -36,6 +36,7 @@ delivered (Ok (sender, known)) = Some (heard sender known)
 delivered (Err (fault.Message BadLength)) = Some (refused why.BadLength)
 delivered (Err (fault.Message BadMagic)) = Some (refused why.BadMagic)
 delivered (Err (fault.Message BadVersion)) = Some (refused why.BadVersion)
+delivered (Err (fault.Message (BadEntry number))) = Some (refused (why.BadEntry number))
 delivered (Err fault.WrongPlan) = Some (refused why.WrongPlan)
 delivered (Err fault.NoSuchAgent) = Some (refused why.NoSuchAgent)
 delivered (Err fault.TooMany) = Some (refused why.TooMany)

@@ -1,20 +1,26 @@
 -- The state of an agent as plain data, and what each call answers and leaves. An agent is one of a timetable, and has a track.
-use Rattle.std.specs.Prelude.{◌≡◌, ℕ, ◌+◌, ◌/◌, ◌%◌, ◌==◌, ◌^◌, ◌<◌, ◌⊎◌, Bool, true, false, if◌then◌else◌, nat_lt, List, max, Option, None, Some, option_map, MatchOption, Result, Ok, Err}
+use Rattle.std.specs.Prelude.{◌≡◌, ℕ, ◌+◌, ◌/◌, ◌%◌, ◌==◌, ◌⊎◌, ◌||◌, Bool, true, false, if◌then◌else◌, MatchBool, nat_lt, nat_le, List, length, Option, None, Some, option_map, unwrap_or, MatchOption, Result, Ok, Err}
+use Rattle.std.specs.List.{list_any}
 use Rattle.grid.specs.declared.cell.Cell.{Cell}
 use Rattle.model.specs.declared.held.Held.{Held}
 use Rattle.model.specs.declared.held.Held.TheVariants.{At, Between}
 use Rattle.model.specs.Timetable.{Track, Timetable, moves, track_of}
 use Rattle.model.specs.Dependency.{Need, need}
-use Rattle.model.specs.Messages.{IsMessage}
+use Rattle.model.specs.declared.entry.Entry.{Entry}
+use Rattle.model.specs.declared.msg_fault.MsgFault.TheVariants.{BadEntry}
+use Rattle.model.specs.Messages.{Message, own_message, whole_message, IsMessage, IsTold}
 use Rattle.model.specs.Rules.{path_cell}
 use Rattle.agent.specs.declared.counters.Counter.{Counter}
 use Rattle.agent.specs.declared.finished.Finished.{Finished}
 use Rattle.agent.specs.declared.refusal.Refusal.{Refusal}
 use Rattle.agent.specs.declared.refusal.Refusal.TheVariants.{Broken, AlreadyMoving, AtEnd, Waits, NotMoving, StoreFailed}
+use Rattle.agent.specs.declared.refusal.TellFault.{TellFault}
+use Rattle.agent.specs.declared.refusal.TellFault.TheVariants.{Broken as broken_teller, OutOfMemory as no_memory}
 use Rattle.agent.specs.declared.refusal.HearFault.{HearFault}
 use Rattle.agent.specs.declared.refusal.HearFault.TheVariants.{Message as bad_message, WrongPlan as wrong_plan, NoSuchAgent as no_such_agent, TooMany as too_many, Broken as broken_agent, OutOfMemory as out_of_memory}
-use Rattle.agent.specs.Counters.{known_in, is_heard_of, SetsOnly}
-use Rattle.agent.specs.Decoding.{message_fault}
+use Rattle.agent.specs.Counters.{known_in, Raises, TellsOfNew}
+use Rattle.agent.specs.Decoding.{wrong_entry, any_fault}
+use Rattle.agent.specs.Tellings.{Telling, Tells}
 
 -- how many whole records the tape has, what was heard since it was opened, and whether a write has failed since
 pub record State : Type 0 where
@@ -71,39 +77,71 @@ abbrev pub IsSaid : Timetable → ℕ → State → Result (List ℕ) Refusal �
 IsSaid tt i s (Ok bytes) = (s.broken ≡ false) × IsMessage tt.number i (done s) bytes
 IsSaid tt i s (Err why) = (s.broken ≡ true) × (why ≡ Broken)
 
--- The greater of the old and the new number of the sender is kept and answered; or memory is wanting, for a sender not heard of before.
-abbrev pub Keeps : State → State → Finished → Result (ℕ × ℕ) HearFault → Type 0
-Keeps old new f (Ok answer) =
-    (answer ≡ (f.from, max (known_in old.heard f.from) f.done)) × SetsOnly old.heard new.heard f.from (max (known_in old.heard f.from) f.done)
+-- the message of version 2, with all that an agent knows
+abbrev pub IsToldBy : Timetable → ℕ → State → Result (List ℕ) TellFault → Type 0
+IsToldBy tt i s (Ok bytes) = (s.broken ≡ false) × IsTold tt.number (whole_message (length tt.tracks) i (done s) (known_in s.heard)) bytes
+IsToldBy tt i s (Err broken_teller) = s.broken ≡ true
+IsToldBy tt i s (Err no_memory) = s.broken ≡ false
+
+-- Each entry raises the counter of its agent, and the sender is answered with what is then known of it; or memory is wanting, where some
+-- entry is of an agent not heard of before, and nothing has changed.
+abbrev pub Keeps : State → State → Message → Result (ℕ × ℕ) HearFault → Type 0
+Keeps old new message (Ok answer) =
+    (answer ≡ (message.sender, known_in new.heard message.sender)) × Raises old.heard new.heard message.entries
     × (new.records ≡ old.records) × (new.broken ≡ old.broken)
-Keeps old new f (Err fault) = (fault ≡ out_of_memory) × (is_heard_of old.heard f.from ≡ false) × (new ≡ old)
+Keeps old new message (Err fault) = (fault ≡ out_of_memory) × TellsOfNew old.heard message.entries × (new ≡ old)
 
 abbrev pub Refuses : State → State → Result (ℕ × ℕ) HearFault → HearFault → Type 0
 Refuses old new answer fault = (answer ≡ Err fault) × (new ≡ old)
 
 -- why bytes are not heard: a broken agent hears nothing, and what is no message has its fault
 abbrev pub bytes_refusal : State → List ℕ → Option HearFault
-bytes_refusal s bytes = if s.broken then Some broken_agent else option_map bad_message (message_fault bytes)
+bytes_refusal s bytes = if s.broken then Some broken_agent else option_map bad_message (any_fault bytes)
 
--- why a message is not heard: it tells more moves than its sender has
-abbrev pub count_refusal : ℕ → Option Track → Option HearFault
-count_refusal count None = Some no_such_agent
-count_refusal count (Some track) = if nat_lt (moves track) count then Some too_many else None
+-- the sender, or the agent of an entry, is none of the plan's
+abbrev pub names_nobody : Timetable → Message → Bool
+names_nobody tt message = nat_le (length tt.tracks) message.sender || list_any (λ entry. nat_le (length tt.tracks) entry.agent) message.entries
 
--- or it is one of another plan
-abbrev pub message_refusal : Timetable → Finished → Option HearFault
-message_refusal tt f = if f.plan == tt.number then count_refusal f.done (track_of tt f.from) else Some wrong_plan
+-- how many moves an agent has; none where there is no such agent
+abbrev pub moves_of : Timetable → ℕ → ℕ
+moves_of tt j = unwrap_or (option_map moves (track_of tt j)) 0
 
--- the bytes are the message of what it tells, each number within its range
-pub record Tells (bytes : List ℕ) (f : Finished) : Type 0 where
-  pub message : IsMessage f.plan f.from f.done bytes
-  pub from : f.from < 2 ^ 16
-  pub plan : f.plan < 2 ^ 32
-  pub done : f.done < 2 ^ 32
+-- some entry tells more moves than its agent has
+abbrev pub tells_too_many : Timetable → Message → Bool
+tells_too_many tt message = list_any (λ entry. nat_lt (moves_of tt entry.agent) entry.done) message.entries
 
--- what comes of bytes: the first refusal that stands, of the bytes and then of the message, or the message is kept
+-- why a message of the plan is not heard
+abbrev pub message_refusal : Timetable → Message → Option HearFault
+message_refusal tt message =
+    if names_nobody tt message then Some no_such_agent else (if tells_too_many tt message then Some too_many else None)
+
+-- or one of another plan
+abbrev pub telling_refusal : Timetable → Telling → Option HearFault
+telling_refusal tt t = if t.plan == tt.number then message_refusal tt t.message else Some wrong_plan
+
+-- what comes of what is told to an agent that isn't broken: the first refusal that stands, or it is kept
+abbrev pub IsTaken : Timetable → State → State → Telling → Result (ℕ × ℕ) HearFault → Type 0
+IsTaken tt old new t answer = MatchOption (telling_refusal tt t) (Keeps old new t.message answer) (Refuses old new answer)
+
+-- what comes of bytes: the first refusal that stands, or what they tell is taken
 abbrev pub IsHeard : Timetable → State → State → List ℕ → Result (ℕ × ℕ) HearFault → Type 0
 IsHeard tt old new bytes answer =
     MatchOption (bytes_refusal old bytes)
-    ((f : Finished) × Tells bytes f × MatchOption (message_refusal tt f) (Keeps old new f answer) (Refuses old new answer))
+    ((t : Telling) × Tells bytes t × IsTaken tt old new t answer)
     (Refuses old new answer)
+
+-- why what is told is not heard, where no bytes are: a broken agent hears nothing, and entries that don't rise have their fault
+abbrev pub told_refusal : State → List Entry → Option HearFault
+told_refusal s entries = if s.broken then Some broken_agent else option_map (λ number. bad_message (BadEntry number)) (wrong_entry 0 0 entries)
+
+-- the same of a message of version 2 by its entries
+abbrev pub IsHeardOf : Timetable → State → State → Message → Result (ℕ × ℕ) HearFault → Type 0
+IsHeardOf tt old new message answer =
+    MatchOption (told_refusal old message.entries)
+    (IsTaken tt old new (record { plan = tt.number; message = message }) answer)
+    (Refuses old new answer)
+
+-- and of version 1 by what the sender has finished
+abbrev pub IsHeardFrom : Timetable → State → State → Finished → Result (ℕ × ℕ) HearFault → Type 0
+IsHeardFrom tt old new f answer =
+    MatchBool old.broken (Refuses old new answer broken_agent) (IsTaken tt old new (record { plan = f.plan; message = own_message f.from f.done }) answer)

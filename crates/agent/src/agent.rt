@@ -1,18 +1,23 @@
 //! An agent: what it may do next, by its tape and by what it has heard.
-ghost use Rattle.std.specs.Prelude.{◌≡◌, ◌*◌, ◌<◌, ◌≤◌, true, false, option_map, IfSome, IfOk, IfErr, MatchOption};
+ghost use Rattle.std.specs.Prelude.{◌≡◌, ◌+◌, ◌*◌, ◌<◌, ◌≤◌, ◌++◌, true, false, length, option_map, IfSome, IfOk, IfErr, OnOk, OnErr, MatchOption};
 ghost use Rattle.model.specs.History.{record_length};
 ghost use Rattle.model.specs.Timetable.{Track, moves, track_of};
+ghost use Rattle.agent.specs.States.{message_refusal};
+ghost use Rattle.agent.specs.Code.Listing.{entries_of};
 
 use crate::counters::Counters;
-use crate::finished::{Finished, decode, encode};
+use crate::entries::Entries;
+use crate::finished::{Finished, encode};
+use crate::message::{Message, read_message};
 use crate::opening::read_records;
 use crate::record::due_record;
-use crate::refusal::{HearFault, OpenFault, Refusal};
+use crate::refusal::{HearFault, OpenFault, Refusal, TellFault};
 use crate::tape::{Scripted, Tape};
+use crate::telling::{put_told, tell};
 use depgraph::{Graph, Route};
 use grid::Cell;
-use model::Held;
-use std::alloc::Global;
+use model::{Entry, Held, MsgFault};
+use std::alloc::{AllocError, Global};
 use std::marker::Model;
 
 /// An agent of a graph, over its tape.
@@ -27,25 +32,28 @@ pub struct Agent<'g, T: Tape> {
 
 impl<'g, T: Tape> Model for Agent<'g, T> {
     ghost use Rattle.agent.specs.Agents.{AgentOn};
-    ghost use Rattle.agent.specs.Owning.{IsOwn};
+    ghost use Rattle.agent.specs.Owning.{IsSound};
 
     ghost Value = { AgentOn T };
 
     ghost view = { λ a. record { timetable = a.graph.now; id = a.id; tape = a.tape; heard = a.counters; broken = a.broken } };
 
-    ghost invariant = { λ a. IsOwn a.graph.now a.id (T.state a.tape) };
+    ghost invariant = { λ a. IsSound a.graph.now a.id (T.state a.tape) a.counters };
 }
 
 impl<'g, T: Tape> Agent<'g, T> {
     ghost use Rattle.std.specs.Prelude.{None};
     ghost use Rattle.model.specs.Rules.{path_cell};
-    ghost use Rattle.agent.specs.Agents.{AgentOn, state_of, Starts, Finishes, Hears, Holds, Says};
+    ghost use Rattle.model.specs.Messages.{own_message, whole_message, AreRising};
+    ghost use Rattle.agent.specs.Agents.{AgentOn, state_of, Starts, Finishes, Hears, HearsOf, HearsFrom, Holds, Says, bytes_told, TellsAll};
     ghost use Rattle.agent.specs.Counters.{known_in};
     ghost use Rattle.agent.specs.Opening.{IsOpened, IsRefused, Restarts};
     ghost use Rattle.agent.specs.Owning.{IsOwn};
     ghost use Rattle.agent.specs.States.{done, is_moving, start_refusal, finish_refusal, waits_for};
     ghost use Rattle.agent.specs.Tape.{IsKept, whole_records};
+    ghost use Rattle.agent.specs.Code.Listing.{entries_of};
     ghost use Rattle.agent.specs.Code.Stores.{Stored, HasRouteOf};
+    ghost use Rattle.agent.specs.Code.Taking.{Takes};
 
     /// Opens the tape of an agent, which has then heard nothing. A tape that is refused comes back with what it had.
     pub fn open(
@@ -93,6 +101,13 @@ impl<'g, T: Tape> Agent<'g, T> {
         Ok(())
     }
 
+    /// Which agent of the graph it is.
+    pub fn id(&self) -> u16
+        ensures { result ≡ self.now.id }
+    {
+        self.id
+    }
+
     /// Begins the next move, and answers the cell that the agent enters.
     pub fn start(&mut self) -> Result<Cell, Refusal>
         ensures { Starts T.state T.may_write self.old self.new result }
@@ -130,15 +145,74 @@ impl<'g, T: Tape> Agent<'g, T> {
         }))
     }
 
-    /// Hears a message: answers its sender, and how many moves of that one are known to be finished now. It takes memory only for a
-    /// sender not heard of before.
+    /// The message of version 2 with all that the agent knows: how many of its own moves are stored as finished, and what it has heard of
+    /// others. It takes memory for its bytes alone.
+    pub fn tell(&self) -> Result<Vec<u8>, TellFault>
+        ensures { TellsAll T.state self.now (bytes_told result) }
+    {
+        if self.broken {
+            return Err(TellFault::Broken);
+        }
+        let plan = self.graph.number();
+        let alloc = self.counters.alloc();
+        Ok(tell(alloc, plan, self.id, self.done(), &self.counters)?)
+    }
+
+    /// Puts the entries of what `tell` says behind a list, which is as it was where memory is refused.
+    pub fn put_entries(&self, entries: &mut Vec<Entry>) -> Result<(), AllocError>
+        ensures put { OnOk result (entries.new.items ≡ entries.old.items ++ (whole_message (length self.now.timetable.tracks) self.now.id (done (state_of T.state self.now)) (known_in self.now.heard)).entries) }
+        ensures few { OnOk result (length entries.new.items ≤ length entries.old.items + 10000) }
+        ensures err { OnErr result (entries.new.items ≡ entries.old.items) }
+    {
+        // There are no more entries than agents.
+        prove!(self.graph.agents() <= 10_000);
+        put_told(entries, self.id, self.done(), &self.counters)
+    }
+
+    /// Hears a message of either version: answers its sender, and how many moves of that one are known to be finished now. It takes memory
+    /// only for agents not heard of before.
     pub fn hear(&mut self, bytes: &[u8]) -> Result<(u16, u32), HearFault>
         ensures { Hears T.state self.old self.new bytes.now result }
     {
         if self.broken {
             return Err(HearFault::Broken);
         }
-        let finished = decode(bytes)?;
+        match read_message(bytes) {
+            Ok(Message::One(finished)) => self.take_own(finished),
+            Ok(Message::Two(told)) => self.take_all(told.plan(), told.from(), told.entries()),
+            Err(fault) => Err(HearFault::Message(fault)),
+        }
+    }
+
+    /// Hears what a message of version 1 says, as `hear` does.
+    pub fn hear_finished(&mut self, finished: Finished) -> Result<(u16, u32), HearFault>
+        ensures { HearsFrom T.state self.old self.new finished result }
+    {
+        if self.broken {
+            return Err(HearFault::Broken);
+        }
+        self.take_own(finished)
+    }
+
+    /// Hears what a message of version 2 of the agent's plan says, by its sender and its entries, as `hear` does.
+    pub fn hear_entries(&mut self, from: u16, entries: &[Entry]) -> Result<(u16, u32), HearFault>
+        ensures { HearsOf T.state self.old self.new (record { sender = from; entries = entries.now }) result }
+    {
+        if self.broken {
+            return Err(HearFault::Broken);
+        }
+        let plan = self.graph.number();
+        let entries = Entries::Listed(entries);
+        match entries.first_wrong() {
+            Some(number) => Err(HearFault::Message(MsgFault::BadEntry(number))),
+            None => self.take_all(plan, from, entries),
+        }
+    }
+
+    /// Takes what the sender of a message says of itself.
+    fn take_own(&mut self, finished: Finished) -> Result<(u16, u32), HearFault>
+        ensures { Takes T.state self.old self.new (record { plan = finished.plan; message = own_message finished.from finished.done }) result }
+    {
         if finished.plan != self.graph.number() {
             return Err(HearFault::WrongPlan);
         }
@@ -150,6 +224,26 @@ impl<'g, T: Tape> Agent<'g, T> {
         }
         let kept = self.counters.raise(finished.from, finished.done)?;
         Ok((finished.from, kept))
+    }
+
+    /// Takes all that the entries of a message say, or nothing.
+    fn take_all(
+        &mut self,
+        plan: u32,
+        from: u16,
+        entries: Entries<'_>,
+    ) -> Result<(u16, u32), HearFault>
+        requires { AreRising 0 (entries_of entries) }
+        ensures { Takes T.state self.old self.new (record { plan = plan; message = record { sender = from; entries = entries_of entries.entry } }) result }
+    {
+        if plan != self.graph.number() {
+            return Err(HearFault::WrongPlan);
+        }
+        if let Some(fault) = refusal_of(self.graph, from, entries) {
+            return Err(fault);
+        }
+        self.counters.raise_all(entries)?;
+        Ok((from, self.counters.known(from)))
     }
 
     /// How many moves of an agent are known to be finished; `None` where there is no such agent.
@@ -275,5 +369,27 @@ impl<'g, T: Scripted> Agent<'g, T> {
         ensures same { self.new ≡ record self.old { tape = self.new.tape } }
     {
         self.tape.arm(tear);
+    }
+}
+
+/// Why a message of a graph's plan is not heard, by its sender and its entries.
+fn refusal_of(graph: &Graph, from: u16, entries: Entries<'_>) -> Option<HearFault>
+    ensures { result ≡ message_refusal graph.now (record { sender = from; entries = entries_of entries.entry }) }
+{
+    if u32::from(from) >= graph.agents() {
+        return Some(HearFault::NoSuchAgent);
+    }
+    let mut too_many = false;
+    'entries: for at in 0..entries.count() {
+        let entry = entries.entry(at);
+        let Some(moves) = graph.moves(u32::from(entry.agent)) else {
+            return Some(HearFault::NoSuchAgent);
+        };
+        too_many = too_many || entry.done > moves;
+    }
+    if too_many {
+        Some(HearFault::TooMany)
+    } else {
+        None
     }
 }

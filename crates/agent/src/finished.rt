@@ -13,7 +13,7 @@ pub struct Finished {
     pub done: u32,
 }
 
-const MAGIC: u8 = 0x46;
+pub(crate) const MAGIC: u8 = 0x46;
 
 const VERSION: u8 = 1;
 

@@ -1,6 +1,9 @@
 //! What the definitions of messages and tapes mean: laws, which hold of all values and need no code.
-ghost use Rattle.std.specs.Prelude.{◌≡◌, ◌<◌, ◌^◌, ℕ, List};
-ghost use Rattle.model.specs.Messages.{message_bytes};
+ghost use Rattle.std.specs.Prelude.{◌≡◌, ◌<◌, ◌^◌, ◌↔◌, ℕ, List, None};
+ghost use Rattle.model.specs.declared.entry.Entry.{Entry};
+ghost use Rattle.model.specs.Messages.{message_bytes, told_bytes, AreRising};
+ghost use Rattle.agent.specs.Decoding.{wrong_entry};
+ghost use Rattle.agent.specs.Tellings.{Telling, IsInRange};
 
 /// Bytes tell one thing at the most: two messages with the same bytes, and numbers within their ranges, are the same.
 pub fn messages()
@@ -10,4 +13,12 @@ pub fn messages()
         → message_bytes plan from done ≡ message_bytes other_plan other_from other_done → from ≡ other_from }
     ensures done { (plan from done other_plan other_from other_done : ℕ) → done < 2 ^ 32 → other_done < 2 ^ 32
         → message_bytes plan from done ≡ message_bytes other_plan other_from other_done → done ≡ other_done }
+{}
+
+/// So do those of version 2, whose numbers are all within their ranges; and no bytes are a message of both versions. Of entries just those that
+/// rise have none that is wrong.
+pub fn whole_messages()
+    ensures one { (t u : Telling) → IsInRange t → IsInRange u → told_bytes t.plan t.message ≡ told_bytes u.plan u.message → t ≡ u }
+    ensures not_both { (plan from done : ℕ) (t : Telling) → message_bytes plan from done ≡ told_bytes t.plan t.message → ⊥ }
+    ensures rising { (entries : List Entry) → AreRising 0 entries ↔ (wrong_entry 0 0 entries ≡ None) }
 {}

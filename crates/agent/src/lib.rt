@@ -3,18 +3,22 @@
 
 mod agent;
 mod counters;
+mod entries;
 mod finished;
 pub mod laws;
 mod mem_tape;
+mod message;
 mod opening;
 mod record;
 mod refusal;
 pub mod replies;
 mod tape;
+mod telling;
 
 pub use agent::Agent;
 pub use finished::{Finished, decode, encode};
 pub use mem_tape::{MemTape, TapeMakeFault};
-pub use model::{Held, MsgFault};
-pub use refusal::{HearFault, OpenFault, Refusal};
+pub use message::{Message, Told, read_message};
+pub use model::{Entry, Held, MsgFault};
+pub use refusal::{HearFault, OpenFault, Refusal, TellFault};
 pub use tape::{Scripted, Tape, TapeError};

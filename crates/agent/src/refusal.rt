@@ -3,6 +3,7 @@ ghost use Rattle.std.specs.Prelude.{◌≡◌, Some};
 ghost use Rattle.grid.specs.FaultWords.{words_of, words_text};
 ghost use Rattle.agent.specs.FaultWords.{open_fault_words};
 ghost use Rattle.agent.specs.declared.refusal.HearFault.TheVariants.{Message as message, OutOfMemory as out_of_memory};
+ghost use Rattle.agent.specs.declared.refusal.TellFault.TheVariants.{OutOfMemory as no_memory};
 
 use grid::FaultWords;
 use model::MsgFault;
@@ -78,13 +79,30 @@ pub enum HearFault {
     WrongPlan,
     #[error("NoSuchAgent")]
     NoSuchAgent,
-    /// The message tells more moves than its sender has.
+    /// The message tells more moves of an agent than that one has.
     #[error("TooMany")]
     TooMany,
     #[error("Broken")]
     Broken,
     #[error("OutOfMemory")]
     OutOfMemory,
+}
+
+/// Why an agent does not tell all that it knows.
+#[derive(Clone, Copy, Debug, PartialEq, Eq, Error)]
+pub enum TellFault {
+    #[error("Broken")]
+    Broken,
+    #[error("OutOfMemory")]
+    OutOfMemory,
+}
+
+impl From<AllocError> for TellFault {
+    ghost from_gives = { λ _ e. e ≡ no_memory };
+
+    fn from(_: AllocError) -> TellFault {
+        TellFault::OutOfMemory
+    }
 }
 
 impl From<MsgFault> for HearFault {

@@ -2,6 +2,8 @@
 #![tactic(auto)]
 
 #[cfg(test)]
+mod changed_bytes;
+#[cfg(test)]
 mod many_senders;
 #[cfg(test)]
 mod messages;
@@ -9,6 +11,8 @@ mod messages;
 mod openings;
 #[cfg(test)]
 mod tears;
+#[cfg(test)]
+mod tellings;
 #[cfg(test)]
 mod texts;
 #[cfg(test)]

@@ -1,10 +1,11 @@
 //! Agents that hear of many others.
 use crate::walks::new_agent;
-use agent::{Agent, Finished, HearFault, MemTape, encode};
+use agent::{Agent, Finished, HearFault, MemTape, TellFault, encode};
 use depgraph::{Graph, OutOfMemory};
 use grid::{Cell, Counted, Map, read_map};
 use plan::{Act, Plan, check};
-use std::alloc::Global;
+use std::alloc::{AllocError, Global};
+use std::ops::Range;
 use std::process::Abort;
 use std::test::Fail;
 
@@ -68,43 +69,140 @@ fn ten_thousand_senders(rt: HostRuntime) -> Result<(), Fail> {
     Ok(())
 }
 
-/// Hears that an agent has made its move. Where memory is refused nothing has changed, and it is heard when it is said again.
-fn hear_again(rt: &impl Abort, agent: &mut Agent<'_, MemTape>, from: u16) {
-    let message = encode(Finished {
-        from,
-        plan: 7,
-        done: 1,
-    });
-    let mut answer = agent.hear(&message);
+/// The message of version 2 of an agent that knows of one move of each of these agents, and of no others.
+fn telling(alloc: Global, from: u16, agents: Range<u16>) -> Result<Vec<u8>, AllocError> {
+    let count = agents.end.saturating_sub(agents.start);
+    let mut message = Vec::new(alloc);
+    message.extend_from_slice(&[0x46, 2])?;
+    message.extend_from_slice(&from.to_be_bytes())?;
+    message.extend_from_slice(&[0, 0, 0, 7])?;
+    message.extend_from_slice(&count.to_be_bytes())?;
+    for agent in agents {
+        message.extend_from_slice(&agent.to_be_bytes())?;
+        message.extend_from_slice(&[0, 0, 0, 1])?;
+    }
+    Ok(message)
+}
+
+/// An agent that has made its move hears of all others, twice, and tells of all.
+fn hears_and_tells_of_all(
+    rt: &impl Abort,
+    alloc: Global,
+    graph: &Graph,
+    id: u16,
+    message: &[u8],
+) -> Result<Vec<u8>, Fail> {
+    let mut agent = new_agent(alloc, graph, id, 20)?;
+    agent.start()?;
+    agent.finish()?;
+    for _ in 0..2 {
+        assert_eq!(rt; agent.hear(message), Ok((9_999, 1)));
+    }
+    for id in 0..10_000 {
+        assert_eq!(rt; agent.known(id), Some(1));
+    }
+    let told = agent.tell()?;
+    assert!(rt; told == telling(alloc, id, 0..10_000)?);
+    Ok(told)
+}
+
+#[test]
+fn ten_thousand_entries(rt: HostRuntime) -> Result<(), Fail> {
+    let graph = wide_graph(rt.alloc(), 100)?;
+    let message = telling(rt.alloc(), 9_999, 0..10_000)?;
+    let told = hears_and_tells_of_all(&rt, rt.alloc(), &graph, 9_999, &message)?;
+    hears_and_tells_of_all(&rt, rt.alloc(), &graph, 0, &told)?;
+    Ok(())
+}
+
+/// How many moves of a hundred agents are known to be finished.
+fn moves_known(agent: &Agent<'_, MemTape>) -> u32 {
+    let mut moves = 0_u32;
+    for id in 0..100 {
+        moves = moves.saturating_add(agent.known(id).unwrap_or(0));
+    }
+    moves
+}
+
+/// Hears a message. Where memory is refused nothing has changed, and it is heard when it is said again.
+fn hear_again(rt: &impl Abort, agent: &mut Agent<'_, MemTape>, message: &[u8], from: u16) {
+    let known = moves_known(agent);
+    let mut answer = agent.hear(message);
     if answer == Err(HearFault::OutOfMemory) {
-        assert_eq!(rt; agent.known(from), Some(0));
-        answer = agent.hear(&message);
+        assert_eq!(rt; moves_known(agent), known);
+        answer = agent.hear(message);
     }
     assert_eq!(rt; answer, Ok((from, 1)));
 }
 
-/// One agent hears all others while any one allocation may fail, as the one with the number N does under
+/// Tells what it knows. Where memory is refused nothing has changed, and it is told when it is asked again.
+fn tell_again(rt: &impl Abort, agent: &Agent<'_, MemTape>, expected: &[u8]) {
+    let known = moves_known(agent);
+    let mut told = agent.tell();
+    if told == Err(TellFault::OutOfMemory) {
+        assert_eq!(rt; moves_known(agent), known);
+        told = agent.tell();
+    }
+    assert!(rt; matches!(&told, Ok(message) if message.as_slice() == expected));
+}
+
+/// One agent hears all others, each by itself.
+fn hear_each(
+    rt: &impl Abort,
+    alloc: Global,
+    agent: &mut Agent<'_, MemTape>,
+) -> Result<(), OutOfMemory> {
+    for from in (1..100).rev() {
+        let message = encode(Finished {
+            from,
+            plan: 7,
+            done: 1,
+        });
+        hear_again(rt, agent, &message, from);
+        let heard = telling(alloc, 0, from..100)?;
+        tell_again(rt, agent, &heard);
+    }
+    Ok(())
+}
+
+/// One agent hears of ever more agents at a time. No memory is taken to hear a message for the second time.
+fn hear_more(
+    rt: &impl Abort,
+    alloc: Global,
+    agent: &mut Agent<'_, MemTape>,
+) -> Result<(), OutOfMemory> {
+    for first in (1..100).rev().step_by(7) {
+        let message = telling(alloc, 99, first..100)?;
+        hear_again(rt, agent, &message, 99);
+        assert_eq!(rt; agent.hear(&message), Ok((99, 1)));
+        let heard = telling(alloc, 0, first..100)?;
+        tell_again(rt, agent, &heard);
+    }
+    Ok(())
+}
+
+/// What one agent of a hundred hears while any one allocation may fail, as the one with the number N does under
 /// `rt try --test --fail-alloc N`.
-fn attempt(rt: &impl Abort, alloc: Global) -> Result<(), OutOfMemory> {
+fn attempt(rt: &impl Abort, alloc: Global, hears_each: bool) -> Result<(), OutOfMemory> {
     let graph = wide_graph(alloc, 1)?;
     let tape = MemTape::new(alloc, 20).map_err(|_| OutOfMemory)?;
     let Ok(mut agent) = Agent::open(alloc, &graph, 0, tape) else {
         return Err(OutOfMemory);
     };
-    for from in (1..100).rev() {
-        hear_again(rt, &mut agent, from);
+    if hears_each {
+        hear_each(rt, alloc, &mut agent)
+    } else {
+        hear_more(rt, alloc, &mut agent)
     }
-    for id in 1..100 {
-        assert_eq!(rt; agent.known(id), Some(1));
-    }
-    Ok(())
 }
 
 #[test]
 fn memory_refused_to_a_hearer(rt: HostRuntime) -> Result<(), Fail> {
-    // At most one allocation fails, so the second attempt needs to succeed where the first did not.
-    if attempt(&rt, rt.alloc()).is_err() {
-        attempt(&rt, rt.alloc())?;
+    for hears_each in [true, false] {
+        // At most one allocation fails, so the second attempt needs to succeed where the first did not.
+        if attempt(&rt, rt.alloc(), hears_each).is_err() {
+            attempt(&rt, rt.alloc(), hears_each)?;
+        }
     }
     Ok(())
 }

@@ -1,6 +1,6 @@
 //! Agents that go along their paths, and hear of one another.
-use crate::texts::{graph_of, one_behind};
-use agent::{Agent, HearFault, Held, MemTape, MsgFault, Refusal, Tape};
+use crate::texts::{ROW, graph_of, one_behind};
+use agent::{Agent, HearFault, Held, MemTape, MsgFault, Refusal, Tape, TellFault};
 use depgraph::Graph;
 use fake_tapes::FailTape;
 use grid::Cell;
@@ -10,9 +10,9 @@ use std::test::Fail;
 
 const LEFT: Cell = Cell { x: 0, y: 0 };
 
-const MIDDLE: Cell = Cell { x: 1, y: 0 };
+pub const MIDDLE: Cell = Cell { x: 1, y: 0 };
 
-const RIGHT: Cell = Cell { x: 2, y: 0 };
+pub const RIGHT: Cell = Cell { x: 2, y: 0 };
 
 /// The agent over this tape.
 pub fn opened<T: Tape + Drop>(
@@ -26,11 +26,12 @@ pub fn opened<T: Tape + Drop>(
 
 /// What an agent is asked, with what it has to answer.
 #[derive(Clone, Copy)]
-enum Row {
+pub enum Row {
     Start(Result<Cell, Refusal>),
     Finish(Result<Cell, Refusal>),
     Say(Result<[u8; 12], Refusal>),
-    Hear([u8; 12], Result<(u16, u32), HearFault>),
+    Tell(Result<&'static [u8], TellFault>),
+    Hear(&'static [u8], Result<(u16, u32), HearFault>),
     Known(u16, Option<u32>),
     Held(Held),
     Done(u32),
@@ -52,22 +53,30 @@ fn answers<T: Tape>(agent: &mut Agent<'_, T>, row: Row) -> bool {
         Row::Start(answer) => agent.start() == answer,
         Row::Finish(answer) => agent.finish() == answer,
         Row::Say(answer) => agent.say() == answer,
-        Row::Hear(message, answer) => agent.hear(&message) == answer,
+        Row::Tell(answer) => tells(agent, answer),
+        Row::Hear(message, answer) => agent.hear(message) == answer,
         Row::Known(id, answer) => agent.known(id) == answer,
         Row::Held(answer) => agent.held() == answer,
         Row::Done(answer) => agent.done() == answer,
     }
 }
 
+fn tells<T: Tape>(agent: &Agent<'_, T>, answer: Result<&[u8], TellFault>) -> bool {
+    match agent.tell() {
+        Ok(message) => answer == Ok(message.as_slice()),
+        Err(fault) => answer == Err(fault),
+    }
+}
+
 /// Asks an agent one thing after another.
-fn expect<T: Tape>(rt: &impl Abort, agent: &mut Agent<'_, T>, rows: &[Row]) {
+pub fn expect<T: Tape>(rt: &impl Abort, agent: &mut Agent<'_, T>, rows: &[Row]) {
     for (n, &row) in rows.iter().enumerate() {
         assert!(rt; answers(agent, row), "at row {n}");
     }
 }
 
 /// Asks one agent after another, agent 0 or 1.
-fn expect_all<T: Tape>(
+pub fn expect_all<T: Tape>(
     rt: &impl Abort,
     first: &mut Agent<'_, T>,
     second: &mut Agent<'_, T>,
@@ -103,7 +112,7 @@ static ONE_BEHIND_ANOTHER: [(u16, Row); 15] = [
     (0, Row::Start(Err(Refusal::AtEnd))),
     (1, WAITS),
     (0, Row::Say(Ok(ONE_DONE))),
-    (1, Row::Hear(ONE_DONE, Ok((0, 1)))),
+    (1, Row::Hear(&ONE_DONE, Ok((0, 1)))),
     (1, Row::Known(0, Some(1))),
     (1, Row::Known(1, Some(0))),
     (1, Row::Known(2, None)),
@@ -137,15 +146,15 @@ static OUT_OF_ORDER: [(u16, Row); 10] = [
     (0, Row::Start(Ok(MIDDLE))),
     (0, Row::Finish(Ok(MIDDLE))),
     (0, Row::Say(Ok(TWO_DONE))),
-    (1, Row::Hear(TWO_DONE, Ok((0, 2)))),
-    (1, Row::Hear(ONE_DONE, Ok((0, 2)))),
-    (1, Row::Hear(ONE_DONE, Ok((0, 2)))),
+    (1, Row::Hear(&TWO_DONE, Ok((0, 2)))),
+    (1, Row::Hear(&ONE_DONE, Ok((0, 2)))),
+    (1, Row::Hear(&ONE_DONE, Ok((0, 2)))),
     (1, Row::Start(Err(Refusal::AtEnd))),
 ];
 
 #[test]
 fn messages_out_of_order(rt: HostRuntime) -> Result<(), Fail> {
-    let graph = graph_of(rt.alloc(), "agent 1 0 ew\nagent 0 0 =\n")?;
+    let graph = graph_of(rt.alloc(), ROW, "agents 2\nagent 1 0 ew\nagent 0 0 =\n")?;
     let mut goer = new_agent(rt.alloc(), &graph, 0, 40)?;
     let mut stayer = new_agent(rt.alloc(), &graph, 1, 0)?;
     expect_all(&rt, &mut goer, &mut stayer, &OUT_OF_ORDER);
@@ -155,22 +164,22 @@ fn messages_out_of_order(rt: HostRuntime) -> Result<(), Fail> {
 /// The last is of itself, of which an agent hears as of any other.
 static HEARD_OR_NOT: [Row; 5] = [
     Row::Hear(
-        [0x46, 1, 0, 1, 0, 0, 0, 7, 0, 0, 0, 2],
+        &[0x46, 1, 0, 1, 0, 0, 0, 7, 0, 0, 0, 2],
         Err(HearFault::TooMany),
     ),
     Row::Hear(
-        [0x46, 1, 0, 1, 0, 0, 0, 8, 0, 0, 0, 2],
+        &[0x46, 1, 0, 1, 0, 0, 0, 8, 0, 0, 0, 2],
         Err(HearFault::WrongPlan),
     ),
     Row::Hear(
-        [0x46, 1, 0, 9, 0, 0, 0, 7, 0, 0, 0, 1],
+        &[0x46, 1, 0, 9, 0, 0, 0, 7, 0, 0, 0, 1],
         Err(HearFault::NoSuchAgent),
     ),
     Row::Hear(
-        [0x46, 2, 0, 1, 0, 0, 0, 7, 0, 0, 0, 1],
+        &[0x46, 3, 0, 1, 0, 0, 0, 7, 0, 0, 0, 1],
         Err(HearFault::Message(MsgFault::BadVersion)),
     ),
-    Row::Hear(ONE_DONE, Ok((0, 1))),
+    Row::Hear(&ONE_DONE, Ok((0, 1))),
 ];
 
 #[test]
@@ -181,12 +190,13 @@ fn messages_that_are_not_heard(rt: HostRuntime) -> Result<(), Fail> {
     Ok(())
 }
 
-static BROKEN: [Row; 7] = [
+static BROKEN: [Row; 8] = [
     Row::Start(Err(Refusal::StoreFailed)),
     Row::Start(Err(Refusal::Broken)),
     Row::Finish(Err(Refusal::Broken)),
     Row::Say(Err(Refusal::Broken)),
-    Row::Hear([0; 12], Err(HearFault::Broken)),
+    Row::Tell(Err(TellFault::Broken)),
+    Row::Hear(&[0; 12], Err(HearFault::Broken)),
     Row::Done(0),
     Row::Known(1, Some(0)),
 ];

@@ -179,6 +179,7 @@ Then each line of standard input is answered by one line:
   start      moving X Y, or refused and why
   finish     arrived X Y, or refused and why
   say        said HEX: the message for the other agents
+  tell       said HEX: the same with all that it has heard of others too
   hear HEX   heard J N: agent J has finished N moves; or refused and why
   held       the state of the agent, as at first
   any other  refused BadLine

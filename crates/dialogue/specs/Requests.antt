@@ -10,6 +10,8 @@ pub data Request : Type 0 where
   start : Request
   finish : Request
   say : Request
+  -- to say all that it knows
+  tell : Request
   -- what the agent holds
   held : Request
   -- to hear a message of these bytes
@@ -20,6 +22,7 @@ abbrev pub AsksFor : Request → List ℕ → Type 0
 AsksFor start line = line ≡ codes "start"
 AsksFor finish line = line ≡ codes "finish"
 AsksFor say line = line ≡ codes "say"
+AsksFor tell line = line ≡ codes "tell"
 AsksFor held line = line ≡ codes "held"
 AsksFor (hear bytes) line =
     (digits : List ℕ) × (line ≡ codes "hear " ++ digits) × (decode_of digits ≡ Ok bytes) × (length line ≤ longest_request)

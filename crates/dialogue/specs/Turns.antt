@@ -7,10 +7,12 @@ use Rattle.model.specs.Timetable.{Track, Timetable}
 use Rattle.model.specs.declared.why.Why.TheVariants as why
 use Rattle.agent.specs.declared.refusal.HearFault.{HearFault}
 use Rattle.agent.specs.declared.refusal.Refusal.{Refusal}
+use Rattle.agent.specs.declared.refusal.TellFault.{TellFault}
+use Rattle.agent.specs.declared.refusal.TellFault.TheVariants.{Broken, OutOfMemory}
 use Rattle.agent.specs.Replies.{answered, delivered, stood, why_of}
-use Rattle.agent.specs.States.{State, done, held as held_in, start_refusal, finish_refusal, next_cell, Answers, IsSaid, IsHeard}
+use Rattle.agent.specs.States.{State, done, held as held_in, start_refusal, finish_refusal, next_cell, Answers, IsSaid, IsToldBy, IsHeard}
 use Rattle.event_text.specs.ReplyText.{reply_line}
-use Rattle.dialogue.specs.Requests.{Request, start, finish, say, held, hear, AsksFor, AsksNothing}
+use Rattle.dialogue.specs.Requests.{Request, start, finish, say, tell, held, hear, AsksFor, AsksNothing}
 
 -- ---- lines, without their LF
 
@@ -22,6 +24,12 @@ state_line track s = reply_line (stood (held_in track s) (done s))
 abbrev pub said_line : Result (List ℕ) Refusal → List ℕ
 said_line (Ok bytes) = codes "said " ++ encode_lower bytes
 said_line (Err refusal) = reply_line (refused (why_of refusal))
+
+-- the message of version 2 that was said; memory may be wanting for its bytes
+abbrev pub told_line : Result (List ℕ) TellFault → List ℕ
+told_line (Ok bytes) = codes "said " ++ encode_lower bytes
+told_line (Err Broken) = reply_line (refused why.Broken)
+told_line (Err OutOfMemory) = codes "refused OutOfMemory"
 
 -- what was heard; memory may be wanting for it
 abbrev pub line_or_want : Option Answer → List ℕ
@@ -47,6 +55,7 @@ Takes tt i track start old new text =
 Takes tt i track finish old new text =
     (answer : Result Cell Refusal) × Answers (finish_refusal old) old new (next_cell track old) answer × (text ≡ reply_line (answered arrived answer))
 Takes tt i track say old new text = (answer : Result (List ℕ) Refusal) × IsSaid tt i old answer × (new ≡ old) × (text ≡ said_line answer)
+Takes tt i track tell old new text = (answer : Result (List ℕ) TellFault) × IsToldBy tt i old answer × (new ≡ old) × (text ≡ told_line answer)
 Takes tt i track held old new text = (new ≡ old) × (text ≡ state_line track old)
 Takes tt i track (hear bytes) old new text = (answer : Result (ℕ × ℕ) HearFault) × IsHeard tt old new bytes answer × (text ≡ heard_line answer)
 

@@ -2,7 +2,7 @@
 ghost use Rattle.std.specs.Prelude.{◌≡◌, ◌≤◌, ◌*◌, List, ℕ, Some, length, IfSome};
 ghost use Rattle.model.specs.Timetable.{Track, track_of};
 ghost use Rattle.agent.specs.Agents.{state_of};
-ghost use Rattle.dialogue.specs.Requests.{longest_request, say, hear};
+ghost use Rattle.dialogue.specs.Requests.{longest_request, say, tell, hear};
 ghost use Rattle.dialogue.specs.Turns.{Takes, IsTurn, state_line};
 ghost use Rattle.dialogue.specs.Code.Answering.{answer_line, IsSameAgent};
 ghost use Rattle.dialogue.specs.Code.Reading.{request_in, FitsIn, IsKept};
@@ -12,8 +12,8 @@ use crate::request::{Request, read_request};
 use agent::replies::{
     reply_to_delivery, reply_to_finish, reply_to_restart, reply_to_start, why_of,
 };
-use agent::{Agent, Tape};
-use model::Reply;
+use agent::{Agent, Tape, TellFault};
+use model::{Reply, Why};
 
 /// Answers a line that was kept in a room, so many bytes without an LF; one that was too long is not understood.
 pub(crate) fn answer_kept<T: Tape>(
@@ -60,6 +60,7 @@ fn answer_request<T: Tape>(agent: &mut Agent<'_, T>, request: Request, room: &[u
         Request::Start => LineAnswer::Reply(reply_to_start(agent.start())),
         Request::Finish => LineAnswer::Reply(reply_to_finish(agent.finish())),
         Request::Say => answer_say(agent),
+        Request::Tell => answer_tell(agent),
         Request::Held => state_answer(agent),
         Request::Hear(count) => answer_hear(agent, &room[..count]),
     }
@@ -71,6 +72,16 @@ fn answer_say<T: Tape>(agent: &Agent<'_, T>) -> LineAnswer
     match agent.say() {
         Ok(message) => LineAnswer::Said(message),
         Err(refusal) => LineAnswer::Reply(Reply::Refused(why_of(refusal))),
+    }
+}
+
+fn answer_tell<T: Tape>(agent: &Agent<'_, T>) -> LineAnswer
+    ensures { (track : Track) → Takes agent.now.timetable agent.now.id track tell (state_of T.state agent.now) (state_of T.state agent.now) (answer_line result) }
+{
+    match agent.tell() {
+        Ok(message) => LineAnswer::Told(message),
+        Err(TellFault::Broken) => LineAnswer::Reply(Reply::Refused(Why::Broken)),
+        Err(TellFault::OutOfMemory) => LineAnswer::OutOfMemory,
     }
 }
 

@@ -1,14 +1,12 @@
 //! The answers to input lines, and writing them.
 ghost use Rattle.std.specs.Prelude.{◌≡◌, ◌++◌, [], ◌∷◌, ◌↔◌, IsTrue, OnOk, OnErr, Ok};
-ghost use Rattle.hex.specs.Hex.{encode_lower};
 ghost use Rattle.grid.specs.Text.{line_feed};
 ghost use Rattle.grid.specs.Sink.{held_back, Puts, Breaks};
 ghost use Rattle.dialogue.specs.Turns.{said_line, store_failed};
 ghost use Rattle.dialogue.specs.Code.Answering.{answer_line};
 
-use event_text::put_reply;
+use event_text::{put_hexadecimal, put_reply};
 use grid::{Sink, WriteFault};
-use hex::encode_to_slice;
 use model::{Reply, Why};
 use std::io::Write;
 
@@ -16,9 +14,11 @@ use std::io::Write;
 #[derive(Debug, Drop)]
 pub(crate) enum LineAnswer {
     Reply(Reply),
-    /// The message that was said.
+    /// The message of version 1 that was said.
     Said([u8; 12]),
-    /// Memory is wanting for what was heard.
+    /// The message of version 2.
+    Told(Vec<u8>),
+    /// Memory is wanting for what was heard, or for what is to be told.
     OutOfMemory,
     /// The line is not understood.
     BadLine,
@@ -53,27 +53,17 @@ fn put_answer<W: Write>(sink: &mut Sink<'_, W>, answer: &LineAnswer) -> Result<(
     match answer {
         LineAnswer::Reply(reply) => put_reply(sink, reply),
         LineAnswer::Said(message) => put_said(sink, message),
+        LineAnswer::Told(message) => put_said(sink, message),
         LineAnswer::OutOfMemory => sink.put(b"refused OutOfMemory\n"),
         LineAnswer::BadLine => sink.put(b"refused BadLine\n"),
     }
 }
 
-fn put_said<W: Write>(sink: &mut Sink<'_, W>, message: &[u8; 12]) -> Result<(), WriteFault>
+fn put_said<W: Write>(sink: &mut Sink<'_, W>, message: &[u8]) -> Result<(), WriteFault>
     ensures ok { OnOk result (Puts W.contents sink.old sink.new (said_line (Ok message.now) ++ line_feed ∷ [])) }
     ensures err { OnErr result (Breaks W.contents sink.old sink.new (said_line (Ok message.now) ++ line_feed ∷ [])) }
 {
-    let digits = digits_of(message);
     sink.put(b"said ")?;
-    sink.put(&digits)?;
+    put_hexadecimal(sink, message)?;
     sink.put(b"\n")
-}
-
-/// Two digits for each byte.
-fn digits_of(message: &[u8; 12]) -> [u8; 24]
-    ensures { result ≡ encode_lower message.now }
-{
-    let mut digits = [0; 24];
-    // There is room for just so many digits, so nothing can be refused.
-    let _ = encode_to_slice(message.as_slice(), &mut digits);
-    digits
 }

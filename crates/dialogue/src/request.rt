@@ -14,6 +14,8 @@ pub(crate) enum Request {
     Start,
     Finish,
     Say,
+    /// To say all that it knows.
+    Tell,
     Held,
     /// To hear a message of so many bytes, which stand at the front of a room.
     Hear(usize),
@@ -34,6 +36,9 @@ pub(crate) fn read_request(line: &[u8], room: &mut [u8]) -> Option<Request>
     }
     if is_word(line, b"say") {
         return Some(Request::Say);
+    }
+    if is_word(line, b"tell") {
+        return Some(Request::Tell);
     }
     if is_word(line, b"held") {
         return Some(Request::Held);

@@ -218,9 +218,10 @@ fn broken(alloc: Global, graph: &Graph) -> Result<Agent<'_, FailTape>, Fail> {
 fn broken_agent(rt: HostRuntime) -> Result<(), Fail> {
     let graph = graph_of(rt.alloc(), 7, TWO)?;
     let mut agent = broken(rt.alloc(), &graph)?;
-    let asked = b"start\nfinish\nsay\nhear 460100010000000700000000\nheld\nstart";
+    let asked =
+        b"start\nfinish\nsay\ntell\nhear 460100010000000700000000\nhear 46020001000000070000\nheld\nstart";
     let want =
-        "at 1 0 done 0\nrefused Broken\nrefused Broken\nrefused Broken\nrefused Broken\nat 1 0 done 0\nrefused Broken\n";
+        "at 1 0 done 0\nrefused Broken\nrefused Broken\nrefused Broken\nrefused Broken\nrefused Broken\nrefused Broken\nat 1 0 done 0\nrefused Broken\n";
     writes(&rt, rt.alloc(), &mut agent, asked, want)
 }
 

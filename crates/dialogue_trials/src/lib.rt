@@ -13,3 +13,5 @@ mod failing_writers;
 mod long_lines;
 #[cfg(test)]
 mod memory;
+#[cfg(test)]
+mod tellings;

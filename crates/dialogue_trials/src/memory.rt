@@ -1,39 +1,69 @@
 //! Dialogues for which memory may be refused.
 use crate::dialogues::{TWO, graph_of, new_agent};
+use depgraph::Graph;
 use dialogue::{TalkFault, talk};
 use fakes::Keeper;
 use grid::Counted;
+use std::alloc::Global;
+use std::process::Abort;
 use std::test::Fail;
 
-/// An agent is told of another while any one allocation may fail, as the one with the number N does under
-/// `rt try --test --fail-alloc N`. Where the dialogue isn't led nothing is read or written; where it is, what can't be noted is refused.
-#[test]
-fn memory_that_is_refused(rt: HostRuntime) -> Result<(), Fail> {
-    let graph = graph_of(rt.alloc(), 7, TWO)?;
-    let mut agent = new_agent(rt.alloc(), &graph, 1)?;
-    let asked = b"hear 460100000000000700000001\nhear 460100000000000700000001\nstart\n";
-    let mut rest = asked.as_slice();
+/// What agent 1 is asked, and what it may write: all, or one answer that memory was refused.
+static DIALOGUES: [(&[u8], &[&[u8]]); 2] = [
+    (
+        b"hear 460100000000000700000001\nhear 460100000000000700000001\nstart\n",
+        &[
+            b"at 0 0 done 0\nheard 0 1\nheard 0 1\nmoving 1 0\n",
+            b"at 0 0 done 0\nrefused OutOfMemory\nheard 0 1\nmoving 1 0\n",
+        ],
+    ),
+    (
+        b"hear 46020000000000070001000000000001\nhear 46020000000000070001000000000001\ntell\ntell\n",
+        &[
+            b"at 0 0 done 0\nheard 0 1\nheard 0 1\nsaid 46020001000000070001000000000001\nsaid 46020001000000070001000000000001\n",
+            b"at 0 0 done 0\nrefused OutOfMemory\nheard 0 1\nsaid 46020001000000070001000000000001\nsaid 46020001000000070001000000000001\n",
+            b"at 0 0 done 0\nheard 0 1\nheard 0 1\nrefused OutOfMemory\nsaid 46020001000000070001000000000001\n",
+            b"at 0 0 done 0\nheard 0 1\nheard 0 1\nsaid 46020001000000070001000000000001\nrefused OutOfMemory\n",
+        ],
+    ),
+];
+
+/// Where a dialogue isn't led nothing is read or written; where it is, what can't be noted or told is refused.
+fn talks_or_lacks_memory(
+    rt: &impl Abort,
+    alloc: Global,
+    graph: &Graph,
+    asked: &[u8],
+    answers: &[&[u8]],
+) -> Result<(), Fail> {
+    let mut agent = new_agent(alloc, graph, 1)?;
+    let mut rest = asked;
     let mut out = Keeper::of_size(512);
     let end = talk(
-        rt.alloc(),
+        alloc,
         &mut agent,
         &mut Counted::new(&mut rest),
         &mut Counted::new(&mut out),
     );
     if end == Err(TalkFault::OutOfMemory) {
-        assert!(rt; rest == asked.as_slice() && out.kept() == b"".as_slice());
+        assert!(rt; rest == asked && out.kept() == b"".as_slice());
         return Err(TalkFault::OutOfMemory.into());
     }
     assert_eq!(rt; end, Ok(()));
-    assert!(rt; ANSWERS.contains(&out.kept()));
+    assert!(rt; answers.contains(&out.kept()));
     Ok(())
 }
 
-/// What is written if all is heard, and if the first message can't be noted.
-static ANSWERS: [&[u8]; 2] = [
-    b"at 0 0 done 0\nheard 0 1\nheard 0 1\nmoving 1 0\n",
-    b"at 0 0 done 0\nrefused OutOfMemory\nheard 0 1\nmoving 1 0\n",
-];
+/// An agent is told of another, and tells of it, while any one allocation may fail, as the one with the number N does under
+/// `rt try --test --fail-alloc N`.
+#[test]
+fn memory_that_is_refused(rt: HostRuntime) -> Result<(), Fail> {
+    let graph = graph_of(rt.alloc(), 7, TWO)?;
+    for &(asked, answers) in &DIALOGUES {
+        talks_or_lacks_memory(&rt, rt.alloc(), &graph, asked, answers)?;
+    }
+    Ok(())
+}
 
 #[test]
 fn faults_as_text(rt: HostRuntime) -> Result<(), Fail> {

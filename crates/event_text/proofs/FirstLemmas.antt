@@ -1,65 +1,78 @@
--- The first events of a text.
-use Rattle.std.proofs.Common.{◌≡◌, ℕ, ◌+◌, ◌≤◌, ◌⊎◌, inl, inr, Bool, true, false, List, [], ◌∷◌, ◌++◌, length, refl, sym, ap, ◌∙◌, subst, arith, append-nil, Some, None}
+-- The version and the first events of a text.
+use Rattle.std.proofs.Common.{◌≡◌, ℕ, ◌+◌, ◌≤◌, ◌⊎◌, inl, inr, List, [], ◌∷◌, ◌++◌, length, refl, sym, ap, ◌∙◌, subst, arith, append-nil, Some, None}
 use Rattle.std.specs.Prelude.{Option}
 use Rattle.std.specs.List.{AllByRecursion}
 use Rattle.grid.specs.Text.{line_feed, IsLine, ended}
 use Rattle.grid.proofs.LineLemmas.{ended-line}
 use Rattle.grid.proofs.PlaceLemmas.{cut}
 use Rattle.model.specs.declared.event.Event.{Event}
-use Rattle.plan_text.specs.PlanTextFault.{BeginsWith}
-use Rattle.plan_text.proofs.LineDecisions.{begins_or_not}
-use Rattle.event_text.specs.EventText.{event_header, SpellsEvent, AreEvents, EventText}
+use Rattle.model.specs.declared.version.Version.{Version}
+use Rattle.event_text.specs.declared.header.Headers.{Headers}
+use Rattle.event_text.specs.EventText.{event_header, SpellsEvent, AreEvents, RunText}
 use Rattle.event_text.specs.EventFault.{EventDue, event_header_due, event_due, longest_event_line, HasOtherForm}
-use Rattle.event_text.specs.FirstEvents.{BeginsWithHeader, BeginsWithNoEvent, FirstEvents, BeginsWithEvents}
+use Rattle.event_text.specs.FirstEvents.{BeginsWithHeader, BeginsWithNoHeader, BeginsWithNoEvent, FirstEvents, BeginsWithEvents}
 use Rattle.event_text.specs.Taking.{SayEvents}
 use Rattle.event_text.specs.Code.EventLines.{event_of}
 use Rattle.event_text.proofs.EventLemmas.{event_of-says, none-spells, SpellsEvent-same}
+use Rattle.event_text.proofs.HeaderLemmas.{header-is_line, header-short, header-split, BeginsWithTaken, begins_taken}
 use Rattle.event_text.proofs.LineLemmas.{event-short, line_split, line_within, line_alone}
 
--- what is due, where the header was read or not
-abbrev pub due_of : Bool → EventDue
-due_of false = event_header_due
-due_of true = event_due
+-- what is due, where a header was read or not
+abbrev pub due_of : Headers → Option Version → EventDue
+due_of headers None = event_header_due headers
+due_of headers (Some version) = event_due
 
 -- no line that is due stands at the front
-abbrev pub BeginsWithNone : Bool → List ℕ → Type 0
-BeginsWithNone false text = BeginsWithHeader text → ⊥
-BeginsWithNone true text = BeginsWithNoEvent text
+abbrev pub BeginsWithNone : Headers → Option Version → List ℕ → Type 0
+BeginsWithNone headers None text = BeginsWithNoHeader headers text
+BeginsWithNone headers (Some version) text = BeginsWithNoEvent text
 
--- a line of another form
-pub none-other : (read : Bool) (line more : List ℕ) → IsLine line → HasOtherForm (due_of read) line → BeginsWithNone read (line ++ line_feed ∷ more)
-none-other false line more is other = λ h. other (line_split line event_header more h.0 is refl h.1).0
-none-other true line more is other = λ event found rest spells e.
+-- a line that is no event
+no_event-other : (line more : List ℕ) → IsLine line → ((event : Event) → SpellsEvent event line → ⊥) → BeginsWithNoEvent (line ++ line_feed ∷ more)
+no_event-other line more is other = λ event found rest spells e.
     let same = line_split line found more rest is (event-short event found spells).is_line e in
     other event (subst (SpellsEvent event) (sym same.0) spells)
 
+-- a line without its LF
+no_event-open : (line : List ℕ) → IsLine line → BeginsWithNoEvent line
+no_event-open line is = λ event found rest spells e. line_alone line found rest is e
+
+-- a line of another form
+pub none-other : (headers : Headers) (read : Option Version) (line more : List ℕ) → IsLine line → HasOtherForm (due_of headers read) line
+    → BeginsWithNone headers read (line ++ line_feed ∷ more)
+none-other headers None line more is other = λ version takes h.
+    other (version, takes, (line_split line (event_header version) more h.0 is (header-is_line version) h.1).0)
+none-other headers (Some version) line more is other = no_event-other line more is other
+
 -- a line that is too long
-pub none-long : (read : Bool) (line more : List ℕ) → IsLine line → length line ≡ longest_event_line + 1 → BeginsWithNone read (line ++ more)
-none-long false line more is long = λ h.
-    let within : length line ≤ length event_header = line_within line event_header more h.0 is h.1 in
-    omega (arith, within, long)
-none-long true line more is long = λ event found rest spells e.
+pub none-long : (headers : Headers) (read : Option Version) (line more : List ℕ) → IsLine line → length line ≡ longest_event_line + 1
+    → BeginsWithNone headers read (line ++ more)
+none-long headers None line more is long = λ version takes h.
+    let within : length line ≤ length (event_header version) = line_within line (event_header version) more h.0 is h.1 in
+    omega (arith, within, long, header-short version)
+none-long headers (Some version) line more is long = λ event found rest spells e.
     let within = line_within line found more rest is e in
     omega (arith, within, long, (event-short event found spells).short)
 
 -- a line without its LF
-pub none-open : (read : Bool) (line : List ℕ) → IsLine line → BeginsWithNone read line
-none-open false line is = λ h. line_alone line event_header h.0 is h.1
-none-open true line is = λ event found rest spells e. line_alone line found rest is e
+pub none-open : (headers : Headers) (read : Option Version) (line : List ℕ) → IsLine line → BeginsWithNone headers read line
+none-open headers None line is = λ version takes h. line_alone line (event_header version) h.0 is h.1
+none-open headers (Some version) line is = no_event-open line is
 
 -- what was read are the first events, where no more of them follow
-pub first-stopped : (read : Bool) (events : List Event) (lines : List (List ℕ)) (rest text : List ℕ) → SayEvents read events lines
-    → text ≡ ended lines ++ rest → BeginsWithNone read rest → FirstEvents events text
-first-stopped false events lines rest text said is none =
-    inl (said.1, subst (λ t. BeginsWithHeader t → ⊥) (sym (is ∙ ap (λ ls. ended ls ++ rest) said.0)) none)
-first-stopped true events lines rest text said is none =
-    inr (said.0, rest, is ∙ ap (λ ls. ended ls ++ rest) said.1, said.2, none)
+pub first-stopped : (headers : Headers) (read : Option Version) (events : List Event) (lines : List (List ℕ)) (rest text : List ℕ)
+    → SayEvents headers read events lines → text ≡ ended lines ++ rest → BeginsWithNone headers read rest → FirstEvents headers read events text
+first-stopped headers None events lines rest text said is none =
+    (said.1, subst (BeginsWithNoHeader headers) (sym (is ∙ ap (λ ls. ended ls ++ rest) said.0)) none)
+first-stopped headers (Some version) events lines rest text (takes, (event_lines, same, are)) is none =
+    (takes, (event_lines, rest, is ∙ ap (λ ls. ended ls ++ rest) same, are, none))
 
 -- the events so far are some of the first
-pub begins-read : (read : Bool) (events : List Event) (lines : List (List ℕ)) (rest text : List ℕ) → SayEvents read events lines
-    → text ≡ ended lines ++ rest → BeginsWithEvents events text
-begins-read false events lines rest text said is = inl said.1
-begins-read true events lines rest text said is = inr (said.0, rest, is ∙ ap (λ ls. ended ls ++ rest) said.1, said.2)
+pub begins-read : (headers : Headers) (read : Option Version) (events : List Event) (lines : List (List ℕ)) (rest text : List ℕ)
+    → SayEvents headers read events lines → text ≡ ended lines ++ rest → BeginsWithEvents headers read events text
+begins-read headers None events lines rest text said is = said.1
+begins-read headers (Some version) events lines rest text (takes, (event_lines, same, are)) is =
+    (takes, (event_lines, rest, is ∙ ap (λ ls. ended ls ++ rest) same, are))
 
 -- ---- one list
 
@@ -77,22 +90,27 @@ lines-same (l ∷ ls) (m ∷ ks) es fs rest more e h k none no_more =
     let later = lines-same ls ks h.1 k.1 rest more parts.1 h.4 k.4 none no_more in
     h.2 ∙ (ap (λ d. d ∷ h.1) first ∙ (ap (λ ds. k.0 ∷ ds) later ∙ sym k.2))
 
-with_header : (lines : List (List ℕ)) (rest text : List ℕ) → text ≡ ended (event_header ∷ lines) ++ rest → BeginsWithHeader text
-with_header lines rest text is = (ended lines ++ rest, is ∙ ended-line event_header lines rest)
+with_header : (version : Version) (lines : List (List ℕ)) (rest text : List ℕ) → text ≡ ended (event_header version ∷ lines) ++ rest
+    → BeginsWithHeader version text
+with_header version lines rest text is = (ended lines ++ rest, is ∙ ended-line (event_header version) lines rest)
 
-pub FirstEvents-same : (es fs : List Event) (text : List ℕ) → FirstEvents es text → FirstEvents fs text → es ≡ fs
-FirstEvents-same es fs text (inl (none, other)) (inl (no_more, others)) = none ∙ sym no_more
-FirstEvents-same es fs text (inl (none, other)) (inr (lines, rest, is, are, stop)) = absurd (other (with_header lines rest text is))
-FirstEvents-same es fs text (inr (lines, rest, is, are, stop)) (inl (none, other)) = absurd (other (with_header lines rest text is))
-FirstEvents-same es fs text (inr (ls, rest, is, are, stop)) (inr (ks, more, also, be, halt)) =
-    let behind = line_split event_header event_header (ended ls ++ rest) (ended ks ++ more) refl refl
-    (sym (ended-line event_header ls rest) ∙ (sym is ∙ (also ∙ ended-line event_header ks more))) in
-    lines-same ls ks es fs rest more behind.1 are be stop halt
+pub FirstEvents-same : (headers : Headers) (v w : Option Version) (es fs : List Event) (text : List ℕ) → FirstEvents headers v es text
+    → FirstEvents headers w fs text → (v ≡ w) × (es ≡ fs)
+FirstEvents-same headers None None es fs text (none, other) (no_more, others) = (refl, none ∙ sym no_more)
+FirstEvents-same headers None (Some w) es fs text (none, other) (takes, (lines, rest, is, are, stop)) =
+    absurd (other w takes (with_header w lines rest text is))
+FirstEvents-same headers (Some v) None es fs text (takes, (lines, rest, is, are, stop)) (none, other) =
+    absurd (other v takes (with_header v lines rest text is))
+FirstEvents-same headers (Some v) (Some w) es fs text (takes, (ls, rest, is, are, stop)) (took, (ks, more, also, be, halt)) =
+    let behind = header-split v w (ended ls ++ rest) (ended ks ++ more)
+    (sym (ended-line (event_header v) ls rest) ∙ (sym is ∙ (also ∙ ended-line (event_header w) ks more))) in
+    (ap Some behind.0, lines-same ls ks es fs rest more behind.1 are be stop halt)
 
--- the events that a whole text spells
-pub FirstEvents-all : (es : List Event) (text : List ℕ) → EventText es text → FirstEvents es text
-FirstEvents-all es text h =
-    inr (h.event_lines, [], h.lines ∙ sym (append-nil (ended (event_header ∷ h.event_lines))), h.are_events, none-open true [] refl)
+-- the version and the events that a whole text spells
+pub FirstEvents-all : (headers : Headers) (version : Version) (es : List Event) (text : List ℕ) → RunText headers (version, es) text
+    → FirstEvents headers (Some version) es text
+FirstEvents-all headers version es text (takes, h) =
+    (takes, (h.event_lines, [], h.lines ∙ sym (append-nil (ended (event_header version ∷ h.event_lines))), h.are_events, no_event-open [] refl))
 
 -- ---- some list
 
@@ -107,7 +125,7 @@ pub record Begins (text : List ℕ) : Type 0 where
 
 begins-of : (lines : List (List ℕ)) (tail : List ℕ) → AllByRecursion IsLine lines → IsLine tail → Begins (ended lines ++ tail)
 begins-of [] tail all is =
-    record { events = []; event_lines = []; rest = tail; bytes = refl; are_events = refl; none = none-open true tail is }
+    record { events = []; event_lines = []; rest = tail; bytes = refl; are_events = refl; none = no_event-open tail is }
 begins-of (line ∷ lines) tail all is = go (event_of line) refl (begins-of lines tail all.1 is)
   where
     go : (r : Option Event) → event_of line ≡ r → Begins (ended lines ++ tail) → Begins (ended (line ∷ lines) ++ tail)
@@ -117,7 +135,7 @@ begins-of (line ∷ lines) tail all is = go (event_of line) refl (begins-of line
       rest = line ++ line_feed ∷ (ended lines ++ tail);
       bytes = ended-line line lines tail;
       are_events = refl;
-      none = none-other true line (ended lines ++ tail) all.0 (none-spells line e);
+      none = no_event-other line (ended lines ++ tail) all.0 (none-spells line e);
     }
     go (Some event) e later = record {
       events = event ∷ later.events;
@@ -130,23 +148,26 @@ begins-of (line ∷ lines) tail all is = go (event_of line) refl (begins-of line
       none = later.none;
     }
 
-pub first_events_of : (text : List ℕ) → (es : List Event) × FirstEvents es text
-first_events_of text = go (begins_or_not (event_header ++ line_feed ∷ []) text)
+pub first_events_of : (headers : Headers) (text : List ℕ) → (v : Option Version) × (es : List Event) × FirstEvents headers v es text
+first_events_of headers text = go (begins_taken headers text)
   where
-    go : BeginsWith (event_header ++ line_feed ∷ []) text ⊎ (BeginsWith (event_header ++ line_feed ∷ []) text → ⊥)
-        → (es : List Event) × FirstEvents es text
-    go (inr none) = ([], inl (refl, none))
-    go (inl (behind, is)) =
+    go : BeginsWithTaken headers text ⊎ BeginsWithNoHeader headers text → (v : Option Version) × (es : List Event) × FirstEvents headers v es text
+    go (inr none) = (None, [], (refl, none))
+    go (inl (version, takes, (behind, is))) =
         let parts = cut behind in
         let begins = begins-of parts.0 parts.1 parts.2.1 parts.2.2 in (
+          Some version,
           begins.events,
-          inr (
-            begins.event_lines,
-            begins.rest,
-            is
-                ∙ (ap (λ bytes. event_header ++ line_feed ∷ bytes) (parts.2.0 ∙ begins.bytes)
-                ∙ sym (ended-line event_header begins.event_lines begins.rest)),
-            begins.are_events,
-            begins.none,
+          (
+            takes,
+            (
+              begins.event_lines,
+              begins.rest,
+              is
+                  ∙ (ap (λ bytes. event_header version ++ line_feed ∷ bytes) (parts.2.0 ∙ begins.bytes)
+                  ∙ sym (ended-line (event_header version) begins.event_lines begins.rest)),
+              begins.are_events,
+              begins.none,
+            ),
           ),
         )

@@ -2,8 +2,10 @@
 pub mod NumeralLemmas
 pub mod EventLemmas
 pub mod LineLemmas
+pub mod HeaderLemmas
 pub mod FirstLemmas
 pub mod TextScanned
 pub mod TextRead
+pub mod OneReading
 pub mod EventsRead
 pub mod ReplyLemmas

@@ -3,7 +3,7 @@ use Rattle.std.proofs.Common.{◌≡◌, ℕ, ◌/◌, ◌%◌, List, [], ◌∷
 use Rattle.std.specs.Prelude.{slice_index}
 use Rattle.hex.specs.Hex.{encode_with, encode_lower, lower_digits}
 use Rattle.model.specs.declared.why.Why.{Why}
-use Rattle.model.specs.declared.why.Why.TheVariants.{NoSuchAgent, NoSuchMessage, BadTear, Broken, AlreadyMoving, AtEnd, Waits, NotMoving, StoreFailed, BadLength, BadMagic, BadVersion, WrongPlan, TooMany}
+use Rattle.model.specs.declared.why.Why.TheVariants.{NoSuchAgent, NoSuchMessage, BadTear, Broken, AlreadyMoving, AtEnd, Waits, NotMoving, StoreFailed, BadLength, BadMagic, BadVersion, BadEntry, WrongPlan, TooMany}
 use Rattle.event_text.specs.ReplyText.{refusal_numbers}
 
 -- the digits of both are those of the one and of the other
@@ -17,19 +17,20 @@ pub encode_lower-none : encode_lower [] ≡ []
 unfolding encode_with
 encode_lower-none = refl
 
--- only a wait names an agent
-pub numbers-none : (why : Why) → ((j n : ℕ) → why ≡ Waits j n → ⊥) → refusal_numbers why ≡ []
-numbers-none NoSuchAgent other = refl
-numbers-none NoSuchMessage other = refl
-numbers-none BadTear other = refl
-numbers-none Broken other = refl
-numbers-none AlreadyMoving other = refl
-numbers-none AtEnd other = refl
-numbers-none (Waits j n) other = absurd (other j n refl)
-numbers-none NotMoving other = refl
-numbers-none StoreFailed other = refl
-numbers-none BadLength other = refl
-numbers-none BadMagic other = refl
-numbers-none BadVersion other = refl
-numbers-none WrongPlan other = refl
-numbers-none TooMany other = refl
+-- only a wait and an entry have numbers
+pub numbers-none : (why : Why) → ((j n : ℕ) → why ≡ Waits j n → ⊥) → ((e : ℕ) → why ≡ BadEntry e → ⊥) → refusal_numbers why ≡ []
+numbers-none NoSuchAgent wait entry = refl
+numbers-none NoSuchMessage wait entry = refl
+numbers-none BadTear wait entry = refl
+numbers-none Broken wait entry = refl
+numbers-none AlreadyMoving wait entry = refl
+numbers-none AtEnd wait entry = refl
+numbers-none (Waits j n) wait entry = absurd (wait j n refl)
+numbers-none NotMoving wait entry = refl
+numbers-none StoreFailed wait entry = refl
+numbers-none BadLength wait entry = refl
+numbers-none BadMagic wait entry = refl
+numbers-none BadVersion wait entry = refl
+numbers-none (BadEntry e) wait entry = absurd (entry e refl)
+numbers-none WrongPlan wait entry = refl
+numbers-none TooMany wait entry = refl

@@ -1,5 +1,5 @@
--- What is said line by line are the events that a text spells, or its first fault.
-use Rattle.std.proofs.Common.{◌≡◌, ℕ, ◌+◌, ◌<◌, ◌≤◌, ◌⊎◌, inl, inr, Bool, true, false, List, [], ◌∷◌, ◌++◌, length, take, drop, Option, Some, None, refl, sym, ap, ◌∙◌, subst, arith, append_assoc, append-nil, length-take}
+-- What is said line by line are the version and the events that a text spells, or its first fault.
+use Rattle.std.proofs.Common.{◌≡◌, ℕ, ◌+◌, ◌<◌, ◌≤◌, ◌⊎◌, inl, inr, true, List, [], ◌∷◌, ◌++◌, length, take, drop, Option, Some, None, refl, sym, ap, ◌∙◌, subst, arith, append_assoc, append-nil, length-take}
 use Rattle.std.proofs.lemmas.Bool.{cases_lt}
 use Rattle.std.proofs.lemmas.List.{take-append-drop, nil_from_length}
 use Rattle.grid.specs.Text.{lines_of, ended, ends_in_line_feed}
@@ -7,14 +7,16 @@ use Rattle.grid.specs.Reading.{by_line_feed, Place, at_line_feed, at_byte, Stand
 use Rattle.grid.proofs.LineLemmas.{ends_in_line_feed-ended}
 use Rattle.grid.proofs.PlaceLemmas.{found, last, cut}
 use Rattle.model.specs.declared.event.Event.{Event}
-use Rattle.plan_text.proofs.LineDecisions.{same_or_not}
+use Rattle.model.specs.declared.version.Version.{Version}
 use Rattle.event_text.specs.declared.event_fault.EventFault.{EventFault}
 use Rattle.event_text.specs.declared.event_fault.EventFault.TheVariants.{NoHeader, BadEvent, Unfinished}
-use Rattle.event_text.specs.EventText.{event_header, SpellsEvent, AreEvents, EventText}
+use Rattle.event_text.specs.declared.header.Headers.{Headers}
+use Rattle.event_text.specs.EventText.{event_header, SpellsEvent, AreEvents, Takes, IsHeader, RunText}
 use Rattle.event_text.specs.EventFault.{event_header_due, event_due, longest_event_line, HasOtherForm, HasEventFault, EventFaultAt}
 use Rattle.event_text.specs.Taking.{SayEvents}
 use Rattle.event_text.specs.Code.EventLines.{event_of, EventLeads}
 use Rattle.event_text.proofs.EventLemmas.{event_of-says, none-spells}
+use Rattle.event_text.proofs.HeaderLemmas.{header_or_not}
 use Rattle.event_text.proofs.FirstLemmas.{due_of}
 use Rattle.event_text.proofs.TextScanned.{header_leads}
 
@@ -26,54 +28,60 @@ AreEvents-push events [] event line h k = (event, [], ap (λ es. es ++ event ∷
 AreEvents-push events (l ∷ lines) event line h k =
     (h.0, h.1 ++ event ∷ [], ap (λ es. es ++ event ∷ []) h.2, h.3, AreEvents-push h.1 lines event line h.4 k)
 
--- the header is read
-pub SayEvents-header : (events : List Event) (lines : List (List ℕ)) (line : List ℕ) → SayEvents false events lines → line ≡ event_header
-    → SayEvents true events (lines ++ line ∷ [])
-SayEvents-header events lines line said is = ([], ap (λ ls. ls ++ line ∷ []) said.0 ∙ ap (λ l. l ∷ []) is, said.1)
+-- a header is read
+pub SayEvents-header : (headers : Headers) (version : Version) (events : List Event) (lines : List (List ℕ)) (line : List ℕ)
+    → SayEvents headers None events lines → Takes headers version → line ≡ event_header version → SayEvents headers (Some version) events (lines ++ line ∷ [])
+SayEvents-header headers version events lines line said takes is =
+    (takes, ([], ap (λ ls. ls ++ line ∷ []) said.0 ∙ ap (λ l. l ∷ []) is, said.1))
 
 -- and one more event
-pub SayEvents-push : (events : List Event) (lines : List (List ℕ)) (event : Event) (line : List ℕ) → SayEvents true events lines → SpellsEvent event line
-    → SayEvents true (events ++ event ∷ []) (lines ++ line ∷ [])
-SayEvents-push events lines event line said spells =
-    (said.0 ++ line ∷ [], ap (λ ls. ls ++ line ∷ []) said.1, AreEvents-push events said.0 event line said.2 spells)
+pub SayEvents-push : (headers : Headers) (version : Version) (events : List Event) (lines : List (List ℕ)) (event : Event) (line : List ℕ)
+    → SayEvents headers (Some version) events lines → SpellsEvent event line
+    → SayEvents headers (Some version) (events ++ event ∷ []) (lines ++ line ∷ [])
+SayEvents-push headers version events lines event line (takes, (event_lines, same, are)) spells =
+    (takes, (event_lines ++ line ∷ [], ap (λ ls. ls ++ line ∷ []) same, AreEvents-push events event_lines event line are spells))
 
 -- lines that say events are right
-pub SayEvents-leads : (read : Bool) (events : List Event) (lines : List (List ℕ)) → SayEvents read events lines → EventLeads event_header_due lines (due_of read)
-SayEvents-leads false events lines said = subst (λ ls. EventLeads event_header_due ls event_header_due) (sym said.0) refl
-SayEvents-leads true events lines said =
-    subst (λ ls. EventLeads event_header_due ls event_due) (sym said.1) (header_leads events said.0 said.2)
+pub SayEvents-leads : (headers : Headers) (read : Option Version) (events : List Event) (lines : List (List ℕ)) → SayEvents headers read events lines
+    → EventLeads (event_header_due headers) lines (due_of headers read)
+SayEvents-leads headers None events lines said =
+    subst (λ ls. EventLeads (event_header_due headers) ls (event_header_due headers)) (sym said.0) refl
+SayEvents-leads headers (Some version) events lines (takes, (event_lines, same, are)) =
+    subst (λ ls. EventLeads (event_header_due headers) ls event_due) (sym same) (header_leads headers version events event_lines takes are)
 
 -- a text of nothing else spells them
-pub EventText-said : (events : List Event) (lines : List (List ℕ)) (text : List ℕ) → SayEvents true events lines → text ≡ ended lines → EventText events text
-EventText-said events lines text said is = record { event_lines = said.0; lines = is ∙ ap ended said.1; are_events = said.2 }
+pub RunText-said : (headers : Headers) (version : Version) (events : List Event) (lines : List (List ℕ)) (text : List ℕ)
+    → SayEvents headers (Some version) events lines → text ≡ ended lines → RunText headers (version, events) text
+RunText-said headers version events lines text (takes, (event_lines, same, are)) is =
+    (takes, record { event_lines = event_lines; lines = is ∙ ap ended same; are_events = are })
 
 -- the fault of a line of another form
-abbrev pub wrong_here : Bool → ℕ → EventFault
-wrong_here false number = NoHeader
-wrong_here true number = BadEvent number
+abbrev pub wrong_here : Option Version → ℕ → EventFault
+wrong_here None number = NoHeader
+wrong_here (Some version) number = BadEvent number
 
-pub has_other : (read : Bool) (number : ℕ) (line : List ℕ) → length line ≤ longest_event_line → HasOtherForm (due_of read) line
-    → HasEventFault (wrong_here read number) at_line_feed (due_of read) number line
-has_other false number line short other = inl (short, other)
-has_other true number line short other = (refl, (short, other))
+pub has_other : (headers : Headers) (read : Option Version) (number : ℕ) (line : List ℕ) → length line ≤ longest_event_line
+    → HasOtherForm (due_of headers read) line → HasEventFault (wrong_here read number) at_line_feed (due_of headers read) number line
+has_other headers None number line short other = inl (short, other)
+has_other headers (Some version) number line short other = (refl, (short, other))
 
-pub has_long : (read : Bool) (number : ℕ) (line : List ℕ) → length line ≡ longest_event_line + 1
-    → HasEventFault (wrong_here read number) at_byte (due_of read) number line
-has_long false number line long = inl long
-has_long true number line long = (refl, long)
+pub has_long : (headers : Headers) (read : Option Version) (number : ℕ) (line : List ℕ) → length line ≡ longest_event_line + 1
+    → HasEventFault (wrong_here read number) at_byte (due_of headers read) number line
+has_long headers None number line long = inl long
+has_long headers (Some version) number line long = (refl, long)
 
 -- ---- a whole text
 
--- what a text is: it spells events, or has a first fault
-pub data Reading (text : List ℕ) : Type 0 where
-  spelled : (events : List Event) (spells : EventText events text) → Reading text
-  faulty : (fault : EventFault) (first : IsFirstFault EventFaultAt fault text) → Reading text
+-- what a text is: it spells a version and events, or has a first fault
+pub data Reading (headers : Headers) (text : List ℕ) : Type 0 where
+  spelled : (version : Version) (events : List Event) (spells : RunText headers (version, events) text) → Reading headers text
+  faulty : (fault : EventFault) (first : IsFirstFault (EventFaultAt headers) fault text) → Reading headers text
 
-module _ (text tail : List ℕ) (all : List (List ℕ)) (stops : StopsIn by_line_feed all tail text) where
+module _ (headers : Headers) (text tail : List ℕ) (all : List (List ℕ)) (stops : StopsIn by_line_feed all tail text) where
   -- a fault that stands at a byte is the first
-  decided : (read : Bool) (events : List Event) (fault : EventFault) (place : Place) (before : List (List ℕ)) (line : List ℕ) → IsByte place
-      → StandsIn by_line_feed place before line text → SayEvents read events before → HasEventFault fault place (due_of read) (line_number before) line
-      → Reading text
+  decided : (read : Option Version) (events : List Event) (fault : EventFault) (place : Place) (before : List (List ℕ)) (line : List ℕ) → IsByte place
+      → StandsIn by_line_feed place before line text → SayEvents headers read events before → HasEventFault fault place (due_of headers read) (line_number before) line
+      → Reading headers text
   decided read events fault place before line byte stands said h =
       let at = found by_line_feed text place before line byte stands in
       faulty fault
@@ -86,9 +94,9 @@ module _ (text tail : List ℕ) (all : List (List ℕ)) (stops : StopsIn by_line
         record {
           before = before;
           line = line;
-          due = due_of read;
+          due = due_of headers read;
           judged = at.3;
-          right = SayEvents-leads read events before said;
+          right = SayEvents-leads headers read events before said;
           faulty = h;
         },
       ))
@@ -143,73 +151,74 @@ module _ (text tail : List ℕ) (all : List (List ℕ)) (stops : StopsIn by_line
       go (inr (any, lines)) = (some, drop n tail, [], lines ∙ ap (λ l. all ++ l ∷ []) (sym (take-append-drop n tail)))
 
   -- a line that is too long
-  too_long : (read : Bool) (events : List Event) (before : List (List ℕ)) (line : List ℕ) → longest_event_line < length line
+  too_long : (read : Option Version) (events : List Event) (before : List (List ℕ)) (line : List ℕ) → longest_event_line < length line
       → (0 < length (take (longest_event_line + 1) line) → StandsIn by_line_feed at_byte before (take (longest_event_line + 1) line) text)
-      → SayEvents read events before → Reading text
+      → SayEvents headers read events before → Reading headers text
   too_long read events before line long stands said =
       let count : length (take (longest_event_line + 1) line) ≡ longest_event_line + 1 = omega (arith, length-take (longest_event_line + 1) line, long) in
       decided read events (wrong_here read (line_number before)) at_byte before (take (longest_event_line + 1) line) tt (stands (omega (arith, count))) said
-      (has_long read (line_number before) (take (longest_event_line + 1) line) count)
+      (has_long headers read (line_number before) (take (longest_event_line + 1) line) count)
 
   -- a line of another form
-  other_form : (read : Bool) (events : List Event) (before : List (List ℕ)) (line : List ℕ) → length line ≤ longest_event_line
-      → HasOtherForm (due_of read) line → StandsIn by_line_feed at_line_feed before line text → SayEvents read events before → Reading text
+  other_form : (read : Option Version) (events : List Event) (before : List (List ℕ)) (line : List ℕ) → length line ≤ longest_event_line
+      → HasOtherForm (due_of headers read) line → StandsIn by_line_feed at_line_feed before line text → SayEvents headers read events before → Reading headers text
   other_form read events before line short other stands said =
       decided read events (wrong_here read (line_number before)) at_line_feed before line tt stands said
-      (has_other read (line_number before) line short other)
+      (has_other headers read (line_number before) line short other)
 
   -- behind all lines that have an LF
-  at_tail : (read : Bool) (events : List Event) → SayEvents read events all → Reading text
+  at_tail : (read : Option Version) (events : List Event) → SayEvents headers read events all → Reading headers text
   at_tail read events said = go read said (cases_lt longest_event_line (length tail)) (cases_lt 0 (length tail))
     where
-      go : (read : Bool) → SayEvents read events all → (longest_event_line < length tail) ⊎ (length tail ≤ longest_event_line)
-          → (0 < length tail) ⊎ (length tail ≤ 0) → Reading text
+      go : (read : Option Version) → SayEvents headers read events all → (longest_event_line < length tail) ⊎ (length tail ≤ longest_event_line)
+          → (0 < length tail) ⊎ (length tail ≤ 0) → Reading headers text
       go read said (inl long) some = too_long read events all tail long (tail_begun (longest_event_line + 1)) said
-      go false said (inr short) some =
+      go None said (inr short) some =
           faulty NoHeader
           (inr (record {
             before = all;
             line = tail;
-            due = event_header_due;
+            due = event_header_due headers;
             judged = stops;
-            right = SayEvents-leads false events all said;
+            right = SayEvents-leads headers None events all said;
             faulty = inr short;
           }))
-      go true said (inr short) (inl some) =
+      go (Some version) said (inr short) (inl some) =
           faulty (Unfinished (line_number all))
           (inr (record {
             before = all;
             line = tail;
             due = event_due;
             judged = stops;
-            right = SayEvents-leads true events all said;
+            right = SayEvents-leads headers (Some version) events all said;
             faulty = (refl, short, some);
           }))
-      go true said (inr short) (inr empty) =
+      go (Some version) said (inr short) (inr empty) =
           let nothing : tail ≡ [] = nil_from_length tail (omega (arith, empty)) in
-          spelled events (EventText-said events all text said (stops.0 ∙ (ap (λ t. ended all ++ t) nothing ∙ append-nil (ended all))))
+          spelled version events (RunText-said headers version events all text said (stops.0 ∙ (ap (λ t. ended all ++ t) nothing ∙ append-nil (ended all))))
 
   -- behind right lines
-  read_on : (before : List (List ℕ)) (rest : List (List ℕ)) → all ≡ before ++ rest → (read : Bool) (events : List Event) → SayEvents read events before
-      → Reading text
-  read_on before [] parts read events said = at_tail read events (subst (SayEvents read events) (sym (parts ∙ append-nil before)) said)
+  read_on : (before : List (List ℕ)) (rest : List (List ℕ)) → all ≡ before ++ rest → (read : Option Version) (events : List Event) → SayEvents headers read events before
+      → Reading headers text
+  read_on before [] parts read events said = at_tail read events (subst (SayEvents headers read events) (sym (parts ∙ append-nil before)) said)
   read_on before (line ∷ rest) parts read events said =
-      go read said (cases_lt longest_event_line (length line)) (same_or_not line event_header) (event_of line) refl
+      go read said (cases_lt longest_event_line (length line)) (header_or_not headers line) (event_of line) refl
       (λ now more k. read_on (before ++ line ∷ []) rest (parts ∙ sym (append_assoc before (line ∷ []) rest)) now more k)
     where
-      go : (read : Bool) → SayEvents read events before → (longest_event_line < length line) ⊎ (length line ≤ longest_event_line)
-          → (line ≡ event_header) ⊎ (line ≡ event_header → ⊥) → (r : Option Event) → event_of line ≡ r
-          → ((now : Bool) (more : List Event) → SayEvents now more (before ++ line ∷ []) → Reading text) → Reading text
+      go : (read : Option Version) → SayEvents headers read events before → (longest_event_line < length line) ⊎ (length line ≤ longest_event_line)
+          → IsHeader headers line ⊎ (IsHeader headers line → ⊥) → (r : Option Event) → event_of line ≡ r
+          → ((now : Option Version) (more : List Event) → SayEvents headers now more (before ++ line ∷ []) → Reading headers text) → Reading headers text
       go read said (inl long) header r e on =
           too_long read events before line long (line_begun before line rest (longest_event_line + 1) parts) said
-      go false said (inr short) (inl is) r e on = on true events (SayEvents-header events before line said is)
-      go false said (inr short) (inr other) r e on =
-          other_form false events before line short other (whole_line before line rest parts) said
-      go true said (inr short) header (Some event) e on =
-          on true (events ++ event ∷ []) (SayEvents-push events before event line said (event_of-says event line e))
-      go true said (inr short) header None e on =
-          other_form true events before line short (none-spells line e) (whole_line before line rest parts) said
+      go None said (inr short) (inl (version, takes, is)) r e on =
+          on (Some version) events (SayEvents-header headers version events before line said takes is)
+      go None said (inr short) (inr other) r e on =
+          other_form None events before line short other (whole_line before line rest parts) said
+      go (Some version) said (inr short) header (Some event) e on =
+          on (Some version) (events ++ event ∷ []) (SayEvents-push headers version events before event line said (event_of-says event line e))
+      go (Some version) said (inr short) header None e on =
+          other_form (Some version) events before line short (none-spells line e) (whole_line before line rest parts) said
 
 -- each text has a reading
-pub reading_of : (text : List ℕ) → Reading text
-reading_of text = let parts = cut text in read_on text parts.1 parts.0 parts.2 [] parts.0 refl false [] (refl, refl)
+pub reading_of : (headers : Headers) (text : List ℕ) → Reading headers text
+reading_of headers text = let parts = cut text in read_on headers text parts.1 parts.0 parts.2 [] parts.0 refl None [] (refl, refl)

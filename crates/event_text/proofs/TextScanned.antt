@@ -9,13 +9,15 @@ use Rattle.grid.specs.Reading.{by_line_feed, Place, at_line_feed, at_byte, at_en
 use Rattle.grid.proofs.LineLemmas.{lines_of-all, ends_in_line_feed-ended, ends_in_line_feed-open}
 use Rattle.grid.proofs.PlaceLemmas.{stands, last}
 use Rattle.model.specs.declared.event.Event.{Event}
-use Rattle.plan_text.proofs.LineDecisions.{same_or_not, same_known, other_known}
+use Rattle.model.specs.declared.version.Version.{Version}
 use Rattle.event_text.specs.declared.event_fault.EventFault.{EventFault}
 use Rattle.event_text.specs.declared.event_fault.EventFault.TheVariants.{NoHeader, BadEvent, Unfinished, ReadFailed, OutOfMemory}
-use Rattle.event_text.specs.EventText.{event_header, SpellsEvent, AreEvents, EventText}
+use Rattle.event_text.specs.declared.header.Headers.{Headers}
+use Rattle.event_text.specs.EventText.{event_header, SpellsEvent, AreEvents, Takes, RunText}
 use Rattle.event_text.specs.EventFault.{EventDue, event_header_due, event_due, EventFollows, longest_event_line, HasEventFault, EventFaultAt}
 use Rattle.event_text.specs.Code.EventLines.{event_of, EventLeads}
 use Rattle.event_text.proofs.EventLemmas.{event_of-spells, event_of-says}
+use Rattle.event_text.proofs.HeaderLemmas.{header-is_line, header-short, header_or_not}
 use Rattle.event_text.proofs.LineLemmas.{event-short, AreEvents-lines}
 
 -- the number of the line after so many others
@@ -34,22 +36,30 @@ has_feed fed (line ∷ lines) = true
 
 -- the fault of a line that is wrong at one of its bytes
 abbrev wrong_fault : EventDue → ℕ → EventFault
-wrong_fault event_header_due number = NoHeader
+wrong_fault (event_header_due headers) number = NoHeader
 wrong_fault event_due number = BadEvent number
 
 -- the fault of a line whose LF did not come, though some of it did
 abbrev open_fault : EventDue → ℕ → EventFault
-open_fault event_header_due number = NoHeader
+open_fault (event_header_due headers) number = NoHeader
 open_fault event_due number = Unfinished number
 
 -- the fault of a line of which nothing came
 abbrev nothing_fault : EventDue → Option EventFault
-nothing_fault event_header_due = Some NoHeader
+nothing_fault (event_header_due headers) = Some NoHeader
 nothing_fault event_due = None
 
-abbrev header_fault : (line : List ℕ) → (line ≡ event_header) ⊎ (line ≡ event_header → ⊥) → Option EventFault
-header_fault line (inl is) = None
-header_fault line (inr other) = Some NoHeader
+abbrev header_fault : {P : Type 0} → P ⊎ (P → ⊥) → Option EventFault
+header_fault (inl is) = None
+header_fault (inr other) = Some NoHeader
+
+header_fault-none : {P : Type 0} (is_it : P ⊎ (P → ⊥)) → P → header_fault is_it ≡ None
+header_fault-none (inl is) h = refl
+header_fault-none (inr other) h = absurd (other h)
+
+header_fault-some : {P : Type 0} (is_it : P ⊎ (P → ⊥)) → (P → ⊥) → header_fault is_it ≡ Some NoHeader
+header_fault-some (inl is) h = absurd (h is)
+header_fault-some (inr other) h = refl
 
 abbrev event_fault : ℕ → Option Event → Option EventFault
 event_fault number (Some event) = None
@@ -57,7 +67,7 @@ event_fault number None = Some (BadEvent number)
 
 -- the fault of a line at its LF, which is not too long
 abbrev line_fault : EventDue → ℕ → List ℕ → Option EventFault
-line_fault event_header_due number line = header_fault line (same_or_not line event_header)
+line_fault (event_header_due headers) number line = header_fault (header_or_not headers line)
 line_fault event_due number line = event_fault number (event_of line)
 
 -- The first fault of lines, where so many stand before them, and the last of them has its LF or not. Whole says whether the text ends
@@ -76,8 +86,8 @@ is_fed [] = true
 is_fed (b ∷ bytes) = ends_in_line_feed (b ∷ bytes)
 
 -- the first fault of a text
-abbrev pub found_in : Bool → List ℕ → Option EventFault
-found_in whole text = first_fault whole (is_fed text) event_header_due 0 (lines_of text)
+abbrev pub found_in : Headers → Bool → List ℕ → Option EventFault
+found_in headers whole text = first_fault whole (is_fed text) (event_header_due headers) 0 (lines_of text)
 
 fed-from_end : (text : List ℕ) → ends_in_line_feed text ≡ true → is_fed text ≡ true
 fed-from_end [] e = refl
@@ -92,9 +102,9 @@ record IsRight (due : EventDue) (number : ℕ) (line : List ℕ) (next : EventDu
   next_is : next ≡ event_due
 
 right-from_Follows : (due : EventDue) (number : ℕ) (line : List ℕ) (next : EventDue) → EventFollows due line next → IsRight due number line next
-right-from_Follows event_header_due number line next h = record {
-  short = omega (arith, ap length h.0);
-  none = same_known line event_header h.0 (header_fault line) None (λ e. refl);
+right-from_Follows (event_header_due headers) number line next h = record {
+  short = omega (arith, ap length h.0.2, header-short h.0.0);
+  none = header_fault-none (header_or_not headers line) h.0;
   next_is = h.1;
 }
 right-from_Follows event_due number line next h = record {
@@ -137,11 +147,12 @@ module _ (whole fed : Bool) where
       behind (l ∷ lines) = refl
 
   -- behind right lines, what is found from there on
-  found_behind : (before : List (List ℕ)) (due : EventDue) (rest : List (List ℕ)) → EventLeads event_header_due before due → has_feed fed rest ≡ true
-      → first_fault whole fed event_header_due 0 (before ++ rest) ≡ first_fault whole fed due (length before) rest
-  found_behind before due rest right feed =
+  found_behind : (headers : Headers) (before : List (List ℕ)) (due : EventDue) (rest : List (List ℕ)) → EventLeads (event_header_due headers) before due
+      → has_feed fed rest ≡ true
+      → first_fault whole fed (event_header_due headers) 0 (before ++ rest) ≡ first_fault whole fed due (length before) rest
+  found_behind headers before due rest right feed =
       let same : 0 + length before ≡ length before = omega arith in
-      first_fault-leads event_header_due 0 before due rest right feed ∙ ap (λ n. first_fault whole fed due n rest) same
+      first_fault-leads (event_header_due headers) 0 before due rest right feed ∙ ap (λ n. first_fault whole fed due n rest) same
 
 -- ---- faults
 
@@ -155,14 +166,13 @@ none_told line none = go (event_of line) refl
 -- the fault of a line at its LF
 whole_fault : (fault : EventFault) (due : EventDue) (number : ℕ) (line : List ℕ) → HasEventFault fault at_line_feed due number line
     → (length line ≤ longest_event_line) × (line_fault due number line ≡ Some fault)
-whole_fault NoHeader event_header_due number line (inl (short, other)) =
-    (short, other_known line event_header other (header_fault line) (Some NoHeader) (λ e. refl))
-whole_fault NoHeader event_header_due number line (inr h) = absurd h
+whole_fault NoHeader (event_header_due headers) number line (inl (short, other)) = (short, header_fault-some (header_or_not headers line) other)
+whole_fault NoHeader (event_header_due headers) number line (inr h) = absurd h
 whole_fault NoHeader event_due number line h = absurd h
-whole_fault (BadEvent at) event_header_due number line h = absurd h
+whole_fault (BadEvent at) (event_header_due headers) number line h = absurd h
 whole_fault (BadEvent at) event_due number line (same, (short, other)) =
     (short, ap (event_fault number) (none_told line other) ∙ ap (λ n. Some (BadEvent n)) (sym same))
-whole_fault (Unfinished at) event_header_due number line h = absurd h
+whole_fault (Unfinished at) (event_header_due headers) number line h = absurd h
 whole_fault (Unfinished at) event_due number line (same, none, some) = absurd none
 whole_fault ReadFailed due number line h = absurd h
 whole_fault OutOfMemory due number line h = absurd h
@@ -170,12 +180,12 @@ whole_fault OutOfMemory due number line h = absurd h
 -- a fault within a line is that of a line too long
 within_fault : (fault : EventFault) (due : EventDue) (number : ℕ) (line : List ℕ) → HasEventFault fault at_byte due number line
     → (fault ≡ wrong_fault due number) × (length line ≡ longest_event_line + 1)
-within_fault NoHeader event_header_due number line (inl long) = (refl, long)
-within_fault NoHeader event_header_due number line (inr h) = absurd h
+within_fault NoHeader (event_header_due headers) number line (inl long) = (refl, long)
+within_fault NoHeader (event_header_due headers) number line (inr h) = absurd h
 within_fault NoHeader event_due number line h = absurd h
-within_fault (BadEvent at) event_header_due number line h = absurd h
+within_fault (BadEvent at) (event_header_due headers) number line h = absurd h
 within_fault (BadEvent at) event_due number line (same, long) = (ap BadEvent same, long)
-within_fault (Unfinished at) event_header_due number line h = absurd h
+within_fault (Unfinished at) (event_header_due headers) number line h = absurd h
 within_fault (Unfinished at) event_due number line (same, none, some) = absurd none
 within_fault ReadFailed due number line h = absurd h
 within_fault OutOfMemory due number line h = absurd h
@@ -187,12 +197,12 @@ record IsEndFault (fault : EventFault) (due : EventDue) (number : ℕ) (line : L
   of_some : 0 < length line → open_fault due number ≡ fault
 
 end_fault : (fault : EventFault) (due : EventDue) (number : ℕ) (line : List ℕ) → HasEventFault fault at_end due number line → IsEndFault fault due number line
-end_fault NoHeader event_header_due number line (inl h) = absurd h
-end_fault NoHeader event_header_due number line (inr short) = record { short = short; of_nothing = λ e. refl; of_some = λ e. refl }
+end_fault NoHeader (event_header_due headers) number line (inl h) = absurd h
+end_fault NoHeader (event_header_due headers) number line (inr short) = record { short = short; of_nothing = λ e. refl; of_some = λ e. refl }
 end_fault NoHeader event_due number line h = absurd h
-end_fault (BadEvent at) event_header_due number line h = absurd h
+end_fault (BadEvent at) (event_header_due headers) number line h = absurd h
 end_fault (BadEvent at) event_due number line (same, wrong) = absurd wrong
-end_fault (Unfinished at) event_header_due number line h = absurd h
+end_fault (Unfinished at) (event_header_due headers) number line h = absurd h
 end_fault (Unfinished at) event_due number line (same, short, some) = record {
   short = short;
   of_nothing = λ e. absurd (omega (arith, some, ap length e));
@@ -201,7 +211,7 @@ end_fault (Unfinished at) event_due number line (same, short, some) = record {
 end_fault ReadFailed due number line h = absurd h
 end_fault OutOfMemory due number line h = absurd h
 
-module _ (whole : Bool) where
+module _ (headers : Headers) (whole : Bool) where
   -- the fault of a line at its LF is found there
   found_whole : (fed : Bool) (fault : EventFault) (due : EventDue) (count : ℕ) (line : List ℕ) (after : List (List ℕ)) → has_feed fed after ≡ true
       → HasEventFault fault at_line_feed due (number_of count) line → first_fault whole fed due count (line ∷ after) ≡ Some fault
@@ -231,72 +241,73 @@ module _ (whole : Bool) where
 
   -- what is found in a text that stops before a line, behind right lines
   pub found_at_feed : (before : List (List ℕ)) (text : List ℕ) (due : EventDue) → text ≡ ended before → AllByRecursion IsLine before
-      → EventLeads event_header_due before due → found_in whole text ≡ cond whole (nothing_fault due) None
+      → EventLeads (event_header_due headers) before due → found_in headers whole text ≡ cond whole (nothing_fault due) None
   found_at_feed before text due is all right =
-      ap (first_fault whole (is_fed text) event_header_due 0) (ap lines_of is ∙ (lines_of-all before all ∙ sym (append-nil before)))
-      ∙ found_behind whole (is_fed text) before due [] right (ap is_fed is ∙ ended_end before)
+      ap (first_fault whole (is_fed text) (event_header_due headers) 0) (ap lines_of is ∙ (lines_of-all before all ∙ sym (append-nil before)))
+      ∙ found_behind whole (is_fed text) headers before due [] right (ap is_fed is ∙ ended_end before)
 
   -- and within a line
   found_open : (before : List (List ℕ)) (line text : List ℕ) (due : EventDue) → StopsIn by_line_feed before line text → 0 < length line
-      → lines_of text ≡ before ++ line ∷ [] → EventLeads event_header_due before due → length line ≤ longest_event_line
-      → found_in whole text ≡ cond whole (Some (open_fault due (line_number before))) None
+      → lines_of text ≡ before ++ line ∷ [] → EventLeads (event_header_due headers) before due → length line ≤ longest_event_line
+      → found_in headers whole text ≡ cond whole (Some (open_fault due (line_number before))) None
   found_open before line text due stops some lines right short =
       let size : 0 < length text = omega (arith, ap length stops.0, length-append (ended before) line, some) in
       let fed : is_fed text ≡ false =
       is_fed-some text size ∙ (ap ends_in_line_feed stops.0 ∙ ends_in_line_feed-open (ended before) line stops.2 some) in
-      ap (first_fault whole (is_fed text) event_header_due 0) lines
-      ∙ (ap (λ t. first_fault whole t event_header_due 0 (before ++ line ∷ [])) fed
-      ∙ (found_behind whole false before due (line ∷ []) right refl
+      ap (first_fault whole (is_fed text) (event_header_due headers) 0) lines
+      ∙ (ap (λ t. first_fault whole t (event_header_due headers) 0 (before ++ line ∷ [])) fed
+      ∙ (found_behind whole false headers before due (line ∷ []) right refl
       ∙ cond-false (nat_lt longest_event_line (length line)) _ _ (le-ltb longest_event_line (length line) short)))
 
   -- ---- the first fault of a text is found in it
 
   found-from_StandsIn : (fault : EventFault) (place : Place) (text : List ℕ) (before : List (List ℕ)) (line : List ℕ) (due : EventDue) → IsByte place
-      → StandsIn by_line_feed place before line text → EventLeads event_header_due before due → HasEventFault fault place due (line_number before) line
-      → found_in whole text ≡ Some fault
+      → StandsIn by_line_feed place before line text → EventLeads (event_header_due headers) before due → HasEventFault fault place due (line_number before) line
+      → found_in headers whole text ≡ Some fault
   found-from_StandsIn fault at_line_feed text before line due byte (after, lines, ends) right h =
-      ap (first_fault whole (is_fed text) event_header_due 0) lines
-      ∙ (found_behind whole (is_fed text) before due (line ∷ after) right refl
+      ap (first_fault whole (is_fed text) (event_header_due headers) 0) lines
+      ∙ (found_behind whole (is_fed text) headers before due (line ∷ after) right refl
       ∙ found_whole (is_fed text) fault due (length before) line after (feed after ends) h)
     where
       feed : (lines : List (List ℕ)) → (lines ≡ [] → ends_in_line_feed text ≡ true) → has_feed (is_fed text) lines ≡ true
       feed [] k = fed-from_end text (k refl)
       feed (l ∷ lines) k = refl
   found-from_StandsIn fault at_byte text before line due byte (some, more, after, lines) right h =
-      ap (first_fault whole (is_fed text) event_header_due 0) lines
-      ∙ (found_behind whole (is_fed text) before due ((line ++ more) ∷ after) right refl
+      ap (first_fault whole (is_fed text) (event_header_due headers) 0) lines
+      ∙ (found_behind whole (is_fed text) headers before due ((line ++ more) ∷ after) right refl
       ∙ found_within (is_fed text) fault due (length before) line more after h)
   found-from_StandsIn fault at_end text before line due byte h right faulty = absurd byte
 
-  found-from_Decides : (fault : EventFault) (text : List ℕ) → Decides EventFaultAt fault text → found_in whole text ≡ Some fault
+  found-from_Decides : (fault : EventFault) (text : List ℕ) → Decides (EventFaultAt headers) fault text → found_in headers whole text ≡ Some fault
   found-from_Decides fault text (front, rest, place, is, byte, at) =
       found-from_StandsIn fault place text at.before at.line at.due byte
       (stands by_line_feed text front rest place at.before at.line is byte at.judged) at.right at.faulty
 
-pub found-from_IsFirstFault : (fault : EventFault) (text : List ℕ) → IsFirstFault EventFaultAt fault text → found_in true text ≡ Some fault
-found-from_IsFirstFault fault text (inl decided) = found-from_Decides true fault text decided
-found-from_IsFirstFault fault text (inr at) =
+pub found-from_IsFirstFault : (headers : Headers) (fault : EventFault) (text : List ℕ) → IsFirstFault (EventFaultAt headers) fault text
+    → found_in headers true text ≡ Some fault
+found-from_IsFirstFault headers fault text (inl decided) = found-from_Decides headers true fault text decided
+found-from_IsFirstFault headers fault text (inr at) =
     let is = end_fault fault at.due (line_number at.before) at.line at.faulty in
     elim (last by_line_feed text at.before at.line at.judged) [
       | inl h ↦
           let bytes : text ≡ ended at.before =
           at.judged.0 ∙ (ap (λ l. ended at.before ++ l) h.0 ∙ append-nil (ended at.before)) in
-          found_at_feed true at.before text at.due bytes at.judged.1 at.right ∙ is.of_nothing h.0
-      | inr h ↦ found_open true at.before at.line text at.due at.judged h.0 h.1 at.right is.short ∙ ap Some (is.of_some h.0)
+          found_at_feed headers true at.before text at.due bytes at.judged.1 at.right ∙ is.of_nothing h.0
+      | inr h ↦ found_open headers true at.before at.line text at.due at.judged h.0 h.1 at.right is.short ∙ ap Some (is.of_some h.0)
     ]
 
 -- nothing is decided where a text stops in a line that is not too long
-pub none_decided : (before : List (List ℕ)) (line text : List ℕ) (due : EventDue) → StopsIn by_line_feed before line text
-    → EventLeads event_header_due before due → length line ≤ longest_event_line → (fault : EventFault) → Decides EventFaultAt fault text → ⊥
-none_decided before line text due stops right short fault decided =
-    let found = found-from_Decides false fault text decided in
+pub none_decided : (headers : Headers) (before : List (List ℕ)) (line text : List ℕ) (due : EventDue) → StopsIn by_line_feed before line text
+    → EventLeads (event_header_due headers) before due → length line ≤ longest_event_line → (fault : EventFault) → Decides (EventFaultAt headers) fault text → ⊥
+none_decided headers before line text due stops right short fault decided =
+    let found = found-from_Decides headers false fault text decided in
     elim (last by_line_feed text before line stops) [
       | inl h ↦
           let bytes : text ≡ ended before = stops.0 ∙ (ap (λ l. ended before ++ l) h.0 ∙ append-nil (ended before)) in
-          let none = sym found ∙ found_at_feed false before text due bytes stops.1 right in
+          let none = sym found ∙ found_at_feed headers false before text due bytes stops.1 right in
           absurd (cc)
       | inr h ↦
-          let none = sym found ∙ found_open false before line text due stops h.0 h.1 right short in
+          let none = sym found ∙ found_open headers false before line text due stops h.0 h.1 right short in
           absurd (cc)
     ]
 
@@ -306,12 +317,15 @@ events_lead : (events : List Event) (lines : List (List ℕ)) → AreEvents even
 events_lead events [] h = refl
 events_lead events (line ∷ lines) h = (event_due, (h.0, h.3, refl), events_lead h.1 lines h.4)
 
--- the header and lines of events lead to more of them
-pub header_leads : (events : List Event) (lines : List (List ℕ)) → AreEvents events lines → EventLeads event_header_due (event_header ∷ lines) event_due
-header_leads events lines h = (event_due, (refl, refl), events_lead events lines h)
+-- a header that is taken and lines of events lead to more of them
+pub header_leads : (headers : Headers) (version : Version) (events : List Event) (lines : List (List ℕ)) → Takes headers version → AreEvents events lines
+    → EventLeads (event_header_due headers) (event_header version ∷ lines) event_due
+header_leads headers version events lines takes h = (event_due, ((version, takes, refl), refl), events_lead events lines h)
 
--- no fault is found in a text that spells events
-pub none_found : (events : List Event) (text : List ℕ) → EventText events text → found_in true text ≡ None
-none_found events text h =
-    found_at_feed true (event_header ∷ h.event_lines) text event_due h.lines (refl, AreEvents-lines events h.event_lines h.are_events)
-    (header_leads events h.event_lines h.are_events)
+-- no fault is found in a text that spells a run
+pub none_found : (headers : Headers) (version : Version) (events : List Event) (text : List ℕ) → RunText headers (version, events) text
+    → found_in headers true text ≡ None
+none_found headers version events text (takes, h) =
+    found_at_feed headers true (event_header version ∷ h.event_lines) text event_due h.lines
+    (header-is_line version, AreEvents-lines events h.event_lines h.are_events)
+    (header_leads headers version events h.event_lines takes h.are_events)

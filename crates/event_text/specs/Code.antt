@@ -2,5 +2,3 @@
 
 -- how an event is told from its line
 pub mod EventLines
--- what taking the header's line leaves
-pub mod HeaderTaking

@@ -1,13 +1,19 @@
--- The text of a run's events: which texts spell a list of events.
-use Rattle.std.specs.Prelude.{◌≡◌, ℕ, ◌^◌, ◌<◌, List, [], ◌∷◌, codes}
+-- The text of a run's events: which texts spell a version of messages and a list of events.
+use Rattle.std.specs.Prelude.{◌≡◌, ℕ, ◌^◌, ◌<◌, List, [], ◌∷◌, codes, ⊤}
 use Rattle.std.specs.List.{join_with_byte}
 use Rattle.grid.specs.Text.{space, ended}
 use Rattle.model.specs.declared.event.Event.{Event}
 use Rattle.model.specs.declared.event.Event.TheVariants.{Start, Finish, Say, Deliver, Restart, Tear}
+use Rattle.model.specs.declared.version.Version.{Version}
+use Rattle.model.specs.declared.version.Version.TheVariants.{One, Two}
 use Rattle.plan_text.specs.PlanText.{IsNumeral}
+use Rattle.event_text.specs.declared.header.Headers.{Headers}
+use Rattle.event_text.specs.declared.header.Headers.TheVariants.{VersionOne, Either}
 
-abbrev pub event_header : List ℕ
-event_header = codes "mapf-events 1"
+-- the header of a version
+abbrev pub event_header : Version → List ℕ
+event_header One = codes "mapf-events 1"
+event_header Two = codes "mapf-events 2"
 
 -- a word and a number below 2^32, with one space between them
 abbrev pub NamesAgent : List ℕ → ℕ → List ℕ → Type 0
@@ -33,8 +39,23 @@ AreEvents events [] = events ≡ []
 AreEvents events (line ∷ lines) =
     (event : Event) × (others : List Event) × (events ≡ event ∷ others) × SpellsEvent event line × AreEvents others lines
 
--- The text spells the events: its lines, each ended by an LF, are the header and one for each event.
-pub record EventText (events : List Event) (text : List ℕ) : Type 0 where
+-- The text spells the version and the events: its lines, each ended by an LF, are the version's header and one for each event.
+pub record EventText (version : Version) (events : List Event) (text : List ℕ) : Type 0 where
   pub event_lines : List (List ℕ)
-  pub lines : text ≡ ended (event_header ∷ event_lines)
+  pub lines : text ≡ ended (event_header version ∷ event_lines)
   pub are_events : AreEvents events event_lines
+
+-- ---- which headers are taken
+
+-- the header of the version is taken: that of version 1 alone, or either
+abbrev pub Takes : Headers → Version → Type 0
+Takes VersionOne version = version ≡ One
+Takes Either version = ⊤
+
+-- the line is a header that is taken
+abbrev pub IsHeader : Headers → List ℕ → Type 0
+IsHeader headers line = (version : Version) × Takes headers version × (line ≡ event_header version)
+
+-- the text spells the run, a version and events, and its header is taken
+abbrev pub RunText : Headers → Version × List Event → List ℕ → Type 0
+RunText headers run text = Takes headers run.0 × EventText run.0 run.1 text

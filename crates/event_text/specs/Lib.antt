@@ -1,12 +1,12 @@
 -- What has to be believed, in the order in which to read it: each promise of the crate is made in these words, and in those of `model`.
 
--- the grammar of a text of events
+-- the grammar of a text of events, and which headers are taken
 pub mod EventText
 -- the faults of a text of events, and where each stands
 pub mod EventFault
 -- the words in which a fault is told
 pub mod FaultWords
--- the events of a text up to its first fault
+-- the version of a text, and its events up to its first fault
 pub mod FirstEvents
 -- what reading a text event by event leaves
 pub mod Taking

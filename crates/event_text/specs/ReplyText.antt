@@ -4,7 +4,7 @@ use Rattle.std.specs.List.{flat_map}
 use Rattle.hex.specs.Hex.{encode_lower}
 use Rattle.grid.specs.Text.{space, ended}
 use Rattle.model.specs.declared.why.Why.{Why}
-use Rattle.model.specs.declared.why.Why.TheVariants.{NoSuchAgent, NoSuchMessage, BadTear, Broken, AlreadyMoving, AtEnd, Waits, NotMoving, StoreFailed, BadLength, BadMagic, BadVersion, WrongPlan, TooMany}
+use Rattle.model.specs.declared.why.Why.TheVariants.{NoSuchAgent, NoSuchMessage, BadTear, Broken, AlreadyMoving, AtEnd, Waits, NotMoving, StoreFailed, BadLength, BadMagic, BadVersion, BadEntry, WrongPlan, TooMany}
 use Rattle.model.specs.History.{Answer, moving, arrived, said, heard, at, between, armed, refused}
 
 -- each number, with a space before it
@@ -25,12 +25,14 @@ refusal_name StoreFailed = codes "StoreFailed"
 refusal_name BadLength = codes "BadLength"
 refusal_name BadMagic = codes "BadMagic"
 refusal_name BadVersion = codes "BadVersion"
+refusal_name (BadEntry entry) = codes "BadEntry"
 refusal_name WrongPlan = codes "WrongPlan"
 refusal_name TooMany = codes "TooMany"
 
--- the agent and the number of moves that are waited for
+-- the agent and the number of moves that are waited for, or the entry
 abbrev pub refusal_numbers : Why → List ℕ
 refusal_numbers (Waits j count) = j ∷ count ∷ []
+refusal_numbers (BadEntry entry) = entry ∷ []
 refusal_numbers _ = []
 
 -- where an agent stands after a restart, and how many moves it has finished

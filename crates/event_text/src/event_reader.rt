@@ -1,5 +1,5 @@
 //! Reading a text of events.
-ghost use Rattle.std.specs.Prelude.{◌≡◌, ◌≤◌, ℕ, Option, List, [], take, min, true, false};
+ghost use Rattle.std.specs.Prelude.{◌≡◌, ◌≤◌, ℕ, Option, Some, None, Ok, List, [], take, min, IfOk};
 ghost use Rattle.grid.specs.declared.counted.Counted.{Counted};
 ghost use Rattle.grid.specs.Counted.{counted_inner, failures_of};
 ghost use Rattle.grid.specs.declared.source.Source.{Source};
@@ -7,15 +7,19 @@ ghost use Rattle.grid.specs.Source.{source_reader, most_left};
 ghost use Rattle.grid.specs.Lines.{HasTaken};
 ghost use Rattle.grid.specs.Reading.{ReadsText};
 ghost use Rattle.model.specs.declared.event.Event.{Event};
-ghost use Rattle.event_text.specs.EventText.{EventText};
-ghost use Rattle.event_text.specs.EventFault.{longest_event_line, EventFaultAt, read_items, event_outcome};
-ghost use Rattle.event_text.specs.Taking.{IsAtStart, HasReadEvents, EventTaken, LeavesFewer};
-ghost use Rattle.event_text.specs.Code.HeaderTaking.{HeaderTaken};
+ghost use Rattle.model.specs.declared.version.Version.{Version};
+ghost use Rattle.model.specs.declared.version.Version.TheVariants.{One};
+ghost use Rattle.event_text.specs.declared.header.Headers.{Headers};
+ghost use Rattle.event_text.specs.declared.header.Headers.TheVariants.{VersionOne, Either};
+ghost use Rattle.event_text.specs.EventText.{EventText, RunText};
+ghost use Rattle.event_text.specs.EventFault.{longest_event_line, EventFaultAt, read_items, read_run, event_outcome};
+ghost use Rattle.event_text.specs.Taking.{IsAtStart, HasReadEvents, VersionTaken, EventTaken, LeavesFewer};
 
 use crate::EventFault;
 use crate::event_line::read_event;
+use crate::header::{Headers, version_of};
 use grid::{Counted, Source, TakenLine};
-use model::Event;
+use model::{Event, Version};
 use std::alloc::{AllocError, Global};
 use std::io::Read;
 
@@ -27,18 +31,48 @@ const LONGEST_LINE: usize = 64;
 pub struct EventReader {
     room: [u8; LONGEST_LINE],
     number: u64,
-    header_read: bool,
+    headers: Headers,
+    version: Option<Version>,
 }
 
 impl EventReader {
-    /// Nothing is read yet.
+    /// Nothing is read yet, and only the header of version 1 is taken.
     pub fn new() -> EventReader
-        ensures { IsAtStart result }
+        ensures { IsAtStart VersionOne result }
+    {
+        EventReader::taking(Headers::VersionOne)
+    }
+
+    /// Nothing is read yet, and the header of either version is taken.
+    pub fn any() -> EventReader
+        ensures { IsAtStart Either result }
+    {
+        EventReader::taking(Headers::Either)
+    }
+
+    fn taking(headers: Headers) -> EventReader
+        ensures { IsAtStart headers result }
     {
         EventReader {
             room: [0; LONGEST_LINE],
             number: 1,
-            header_read: false,
+            headers,
+            version: None,
+        }
+    }
+
+    /// The version of a source's header, which is read where it wasn't yet. After a fault there is nothing more to be read.
+    pub fn version<R: Read>(&mut self, source: &mut Source<'_, R>) -> Result<Version, EventFault>
+        ensures same_reader { source.new.reader.ghost_name ≡ source.old.reader.ghost_name }
+        ensures taken { (headers : Headers) (first : Counted R) (events : List Event) → HasReadEvents headers R.remaining first source.old self.old events
+            → VersionTaken headers R.remaining first source.new self.new events result }
+        ensures same_version { (version : Version) → self.old.version ≡ Some version → result ≡ Ok version }
+        ensures kept { IfOk result (λ version. self.new.version ≡ Some version) }
+        ensures none_more { most_left source.new ≤ most_left source.old }
+    {
+        match self.version {
+            Some(version) => Ok(version),
+            None => self.read_header(source),
         }
     }
 
@@ -48,34 +82,34 @@ impl EventReader {
         source: &mut Source<'_, R>,
     ) -> Result<Option<Event>, EventFault>
         ensures same_reader { source.new.reader.ghost_name ≡ source.old.reader.ghost_name }
-        ensures next { (first : Counted R) (events : List Event) → HasReadEvents R.remaining first source.old self.old events
-            → EventTaken R.remaining first source.new self.new events result }
+        ensures next { (headers : Headers) (first : Counted R) (events : List Event) → HasReadEvents headers R.remaining first source.old self.old events
+            → EventTaken headers R.remaining first source.new self.new events result }
+        ensures same_version { (version : Version) → self.old.version ≡ Some version → self.new.version ≡ Some version }
         ensures fewer_left { LeavesFewer result (most_left source.old) (most_left source.new) }
     {
-        if !self.header_read {
-            self.read_header(source)?;
-        }
+        let _version = self.version(source)?;
         self.read_line(source)
     }
 
-    fn read_header<R: Read>(&mut self, source: &mut Source<'_, R>) -> Result<(), EventFault>
+    fn read_header<R: Read>(&mut self, source: &mut Source<'_, R>) -> Result<Version, EventFault>
         ensures same_reader { source.new.reader.ghost_name ≡ source.old.reader.ghost_name }
-        ensures taken { (first : Counted R) (events : List Event) → HasReadEvents R.remaining first source.old self.old events
-            → self.old.header_read ≡ false → HeaderTaken R.remaining first source.new self.new events result }
+        ensures taken { (headers : Headers) (first : Counted R) (events : List Event) → HasReadEvents headers R.remaining first source.old self.old events
+            → self.old.version ≡ None → VersionTaken headers R.remaining first source.new self.new events result }
+        ensures kept { IfOk result (λ version. self.new.version ≡ Some version) }
         ensures none_more { most_left source.new ≤ most_left source.old }
     {
         match source.take_line(&mut self.room) {
             TakenLine::WithLineFeed(count) => {
-                if self.taken(count) != b"mapf-events 1".as_slice() {
+                let Some(version) = version_of(self.headers, self.taken(count)) else {
                     return Err(EventFault::NoHeader);
-                }
+                };
+                self.version = Some(version);
+                self.number = 2;
+                Ok(version)
             }
-            TakenLine::AtEnd(_) | TakenLine::TooLong => return Err(EventFault::NoHeader),
-            TakenLine::Failed => return Err(EventFault::ReadFailed),
+            TakenLine::AtEnd(_) | TakenLine::TooLong => Err(EventFault::NoHeader),
+            TakenLine::Failed => Err(EventFault::ReadFailed),
         }
-        self.header_read = true;
-        self.number = 2;
-        Ok(())
     }
 
     /// A line of so many bytes that was taken into the room.
@@ -91,8 +125,10 @@ impl EventReader {
         source: &mut Source<'_, R>,
     ) -> Result<Option<Event>, EventFault>
         ensures same_reader { source.new.reader.ghost_name ≡ source.old.reader.ghost_name }
-        ensures next { (first : Counted R) (events : List Event) → HasReadEvents R.remaining first source.old self.old events
-            → self.old.header_read ≡ true → EventTaken R.remaining first source.new self.new events result }
+        ensures next { (headers : Headers) (first : Counted R) (events : List Event) (version : Version)
+            → HasReadEvents headers R.remaining first source.old self.old events
+            → self.old.version ≡ Some version → EventTaken headers R.remaining first source.new self.new events result }
+        ensures same_version { self.new.version ≡ self.old.version }
         ensures fewer_left { LeavesFewer result (most_left source.old) (most_left source.new) }
     {
         match source.take_line(&mut self.room) {
@@ -111,30 +147,49 @@ impl EventReader {
     }
 }
 
-/// Reads events, the whole text. The first fault is answered; a reader that fails is not read again, and the answer is then the
-/// fault that its bytes decide, or else `ReadFailed`.
+/// Reads events of version 1, the whole text. The first fault is answered; a reader that fails is not read again, and the answer is
+/// then the fault that its bytes decide, or else `ReadFailed`.
 pub fn read_events<R: Read>(
     alloc: Global,
     reader: &mut Counted<R>,
 ) -> Result<Vec<Event>, EventFault>
-    ensures { ReadsText EventText EventFaultAt (R.remaining (counted_inner reader.old)) (R.remaining (counted_inner reader.new))
+    ensures { ReadsText (EventText One) (EventFaultAt VersionOne) (R.remaining (counted_inner reader.old)) (R.remaining (counted_inner reader.new))
         (failures_of reader.old) (failures_of reader.new) (event_outcome (read_items result)) }
 {
     let mut source = Source::new(reader);
-    read_all(alloc, &mut source)
+    let (_, events) = read_all(alloc, Headers::VersionOne, &mut source)?;
+    Ok(events)
 }
 
-/// Reads the events of a source of which nothing was taken.
-fn read_all<R: Read>(alloc: Global, source: &mut Source<'_, R>) -> Result<Vec<Event>, EventFault>
+/// Reads the version of a text of events and the events, the whole text, as `read_events` does.
+pub fn read_events_any<R: Read>(
+    alloc: Global,
+    reader: &mut Counted<R>,
+) -> Result<(Version, Vec<Event>), EventFault>
+    ensures { ReadsText (RunText Either) (EventFaultAt Either) (R.remaining (counted_inner reader.old)) (R.remaining (counted_inner reader.new))
+        (failures_of reader.old) (failures_of reader.new) (event_outcome (read_run result)) }
+{
+    let mut source = Source::new(reader);
+    read_all(alloc, Headers::Either, &mut source)
+}
+
+/// Reads the version and the events of a source of which nothing was taken.
+fn read_all<R: Read>(
+    alloc: Global,
+    headers: Headers,
+    source: &mut Source<'_, R>,
+) -> Result<(Version, Vec<Event>), EventFault>
     requires { HasTaken R.remaining (source_reader source.old) source.old [] }
     ensures same_reader { source.new.reader.ghost_name ≡ source.old.reader.ghost_name }
-    ensures reads { ReadsText EventText EventFaultAt (R.remaining (counted_inner (source_reader source.old))) (R.remaining (counted_inner (source_reader source.new)))
-        (failures_of (source_reader source.old)) (failures_of (source_reader source.new)) (event_outcome (read_items result)) }
+    ensures reads { ReadsText (RunText headers) (EventFaultAt headers) (R.remaining (counted_inner (source_reader source.old)))
+        (R.remaining (counted_inner (source_reader source.new))) (failures_of (source_reader source.old)) (failures_of (source_reader source.new))
+        (event_outcome (read_run result)) }
 {
-    let mut reader = EventReader::new();
+    let mut reader = EventReader::taking(headers);
     let mut events = Vec::new(alloc);
+    let version = reader.version(source)?;
     while let Some(event) = reader.next_event(source)? {
         events.push(event).map_err(AllocError::from)?;
     }
-    Ok(events)
+    Ok((version, events))
 }

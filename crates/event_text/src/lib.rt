@@ -4,10 +4,11 @@
 mod event_fault;
 mod event_line;
 mod event_reader;
+mod header;
 pub mod laws;
 mod numerals;
 mod reply_writer;
 
 pub use event_fault::EventFault;
-pub use event_reader::{EventReader, read_events};
-pub use reply_writer::{put_reply, write_replies};
+pub use event_reader::{EventReader, read_events, read_events_any};
+pub use reply_writer::{put_hexadecimal, put_reply, write_replies};

@@ -103,6 +103,7 @@ fn put_refusal<W: Write>(sink: &mut Sink<'_, W>, why: Why) -> Result<(), WriteFa
     let name = refusal_name(why).as_bytes();
     match why {
         Why::Waits(j, count) => put_numbers(sink, name, &[u64::from(j), u64::from(count)]),
+        Why::BadEntry(entry) => put_numbers(sink, name, &[u64::from(entry)]),
         _ => sink.put(name),
     }
 }
@@ -123,6 +124,7 @@ fn refusal_name(why: Why) -> &'static str
         Why::BadLength => "BadLength",
         Why::BadMagic => "BadMagic",
         Why::BadVersion => "BadVersion",
+        Why::BadEntry(_) => "BadEntry",
         Why::WrongPlan => "WrongPlan",
         Why::TooMany => "TooMany",
     }
@@ -145,7 +147,7 @@ fn put_numbers<W: Write>(
 }
 
 /// Puts two digits for each byte.
-fn put_hexadecimal<W: Write>(sink: &mut Sink<'_, W>, bytes: &[u8]) -> Result<(), WriteFault>
+pub fn put_hexadecimal<W: Write>(sink: &mut Sink<'_, W>, bytes: &[u8]) -> Result<(), WriteFault>
     ensures ok { OnOk result (Puts W.contents sink.old sink.new (encode_lower bytes.now)) }
     ensures err { OnErr result (Breaks W.contents sink.old sink.new (encode_lower bytes.now)) }
 {

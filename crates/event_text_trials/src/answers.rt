@@ -1,6 +1,7 @@
 //! What a text of events is answered with, as text: each event with a space behind it, or the fault.
-use event_text::{EventReader, read_events};
+use event_text::{EventReader, read_events, read_events_any};
 use grid::{Counted, Source};
+use model::Event;
 use std::alloc::Global;
 use std::io::Read;
 use std::test::Fail;
@@ -10,9 +11,26 @@ pub fn answer<R: Read + Drop>(alloc: Global, reader: R) -> Result<String, Fail> 
     match read_events(alloc, &mut Counted::new(reader)) {
         Ok(events) => {
             let mut text = String::new(alloc);
-            for event in &events {
-                text.push_str(format!(in alloc; "{event:?} ")?.as_str())?;
-            }
+            push_events(alloc, &mut text, &events)?;
+            Ok(text)
+        }
+        Err(fault) => Ok(format!(in alloc; "{fault}")?),
+    }
+}
+
+fn push_events(alloc: Global, text: &mut String, events: &[Event]) -> Result<(), Fail> {
+    for event in events {
+        text.push_str(format!(in alloc; "{event:?} ")?.as_str())?;
+    }
+    Ok(())
+}
+
+/// The same where either header is taken; the version stands before the events.
+pub fn answer_any<R: Read + Drop>(alloc: Global, reader: R) -> Result<String, Fail> {
+    match read_events_any(alloc, &mut Counted::new(reader)) {
+        Ok((version, events)) => {
+            let mut text = format!(in alloc; "{version:?} ")?;
+            push_events(alloc, &mut text, &events)?;
             Ok(text)
         }
         Err(fault) => Ok(format!(in alloc; "{fault}")?),

@@ -1,4 +1,4 @@
-//! Tests of the crate event_text: event texts cut at every place, failing readers and writers, and the lines of replies.
+//! Tests of the crate event_text: event texts of both versions cut at every place, failing readers and writers, and the lines of replies.
 #![tactic(auto)]
 
 #[cfg(test)]
@@ -9,3 +9,5 @@ mod event_texts;
 mod event_trouble;
 #[cfg(test)]
 mod reply_texts;
+#[cfg(test)]
+mod versions;

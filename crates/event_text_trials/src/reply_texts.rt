@@ -7,7 +7,7 @@ use std::alloc::{AllocError, Global};
 use std::test::Fail;
 
 /// Refusals, and the words of each behind `refused `.
-static REFUSALS: [(Why, &str); 14] = [
+static REFUSALS: [(Why, &str); 15] = [
     (Why::NoSuchAgent, "NoSuchAgent"),
     (Why::NoSuchMessage, "NoSuchMessage"),
     (Why::BadTear, "BadTear"),
@@ -20,6 +20,7 @@ static REFUSALS: [(Why, &str); 14] = [
     (Why::BadLength, "BadLength"),
     (Why::BadMagic, "BadMagic"),
     (Why::BadVersion, "BadVersion"),
+    (Why::BadEntry(3), "BadEntry 3"),
     (Why::WrongPlan, "WrongPlan"),
     (Why::TooMany, "TooMany"),
 ];
@@ -74,7 +75,7 @@ fn refusals(rt: HostRuntime) -> Result<(), Fail> {
 
 #[test]
 fn long_messages(rt: HostRuntime) -> Result<(), Fail> {
-    for length in [0, 63, 64, 65, 128, 129, 1000] {
+    for length in [0, 63, 64, 65, 128, 129, 1000, 60_010] {
         let bytes = vec![in rt.alloc(); 0xa7_u8; length]?;
         let mut text = Vec::new(rt.alloc());
         let mut all = Vec::new(rt.alloc());

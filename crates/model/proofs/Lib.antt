@@ -3,6 +3,7 @@ pub mod Options
 pub mod TrackLemmas
 pub mod CostLemmas
 pub mod NeedLemmas
+pub mod EntryLemmas
 pub mod Visited
 pub mod HistoryLemmas
 pub mod RunLemmas

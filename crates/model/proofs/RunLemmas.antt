@@ -2,6 +2,7 @@
 use Rattle.std.proofs.Common.{◌≡◌, ℕ, ◌+◌, ◌<◌, ◌≤◌, eqb, Bool, true, false, cond, [], ◌∷◌, Some, None, inl, inr, arith, refl, sym, ap, subst, ◌∙◌}
 use Rattle.std.specs.Prelude.{Option, ◌&&◌, ◌⊎◌, nat_lt}
 use Rattle.std.proofs.lemmas.Bool.{cases_Bool, cases_lt, cond-true, cond-false, and_parts, eqb-true, eqb-false, ltb-false, false≢true}
+use Rattle.model.specs.declared.version.Version.{Version}
 use Rattle.model.specs.declared.event.Event.{Event}
 use Rattle.model.specs.declared.event.Event.TheVariants.{Start, Finish, Say, Deliver, Restart, Tear}
 use Rattle.model.specs.declared.why.Why.TheVariants.{Broken, AlreadyMoving, AtEnd, Waits, NotMoving}
@@ -22,20 +23,20 @@ begun_if false true e a rest h = absurd (false≢true h)
 begun_if false false true a rest h = absurd (false≢true h)
 begun_if false false false a rest h = (refl, refl, refl, h)
 
-begun_unless : (h : History) (i : ℕ) (o : Option Need) (a : Option ℕ) (r : Answer) → is_begun (unless_waiting h i o r) a ≡ true → IsMet (known h i) o
-begun_unless h i None a r e = tt
-begun_unless h i (Some n) a r e =
-    elim (cases_Bool (nat_lt (known h i n.agent) n.count)) [
-      | inl less ↦ absurd (false≢true (ap (λ x. is_begun x a) (sym (cond-true (nat_lt (known h i n.agent) n.count) (refused (Waits n.agent n.count)) r less)) ∙ e))
-      | inr most ↦ ltb-false (known h i n.agent) n.count most
+begun_unless : (known : ℕ → ℕ) (o : Option Need) (a : Option ℕ) (r : Answer) → is_begun (unless_waiting known o r) a ≡ true → IsMet known o
+begun_unless known None a r e = tt
+begun_unless known (Some n) a r e =
+    elim (cases_Bool (nat_lt (known n.agent) n.count)) [
+      | inl less ↦ absurd (false≢true (ap (λ x. is_begun x a) (sym (cond-true (nat_lt (known n.agent) n.count) (refused (Waits n.agent n.count)) r less)) ∙ e))
+      | inr most ↦ ltb-false (known n.agent) n.count most
     ]
 
 -- a move is begun only by an agent that isn't broken, stands, has a move left, and knows that its need is met
-pub start-begun : (tab : Timetable) (h : History) (i : ℕ) (track : Track) (a : Option ℕ) → is_begun (start_answer tab h i track) a ≡ true
-    → (is_broken h i ≡ false) × (is_moving h i ≡ false) × (eqb (done h i) (moves track) ≡ false) × IsMet (known h i) (need tab i track (done h i))
-start-begun tab h i track a e =
+pub start-begun : (v : Version) (tab : Timetable) (h : History) (i : ℕ) (track : Track) (a : Option ℕ) → is_begun (start_answer v tab h i track) a ≡ true
+    → (is_broken h i ≡ false) × (is_moving h i ≡ false) × (eqb (done h i) (moves track) ≡ false) × IsMet (known v tab h i) (need tab i track (done h i))
+start-begun v tab h i track a e =
     let parts = begun_if (is_broken h i) (is_moving h i) (eqb (done h i) (moves track)) a _ e in
-    (parts.0, parts.1, parts.2, begun_unless h i (need tab i track (done h i)) a _ parts.3)
+    (parts.0, parts.1, parts.2, begun_unless (known v tab h i) (need tab i track (done h i)) a _ parts.3)
 
 ended_if : (b m : Bool) (a : Option ℕ) (rest : Answer) → is_ended (cond b (refused Broken) (cond m rest (refused NotMoving))) a ≡ true → (b ≡ false) × (m ≡ true)
 ended_if true m a rest h = absurd (false≢true h)
@@ -47,8 +48,8 @@ pub finish-ended : (h : History) (i : ℕ) (track : Track) (a : Option ℕ) → 
 finish-ended h i track a e = ended_if (is_broken h i) (is_moving h i) a _ e
 
 -- the answer to an agent that there is
-pub answer-is : (tab : Timetable) (h : History) (e : Event) (track : Track) → track_of tab (agent_of e) ≡ Some track → answer tab h e ≡ agent_answer tab h e track
-answer-is tab h e track there = ap (answer_by tab h e) there
+pub answer-is : (v : Version) (tab : Timetable) (h : History) (e : Event) (track : Track) → track_of tab (agent_of e) ≡ Some track → answer v tab h e ≡ agent_answer v tab h e track
+answer-is v tab h e track there = ap (answer_by v tab h e) there
 
 -- ---- progress
 
@@ -109,38 +110,38 @@ room_left tab h i track was still left =
     ]
 
 -- what r, the answer to the agent j, is where j is i
-pub answer-at : (tab : Timetable) (h : History) (of : ℕ → Event) (i j : ℕ) (track : Track) (r : Answer) → track_of tab i ≡ Some track → agent_of (of i) ≡ i
-    → j ≡ i → r ≡ answer tab h (of j) → r ≡ agent_answer tab h (of i) track
-answer-at tab h of i j track r there own same e =
-    e ∙ ap (λ n. answer tab h (of n)) same ∙ answer-is tab h (of i) track (ap (track_of tab) own ∙ there)
+pub answer-at : (v : Version) (tab : Timetable) (h : History) (of : ℕ → Event) (i j : ℕ) (track : Track) (r : Answer) → track_of tab i ≡ Some track → agent_of (of i) ≡ i
+    → j ≡ i → r ≡ answer v tab h (of j) → r ≡ agent_answer v tab h (of i) track
+answer-at v tab h of i j track r there own same e =
+    e ∙ ap (λ n. answer v tab h (of n)) same ∙ answer-is v tab h (of i) track (ap (track_of tab) own ∙ there)
 
 -- a happening begins no move of the agent, or just its next, and then the need of that move is met
-pub begun_now : (tab : Timetable) (h : History) (i : ℕ) (track : Track) → track_of tab i ≡ Some track → Progress tab h i track
-    → (e : Event) (r : Answer) → r ≡ answer tab h e
+pub begun_now : (v : Version) (tab : Timetable) (h : History) (i : ℕ) (track : Track) → track_of tab i ≡ Some track → Progress tab h i track
+    → (e : Event) (r : Answer) → r ≡ answer v tab h e
     → (starts_of e r i (armed_of h i) ≡ 0)
     ⊎ ((starts_of e r i (armed_of h i) ≡ 1) × (finishes_of e r i (armed_of h i) ≡ 0) × (is_moving h i ≡ false) × (eqb (done h i) (moves track) ≡ false)
-    × IsMet (known h i) (need tab i track (done h i)))
-begun_now tab h i track there was (Start j) r by_rules =
+    × IsMet (known v tab h i) (need tab i track (done h i)))
+begun_now v tab h i track there was (Start j) r by_rules =
     let a = armed_of h i in
     elim (cases_Bool (eqb j i && is_begun r a)) [
       | inr unkept ↦ inl (cond-false _ 1 0 unkept)
       | inl kept ↦
           let both = and_parts (eqb j i) (is_begun r a) kept in
-          let r_is = answer-at tab h (λ n. Start n) i j track r there refl (eqb-true j i both.0) by_rules in
-          let facts = start-begun tab h i track a (ap (λ x. is_begun x a) (sym r_is) ∙ both.1) in
+          let r_is = answer-at v tab h (λ n. Start n) i j track r there refl (eqb-true j i both.0) by_rules in
+          let facts = start-begun v tab h i track a (ap (λ x. is_begun x a) (sym r_is) ∙ both.1) in
           inr (cond-true _ 1 0 kept, refl, facts.1, facts.2, facts.3)
     ]
-begun_now tab h i track there was (Finish j) r by_rules = inl refl
-begun_now tab h i track there was (Say j) r by_rules = inl refl
-begun_now tab h i track there was (Deliver j m) r by_rules = inl refl
-begun_now tab h i track there was (Restart j) r by_rules = inl refl
-begun_now tab h i track there was (Tear j n) r by_rules = inl refl
+begun_now v tab h i track there was (Finish j) r by_rules = inl refl
+begun_now v tab h i track there was (Say j) r by_rules = inl refl
+begun_now v tab h i track there was (Deliver j m) r by_rules = inl refl
+begun_now v tab h i track there was (Restart j) r by_rules = inl refl
+begun_now v tab h i track there was (Tear j n) r by_rules = inl refl
 
-progress_next : (tab : Timetable) (h : History) (i : ℕ) (track : Track) → track_of tab i ≡ Some track → Progress tab h i track
-    → (e : Event) (r : Answer) → r ≡ answer tab h e → Progress tab (record { event = e; answer = r } ∷ h) i track
-progress_next tab h i track there was (Start j) r by_rules =
+progress_next : (v : Version) (tab : Timetable) (h : History) (i : ℕ) (track : Track) → track_of tab i ≡ Some track → Progress tab h i track
+    → (e : Event) (r : Answer) → r ≡ answer v tab h e → Progress tab (record { event = e; answer = r } ∷ h) i track
+progress_next v tab h i track there was (Start j) r by_rules =
     let now : Happening = record { event = Start j; answer = r } in
-    elim (begun_now tab h i track there was (Start j) r by_rules) [
+    elim (begun_now v tab h i track there was (Start j) r by_rules) [
       | inl none ↦ carry_same tab h i track now none refl was
       | inr begun ↦
           let low = was.low in
@@ -149,16 +150,16 @@ progress_next tab h i track there was (Start j) r by_rules =
           (λ k least less.
           let k_is : done h i ≡ k = omega (arith, least, less, even) in
           subst (λ n. IsMet (done h) (need tab i track n)) k_is
-          (is_met-rise (known h i) (done h) (need tab i track (done h i)) (known-done h i) begun.4))
+          (is_met-rise (known v tab h i) (done h) (need tab i track (done h i)) (known-done v tab h i) begun.4))
     ]
-progress_next tab h i track there was (Finish j) r by_rules =
+progress_next v tab h i track there was (Finish j) r by_rules =
     let a = armed_of h i in
     let now : Happening = record { event = Finish j; answer = r } in
     elim (cases_Bool (eqb j i && is_ended r a)) [
       | inr unkept ↦ carry_same tab h i track now refl (cond-false _ 1 0 unkept) was
       | inl kept ↦
           let both = and_parts (eqb j i) (is_ended r a) kept in
-          let r_is = answer-at tab h (λ n. Finish n) i j track r there refl (eqb-true j i both.0) by_rules in
+          let r_is = answer-at v tab h (λ n. Finish n) i j track r there refl (eqb-true j i both.0) by_rules in
           let facts = finish-ended h i track a (ap (λ x. is_ended x a) (sym r_is) ∙ both.1) in
           let moves_now = eqb-true (kept_starts h i) (done h i + 1) facts.1 in
           let high = was.high in
@@ -166,55 +167,55 @@ progress_next tab h i track there was (Finish j) r by_rules =
           carry tab h i track now 0 1 refl (cond-true _ 1 0 kept) was (omega (arith, moves_now)) (omega (arith, high)) (omega (arith, limit))
           (λ k least less. absurd (omega (arith, least, less)))
     ]
-progress_next tab h i track there was (Say j) r by_rules = carry_same tab h i track (record { event = Say j; answer = r }) refl refl was
-progress_next tab h i track there was (Deliver j m) r by_rules = carry_same tab h i track (record { event = Deliver j m; answer = r }) refl refl was
-progress_next tab h i track there was (Restart j) r by_rules = carry_same tab h i track (record { event = Restart j; answer = r }) refl refl was
-progress_next tab h i track there was (Tear j n) r by_rules = carry_same tab h i track (record { event = Tear j n; answer = r }) refl refl was
+progress_next v tab h i track there was (Say j) r by_rules = carry_same tab h i track (record { event = Say j; answer = r }) refl refl was
+progress_next v tab h i track there was (Deliver j m) r by_rules = carry_same tab h i track (record { event = Deliver j m; answer = r }) refl refl was
+progress_next v tab h i track there was (Restart j) r by_rules = carry_same tab h i track (record { event = Restart j; answer = r }) refl refl was
+progress_next v tab h i track there was (Tear j n) r by_rules = carry_same tab h i track (record { event = Tear j n; answer = r }) refl refl was
 
-pub progress : (tab : Timetable) (h : History) (i : ℕ) (track : Track) → track_of tab i ≡ Some track → IsRun tab h → Progress tab h i track
-progress tab [] i track there run = record { low = omega arith; high = omega arith; limit = omega arith; met = λ k less. absurd (omega (arith, less)) }
-progress tab (now ∷ h) i track there run = progress_next tab h i track there (progress tab h i track there run.1) now.event now.answer run.0
+pub progress : (v : Version) (tab : Timetable) (h : History) (i : ℕ) (track : Track) → track_of tab i ≡ Some track → IsRun v tab h → Progress tab h i track
+progress v tab [] i track there run = record { low = omega arith; high = omega arith; limit = omega arith; met = λ k less. absurd (omega (arith, less)) }
+progress v tab (now ∷ h) i track there run = progress_next v tab h i track there (progress v tab h i track there run.1) now.event now.answer run.0
 
 -- ---- a number that names no agent
 
-none_now : (tab : Timetable) (h : History) (i : ℕ) → track_of tab i ≡ None → (e : Event) (r : Answer) → r ≡ answer tab h e
+none_now : (v : Version) (tab : Timetable) (h : History) (i : ℕ) → track_of tab i ≡ None → (e : Event) (r : Answer) → r ≡ answer v tab h e
     → (starts_of e r i (armed_of h i) ≡ 0) × (finishes_of e r i (armed_of h i) ≡ 0)
-none_now tab h i none (Start j) r by_rules = (
+none_now v tab h i none (Start j) r by_rules = (
   elim (cases_Bool (eqb j i && is_begun r (armed_of h i))) [
     | inr unkept ↦ cond-false _ 1 0 unkept
     | inl kept ↦ (
         let both = and_parts (eqb j i) (is_begun r (armed_of h i)) kept in
-        let refusal = by_rules ∙ ap (answer_by tab h (Start j)) (ap (track_of tab) (eqb-true j i both.0) ∙ none) in
+        let refusal = by_rules ∙ ap (answer_by v tab h (Start j)) (ap (track_of tab) (eqb-true j i both.0) ∙ none) in
         absurd (false≢true (ap (λ x. is_begun x (armed_of h i)) (sym refusal) ∙ both.1)))
   ],
   refl,
 )
-none_now tab h i none (Finish j) r by_rules = (
+none_now v tab h i none (Finish j) r by_rules = (
   refl,
   elim (cases_Bool (eqb j i && is_ended r (armed_of h i))) [
     | inr unkept ↦ cond-false _ 1 0 unkept
     | inl kept ↦ (
         let both = and_parts (eqb j i) (is_ended r (armed_of h i)) kept in
-        let refusal = by_rules ∙ ap (answer_by tab h (Finish j)) (ap (track_of tab) (eqb-true j i both.0) ∙ none) in
+        let refusal = by_rules ∙ ap (answer_by v tab h (Finish j)) (ap (track_of tab) (eqb-true j i both.0) ∙ none) in
         absurd (false≢true (ap (λ x. is_ended x (armed_of h i)) (sym refusal) ∙ both.1)))
   ],
 )
-none_now tab h i none (Say j) r by_rules = (refl, refl)
-none_now tab h i none (Deliver j m) r by_rules = (refl, refl)
-none_now tab h i none (Restart j) r by_rules = (refl, refl)
-none_now tab h i none (Tear j n) r by_rules = (refl, refl)
+none_now v tab h i none (Say j) r by_rules = (refl, refl)
+none_now v tab h i none (Deliver j m) r by_rules = (refl, refl)
+none_now v tab h i none (Restart j) r by_rules = (refl, refl)
+none_now v tab h i none (Tear j n) r by_rules = (refl, refl)
 
 -- nothing is begun or finished under it
-none_ever : (tab : Timetable) (h : History) (i : ℕ) → track_of tab i ≡ None → IsRun tab h → (kept_starts h i ≡ 0) × (done h i ≡ 0)
-none_ever tab [] i none run = (refl, refl)
-none_ever tab (now ∷ h) i none run =
-    let before = none_ever tab h i none run.1 in
-    let here = none_now tab h i none now.event now.answer run.0 in
+none_ever : (v : Version) (tab : Timetable) (h : History) (i : ℕ) → track_of tab i ≡ None → IsRun v tab h → (kept_starts h i ≡ 0) × (done h i ≡ 0)
+none_ever v tab [] i none run = (refl, refl)
+none_ever v tab (now ∷ h) i none run =
+    let before = none_ever v tab h i none run.1 in
+    let here = none_now v tab h i none now.event now.answer run.0 in
     (omega (arith, before.0, here.0), omega (arith, before.1, here.1))
 
 -- under every number what is finished was begun, and at most one move more
-pub in_step : (tab : Timetable) (h : History) (i : ℕ) → IsRun tab h → (done h i ≤ kept_starts h i) × (kept_starts h i ≤ done h i + 1)
-in_step tab h i run = by_track (track_of tab i) refl where
+pub in_step : (v : Version) (tab : Timetable) (h : History) (i : ℕ) → IsRun v tab h → (done h i ≤ kept_starts h i) × (kept_starts h i ≤ done h i + 1)
+in_step v tab h i run = by_track (track_of tab i) refl where
   by_track : (o : Option Track) → track_of tab i ≡ o → (done h i ≤ kept_starts h i) × (kept_starts h i ≤ done h i + 1)
-  by_track (Some track) there = let went = progress tab h i track there run in (went.low, went.high)
-  by_track None none = let never = none_ever tab h i none run in (omega (arith, never.0, never.1), omega (arith, never.0, never.1))
+  by_track (Some track) there = let went = progress v tab h i track there run in (went.low, went.high)
+  by_track None none = let never = none_ever v tab h i none run in (omega (arith, never.0, never.1), omega (arith, never.0, never.1))

@@ -4,6 +4,7 @@ use Rattle.std.specs.Prelude.{Option, ◌&&◌, nat_lt}
 use Rattle.std.proofs.lemmas.Bool.{cases_Bool, cases_lt, cond-true, cond-false, cond_both, eqb-true, eqb-false, false≢true}
 use Rattle.std.proofs.lemmas.List.{take_more, take-append-drop, length-append}
 use Rattle.grid.specs.declared.cell.Cell.{Cell}
+use Rattle.model.specs.declared.version.Version.{Version}
 use Rattle.model.specs.declared.event.Event.{Event}
 use Rattle.model.specs.declared.event.Event.TheVariants.{Start, Finish, Say, Deliver, Restart, Tear}
 use Rattle.model.specs.declared.why.Why.TheVariants.{StoreFailed, Broken, AlreadyMoving, AtEnd, Waits}
@@ -99,40 +100,40 @@ entered_stored : (a : Option ℕ) (c : Cell) → entered (stored a (moving c)) c
 entered_stored None c = refl
 entered_stored (Some n) c = refl
 
-entered_unless : (h : History) (i : ℕ) (o : Option Need) (a : Option ℕ) (c : Cell) → entered (unless_waiting h i o (stored a (moving c))) c ≡ c
-entered_unless h i None a c = entered_stored a c
-entered_unless h i (Some n) a c =
-    cond_both (nat_lt (known h i n.agent) n.count) (refused (Waits n.agent n.count)) (stored a (moving c)) (λ r. entered r c ≡ c) (λ e. refl) (λ e. entered_stored a c)
+entered_unless : (known : ℕ → ℕ) (o : Option Need) (a : Option ℕ) (c : Cell) → entered (unless_waiting known o (stored a (moving c))) c ≡ c
+entered_unless known None a c = entered_stored a c
+entered_unless known (Some n) a c =
+    cond_both (nat_lt (known n.agent) n.count) (refused (Waits n.agent n.count)) (stored a (moving c)) (λ r. entered r c ≡ c) (λ e. refl) (λ e. entered_stored a c)
 
 -- a cell that an answer to a start names is the next of the path
-entered_start : (tab : Timetable) (h : History) (i : ℕ) (track : Track) → entered (start_answer tab h i track) (path_cell track (done h i + 1)) ≡ path_cell track (done h i + 1)
-entered_start tab h i track =
+entered_start : (v : Version) (tab : Timetable) (h : History) (i : ℕ) (track : Track) → entered (start_answer v tab h i track) (path_cell track (done h i + 1)) ≡ path_cell track (done h i + 1)
+entered_start v tab h i track =
     let c = path_cell track (done h i + 1) in
-    let rest = unless_waiting h i (need tab i track (done h i)) (stored (armed_of h i) (moving c)) in
+    let rest = unless_waiting (known v tab h i) (need tab i track (done h i)) (stored (armed_of h i) (moving c)) in
     let at_end = cond (eqb (done h i) (moves track)) (refused AtEnd) rest in
     cond_both (is_broken h i) (refused Broken) (cond (is_moving h i) (refused AlreadyMoving) at_end) (λ r. entered r c ≡ c) (λ e. refl)
     (λ e. cond_both (is_moving h i) (refused AlreadyMoving) at_end (λ r. entered r c ≡ c) (λ f. refl)
     (λ f. cond_both (eqb (done h i) (moves track)) (refused AtEnd) rest (λ r. entered r c ≡ c) (λ g. refl)
-    (λ g. entered_unless h i (need tab i track (done h i)) (armed_of h i) c)))
+    (λ g. entered_unless (known v tab h i) (need tab i track (done h i)) (armed_of h i) c)))
 
-walked_start : (tab : Timetable) (h : History) (i : ℕ) (track : Track) → Progress tab h i track → Walked tab h i track → (j : ℕ) → eqb j i ≡ true
-    → (r : Answer) → r ≡ start_answer tab h i track → Walked tab (record { event = Start j; answer = r } ∷ h) i track
-walked_start tab h i track went was j own (moving c) by_rules =
-    let facts = start-begun tab h i track (armed_of h i) (ap (λ x. is_begun x (armed_of h i)) (sym by_rules)) in
+walked_start : (v : Version) (tab : Timetable) (h : History) (i : ℕ) (track : Track) → Progress tab h i track → Walked tab h i track → (j : ℕ) → eqb j i ≡ true
+    → (r : Answer) → r ≡ start_answer v tab h i track → Walked tab (record { event = Start j; answer = r } ∷ h) i track
+walked_start v tab h i track went was j own (moving c) by_rules =
+    let facts = start-begun v tab h i track (armed_of h i) (ap (λ x. is_begun x (armed_of h i)) (sym by_rules)) in
     let even = level h i went.low went.high facts.1 in
     let room = room_left tab h i track went facts.1 facts.2 in
     let whole = was.whole facts.0 in
     let next = path_cell track (done h i + 1) in
-    let cell : c ≡ next = ap (λ x. entered x next) by_rules ∙ entered_start tab h i track in
+    let cell : c ≡ next = ap (λ x. entered x next) by_rules ∙ entered_start v tab h i track in
     let place : done h i + 1 ≡ length (walk track h i) = omega (arith, whole, even) in
     let began : ◌≡◌ {A = ℕ} (cond (eqb j i && true) 1 0) 1 = ap (λ b. cond (b && true) 1 0) own in
     grows tab h i track (record { event = Start j; answer = moving c }) c was (cond-true (eqb j i) _ _ own) (cell ∙ ap (path_cell track) place)
     (omega (arith, whole, room, length-path track.start track.later)) (omega (arith, place)) (omega (arith, whole, began))
-walked_start tab h i track went was j own (refused StoreFailed) by_rules =
+walked_start v tab h i track went was j own (refused StoreFailed) by_rules =
     let some = was.some in
     stays tab h i track (record { event = Start j; answer = refused StoreFailed }) was refl (omega (arith, some))
     (λ sound. absurd (false≢true (sym sound ∙ ap (λ b. cond (b && true) true (is_broken h i)) own)))
-walked_start tab h i track went was j own r by_rules =
+walked_start v tab h i track went was j own r by_rules =
     stays_same tab h i track (record { event = Start j; answer = r }) was refl (ap (λ b. cond (b && false) 1 0) own) refl
     (λ sound. sym (ap (λ b. cond (b && false) true (is_broken h i)) own) ∙ sound)
 
@@ -163,9 +164,9 @@ walked_finish tab h i track was j own r by_rules =
 
 -- ---- the answers to a restart
 
-walked_restart : (tab : Timetable) (h : History) (i : ℕ) (track : Track) → Progress tab h i track → Walked tab h i track → (j : ℕ) → eqb j i ≡ true
+walked_restart : (v : Version) (tab : Timetable) (h : History) (i : ℕ) (track : Track) → Progress tab h i track → Walked tab h i track → (j : ℕ) → eqb j i ≡ true
     → (r : Answer) → r ≡ restart_answer h i track → Walked tab (record { event = Restart j; answer = r } ∷ h) i track
-walked_restart tab h i track went was j own r by_rules =
+walked_restart v tab h i track went was j own r by_rules =
     let k = done h i in
     let n = length (walk track h i) in
     let c = path_cell track (k + 1) in
@@ -203,44 +204,44 @@ walked_restart tab h i track went was j own r by_rules =
 
 -- ---- any event
 
-walked_own : (tab : Timetable) (h : History) (i : ℕ) (track : Track) → track_of tab i ≡ Some track → Progress tab h i track → Walked tab h i track
-    → (e : Event) (r : Answer) → eqb (agent_of e) i ≡ true → r ≡ answer tab h e → Walked tab (record { event = e; answer = r } ∷ h) i track
-walked_own tab h i track there went was (Start j) r own by_rules =
-    walked_start tab h i track went was j own r (answer-at tab h (λ n. Start n) i j track r there refl (eqb-true j i own) by_rules)
-walked_own tab h i track there went was (Finish j) r own by_rules =
-    walked_finish tab h i track was j own r (answer-at tab h (λ n. Finish n) i j track r there refl (eqb-true j i own) by_rules)
-walked_own tab h i track there went was (Restart j) r own by_rules =
-    walked_restart tab h i track went was j own r (answer-at tab h (λ n. Restart n) i j track r there refl (eqb-true j i own) by_rules)
-walked_own tab h i track there went was (Say j) r own by_rules =
+walked_own : (v : Version) (tab : Timetable) (h : History) (i : ℕ) (track : Track) → track_of tab i ≡ Some track → Progress tab h i track → Walked tab h i track
+    → (e : Event) (r : Answer) → eqb (agent_of e) i ≡ true → r ≡ answer v tab h e → Walked tab (record { event = e; answer = r } ∷ h) i track
+walked_own v tab h i track there went was (Start j) r own by_rules =
+    walked_start v tab h i track went was j own r (answer-at v tab h (λ n. Start n) i j track r there refl (eqb-true j i own) by_rules)
+walked_own v tab h i track there went was (Finish j) r own by_rules =
+    walked_finish tab h i track was j own r (answer-at v tab h (λ n. Finish n) i j track r there refl (eqb-true j i own) by_rules)
+walked_own v tab h i track there went was (Restart j) r own by_rules =
+    walked_restart v tab h i track went was j own r (answer-at v tab h (λ n. Restart n) i j track r there refl (eqb-true j i own) by_rules)
+walked_own v tab h i track there went was (Say j) r own by_rules =
     stays_same tab h i track (record { event = Say j; answer = r }) was refl refl refl (λ sound. sound)
-walked_own tab h i track there went was (Deliver j m) r own by_rules =
+walked_own v tab h i track there went was (Deliver j m) r own by_rules =
     stays_same tab h i track (record { event = Deliver j m; answer = r }) was refl refl refl (λ sound. sound)
-walked_own tab h i track there went was (Tear j n) r own by_rules =
+walked_own v tab h i track there went was (Tear j n) r own by_rules =
     stays_same tab h i track (record { event = Tear j n; answer = r }) was refl refl refl (λ sound. sound)
 
-walked_next : (tab : Timetable) (h : History) (i : ℕ) (track : Track) → track_of tab i ≡ Some track → Progress tab h i track → Walked tab h i track
-    → (e : Event) (r : Answer) → r ≡ answer tab h e → Walked tab (record { event = e; answer = r } ∷ h) i track
-walked_next tab h i track there went was e r by_rules =
+walked_next : (v : Version) (tab : Timetable) (h : History) (i : ℕ) (track : Track) → track_of tab i ≡ Some track → Progress tab h i track → Walked tab h i track
+    → (e : Event) (r : Answer) → r ≡ answer v tab h e → Walked tab (record { event = e; answer = r } ∷ h) i track
+walked_next v tab h i track there went was e r by_rules =
     elim (cases_Bool (eqb (agent_of e) i)) [
-      | inl own ↦ walked_own tab h i track there went was e r own by_rules
+      | inl own ↦ walked_own v tab h i track there went was e r own by_rules
       | inr other ↦
           stays_same tab h i track (record { event = e; answer = r }) was (other_walk e r i (walk track h i) other)
           (other_starts e r i (armed_of h i) other) (other_finishes e r i (armed_of h i) other)
           (λ sound. sym (other_broken e r i (is_broken h i) other) ∙ sound)
     ]
 
-walked : (tab : Timetable) (h : History) (i : ℕ) (track : Track) → track_of tab i ≡ Some track → IsRun tab h → Walked tab h i track
-walked tab [] i track there run =
+walked : (v : Version) (tab : Timetable) (h : History) (i : ℕ) (track : Track) → track_of tab i ≡ Some track → IsRun v tab h → Walked tab h i track
+walked v tab [] i track there run =
     let first : take 1 (path track) ≡ track.start ∷ [] =
     take_more (path track) 0 track.start (omega (arith, length-path track.start track.later))
     ∙ ap (λ c. c ∷ []) (first_cell track.start track.later track.start) in
     record { front = sym first; some = omega arith; most = omega arith; whole = λ sound. refl }
-walked tab (now ∷ h) i track there run =
-    walked_next tab h i track there (progress tab h i track there run.1) (walked tab h i track there run.1) now.event now.answer run.0
+walked v tab (now ∷ h) i track there run =
+    walked_next v tab h i track there (progress v tab h i track there run.1) (walked v tab h i track there run.1) now.event now.answer run.0
 
-pub walk-beginning : (tab : Timetable) (h : History) (i : ℕ) (track : Track) → track_of tab i ≡ Some track → IsRun tab h
+pub walk-beginning : (v : Version) (tab : Timetable) (h : History) (i : ℕ) (track : Track) → track_of tab i ≡ Some track → IsRun v tab h
     → IsBeginningOf (walk track h i) (path track)
-walk-beginning tab h i track there run =
-    let so_far = walked tab h i track there run in
+walk-beginning v tab h i track there run =
+    let so_far = walked v tab h i track there run in
     let n = length (walk track h i) in
     (drop n (path track), sym (take-append-drop n (path track)) ∙ ap (λ l. l ++ drop n (path track)) (sym so_far.front))

@@ -1,5 +1,5 @@
 -- Small plans and runs, and what the definitions say of them.
-use Rattle.std.specs.Prelude.{◌≡◌, ℕ, true, false, List, [], ◌∷◌, Option, None, Some}
+use Rattle.std.specs.Prelude.{◌≡◌, ℕ, ◌*◌, true, false, List, [], ◌∷◌, Option, None, Some}
 use Rattle.grid.specs.declared.cell.Cell.{Cell}
 use Rattle.model.specs.declared.event.Event.{Event}
 use Rattle.model.specs.declared.event.Event.TheVariants.{Start, Finish, Say, Deliver, Restart, Tear}
@@ -15,7 +15,10 @@ use Rattle.model.specs.Timetable.{Track, Timetable, cell_at, moves_before, moves
 use Rattle.model.specs.Plan.{Course, Plan, HasPlanFault, IsValid, key_of, IsBefore, IsLeastFault, longest_of, IsTrackOf, IsTimetableOf}
 use Rattle.model.specs.Costs.{RestsFrom, IsCost, cost, EndsAtRest, AllEndAtRest, sum_of_costs, makespan, Task, Fits, FitsFirst, SolvesAt}
 use Rattle.model.specs.Dependency.{Need, Stand, stander, last_stand, moves_to, need, IsLastStand, IsNeed, IsVisit, HasEnded, MovesInto, following, IsRotation}
-use Rattle.model.specs.Messages.{Entry, told, own_message, message_bytes, IsMessage}
+use Rattle.model.specs.declared.entry.Entry.{Entry}
+use Rattle.model.specs.declared.version.Version.{Version}
+use Rattle.model.specs.declared.version.Version.TheVariants.{One, Two}
+use Rattle.model.specs.Messages.{told, own_message, whole_message, message_bytes, IsMessage, AreRising, IsTold}
 use Rattle.model.specs.History.{Answer, moving, arrived, said, heard, at, between, armed, refused, History, armed_of, is_broken, kept_starts, done, is_moving, messages, known}
 use Rattle.model.specs.Replies.{answer_of}
 use Rattle.model.specs.Rules.{answer, IsRun}
@@ -25,12 +28,13 @@ abbrev pub cell : ℕ → ℕ → Cell
 cell x y = record { x = x; y = y }
 
 -- the answers to events, one after another, after what has happened
-abbrev answers_after : Timetable → History → List Event → List Answer
-answers_after tt h [] = []
-answers_after tt h (e ∷ events) = answer tt h e ∷ answers_after tt (record { event = e; answer = answer tt h e } ∷ h) events
+abbrev answers_after : Version → Timetable → History → List Event → List Answer
+answers_after version tt h [] = []
+answers_after version tt h (e ∷ events) =
+    answer version tt h e ∷ answers_after version tt (record { event = e; answer = answer version tt h e } ∷ h) events
 
-abbrev answers : Timetable → List Event → List Answer
-answers tt events = answers_after tt [] events
+abbrev answers : Version → Timetable → List Event → List Answer
+answers version tt events = answers_after version tt [] events
 
 -- ---- two agents in a row of three cells: the first goes from the middle to the east and stays, the second follows into the middle
 
@@ -46,6 +50,10 @@ row = record { number = 7; tracks = leader ∷ follower ∷ [] }
 -- the message of an agent of plan 7 after so many moves
 abbrev hello : ℕ → ℕ → List ℕ
 hello agent done = 0x46 ∷ 1 ∷ 0 ∷ agent ∷ 0 ∷ 0 ∷ 0 ∷ 7 ∷ 0 ∷ 0 ∷ 0 ∷ done ∷ []
+
+-- the message of version 2 of an agent of plan 7, with the bytes of one entry
+abbrev whole_hello : ℕ → List ℕ → List ℕ
+whole_hello agent entry = 0x46 ∷ 2 ∷ 0 ∷ agent ∷ 0 ∷ 0 ∷ 0 ∷ 7 ∷ 0 ∷ 1 ∷ entry
 
 -- ---- one agent that goes east and back, and one that stands at the west
 
@@ -247,37 +255,51 @@ Dependencies =
 abbrev pub Runs : Type 0
 Runs =
     -- the follower waits until it has heard the leader, and also where the leader has finished and said nothing
-    (answers row (Start 1 ∷ Start 0 ∷ Finish 0 ∷ Start 1 ∷ Say 0 ∷ Deliver 1 0 ∷ Start 1 ∷ Restart 1 ∷ Finish 1 ∷ [])
+    (answers One row (Start 1 ∷ Start 0 ∷ Finish 0 ∷ Start 1 ∷ Say 0 ∷ Deliver 1 0 ∷ Start 1 ∷ Restart 1 ∷ Finish 1 ∷ [])
     ≡ refused (Waits 0 1) ∷ moving (cell 2 0) ∷ arrived (cell 2 0) ∷ refused (Waits 0 1) ∷ said 0 (hello 0 1) ∷ heard 0 1 ∷ moving (cell 1 0)
     ∷ between (cell 0 0) (cell 1 0) 0 ∷ arrived (cell 1 0) ∷ [])
     -- an older message takes nothing back
-    × (answers back (Start 0 ∷ Finish 0 ∷ Say 0 ∷ Start 0 ∷ Finish 0 ∷ Say 0 ∷ Deliver 1 1 ∷ Deliver 1 0 ∷ Deliver 1 0 ∷ [])
+    × (answers One back (Start 0 ∷ Finish 0 ∷ Say 0 ∷ Start 0 ∷ Finish 0 ∷ Say 0 ∷ Deliver 1 1 ∷ Deliver 1 0 ∷ Deliver 1 0 ∷ [])
     ≡ moving (cell 2 0) ∷ arrived (cell 2 0) ∷ said 0 (hello 0 1) ∷ moving (cell 1 0) ∷ arrived (cell 1 0) ∷ said 1 (hello 0 2) ∷ heard 0 2 ∷ heard 0 2
     ∷ heard 0 2 ∷ [])
     -- a record of nine bytes counts as nothing, and one of ten as stored
-    × (answers row (Tear 0 9 ∷ Start 0 ∷ Start 0 ∷ Restart 0 ∷ Start 0 ∷ [])
+    × (answers One row (Tear 0 9 ∷ Start 0 ∷ Start 0 ∷ Restart 0 ∷ Start 0 ∷ [])
     ≡ armed ∷ refused StoreFailed ∷ refused Broken ∷ at (cell 1 0) 0 ∷ moving (cell 2 0) ∷ [])
-    × (answers row (Tear 0 10 ∷ Start 0 ∷ Restart 0 ∷ []) ≡ armed ∷ refused StoreFailed ∷ between (cell 1 0) (cell 2 0) 0 ∷ [])
+    × (answers One row (Tear 0 10 ∷ Start 0 ∷ Restart 0 ∷ []) ≡ armed ∷ refused StoreFailed ∷ between (cell 1 0) (cell 2 0) 0 ∷ [])
     -- what was not stored is not said, and a restart forgets what was heard
-    × (answers row (Start 0 ∷ Tear 0 9 ∷ Finish 0 ∷ Say 0 ∷ Restart 0 ∷ Say 0 ∷ [])
+    × (answers One row (Start 0 ∷ Tear 0 9 ∷ Finish 0 ∷ Say 0 ∷ Restart 0 ∷ Say 0 ∷ [])
     ≡ moving (cell 2 0) ∷ armed ∷ refused StoreFailed ∷ refused Broken ∷ between (cell 1 0) (cell 2 0) 0 ∷ said 0 (hello 0 0) ∷ [])
-    × (answers row (Start 0 ∷ Tear 0 10 ∷ Finish 0 ∷ Say 0 ∷ Restart 0 ∷ Say 0 ∷ [])
+    × (answers One row (Start 0 ∷ Tear 0 10 ∷ Finish 0 ∷ Say 0 ∷ Restart 0 ∷ Say 0 ∷ [])
     ≡ moving (cell 2 0) ∷ armed ∷ refused StoreFailed ∷ refused Broken ∷ at (cell 2 0) 1 ∷ said 0 (hello 0 1) ∷ [])
-    × (answers row (Start 1 ∷ Start 0 ∷ Finish 0 ∷ Start 1 ∷ Say 0 ∷ Deliver 1 0 ∷ Tear 1 3 ∷ Start 1 ∷ Restart 1 ∷ Start 1 ∷ [])
+    × (answers One row (Start 1 ∷ Start 0 ∷ Finish 0 ∷ Start 1 ∷ Say 0 ∷ Deliver 1 0 ∷ Tear 1 3 ∷ Start 1 ∷ Restart 1 ∷ Start 1 ∷ [])
     ≡ refused (Waits 0 1) ∷ moving (cell 2 0) ∷ arrived (cell 2 0) ∷ refused (Waits 0 1) ∷ said 0 (hello 0 1) ∷ heard 0 1
     ∷ armed ∷ refused StoreFailed ∷ at (cell 0 0) 0 ∷ refused (Waits 0 1) ∷ [])
     -- a message tells of its sender alone
-    × (answers corner (Start 0 ∷ Finish 0 ∷ Say 0 ∷ Deliver 1 0 ∷ Say 1 ∷ Deliver 2 1 ∷ Start 2 ∷ [])
+    × (answers One corner (Start 0 ∷ Finish 0 ∷ Say 0 ∷ Deliver 1 0 ∷ Say 1 ∷ Deliver 2 1 ∷ Start 2 ∷ [])
     ≡ moving (cell 1 1) ∷ arrived (cell 1 1) ∷ said 0 (hello 0 1) ∷ heard 0 1 ∷ said 1 (hello 1 0) ∷ heard 1 0 ∷ refused (Waits 0 1) ∷ [])
-    × (answers row (Start 0 ∷ Finish 0 ∷ Say 0 ∷ Deliver 1 0 ∷ Start 1 ∷ Finish 1 ∷ Say 1 ∷ Restart 1 ∷ Say 1 ∷ [])
+    × (answers One row (Start 0 ∷ Finish 0 ∷ Say 0 ∷ Deliver 1 0 ∷ Start 1 ∷ Finish 1 ∷ Say 1 ∷ Restart 1 ∷ Say 1 ∷ [])
     ≡ moving (cell 2 0) ∷ arrived (cell 2 0) ∷ said 0 (hello 0 1) ∷ heard 0 1 ∷ moving (cell 1 0) ∷ arrived (cell 1 0) ∷ said 1 (hello 1 1)
     ∷ at (cell 1 0) 1 ∷ said 2 (hello 1 1) ∷ [])
+    -- a message of version 2 tells of others too, so who hears it need not hear them
+    × (answers Two corner (Start 0 ∷ Finish 0 ∷ Say 0 ∷ Deliver 1 0 ∷ Say 1 ∷ Deliver 2 1 ∷ Start 2 ∷ [])
+    ≡ moving (cell 1 1) ∷ arrived (cell 1 1) ∷ said 0 (whole_hello 0 (0 ∷ 0 ∷ 0 ∷ 0 ∷ 0 ∷ 1 ∷ [])) ∷ heard 0 1
+    ∷ said 1 (whole_hello 1 (0 ∷ 0 ∷ 0 ∷ 0 ∷ 0 ∷ 1 ∷ [])) ∷ heard 1 0 ∷ moving (cell 1 0) ∷ [])
+    -- what was heard before a restart is not told, and what is on the tape is
+    × (answers Two row (Start 0 ∷ Finish 0 ∷ Say 0 ∷ Deliver 1 0 ∷ Start 1 ∷ Finish 1 ∷ Say 1 ∷ Restart 1 ∷ Say 1 ∷ [])
+    ≡ moving (cell 2 0) ∷ arrived (cell 2 0) ∷ said 0 (whole_hello 0 (0 ∷ 0 ∷ 0 ∷ 0 ∷ 0 ∷ 1 ∷ [])) ∷ heard 0 1 ∷ moving (cell 1 0) ∷ arrived (cell 1 0)
+    ∷ said 1 (0x46 ∷ 2 ∷ 0 ∷ 1 ∷ 0 ∷ 0 ∷ 0 ∷ 7 ∷ 0 ∷ 2 ∷ 0 ∷ 0 ∷ 0 ∷ 0 ∷ 0 ∷ 1 ∷ 0 ∷ 1 ∷ 0 ∷ 0 ∷ 0 ∷ 1 ∷ [])
+    ∷ at (cell 1 0) 1 ∷ said 2 (whole_hello 1 (0 ∷ 1 ∷ 0 ∷ 0 ∷ 0 ∷ 1 ∷ [])) ∷ [])
+    -- and what others say of an agent is not what it says of itself
+    × (answers Two row (Start 0 ∷ Finish 0 ∷ Say 0 ∷ Deliver 1 0 ∷ Say 1 ∷ Deliver 0 1 ∷ Say 0 ∷ Say 1 ∷ [])
+    ≡ moving (cell 2 0) ∷ arrived (cell 2 0) ∷ said 0 (whole_hello 0 (0 ∷ 0 ∷ 0 ∷ 0 ∷ 0 ∷ 1 ∷ [])) ∷ heard 0 1
+    ∷ said 1 (whole_hello 1 (0 ∷ 0 ∷ 0 ∷ 0 ∷ 0 ∷ 1 ∷ [])) ∷ heard 1 0 ∷ said 2 (whole_hello 0 (0 ∷ 0 ∷ 0 ∷ 0 ∷ 0 ∷ 1 ∷ []))
+    ∷ said 3 (whole_hello 1 (0 ∷ 0 ∷ 0 ∷ 0 ∷ 0 ∷ 1 ∷ [])) ∷ [])
     -- nobody in a rotation ever begins
-    × (answers square (Start 0 ∷ Start 1 ∷ Start 2 ∷ Start 3 ∷ [])
+    × (answers One square (Start 0 ∷ Start 1 ∷ Start 2 ∷ Start 3 ∷ [])
     ≡ refused (Waits 1 1) ∷ refused (Waits 2 1) ∷ refused (Waits 3 1) ∷ refused (Waits 0 1) ∷ [])
     -- numbers that name nothing
-    × (answers nobody [] ≡ [])
-    × (answers row (Deliver 1 5 ∷ Tear 0 11 ∷ Start 9 ∷ []) ≡ refused NoSuchMessage ∷ refused BadTear ∷ refused NoSuchAgent ∷ [])
+    × (answers One nobody [] ≡ [])
+    × (answers One row (Deliver 1 5 ∷ Tear 0 11 ∷ Start 9 ∷ []) ≡ refused NoSuchMessage ∷ refused BadTear ∷ refused NoSuchAgent ∷ [])
 
 -- ---- what is said of messages, histories and safe runs
 
@@ -291,14 +313,25 @@ Messages =
     × (told (record { sender = 0; entries = entry 1 5 ∷ entry 0 7 ∷ entry 1 2 ∷ [] }) 1 ≡ 5)
     × (message_bytes 9 0 1 ≡ 0x46 ∷ 1 ∷ 0 ∷ 0 ∷ 0 ∷ 0 ∷ 0 ∷ 9 ∷ 0 ∷ 0 ∷ 0 ∷ 1 ∷ [])
     × IsMessage 258 772 65536 (0x46 ∷ 1 ∷ 3 ∷ 4 ∷ 0 ∷ 0 ∷ 1 ∷ 2 ∷ 0 ∷ 1 ∷ 0 ∷ 0 ∷ [])
+    -- version 2 tells of those with a number above 0, in order, of the sender by what it has done
+    × (whole_message 4 2 5 (λ j. j * 3) ≡ record { sender = 2; entries = entry 1 3 ∷ entry 2 5 ∷ entry 3 9 ∷ [] })
+    × (whole_message 2 0 0 (λ j. 9) ≡ record { sender = 0; entries = entry 1 9 ∷ [] })
+    × IsTold 258 (record { sender = 772; entries = entry 1 65536 ∷ entry 256 2 ∷ [] })
+    (0x46 ∷ 2 ∷ 3 ∷ 4 ∷ 0 ∷ 0 ∷ 1 ∷ 2 ∷ 0 ∷ 2 ∷ 0 ∷ 1 ∷ 0 ∷ 1 ∷ 0 ∷ 0 ∷ 1 ∷ 0 ∷ 0 ∷ 0 ∷ 0 ∷ 2 ∷ [])
+    -- no agent comes twice, and no number is 0
+    × (AreRising 0 (entry 1 2 ∷ entry 1 3 ∷ []) → ⊥) × (AreRising 0 (entry 1 0 ∷ []) → ⊥)
 
 -- what has happened after these events, the newest first
-abbrev run_on : Timetable → History → List Event → History
-run_on tt h [] = h
-run_on tt h (e ∷ events) = run_on tt (record { event = e; answer = answer tt h e } ∷ h) events
+abbrev run_on : Version → Timetable → History → List Event → History
+run_on version tt h [] = h
+run_on version tt h (e ∷ events) = run_on version tt (record { event = e; answer = answer version tt h e } ∷ h) events
 
 abbrev run_of : List Event → History
-run_of events = run_on row [] events
+run_of events = run_on One row [] events
+
+-- where the leader has told the follower that it is gone, and both have spoken after that, at version 2
+abbrev both_told : History
+both_told = run_on Two row [] (Start 0 ∷ Finish 0 ∷ Say 0 ∷ Deliver 1 0 ∷ Say 1 ∷ [])
 
 abbrev tear_due : ℕ → Option ℕ
 tear_due n = Some n
@@ -316,10 +349,13 @@ Histories =
     × (done (run_of (Start 0 ∷ [])) 0 ≡ 0) × (is_moving (run_of (Start 0 ∷ [])) 0 ≡ true)
     × (done (run_of (Start 0 ∷ Finish 0 ∷ [])) 0 ≡ 1) × (is_moving (run_of (Start 0 ∷ Finish 0 ∷ [])) 0 ≡ false)
     -- what was said stays said, and what was heard is forgotten at a restart
-    × (messages (run_of (Say 0 ∷ Start 0 ∷ Finish 0 ∷ Say 0 ∷ [])) ≡ own_message 0 0 ∷ own_message 0 1 ∷ [])
-    × (known (run_of (Start 0 ∷ Finish 0 ∷ Say 0 ∷ [])) 1 0 ≡ 0) × (known (run_of (Start 0 ∷ Finish 0 ∷ Say 0 ∷ Deliver 1 0 ∷ [])) 1 0 ≡ 1)
-    × (known (run_of (Start 0 ∷ Finish 0 ∷ Say 0 ∷ Deliver 1 0 ∷ Restart 1 ∷ [])) 1 0 ≡ 0)
+    × (messages One row (run_of (Say 0 ∷ Start 0 ∷ Finish 0 ∷ Say 0 ∷ [])) ≡ own_message 0 0 ∷ own_message 0 1 ∷ [])
+    × (known One row (run_of (Start 0 ∷ Finish 0 ∷ Say 0 ∷ [])) 1 0 ≡ 0) × (known One row (run_of (Start 0 ∷ Finish 0 ∷ Say 0 ∷ Deliver 1 0 ∷ [])) 1 0 ≡ 1)
+    × (known One row (run_of (Start 0 ∷ Finish 0 ∷ Say 0 ∷ Deliver 1 0 ∷ Restart 1 ∷ [])) 1 0 ≡ 0)
     × (answer_of (reply.Heard 0 1) ≡ heard 0 1)
+    -- at version 2 an agent says what it has heard of others too, and nothing of those of which it heard nothing
+    × (messages Two row both_told ≡ record { sender = 0; entries = entry 0 1 ∷ [] } ∷ record { sender = 1; entries = entry 0 1 ∷ [] } ∷ [])
+    × (known Two row both_told 1 0 ≡ 1) × (known Two row both_told 0 1 ≡ 0)
 
 -- the follower is told to enter the middle while the leader is still there, as no rule would have it
 abbrev pub hasty : History
@@ -336,6 +372,6 @@ Safety =
     × (walk leader (run_of (Start 0 ∷ [])) 0 ≡ path leader) × (walk leader (run_of (Tear 0 10 ∷ Start 0 ∷ [])) 0 ≡ cell 1 0 ∷ [])
     × (walk leader (run_of (Tear 0 10 ∷ Start 0 ∷ Restart 0 ∷ Restart 0 ∷ [])) 0 ≡ path leader)
     × IsBeginningOf (cell 1 0 ∷ []) (path leader) × (IsBeginningOf (cell 2 0 ∷ []) (path leader) → ⊥)
-    × IsRun row (run_of (Start 1 ∷ Start 0 ∷ []))
+    × IsRun One row (run_of (Start 1 ∷ Start 0 ∷ []))
     -- where it enters too early it holds what another holds
-    × Holds row hasty 0 (cell 1 0) × Holds row hasty 1 (cell 1 0) × (IsSafe row hasty → ⊥) × (IsRun row hasty → ⊥)
+    × Holds row hasty 0 (cell 1 0) × Holds row hasty 1 (cell 1 0) × (IsSafe row hasty → ⊥) × ((version : Version) → IsRun version row hasty → ⊥)

@@ -1,11 +1,13 @@
 -- What has happened so far: events and the answers to them.
-use Rattle.std.specs.Prelude.{ℕ, ◌+◌, ◌==◌, ◌&&◌, Bool, true, false, if◌then◌else◌, List, [], ◌∷◌, ◌++◌, max, Option, None, Some, slice_get}
+use Rattle.std.specs.Prelude.{ℕ, ◌+◌, ◌==◌, ◌&&◌, Bool, true, false, if◌then◌else◌, List, [], ◌∷◌, ◌++◌, length, max, Option, None, Some, slice_get}
 use Rattle.grid.specs.declared.cell.Cell.{Cell}
 use Rattle.model.specs.declared.event.Event.{Event}
 use Rattle.model.specs.declared.event.Event.TheVariants.{Start, Finish, Say, Deliver, Restart, Tear}
 use Rattle.model.specs.declared.why.Why.{Why}
 use Rattle.model.specs.declared.why.Why.TheVariants.{StoreFailed}
-use Rattle.model.specs.Messages.{Message, told, own_message}
+use Rattle.model.specs.declared.version.Version.{Version}
+use Rattle.model.specs.Messages.{Message, told, message_said}
+use Rattle.model.specs.Timetable.{Timetable}
 
 -- what an event is answered with
 pub data Answer : Type 0 where
@@ -124,25 +126,41 @@ abbrev pub is_heard : Answer → Bool
 is_heard (heard j n) = true
 is_heard _ = false
 
-abbrev pub messages_of : Event → Answer → History → List Message
-messages_of (Say i) r h = if is_said r then own_message i (done h i) ∷ [] else []
-messages_of _ r h = []
-
--- the messages, in the order in which they were said
-abbrev pub messages : History → List Message
-messages [] = []
-messages (now ∷ h) = messages h ++ messages_of now.event now.answer h
+-- what an agent says tells what it knows then: nothing but its own moves at version 1
+abbrev pub messages_of : Version → Timetable → Event → Answer → History → (ℕ → ℕ → ℕ) → List Message
+messages_of version tt (Say i) r h known = if is_said r then message_said version (length tt.tracks) i (done h i) (known i) ∷ [] else []
+messages_of version tt _ r h known = []
 
 abbrev pub told_of : Option Message → ℕ → ℕ
 told_of None j = 0
 told_of (Some message) j = told message j
 
 -- what an agent knows of another: the greatest number in any message that it heard since it was opened
-abbrev pub known_after : Event → Answer → History → ℕ → ℕ → ℕ → ℕ
-known_after (Deliver k m) r h i j before = if (k == i) && is_heard r then max before (told_of (slice_get (messages h) m) j) else before
-known_after (Restart k) r h i j before = if (k == i) && is_opened r then 0 else before
-known_after _ r h i j before = before
+abbrev pub known_after : Event → Answer → List Message → ℕ → ℕ → ℕ → ℕ
+known_after (Deliver k m) r messages i j before = if (k == i) && is_heard r then max before (told_of (slice_get messages m) j) else before
+known_after (Restart k) r messages i j before = if (k == i) && is_opened r then 0 else before
+known_after _ r messages i j before = before
 
-abbrev pub known : History → ℕ → ℕ → ℕ
-known [] i j = 0
-known (now ∷ h) i j = known_after now.event now.answer h i j (known h i j)
+-- what was said, in order, and what each agent knows of each other: either hangs on the other
+pub record News : Type 0 where
+  pub messages : List Message
+  pub known : ℕ → ℕ → ℕ
+
+abbrev pub news_after : Version → Timetable → Happening → History → News → News
+news_after version tt now h before = record {
+  messages = before.messages ++ messages_of version tt now.event now.answer h before.known;
+  known = λ i j. known_after now.event now.answer before.messages i j (before.known i j);
+}
+
+-- by the version of the run's messages, and by the agents of its timetable
+abbrev pub news : Version → Timetable → History → News
+news version tt [] = record { messages = []; known = λ i j. 0 }
+news version tt (now ∷ h) = news_after version tt now h (news version tt h)
+
+-- the messages, in the order in which they were said
+abbrev pub messages : Version → Timetable → History → List Message
+messages version tt h = (news version tt h).messages
+
+-- the greatest number of finished moves of the second agent in any message that the first heard since it was opened
+abbrev pub known : Version → Timetable → History → ℕ → ℕ → ℕ
+known version tt h i j = (news version tt h).known i j

@@ -17,6 +17,8 @@ pub mod History
 pub mod Replies
 -- what each event is answered with, and what a run is
 pub mod Rules
+-- what every message of a run tells
+pub mod Speech
 -- what an agent holds and where it walked, and when a run is safe
 pub mod Safety
 -- small plans and runs, and what has to come out

@@ -1,15 +1,20 @@
 //! What the definitions mean: laws, which hold of all timetables and all runs, and need no code.
-ghost use Rattle.std.specs.Prelude.{◌≡◌, ℕ, ◌+◌, ◌<◌, ◌≤◌, ◌↔◌, ◌++◌, false, List, length, Some, map, slice_get};
+ghost use Rattle.std.specs.Prelude.{◌≡◌, ℕ, ◌+◌, ◌<◌, ◌≤◌, ◌↔◌, ◌==◌, ◌&&◌, ◌∷◌, ◌++◌, false, if◌then◌else◌, List, length, max, Some, map, slice_get};
 ghost use Rattle.grid.specs.declared.cell.Cell.{Cell};
 ghost use Rattle.grid.specs.Map.{Grid};
+ghost use Rattle.model.specs.declared.entry.Entry.{Entry};
 ghost use Rattle.model.specs.declared.event.Event.{Event};
+ghost use Rattle.model.specs.declared.event.Event.TheVariants.{Deliver};
 ghost use Rattle.model.specs.declared.plan_fault.PlanFault.{PlanFault};
+ghost use Rattle.model.specs.declared.version.Version.{Version};
+ghost use Rattle.model.specs.declared.version.Version.TheVariants.{One};
 ghost use Rattle.model.specs.Timetable.{Track, Timetable, moves, moves_before, track_of, Stands, IsConflictFree, IsSwapFree};
 ghost use Rattle.model.specs.Plan.{Course, Plan, HasPlanFault, IsValid, key_of, IsLeastFault, longest_of, IsTrackOf, IsTimetableOf};
 ghost use Rattle.model.specs.Dependency.{last_stand, need, IsLastStand, IsNeed, IsVisit, HasEnded, IsRotation};
-ghost use Rattle.model.specs.History.{History, kept_starts, done, is_moving, messages, known};
-ghost use Rattle.model.specs.Messages.{Message, own_message};
-ghost use Rattle.model.specs.Rules.{IsRun};
+ghost use Rattle.model.specs.Messages.{Message, told_by, own_message, entries_from, message_bytes, AreRising};
+ghost use Rattle.model.specs.History.{Answer, said, is_heard, History, is_broken, kept_starts, done, is_moving, messages, known};
+ghost use Rattle.model.specs.Rules.{say_answer, IsRun};
+ghost use Rattle.model.specs.Speech.{WasSaid};
 ghost use Rattle.model.specs.Safety.{IsSafe};
 ghost use Rattle.model.specs.Costs.{cost, IsCost, AllEndAtRest, Task, FitsFirst, SolvesAt};
 ghost use Rattle.model.specs.Examples.{Faults, LeastFaults, Timetables, Paths, Rotations, Costs, Tasks, Visits, LastStands, Dependencies, Runs, Messages, Histories, Safety};
@@ -33,36 +38,59 @@ pub fn timetables()
         → length tt.tracks ≡ length other.tracks → ((i t : ℕ) (c : Cell) → Stands tt i t c → Stands other i t c) → tt ≡ other }
 {}
 
-/// Each list of events, the newest first, has exactly one run.
+/// Each list of events, the newest first, has exactly one run at each version.
 pub fn runs_of_events()
-    ensures some { (tt : Timetable) (events : List Event) → (h : History) × IsRun tt h × (map (λ now. now.event) h ≡ events) }
-    ensures one { (tt : Timetable) (h k : History) → IsRun tt h → IsRun tt k → map (λ now. now.event) h ≡ map (λ now. now.event) k → h ≡ k }
+    ensures some { (version : Version) (tt : Timetable) (events : List Event) → (h : History) × IsRun version tt h × (map (λ now. now.event) h ≡ events) }
+    ensures one { (version : Version) (tt : Timetable) (h k : History) → IsRun version tt h → IsRun version tt k
+        → map (λ now. now.event) h ≡ map (λ now. now.event) k → h ≡ k }
 {}
 
 /// In every run over a timetable without vertex conflicts, whatever the events are, each beginning is safe.
 pub fn every_run_is_safe()
-    ensures { (tt : Timetable) (later earlier : History) → IsConflictFree tt → IsRun tt (later ++ earlier) → IsSafe tt earlier }
+    ensures { (version : Version) (tt : Timetable) (later earlier : History) → IsConflictFree tt → IsRun version tt (later ++ earlier) → IsSafe tt earlier }
 {}
 
 /// What an agent has finished stays finished, and no other knows more of it than it has finished. In a run it has begun what it has
 /// finished and at most one move more, and no more where it isn't moving.
 pub fn counters()
     ensures never_falls { (later earlier : History) (i : ℕ) → done earlier i ≤ done (later ++ earlier) i }
-    ensures known { (h : History) (i j : ℕ) → known h i j ≤ done h j }
-    ensures in_step { (tt : Timetable) (h : History) (i : ℕ) → IsRun tt h → (done h i ≤ kept_starts h i) × (kept_starts h i ≤ done h i + 1) }
-    ensures still { (tt : Timetable) (h : History) (i : ℕ) → IsRun tt h → is_moving h i ≡ false → kept_starts h i ≡ done h i }
+    ensures known { (version : Version) (tt : Timetable) (h : History) (i j : ℕ) → known version tt h i j ≤ done h j }
+    ensures in_step { (version : Version) (tt : Timetable) (h : History) (i : ℕ) → IsRun version tt h → (done h i ≤ kept_starts h i) × (kept_starts h i ≤ done h i + 1) }
+    ensures still { (version : Version) (tt : Timetable) (h : History) (i : ℕ) → IsRun version tt h → is_moving h i ≡ false → kept_starts h i ≡ done h i }
 {}
 
-/// Each message of a run is of an agent, and tells of that one alone: how many moves it had finished, and no more than it has.
+/// Each message of a run is of an agent that there is and tells what that one knew then: each entry is of an agent that there is, and of
+/// no more moves than that one had finished when the message was said.
 pub fn messages_of_runs()
-    ensures { (tt : Timetable) (h : History) (m : ℕ) (message : Message) → IsRun tt h → slice_get (messages h) m ≡ Some message
-        → (i done : ℕ) × (track : Track) × (message ≡ own_message i done) × (track_of tt i ≡ Some track) × (done ≤ moves track) }
+    ensures { (version : Version) (tt : Timetable) (h : History) (m : ℕ) (message : Message) → IsRun version tt h
+        → slice_get (messages version tt h) m ≡ Some message → WasSaid version tt h m message }
+{}
+
+/// The entries of so many agents from one on rise by agent, each with its own number above 0, and leave out no such agent.
+pub fn entries_of_agents()
+    ensures rising { (number : ℕ → ℕ) (first count : ℕ) → AreRising first (entries_from number first count) }
+    ensures own { (number : ℕ → ℕ) (first count e : ℕ) (entry : Entry) → slice_get (entries_from number first count) e ≡ Some entry
+        → (first ≤ entry.agent) × (entry.agent < first + count) × (entry.done ≡ number entry.agent) }
+    ensures all { (number : ℕ → ℕ) (first count j : ℕ) → first ≤ j → j < first + count → told_by (entries_from number first count) j ≡ number j }
+    ensures few { (number : ℕ → ℕ) (first count : ℕ) → length (entries_from number first count) ≤ count }
+{}
+
+/// At version 1 a message tells of its sender alone, in twelve bytes, and an agent is known by its own messages alone.
+pub fn first_version()
+    ensures own_entry { (tt : Timetable) (h : History) (m : ℕ) (message : Message) → slice_get (messages One tt h) m ≡ Some message
+        → (done : ℕ) × (message ≡ own_message message.sender done) }
+    ensures says { (tt : Timetable) (h : History) (i : ℕ) → is_broken h i ≡ false
+        → say_answer One tt h i ≡ said (length (messages One tt h)) (message_bytes tt.number i (done h i)) }
+    ensures twelve_bytes { (plan agent done : ℕ) → length (message_bytes plan agent done) ≡ 12 }
+    ensures known { (tt : Timetable) (h : History) (k m i j sender count : ℕ) (r : Answer) → slice_get (messages One tt h) m ≡ Some (own_message sender count)
+        → known One tt (record { event = Deliver k m; answer = r } ∷ h) i j
+        ≡ (if (k == i) && is_heard r && (sender == j) then max (known One tt h i j) count else known One tt h i j) }
 {}
 
 /// A move of a rotation is never begun: its number is not among those of the begun moves.
 pub fn rotations_never_begin()
-    ensures { (tt : Timetable) (step : ℕ) (agents : List ℕ) (h : History) (place i : ℕ) (track : Track)
-        → IsConflictFree tt → IsRotation tt step agents → IsRun tt h → slice_get agents place ≡ Some i → track_of tt i ≡ Some track
+    ensures { (version : Version) (tt : Timetable) (step : ℕ) (agents : List ℕ) (h : History) (place i : ℕ) (track : Track)
+        → IsConflictFree tt → IsRotation tt step agents → IsRun version tt h → slice_get agents place ≡ Some i → track_of tt i ≡ Some track
         → kept_starts h i ≤ moves_before track step }
 {}
 

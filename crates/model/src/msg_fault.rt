@@ -10,4 +10,7 @@ pub enum MsgFault {
     BadMagic,
     #[error("BadVersion")]
     BadVersion,
+    /// The entry with this number, counted from 0, has the number 0, or its agent is not greater than the one before.
+    #[error("BadEntry {0}")]
+    BadEntry(u32),
 }

@@ -18,7 +18,9 @@ pub enum Why {
     BadLength,
     BadMagic,
     BadVersion,
+    /// An entry of a message, counted from 0, that has the number 0 or does not come behind the one before.
+    BadEntry(u32),
     WrongPlan,
-    /// A message tells more moves than its sender has.
+    /// A message tells more moves of an agent than that one has.
     TooMany,
 }

@@ -1,5 +1,5 @@
 -- Events that are answered one after another.
-use Rattle.std.proofs.Common.{◌≡◌, ℕ, ◌≤◌, List, [], ◌∷◌, ◌++◌, length, map, drop, get_or, Option, Some, inl, inr, refl, sym, ap, subst, ◌∙◌, arith}
+use Rattle.std.proofs.Common.{◌≡◌, ℕ, ◌≤◌, List, [], ◌∷◌, ◌++◌, length, map, drop, get_or, Option, None, Some, refl, sym, ap, subst, ◌∙◌, arith}
 use Rattle.std.specs.Prelude.{reverse, slice_get}
 use Rattle.std.proofs.lemmas.List.{append_assoc, length-append, map-append, reverse-append}
 use Rattle.grid.specs.Text.{line_feed, ended}
@@ -8,17 +8,19 @@ use Rattle.grid.specs.Sink.{Puts, Breaks}
 use Rattle.grid.proofs.LineLemmas.{ended_push}
 use Rattle.grid.proofs.SinkLemmas.{Puts-trans, Breaks-after}
 use Rattle.model.specs.declared.event.Event.{Event}
+use Rattle.model.specs.declared.version.Version.{Version}
 use Rattle.model.specs.Dependency.{IsRotation}
 use Rattle.model.specs.History.{Answer, History, kept_starts}
 use Rattle.model.specs.Rules.{IsRun}
 use Rattle.model.specs.Safety.{IsSafe}
 use Rattle.model.specs.Timetable.{Track, Timetable, moves_before, track_of, IsConflictFree}
-use Rattle.event_text.specs.EventText.{event_header, SpellsEvent, AreEvents}
+use Rattle.event_text.specs.declared.header.Headers.{Headers}
+use Rattle.event_text.specs.EventText.{event_header, AreEvents}
 use Rattle.event_text.specs.FirstEvents.{BeginsWithEvents}
 use Rattle.event_text.specs.ReplyText.{reply_line, replies_text}
-use Rattle.runner.specs.SafeRuns.{IsSafeRun}
+use Rattle.runner.specs.SafeRuns.{IsSafeRun, IsSafeRunAt}
 use Rattle.runner.specs.Standing.{RunnerState, StandsAt, GoesOn}
-use Rattle.runner.proofs.SafeLemmas.{safe-run}
+use Rattle.runner.proofs.SafeLemmas.{safe-run-at}
 use Rattle.replay.specs.Replaying.{Answered}
 
 -- one more is the newest
@@ -57,19 +59,21 @@ front_of (line ∷ lines) all (x ∷ events) e said same =
     record { front = line ∷ f.front; last = f.last; parts = ap (λ l. line ∷ l) f.parts; said = (said.0, events, ap (λ y. y ∷ events) (sym first), said.3, f.said) }
 
 -- fewer events are read as well
-pub fewer : (events : List Event) (e : Event) (text : List ℕ) → BeginsWithEvents (events ++ e ∷ []) text → BeginsWithEvents events text
-fewer events e text begins = elim begins [
-  | inl none ↦ absurd (not_none events e (sym none))
-  | inr some ↦
-      let f = front_of some.0 _ events e some.3 refl in
-      inr (
+pub fewer : (headers : Headers) (version : Option Version) (events : List Event) (e : Event) (text : List ℕ)
+    → BeginsWithEvents headers version (events ++ e ∷ []) text → BeginsWithEvents headers version events text
+fewer headers None events e text none = absurd (not_none events e (sym none))
+fewer headers (Some version) events e text (takes, (lines, rest, is, are)) =
+    let f = front_of lines _ events e are refl in
+    let header = event_header version in (
+      takes,
+      (
         f.front,
-        (f.last ++ line_feed ∷ []) ++ some.1,
-        some.2 ∙ ap (λ l. ended (event_header ∷ l) ++ some.1) f.parts ∙ ap (λ l. l ++ some.1) (ended_push (event_header ∷ f.front) f.last)
-            ∙ append_assoc (ended (event_header ∷ f.front)) (f.last ++ line_feed ∷ []) some.1,
+        (f.last ++ line_feed ∷ []) ++ rest,
+        is ∙ ap (λ l. ended (header ∷ l) ++ rest) f.parts ∙ ap (λ l. l ++ rest) (ended_push (header ∷ f.front) f.last)
+            ∙ append_assoc (ended (header ∷ f.front)) (f.last ++ line_feed ∷ []) rest,
         f.said,
-      )
-]
+      ),
+    )
 
 -- ---- what the events so far came to
 
@@ -84,27 +88,37 @@ pub record SoFar (tt : Timetable) (r : RunnerState) (events : List Event) (CameO
   pub came : CameOf (replies_text answers)
 
 module _
-    (every : (tt : Timetable) (later earlier : History) → IsConflictFree tt → IsRun tt (later ++ earlier) → IsSafe tt earlier)
-    (never : (tt : Timetable) (step : ℕ) (agents : List ℕ) (h : History) (place i : ℕ) (track : Track)
-    → IsConflictFree tt → IsRotation tt step agents → IsRun tt h → slice_get agents place ≡ Some i → track_of tt i ≡ Some track → kept_starts h i ≤ moves_before track step)
-    (tt : Timetable) (r : RunnerState) (events : List Event) (CameOf : List ℕ → Type 0)
+    (every : (version : Version) (tt : Timetable) (later earlier : History) → IsConflictFree tt → IsRun version tt (later ++ earlier) → IsSafe tt earlier)
+    (never : (version : Version) (tt : Timetable) (step : ℕ) (agents : List ℕ) (h : History) (place i : ℕ) (track : Track)
+    → IsConflictFree tt → IsRotation tt step agents → IsRun version tt h → slice_get agents place ≡ Some i → track_of tt i ≡ Some track
+    → kept_starts h i ≤ moves_before track step)
   where
-    pub answered-so-far : SoFar tt r events CameOf → Answered tt events CameOf
-    answered-so-far so_far = record {
+    pub answered-so-far : (tt : Timetable) (r : RunnerState) (events : List Event) (CameOf : List ℕ → Type 0)
+        → SoFar tt r events CameOf → Answered r.version tt events CameOf
+    answered-so-far tt r events CameOf so_far = record {
       answers = so_far.answers;
       answered = record {
         history = so_far.history;
         same_events = so_far.same_events;
         same_answers = so_far.same_answers;
-        safe = subst (λ table. IsSafeRun table so_far.history) so_far.same_graph (safe-run every never r so_far.history so_far.stands);
+        safe = subst (λ table. IsSafeRunAt r.version table so_far.history) so_far.same_graph (safe-run-at every never r so_far.history so_far.stands);
       };
       came = so_far.came;
     }
 
 -- no event is answered yet
-pub none-answered : (tt : Timetable) (CameOf : List ℕ → Type 0) → IsSafeRun tt [] → CameOf [] → Answered tt [] CameOf
-none-answered tt CameOf safe came =
-    record { answers = []; answered = record { history = []; same_events = refl; same_answers = refl; safe = safe }; came = came }
+pub none-answered : (version : Version) (table : Timetable) (CameOf : List ℕ → Type 0) → IsSafeRun table [] → CameOf [] → Answered version table [] CameOf
+none-answered version table CameOf safe came = record {
+  answers = [];
+  answered = record {
+    history = [];
+    same_events = refl;
+    same_answers = refl;
+    -- a run of nothing is one of either version
+    safe = record { run = tt; safe = safe.1.safe; rotations = safe.1.rotations };
+  };
+  came = came;
+}
 
 pub none-so-far : (tt : Timetable) (r : RunnerState) (CameOf : List ℕ → Type 0) → r.timetable ≡ tt → StandsAt r [] → CameOf [] → SoFar tt r [] CameOf
 none-so-far tt r CameOf same stands came = record {

@@ -1,5 +1,5 @@
 -- What came of the text of the replies, from one point to the next.
-use Rattle.std.proofs.Common.{◌≡◌, ◌∙◌, ℕ, ◌⊎◌, inl, inr, Bool, true, false, List, [], ◌++◌, Option, Result, Ok, Err, refl, sym, ap, subst, append-nil}
+use Rattle.std.proofs.Common.{◌≡◌, ◌∙◌, ℕ, Bool, true, false, List, [], ◌++◌, Option, None, Some, Result, Ok, Err, sym, ap, subst, append-nil}
 use Rattle.std.specs.Io.KnownBytes.{Appends}
 use Rattle.grid.specs.declared.counted.Counted.{Counted}
 use Rattle.grid.specs.declared.sink.Sink.{Sink}
@@ -8,10 +8,13 @@ use Rattle.grid.specs.Sink.{held_back, sink_writer, Puts, Breaks}
 use Rattle.grid.specs.Writing.{WritesText}
 use Rattle.grid.specs.Reading.{Outcome}
 use Rattle.model.specs.declared.event.Event.{Event}
+use Rattle.model.specs.declared.version.Version.{Version}
 use Rattle.model.specs.Timetable.{Timetable}
 use Rattle.event_text.specs.declared.event_fault.EventFault.{EventFault}
+use Rattle.event_text.specs.declared.header.Headers.{Headers}
+use Rattle.event_text.specs.declared.header.Headers.TheVariants.{Either}
 use Rattle.event_text.specs.FirstEvents.{FirstEvents, BeginsWithEvents}
-use Rattle.replay.specs.Replaying.{Answered, AnswersAll, AnswersSome, AnswersEvents, was_written}
+use Rattle.replay.specs.Replaying.{AnsweredBehind, AnswersAll, AnswersSome, AnswersEvents, was_written}
 use Rattle.replay.specs.declared.run_fault.RunFault.{RunFault}
 use Rattle.replay.specs.declared.run_fault.RunFault.TheVariants as run_fault
 
@@ -33,33 +36,37 @@ module _ {W : Type 0} (contents : W → Option (List ℕ)) (first last : Sink W)
 
 -- ---- the answers stay where more comes of their text
 
-came_on : (tt : Timetable) (events : List Event) (CameOf MoreOf : List ℕ → Type 0) → Answered tt events CameOf
-    → ((text : List ℕ) → CameOf text → MoreOf text) → Answered tt events MoreOf
-came_on tt events CameOf MoreOf a on = record { answers = a.answers; answered = a.answered; came = on _ a.came }
+came_on : (version : Option Version) (tt : Timetable) (events : List Event) (CameOf MoreOf : List ℕ → Type 0)
+    → AnsweredBehind version tt events CameOf → ((text : List ℕ) → CameOf text → MoreOf text) → AnsweredBehind version tt events MoreOf
+came_on None tt events CameOf MoreOf a on = (a.0, on [] a.1)
+came_on (Some version) tt events CameOf MoreOf a on = record { answers = a.answers; answered = a.answered; came = on _ a.came }
 
-some_first : (events : List Event) (text : List ℕ) → FirstEvents events text → BeginsWithEvents events text
-some_first events text (inl none) = inl none.0
-some_first events text (inr some) = inr (some.0, some.1, some.2, some.3)
+some_first : (headers : Headers) (version : Option Version) (events : List Event) (text : List ℕ) → FirstEvents headers version events text
+    → BeginsWithEvents headers version events text
+some_first headers None events text first = first.0
+some_first headers (Some version) events text (takes, (lines, rest, is, are, stop)) = (takes, (lines, rest, is, are))
 
 pub some_on : {E : Type 0} (events_left : E → Option (List ℕ)) (tt : Timetable) (old new : Counted E) (CameOf MoreOf : List ℕ → Type 0)
     → AnswersSome events_left tt old new CameOf → ((text : List ℕ) → CameOf text → MoreOf text) → AnswersSome events_left tt old new MoreOf
 some_on events_left tt old new CameOf MoreOf a on = record {
+  version = a.version;
   events = a.events;
   delivered = a.delivered;
   consumed = a.consumed;
   begins = a.begins;
-  replies = came_on tt a.events CameOf MoreOf a.replies on;
+  replies = came_on a.version tt a.events CameOf MoreOf a.replies on;
 }
 
 all_some : {E : Type 0} (events_left : E → Option (List ℕ)) (tt : Timetable) (old new : Counted E) (outcome : List Event → Outcome (List Event) EventFault)
     (CameOf MoreOf : List ℕ → Type 0) → AnswersAll events_left tt old new outcome CameOf
     → ((text : List ℕ) → CameOf text → MoreOf text) → AnswersSome events_left tt old new MoreOf
 all_some events_left tt old new outcome CameOf MoreOf a on = record {
+  version = a.version;
   events = a.events;
   delivered = a.read.delivered;
   consumed = a.read.consumed;
-  begins = some_first a.events a.read.delivered a.read.first_events;
-  replies = came_on tt a.events CameOf MoreOf a.replies on;
+  begins = some_first Either a.version a.events a.read.delivered a.read.first_events;
+  replies = came_on a.version tt a.events CameOf MoreOf a.replies on;
 }
 
 module _ {E : Type 0} (events_left : E → Option (List ℕ)) (tt : Timetable) (old new : Counted E) (Whole Broken : List ℕ → Type 0) where
@@ -69,9 +76,9 @@ module _ {E : Type 0} (events_left : E → Option (List ℕ)) (tt : Timetable) (
   -- all of the text is handed on
   pub handed_on : (MoreOf Other : List ℕ → Type 0) (answer : Result Unit RunFault) → was_written answer ≡ true → Ends answer
       → ((text : List ℕ) → Whole text → MoreOf text) → AnswersEvents events_left tt old new MoreOf Other answer
-  handed_on MoreOf Other (Ok done) well a on = record { events = a.events; read = a.read; replies = came_on tt a.events Whole MoreOf a.replies on }
+  handed_on MoreOf Other (Ok done) well a on = record { version = a.version; events = a.events; read = a.read; replies = came_on a.version tt a.events Whole MoreOf a.replies on }
   handed_on MoreOf Other (Err (run_fault.Events fault)) well a on =
-      record { events = a.events; read = a.read; replies = came_on tt a.events Whole MoreOf a.replies on }
+      record { version = a.version; events = a.events; read = a.read; replies = came_on a.version tt a.events Whole MoreOf a.replies on }
   handed_on MoreOf Other (Err run_fault.OutOfMemory) well a on = some_on events_left tt old new Whole MoreOf a on
   handed_on MoreOf Other (Err run_fault.WriteFailed) well a on = let bad : false ≡ true = well in cc
   handed_on MoreOf Other (Err (run_fault.Map fault)) well a on = absurd a

@@ -1,5 +1,5 @@
 -- What the texts of a map, a plan and events come to: the text of the replies.
-use Rattle.std.specs.Prelude.{◌≡◌, ℕ, Bool, true, false, List, Option, Result, Ok, Err, MatchResult}
+use Rattle.std.specs.Prelude.{◌≡◌, ℕ, Bool, true, false, List, [], Option, None, Some, Result, Ok, Err, MatchResult}
 use Rattle.std.specs.Io.KnownBytes.{Consumes}
 use Rattle.grid.specs.declared.counted.Counted.{Counted}
 use Rattle.grid.specs.declared.map_fault.MapFault.{MapFault}
@@ -10,6 +10,7 @@ use Rattle.grid.specs.MapText.{MapText}
 use Rattle.grid.specs.Reading.{Outcome, is_value, ReadsText}
 use Rattle.grid.specs.Writing.{WritesText}
 use Rattle.model.specs.declared.event.Event.{Event}
+use Rattle.model.specs.declared.version.Version.{Version}
 use Rattle.model.specs.History.{Answer}
 use Rattle.model.specs.Plan.{Plan, IsValid, IsTimetableOf}
 use Rattle.model.specs.Timetable.{Timetable}
@@ -18,11 +19,12 @@ use Rattle.plan_text.specs.PlanText.{PlanText}
 use Rattle.plan_text.specs.PlanTextFault.{PlanTextFaultAt, plan_outcome}
 use Rattle.plan.specs.Checking.{IsRefusedFor}
 use Rattle.event_text.specs.declared.event_fault.EventFault.{EventFault}
+use Rattle.event_text.specs.declared.header.Headers.TheVariants.{Either}
 use Rattle.event_text.specs.EventFault.{event_outcome}
 use Rattle.event_text.specs.FirstEvents.{BeginsWithEvents}
 use Rattle.event_text.specs.ReplyText.{replies_text}
 use Rattle.event_text.specs.Taking.{NoMoreEvents}
-use Rattle.runner.specs.SafeRuns.{AreAnswered}
+use Rattle.runner.specs.SafeRuns.{AreAnsweredAt}
 use Rattle.replay.specs.declared.run_fault.RunFault.{RunFault}
 use Rattle.replay.specs.declared.run_fault.RunFault.TheVariants as run_fault
 
@@ -60,28 +62,36 @@ ReadsTimetable map_left plan_left old_map new_map old_plan new_plan (Err run_fau
 ReadsTimetable map_left plan_left old_map new_map old_plan new_plan (Err (run_fault.Events fault)) = ⊥
 ReadsTimetable map_left plan_left old_map new_map old_plan new_plan (Err run_fault.WriteFailed) = ⊥
 
--- Events are answered in a safe run, and this is what came of the text of their replies.
-pub record Answered (tt : Timetable) (events : List Event) (CameOf : List ℕ → Type 0) : Type 0 where
+-- Events are answered in a safe run of the version, and this is what came of the text of their replies.
+pub record Answered (version : Version) (tt : Timetable) (events : List Event) (CameOf : List ℕ → Type 0) : Type 0 where
   pub answers : List Answer
-  pub answered : AreAnswered tt events answers
+  pub answered : AreAnsweredAt version tt events answers
   pub came : CameOf (replies_text answers)
 
--- The text of events was read up to its end, its first fault or the failure of its reader, and all its events up to there were answered.
+-- They are answered in a run of the version of a header. Without a header there is none of them, and no reply.
+abbrev pub AnsweredBehind : Option Version → Timetable → List Event → (List ℕ → Type 0) → Type 0
+AnsweredBehind None tt events CameOf = (events ≡ []) × CameOf []
+AnsweredBehind (Some version) tt events CameOf = Answered version tt events CameOf
+
+-- The text of events was read up to its end, its first fault or the failure of its reader, and all its events up to there were answered
+-- by the version of its header.
 pub record AnswersAll
     {E : Type 0} (events_left : E → Option (List ℕ)) (tt : Timetable) (old new : Counted E)
     (outcome : List Event → Outcome (List Event) EventFault) (CameOf : List ℕ → Type 0) : Type 0 where
+  pub version : Option Version
   pub events : List Event
-  pub read : NoMoreEvents events_left old new events (outcome events)
-  pub replies : Answered tt events CameOf
+  pub read : NoMoreEvents Either events_left old new version events (outcome events)
+  pub replies : AnsweredBehind version tt events CameOf
 
--- Some of the first events of the text were answered.
+-- Some of the first events of the text were answered, by the version of its header.
 pub record AnswersSome
     {E : Type 0} (events_left : E → Option (List ℕ)) (tt : Timetable) (old new : Counted E) (CameOf : List ℕ → Type 0) : Type 0 where
+  pub version : Option Version
   pub events : List Event
   pub delivered : List ℕ
   pub consumed : Consumes (events_left (counted_inner old)) (events_left (counted_inner new)) delivered
-  pub begins : BeginsWithEvents events delivered
-  pub replies : Answered tt events CameOf
+  pub begins : BeginsWithEvents Either version events delivered
+  pub replies : AnsweredBehind version tt events CameOf
 
 -- What the events of a text come to, by what came of the text of the replies: all of it is there, or it was broken off.
 abbrev pub AnswersEvents

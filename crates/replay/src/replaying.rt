@@ -14,8 +14,8 @@ use runner::Runner;
 use std::alloc::Global;
 use std::io::{Read, Write};
 
-/// Reads a map and then a plan, checks the plan on the map, and then answers one event after another: the reply to each is put into the
-/// output before the next line of the events is looked at. All replies so far are in the output when a fault is answered. The
+/// Reads a map and then a plan, checks the plan on the map, and then answers one event after another, by the version of the events'
+/// header: the reply to each is put into the output before the next line of the events is looked at. All replies so far are in the output when a fault is answered. The
 /// output is not flushed.
 pub fn run_text<M: Read, P: Read, E: Read, W: Write>(
     alloc: Global,
@@ -87,7 +87,7 @@ pub fn was_written(answer: &Result<(), RunFault>) -> bool
     !matches!(answer, Err(RunFault::WriteFailed))
 }
 
-/// Answers one event after another.
+/// Answers one event after another, by the version of their header.
 fn answer_events<E: Read, W: Write>(
     alloc: Global,
     graph: &Graph,
@@ -103,8 +103,9 @@ fn answer_events<E: Read, W: Write>(
     model::laws::every_run_is_safe();
     model::laws::rotations_never_begin();
     event_text::laws::none_read::<E>();
-    let mut runner = Runner::new(alloc, graph)?;
-    let mut reader = EventReader::new();
+    let mut reader = EventReader::any();
+    let version = reader.version(source)?;
+    let mut runner = Runner::with_version(alloc, graph, version)?;
     'events: while let Some(event) = reader.next_event(source)? {
         let reply = runner.step(event)?;
         put_reply(sink, &reply)?;

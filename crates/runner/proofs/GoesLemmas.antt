@@ -11,7 +11,8 @@ use Rattle.model.specs.declared.event.Event.{Event}
 use Rattle.model.specs.declared.event.Event.TheVariants.{Start, Finish, Say, Deliver, Restart, Tear}
 use Rattle.model.specs.declared.why.Why.{Why}
 use Rattle.model.specs.declared.why.Why.TheVariants.{NoSuchAgent, BadTear}
-use Rattle.model.specs.History.{Answer, History, refused, moving, arrived, armed, is_opened, messages, messages_of}
+use Rattle.model.specs.declared.version.Version.{Version}
+use Rattle.model.specs.History.{Answer, History, refused, moving, arrived, armed, is_opened, messages_of, messages, known}
 use Rattle.model.specs.Messages.{Message}
 use Rattle.model.specs.Rules.{agent_of, path_cell, answer_by, answer}
 use Rattle.model.specs.Safety.{held}
@@ -44,37 +45,37 @@ set-other (x ∷ l) (suc i) zero b other = refl
 set-other (x ∷ l) (suc i) (suc k) b other = set-other l i k b (λ e. other (ap suc e))
 
 -- no message is said by a refusal
-quiet-refusal : (e : Event) (w : Why) (h : History) → messages_of e (refused w) h ≡ []
-quiet-refusal (Start i) w h = refl
-quiet-refusal (Finish i) w h = refl
-quiet-refusal (Say i) w h = refl
-quiet-refusal (Deliver i m) w h = refl
-quiet-refusal (Restart i) w h = refl
-quiet-refusal (Tear i n) w h = refl
+quiet-refusal : (v : Version) (table : Timetable) (e : Event) (w : Why) (h : History) (knows : ℕ → ℕ → ℕ) → messages_of v table e (refused w) h knows ≡ []
+quiet-refusal v table (Start i) w h knows = refl
+quiet-refusal v table (Finish i) w h knows = refl
+quiet-refusal v table (Say i) w h knows = refl
+quiet-refusal v table (Deliver i m) w h knows = refl
+quiet-refusal v table (Restart i) w h knows = refl
+quiet-refusal v table (Tear i n) w h knows = refl
 
 append-none : (xs ys : List Message) → ys ≡ [] → xs ++ ys ≡ xs
 append-none xs ys none = ap (λ l. xs ++ l) none ∙ append-nil xs
 
 -- an event of no agent
 pub no-agent : (r : RunnerState) (h : History) (e : Event) → StandsAt r h → length r.agents ≤ agent_of e
-    → (refused NoSuchAgent ≡ answer r.timetable h e) × StandsAt r (record { event = e; answer = refused NoSuchAgent } ∷ h)
+    → (refused NoSuchAgent ≡ answer r.version r.timetable h e) × StandsAt r (record { event = e; answer = refused NoSuchAgent } ∷ h)
 no-agent r h e stands past =
     let count = stands.count in
     let none = slice_get_past r.timetable.tracks (agent_of e) (omega (arith, count, past)) in
-    let same = sym (ap (answer_by r.timetable h e) none) in (
+    let same = sym (ap (answer_by r.version r.timetable h e) none) in (
       same,
       record {
         conflict_free = stands.conflict_free;
         run = (same, stands.run);
         count = stands.count;
-        members = λ i a there. member-other r.timetable h (record { event = e; answer = refused NoSuchAgent }) i a (λ own. (let within = slice_get_within r.agents i a there in omega (arith, within, own, past))) (stands.members i a there);
-        messages = stands.messages ∙ sym (append-none (messages h) _ (quiet-refusal e NoSuchAgent h));
+        members = λ i a there. member-other r.version r.timetable h (record { event = e; answer = refused NoSuchAgent }) i a (λ own. (let within = slice_get_within r.agents i a there in omega (arith, within, own, past))) (stands.members i a there);
+        messages = stands.messages ∙ sym (append-none (messages r.version r.timetable h) _ (quiet-refusal r.version r.timetable e NoSuchAgent h (known r.version r.timetable h)));
       },
     )
 
 -- an event of one agent, by which no message is said
 pub one-agent : (r : RunnerState) (h : History) (e : Event) (i : ℕ) (b : AgentOn SimTape) (answered : Answer) → StandsAt r h → agent_of e ≡ i → i < length r.agents
-    → answered ≡ answer r.timetable h e → IsMember r.timetable (record { event = e; answer = answered } ∷ h) i b → messages_of e answered h ≡ []
+    → answered ≡ answer r.version r.timetable h e → IsMember r.version r.timetable (record { event = e; answer = answered } ∷ h) i b → messages_of r.version r.timetable e answered h (known r.version r.timetable h) ≡ []
     → StandsAt (record r { agents = set r.agents i b }) (record { event = e; answer = answered } ∷ h)
 one-agent r h e i b answered stands own within rule is quiet = record {
   conflict_free = stands.conflict_free;
@@ -83,11 +84,11 @@ one-agent r h e i b answered stands own within rule is quiet = record {
   members = λ k a there. elim (cases_eq k i) [
     | inl same ↦ (
         let found = same_Some b a (sym (set-at r.agents i b within) ∙ ap (slice_get (set r.agents i b)) (sym same) ∙ there) in
-        subst (λ x. IsMember r.timetable (record { event = e; answer = answered } ∷ h) k x) found (subst (λ j. IsMember r.timetable (record { event = e; answer = answered } ∷ h) j b) (sym same) is)
+        subst (λ x. IsMember r.version r.timetable (record { event = e; answer = answered } ∷ h) k x) found (subst (λ j. IsMember r.version r.timetable (record { event = e; answer = answered } ∷ h) j b) (sym same) is)
         )
-    | inr other ↦ member-other r.timetable h (record { event = e; answer = answered }) k a (λ named. other (sym named ∙ own)) (stands.members k a (sym (set-other r.agents i k b other) ∙ there))
+    | inr other ↦ member-other r.version r.timetable h (record { event = e; answer = answered }) k a (λ named. other (sym named ∙ own)) (stands.members k a (sym (set-other r.agents i k b other) ∙ there))
   ];
-  messages = stands.messages ∙ sym (append-none (messages h) _ quiet);
+  messages = stands.messages ∙ sym (append-none (messages r.version r.timetable h) _ quiet);
 }
 
 pub no_track : Track
@@ -96,7 +97,7 @@ no_track = record { start = record { x = 0; y = 0 }; later = [] }
 -- ---- starts and finishes
 
 module _ (r : RunnerState) (h : History) (stands : StandsAt r h) (i : ℕ) (a b : AgentOn SimTape) (there : slice_get r.agents i ≡ Some a) (result : Result Cell Refusal) where
-  member : IsMember r.timetable h i a
+  member : IsMember r.version r.timetable h i a
   member = stands.members i a there
 
   same_refusal : (refusal : Timetable → ℕ → Option Refusal) (track : Track) → Moves sim_state sim_writes track (refusal a.timetable a.id) a b result
@@ -108,54 +109,54 @@ module _ (r : RunnerState) (h : History) (stands : StandsAt r h) (i : ℕ) (a b 
   own_track track is = sym (ap (λ t. track_of t a.id) member.timetable ∙ ap (track_of r.timetable) member.id) ∙ is
 
   pub start-on : Starts sim_state sim_writes a b result
-      → (answered moving result ≡ answer r.timetable h (Start i)) × StandsAt (record r { agents = set r.agents i b }) (record { event = Start i; answer = answered moving result } ∷ h)
+      → (answered moving result ≡ answer r.version r.timetable h (Start i)) × StandsAt (record r { agents = set r.agents i b }) (record { event = Start i; answer = answered moving result } ∷ h)
   start-on starts =
       let track = starts.0 in
       let moves = same_refusal (λ t k. start_refusal t k track (state_of sim_state a)) track starts.1 in
-      let goes = start-goes r.timetable h stands.run i track a b member result moves in
-      let rule = goes.0 ∙ sym (ap (answer_by r.timetable h (Start i)) (own_track track starts.1.is_track)) in
+      let goes = start-goes r.version r.timetable h stands.run i track a b member result moves in
+      let rule = goes.0 ∙ sym (ap (answer_by r.version r.timetable h (Start i)) (own_track track starts.1.is_track)) in
       (rule, one-agent r h (Start i) i b (answered moving result) stands refl (slice_get_within r.agents i a there) rule goes.1 refl)
 
   pub finish-on : Finishes sim_state sim_writes a b result
-      → (answered arrived result ≡ answer r.timetable h (Finish i)) × StandsAt (record r { agents = set r.agents i b }) (record { event = Finish i; answer = answered arrived result } ∷ h)
+      → (answered arrived result ≡ answer r.version r.timetable h (Finish i)) × StandsAt (record r { agents = set r.agents i b }) (record { event = Finish i; answer = answered arrived result } ∷ h)
   finish-on finishes =
       let track = finishes.0 in
-      let goes = finish-goes r.timetable h stands.run i track a b member result finishes.1 in
-      let rule = goes.0 ∙ sym (ap (answer_by r.timetable h (Finish i)) (own_track track finishes.1.is_track)) in
+      let goes = finish-goes r.version r.timetable h stands.run i track a b member result finishes.1 in
+      let rule = goes.0 ∙ sym (ap (answer_by r.version r.timetable h (Finish i)) (own_track track finishes.1.is_track)) in
       (rule, one-agent r h (Finish i) i b (answered arrived result) stands refl (slice_get_within r.agents i a there) rule goes.1 refl)
 
 -- ---- tears
 
 -- a tear of more bytes than a record has
 pub tear-refused-on : (r : RunnerState) (h : History) (stands : StandsAt r h) (i n : ℕ) → i < length r.agents → 10 < n
-    → (refused BadTear ≡ answer r.timetable h (Tear i n)) × StandsAt r (record { event = Tear i n; answer = refused BadTear } ∷ h)
+    → (refused BadTear ≡ answer r.version r.timetable h (Tear i n)) × StandsAt r (record { event = Tear i n; answer = refused BadTear } ∷ h)
 tear-refused-on r h stands i n within more =
     let count = stands.count in
     let track = get_or r.timetable.tracks i no_track in
     let known = slice_get-get_or r.timetable.tracks i no_track (omega (arith, count, within)) in
-    let rule = sym (ap (answer_by r.timetable h (Tear i n)) known ∙ cond-true (nat_lt 10 n) (refused BadTear) armed (lt-ltb 10 n more)) in (
+    let rule = sym (ap (answer_by r.version r.timetable h (Tear i n)) known ∙ cond-true (nat_lt 10 n) (refused BadTear) armed (lt-ltb 10 n more)) in (
       rule,
       record {
         conflict_free = stands.conflict_free;
         run = (rule, stands.run);
         count = stands.count;
         members = λ k a there. elim (cases_eq i k) [
-          | inl same ↦ subst (λ j. IsMember r.timetable (record { event = Tear j n; answer = refused BadTear } ∷ h) k a) (sym same) (tear-refused r.timetable h k n a (stands.members k a there))
-          | inr other ↦ member-other r.timetable h (record { event = Tear i n; answer = refused BadTear }) k a other (stands.members k a there)
+          | inl same ↦ subst (λ j. IsMember r.version r.timetable (record { event = Tear j n; answer = refused BadTear } ∷ h) k a) (sym same) (tear-refused r.version r.timetable h k n a (stands.members k a there))
+          | inr other ↦ member-other r.version r.timetable h (record { event = Tear i n; answer = refused BadTear }) k a other (stands.members k a there)
         ];
-        messages = stands.messages ∙ sym (append-none (messages h) _ refl);
+        messages = stands.messages ∙ sym (append-none (messages r.version r.timetable h) _ refl);
       },
     )
 
 pub tear-on : (r : RunnerState) (h : History) (stands : StandsAt r h) (i n : ℕ) (a b : AgentOn SimTape) → slice_get r.agents i ≡ Some a → n ≤ 10
     → b ≡ record a { tape = b.tape } → sim_state b.tape ≡ sim_state a.tape → sim_armed b.tape ≡ Some n
-    → (armed ≡ answer r.timetable h (Tear i n)) × StandsAt (record r { agents = set r.agents i b }) (record { event = Tear i n; answer = armed } ∷ h)
+    → (armed ≡ answer r.version r.timetable h (Tear i n)) × StandsAt (record r { agents = set r.agents i b }) (record { event = Tear i n; answer = armed } ∷ h)
 tear-on r h stands i n a b there most same state arms =
     let count = stands.count in
     let within = slice_get_within r.agents i a there in
     let known = slice_get-get_or r.timetable.tracks i no_track (omega (arith, count, within)) in
-    let rule = sym (ap (answer_by r.timetable h (Tear i n)) known ∙ cond-false (nat_lt 10 n) (refused BadTear) armed (le-ltb 10 n most)) in
-    (rule, one-agent r h (Tear i n) i b armed stands refl within rule (tear-goes r.timetable h i n a b (stands.members i a there) same state arms) refl)
+    let rule = sym (ap (answer_by r.version r.timetable h (Tear i n)) known ∙ cond-false (nat_lt 10 n) (refused BadTear) armed (le-ltb 10 n most)) in
+    (rule, one-agent r h (Tear i n) i b armed stands refl within rule (tear-goes r.version r.timetable h i n a b (stands.members i a there) same state arms) refl)
 
 -- ---- restarts
 
@@ -169,7 +170,7 @@ opened-stood (Between u v) k = refl
 
 pub restart-on : (r : RunnerState) (h : History) (stands : StandsAt r h) (i : ℕ) (a b : AgentOn SimTape) (what : Held) (k : ℕ) → slice_get r.agents i ≡ Some a → Reopens a b
     → Holds sim_state b what → k ≡ states.done (state_of sim_state b)
-    → (stood what k ≡ answer r.timetable h (Restart i)) × StandsAt (record r { agents = set r.agents i b }) (record { event = Restart i; answer = stood what k } ∷ h)
+    → (stood what k ≡ answer r.version r.timetable h (Restart i)) × StandsAt (record r { agents = set r.agents i b }) (record { event = Restart i; answer = stood what k } ∷ h)
 restart-on r h stands i a b what k there reopens holds done =
     let is = stands.members i a there in
     let within = slice_get_within r.agents i a there in
@@ -178,10 +179,10 @@ restart-on r h stands i a b what k there reopens holds done =
     let known : track_of r.timetable i ≡ Some track = sym (ap (λ t. track_of t b.id) (reopens.timetable ∙ is.timetable) ∙ ap (track_of r.timetable) (reopens.id ∙ is.id)) ∙ holds.1 in
     let stays = held-same track (state_of sim_state b) (state_of sim_state a) same in
     let rule = ap (λ w. stood w k) (holds.2 ∙ stays) ∙ ap (stood (states.held track (state_of sim_state a))) (done ∙ ap (λ n. n / 2) same)
-    ∙ sym (restart-rule r.timetable h stands.run i track a is) ∙ sym (ap (answer_by r.timetable h (Restart i)) known) in (
+    ∙ sym (restart-rule r.version r.timetable h stands.run i track a is) ∙ sym (ap (answer_by r.version r.timetable h (Restart i)) known) in (
       rule,
       one-agent r h (Restart i) i b (stood what k) stands refl within rule
-          (restart-goes r.timetable h i a b (stood what k) (opened-stood what k) is reopens.timetable reopens.id reopens.contents reopens.heard reopens.broken reopens.armed) refl,
+          (restart-goes r.version r.timetable h i a b (stood what k) (opened-stood what k) is reopens.timetable reopens.id reopens.contents reopens.heard reopens.broken reopens.armed) refl,
     )
 
 -- ---- what is held
@@ -192,4 +193,4 @@ held-on r h stands i a what there holds =
     let is = stands.members i a there in
     let track = holds.0 in
     let known : track_of r.timetable i ≡ Some track = sym (ap (λ t. track_of t a.id) is.timetable ∙ ap (track_of r.timetable) is.id) ∙ holds.1 in
-    ap (λ w. Some w) (holds.2 ∙ held-is r.timetable h stands.run i track a is) ∙ sym (ap (option_map (λ t. held t h i)) known)
+    ap (λ w. Some w) (holds.2 ∙ held-is r.version r.timetable h stands.run i track a is) ∙ sym (ap (option_map (λ t. held t h i)) known)

@@ -11,3 +11,4 @@ pub mod SayLemmas
 pub mod DeliverLemmas
 pub mod SafeLemmas
 pub mod CrewLemmas
+pub mod SaidLemmas

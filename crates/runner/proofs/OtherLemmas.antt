@@ -1,10 +1,12 @@
 -- What happens to one agent leaves the others as they are.
-use Rattle.std.proofs.Common.{◌≡◌, ◌≢◌, ℕ, Bool, true, false, ◌∷◌, refl, sym, ap, ◌∙◌, arith}
+use Rattle.std.proofs.Common.{◌≡◌, ◌≢◌, ℕ, Bool, true, false, List, ◌∷◌, refl, sym, ap, ◌∙◌, arith}
 use Rattle.std.specs.Prelude.{◌==◌, ◌&&◌, Option, if◌then◌else◌}
 use Rattle.std.proofs.lemmas.Bool.{cond-false, ne_eqb}
+use Rattle.model.specs.declared.version.Version.{Version}
 use Rattle.model.specs.declared.event.Event.{Event}
 use Rattle.model.specs.declared.event.Event.TheVariants.{Start, Finish, Say, Deliver, Restart, Tear}
-use Rattle.model.specs.History.{Answer, History, Happening, armed_after, armed_of, broken_after, is_broken, starts_of, finishes_of, known_after, known}
+use Rattle.model.specs.History.{Answer, History, Happening, armed_after, armed_of, broken_after, is_broken, starts_of, finishes_of, known_after, messages, known}
+use Rattle.model.specs.Messages.{Message}
 use Rattle.model.specs.Rules.{agent_of}
 use Rattle.model.specs.Timetable.{Timetable}
 use Rattle.agent.specs.Agents.{AgentOn}
@@ -47,24 +49,24 @@ broken-other (Deliver j m) r i before other = refl
 broken-other (Restart j) r i before other = not_own j i _ false before other
 broken-other (Tear j n) r i before other = refl
 
-known-other : (e : Event) (r : Answer) (h : History) (i k before : ℕ) → agent_of e ≢ i → known_after e r h i k before ≡ before
-known-other (Start j) r h i k before other = refl
-known-other (Finish j) r h i k before other = refl
-known-other (Say j) r h i k before other = refl
-known-other (Deliver j m) r h i k before other = not_own j i _ _ before other
-known-other (Restart j) r h i k before other = not_own j i _ 0 before other
-known-other (Tear j n) r h i k before other = refl
+known-other : (e : Event) (r : Answer) (ms : List Message) (i k before : ℕ) → agent_of e ≢ i → known_after e r ms i k before ≡ before
+known-other (Start j) r ms i k before other = refl
+known-other (Finish j) r ms i k before other = refl
+known-other (Say j) r ms i k before other = refl
+known-other (Deliver j m) r ms i k before other = not_own j i _ _ before other
+known-other (Restart j) r ms i k before other = not_own j i _ 0 before other
+known-other (Tear j n) r ms i k before other = refl
 
 -- an agent that the event doesn't name stays where it is
-pub member-other : (table : Timetable) (h : History) (now : Happening) (i : ℕ) (a : AgentOn SimTape) → agent_of now.event ≢ i → IsMember table h i a → IsMember table (now ∷ h) i a
-member-other table h now i a other is = record {
+pub member-other : (v : Version) (table : Timetable) (h : History) (now : Happening) (i : ℕ) (a : AgentOn SimTape) → agent_of now.event ≢ i → IsMember v table h i a → IsMember v table (now ∷ h) i a
+member-other v table h now i a other is = record {
   timetable = is.timetable;
   id = is.id;
   records = (let starts = starts-other now.event now.answer i (armed_of h i) other in
       let finishes = finishes-other now.event now.answer i (armed_of h i) other in
       let records = is.records in
       omega (arith, starts, finishes, records));
-  heard = λ j. is.heard j ∙ sym (known-other now.event now.answer h i j (known h i j) other);
+  heard = λ j. is.heard j ∙ sym (known-other now.event now.answer (messages v table h) i j (known v table h i j) other);
   broken = is.broken ∙ sym (broken-other now.event now.answer i (is_broken h i) other);
   armed = is.armed ∙ sym (armed-other now.event now.answer i (armed_of h i) other);
 }

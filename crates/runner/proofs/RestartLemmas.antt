@@ -1,6 +1,7 @@
 -- A tear and a restart of an agent that is where the history leaves it.
 use Rattle.std.proofs.Common.{◌≡◌, ℕ, ◌+◌, Bool, true, false, [], ◌∷◌, Some, None, refl, sym, ap, ◌∙◌, arith}
 use Rattle.std.specs.Prelude.{◌==◌, ◌&&◌, if◌then◌else◌}
+use Rattle.model.specs.declared.version.Version.{Version}
 use Rattle.model.specs.declared.event.Event.TheVariants.{Restart, Tear}
 use Rattle.model.specs.declared.held.Held.{Held}
 use Rattle.model.specs.declared.held.Held.TheVariants.{At, Between}
@@ -24,9 +25,9 @@ use Rattle.runner.proofs.StoreLemmas.{own_test}
 -- ---- tears
 
 -- an armed agent
-pub tear-goes : (table : Timetable) (h : History) (i n : ℕ) (a b : AgentOn SimTape) → IsMember table h i a → b ≡ record a { tape = b.tape }
-    → sim_state b.tape ≡ sim_state a.tape → sim_armed b.tape ≡ Some n → IsMember table (record { event = Tear i n; answer = history.armed } ∷ h) i b
-tear-goes table h i n a b is same state armed = record {
+pub tear-goes : (v : Version) (table : Timetable) (h : History) (i n : ℕ) (a b : AgentOn SimTape) → IsMember v table h i a → b ≡ record a { tape = b.tape }
+    → sim_state b.tape ≡ sim_state a.tape → sim_armed b.tape ≡ Some n → IsMember v table (record { event = Tear i n; answer = history.armed } ∷ h) i b
+tear-goes v table h i n a b is same state armed = record {
   timetable = ap (λ x. x.timetable) same ∙ is.timetable;
   id = ap (λ x. x.id) same ∙ is.id;
   records = (let count = ap whole_records state in let before = is.records in omega (arith, count, before));
@@ -36,8 +37,8 @@ tear-goes table h i n a b is same state armed = record {
 }
 
 -- one that was not armed
-pub tear-refused : (table : Timetable) (h : History) (i n : ℕ) (a : AgentOn SimTape) → IsMember table h i a → IsMember table (record { event = Tear i n; answer = refused BadTear } ∷ h) i a
-tear-refused table h i n a is = record {
+pub tear-refused : (v : Version) (table : Timetable) (h : History) (i n : ℕ) (a : AgentOn SimTape) → IsMember v table h i a → IsMember v table (record { event = Tear i n; answer = refused BadTear } ∷ h) i a
+tear-refused v table h i n a is = record {
   timetable = is.timetable;
   id = is.id;
   records = (let before = is.records in omega (arith, before));
@@ -48,22 +49,22 @@ tear-refused table h i n a is = record {
 
 -- ---- what an agent holds
 
-pub held-is : (table : Timetable) (h : History) (run : IsRun table h) (i : ℕ) (track : Track) (a : AgentOn SimTape) → IsMember table h i a
+pub held-is : (v : Version) (table : Timetable) (h : History) (run : IsRun v table h) (i : ℕ) (track : Track) (a : AgentOn SimTape) → IsMember v table h i a
     → states.held track (state_of sim_state a) ≡ held track h i
-held-is table h run i track a is = sym (
-    ap (λ m. held_by m (history.done h i)) (sym (moving-is table h run i track a is))
-    ∙ ap (held_by (states.is_moving (state_of sim_state a))) (sym (done-is table h run i track a is)))
+held-is v table h run i track a is = sym (
+    ap (λ m. held_by m (history.done h i)) (sym (moving-is v table h run i track a is))
+    ∙ ap (held_by (states.is_moving (state_of sim_state a))) (sym (done-is v table h run i track a is)))
   where
     held_by : Bool → ℕ → Held
     held_by m k = if m then Between (path_cell track k) (path_cell track (k + 1)) else At (path_cell track k)
 
 -- ---- restarts
 
-pub restart-rule : (table : Timetable) (h : History) (run : IsRun table h) (i : ℕ) (track : Track) (a : AgentOn SimTape) → IsMember table h i a
+pub restart-rule : (v : Version) (table : Timetable) (h : History) (run : IsRun v table h) (i : ℕ) (track : Track) (a : AgentOn SimTape) → IsMember v table h i a
     → restart_answer h i track ≡ stood (states.held track (state_of sim_state a)) (states.done (state_of sim_state a))
-restart-rule table h run i track a is =
-    ap (λ m. restart_by m (history.done h i)) (sym (moving-is table h run i track a is))
-    ∙ ap (restart_by (states.is_moving s)) (sym (done-is table h run i track a is))
+restart-rule v table h run i track a is =
+    ap (λ m. restart_by m (history.done h i)) (sym (moving-is v table h run i track a is))
+    ∙ ap (restart_by (states.is_moving s)) (sym (done-is v table h run i track a is))
     ∙ by_moving (states.is_moving s)
   where
     s : states.State
@@ -77,14 +78,14 @@ restart-rule table h run i track a is =
     by_moving false = refl
 
 -- an agent that was opened anew, and of which nothing is armed
-pub restart-goes : (table : Timetable) (h : History) (i : ℕ) (a b : AgentOn SimTape) (r : Answer) → history.is_opened r ≡ true → IsMember table h i a
+pub restart-goes : (v : Version) (table : Timetable) (h : History) (i : ℕ) (a b : AgentOn SimTape) (r : Answer) → history.is_opened r ≡ true → IsMember v table h i a
     → b.timetable ≡ a.timetable → b.id ≡ a.id → (sim_state b.tape).contents ≡ (sim_state a.tape).contents → b.heard ≡ [] → b.broken ≡ false → sim_armed b.tape ≡ None
-    → IsMember table (record { event = Restart i; answer = r } ∷ h) i b
-restart-goes table h i a b r opened is timetable id contents heard broken armed = record {
+    → IsMember v table (record { event = Restart i; answer = r } ∷ h) i b
+restart-goes v table h i a b r opened is timetable id contents heard broken armed = record {
   timetable = timetable ∙ is.timetable;
   id = id ∙ is.id;
   records = (let count = ap (λ c. whole_records (record { contents = c; room = 0; failures = 0 })) contents in let before = is.records in omega (arith, count, before));
-  heard = λ j. ap (λ l. known_in l j) heard ∙ sym (reopened 0 (known h i j));
+  heard = λ j. ap (λ l. known_in l j) heard ∙ sym (reopened 0 (known v table h i j));
   broken = broken ∙ sym (reopened false (is_broken h i));
   armed = armed ∙ sym (reopened None (armed_of h i));
 }

@@ -4,8 +4,9 @@ use Rattle.std.specs.Prelude.{◌==◌, Option, if◌then◌else◌}
 use Rattle.std.proofs.Math.Nat.{mul-div_cancel_left, mul-add-mod_self_left}
 use Rattle.std.proofs.lemmas.Nat.{div-mul-add}
 use Rattle.std.proofs.lemmas.Bool.{cases_lt, eq-eqb, ne_eqb}
+use Rattle.model.specs.declared.version.Version.{Version}
 use Rattle.model.specs.Dependency.{Need, need}
-use Rattle.model.specs.History.{Answer, History, refused, moving, arrived, armed_of, kept_starts, done, is_moving}
+use Rattle.model.specs.History.{Answer, History, refused, moving, arrived, armed_of, kept_starts, done, is_moving, known}
 use Rattle.model.specs.Rules.{path_cell, stored, unless_waiting, start_answer, finish_answer, IsRun}
 use Rattle.model.specs.Timetable.{Track, Timetable, moves}
 use Rattle.model.proofs.RunLemmas.{in_step}
@@ -54,22 +55,22 @@ unless_test true w r = refl
 unless_test false w r = refl
 
 -- the rules by what they test
-abbrev start_by : Timetable → History → ℕ → Track → Bool → Bool → ℕ → Answer
-start_by table h i track b m k =
+abbrev start_by : Version → Timetable → History → ℕ → Track → Bool → Bool → ℕ → Answer
+start_by v table h i track b m k =
     if b then refused (why_of Broken)
     else (if m then refused (why_of AlreadyMoving)
     else (if k == moves track then refused (why_of AtEnd)
-    else unless_waiting h i (need table i track k) (stored (armed_of h i) (moving (path_cell track (k + 1))))))
+    else unless_waiting (known v table h i) (need table i track k) (stored (armed_of h i) (moving (path_cell track (k + 1))))))
 
 abbrev finish_by : History → ℕ → Track → Bool → Bool → ℕ → Answer
 finish_by h i track b m k = if b then refused (why_of Broken) else (if m then stored (armed_of h i) (arrived (path_cell track (k + 1))) else refused (why_of NotMoving))
 
-module _ (table : Timetable) (h : History) (run : IsRun table h) (i : ℕ) (track : Track) (a : AgentOn SimTape) (is : IsMember table h i a) where
+module _ (v : Version) (table : Timetable) (h : History) (run : IsRun v table h) (i : ℕ) (track : Track) (a : AgentOn SimTape) (is : IsMember v table h i a) where
   abbrev s : State
   s = state_of sim_state a
 
   step : (done h i ≤ kept_starts h i) × (kept_starts h i ≤ done h i + 1)
-  step = in_step table h i run
+  step = in_step v table h i run
 
   pub done-is : states.done s ≡ done h i
   done-is = ap (λ n. n / 2) is.records ∙ half (kept_starts h i) (done h i) step.0 step.1
@@ -77,18 +78,18 @@ module _ (table : Timetable) (h : History) (run : IsRun table h) (i : ℕ) (trac
   pub moving-is : states.is_moving s ≡ is_moving h i
   moving-is = ap (λ n. n % 2 == 1) is.records ∙ odd-is (kept_starts h i) (done h i) step.0 step.1
 
-  waits-is : (o : Option Need) (r : Answer) → unless_waiting h i o r ≡ unless (waits_for a.heard o) r
+  waits-is : (o : Option Need) (r : Answer) → unless_waiting (known v table h i) o r ≡ unless (waits_for a.heard o) r
   waits-is None r = refl
   waits-is (Some n) r =
       ap (λ k. if nat_lt k n.count then refused (why_of (Waits n.agent n.count)) else r) (sym (is.heard n.agent))
       ∙ by_test (nat_lt (known_in a.heard n.agent) n.count) (Waits n.agent n.count) None r r refl
 
   -- what the rules answer to a start
-  pub start-rule : start_answer table h i track ≡ unless (start_refusal table i track s) (stored (armed_of h i) (moving (next_cell track s)))
+  pub start-rule : start_answer v table h i track ≡ unless (start_refusal table i track s) (stored (armed_of h i) (moving (next_cell track s)))
   start-rule =
-      ap (λ b. start_by table h i track b (is_moving h i) (done h i)) (sym is.broken)
-      ∙ ap (λ m. start_by table h i track a.broken m (done h i)) (sym moving-is)
-      ∙ ap (λ k. start_by table h i track a.broken (states.is_moving s) k) (sym done-is)
+      ap (λ b. start_by v table h i track b (is_moving h i) (done h i)) (sym is.broken)
+      ∙ ap (λ m. start_by v table h i track a.broken m (done h i)) (sym moving-is)
+      ∙ ap (λ k. start_by v table h i track a.broken (states.is_moving s) k) (sym done-is)
       ∙ by_test a.broken Broken _ _ _ (by_test (states.is_moving s) AlreadyMoving _ _ _ (by_test (states.done s == moves track) AtEnd _ _ _ (waits-is (need table i track (states.done s)) _)))
 
   -- what they answer to a finish

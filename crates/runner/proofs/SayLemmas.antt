@@ -1,66 +1,119 @@
 -- How a runner goes on after a message is said.
-use Rattle.std.proofs.Common.{◌≡◌, ℕ, ◌++◌, true, false, [], ◌∷◌, length, Some, sym, ap, ◌∙◌, arith}
-use Rattle.std.specs.Prelude.{if◌then◌else◌, slice_get}
-use Rattle.std.proofs.lemmas.List.{append-nil, length-map, map-append}
+use Rattle.std.proofs.Common.{◌≡◌, ℕ, zero, suc, ◌+◌, ◌++◌, eqb, cond, true, false, List, [], ◌∷◌, length, Some, refl, sym, ap, ◌∙◌, arith}
+use Rattle.std.specs.Prelude.{◌==◌, if◌then◌else◌, slice_get}
+use Rattle.std.proofs.lemmas.List.{append-nil}
 use Rattle.std.proofs.lemmas.Option.{slice_get-get_or, slice_get_within}
+use Rattle.model.specs.declared.entry.Entry.{Entry}
 use Rattle.model.specs.declared.event.Event.TheVariants.{Say}
+use Rattle.model.specs.declared.version.Version.TheVariants.{One, Two}
 use Rattle.model.specs.declared.why.Why.TheVariants as why
 use Rattle.model.specs.History as history
-use Rattle.model.specs.History.{Answer, History, refused, said, is_broken, messages, messages_of}
-use Rattle.model.specs.Messages.{message_bytes, own_message}
+use Rattle.model.specs.History.{Answer, History, refused, said, is_broken, messages, known}
+use Rattle.model.specs.Messages.{Message, own_message, entries_from, number_told, whole_message, message_said, message_bytes, told_bytes, bytes_said}
 use Rattle.model.specs.Rules.{say_answer, answer_by, answer}
 use Rattle.model.specs.Timetable.{Track, track_of}
 use Rattle.agent.specs.Agents.{AgentOn, state_of}
+use Rattle.agent.specs.Counters.{known_in}
 use Rattle.agent.specs.States as states
-use Rattle.runner.specs.declared.note.Note.{Note}
 use Rattle.runner.specs.declared.sim_tape.SimTape.{SimTape}
 use Rattle.runner.specs.SimTape.{sim_state}
-use Rattle.runner.specs.Standing.{RunnerState, IsMember, StandsAt, message_of}
+use Rattle.runner.specs.Standing.{RunnerState, IsMember, StandsAt}
+use Rattle.runner.specs.Code.Telling.{message_told}
 use Rattle.runner.proofs.GoesLemmas.{no_track}
 use Rattle.runner.proofs.MessageLemmas.{say-goes}
 use Rattle.runner.proofs.RuleLemmas.{done-is}
 
+-- ---- what is told hangs on the numbers alone
+
+same_entries : (f g : ℕ → ℕ) (first count : ℕ) → ((j : ℕ) → f j ≡ g j) → entries_from f first count ≡ entries_from g first count
+same_entries f g first zero same = refl
+same_entries f g first (suc count) same =
+    ap {A = ℕ} {B = List Entry} (λ n. cond (eqb n 0) (entries_from f (first + 1) count) (record { agent = first; done = n } ∷ entries_from f (first + 1) count)) (same first)
+    ∙ ap {A = List Entry} {B = List Entry} (λ l. cond (eqb (g first) 0) l (record { agent = first; done = g first } ∷ l)) (same_entries f g (first + 1) count same)
+
+same_numbers : (i d : ℕ) (f g : ℕ → ℕ) → ((j : ℕ) → f j ≡ g j) → (j : ℕ) → number_told i d f j ≡ number_told i d g j
+same_numbers i d f g same j = ap (λ n. if j == i then d else n) (same j)
+
+pub same-message : (agents i d : ℕ) (f g : ℕ → ℕ) → ((j : ℕ) → f j ≡ g j) → whole_message agents i d f ≡ whole_message agents i d g
+same-message agents i d f g same =
+    ap {A = List Entry} {B = Message} (λ l. record { sender = i; entries = l }) (same_entries (number_told i d f) (number_told i d g) 0 agents (same_numbers i d f g same))
+
 module _ (r : RunnerState) (h : History) (stands : StandsAt r h) (i : ℕ) (a : AgentOn SimTape) (there : slice_get r.agents i ≡ Some a) where
-  is : IsMember r.timetable h i a
+  is : IsMember r.version r.timetable h i a
   is = stands.members i a there
 
-  known : (track : Track) × (track_of r.timetable i ≡ Some track)
-  known = (let count = stands.count in let within = slice_get_within r.agents i a there in (_, slice_get-get_or r.timetable.tracks i no_track (omega (arith, count, within))))
+  is_there : (track : Track) × (track_of r.timetable i ≡ Some track)
+  is_there = (let count = stands.count in let within = slice_get_within r.agents i a there in (_, slice_get-get_or r.timetable.tracks i no_track (omega (arith, count, within))))
 
-  rule-say : answer r.timetable h (Say i) ≡ say_answer r.timetable h i
-  rule-say = ap (answer_by r.timetable h (Say i)) known.1
+  rule-say : answer r.version r.timetable h (Say i) ≡ say_answer r.version r.timetable h i
+  rule-say = ap (answer_by r.version r.timetable h (Say i)) is_there.1
+
+  -- what is said by the rules
+  abbrev due_message : Message
+  due_message = message_said r.version (length r.timetable.tracks) i (history.done h i) (known r.version r.timetable h i)
+
+  abbrev due_bytes : List ℕ
+  due_bytes = bytes_said r.version r.timetable.number (length r.timetable.tracks) i (history.done h i) (known r.version r.timetable h i)
 
   -- a broken agent says nothing
-  pub say-refused-on : a.broken ≡ true → (refused why.Broken ≡ answer r.timetable h (Say i)) × StandsAt r (record { event = Say i; answer = refused why.Broken } ∷ h)
+  pub say-refused-on : a.broken ≡ true → (refused why.Broken ≡ answer r.version r.timetable h (Say i)) × StandsAt r (record { event = Say i; answer = refused why.Broken } ∷ h)
   say-refused-on broken =
-      let rule = sym (rule-say ∙ ap (λ b. if b then refused why.Broken else said (length (messages h)) (message_bytes r.timetable.number i (history.done h i))) (sym is.broken ∙ broken)) in (
+      let rule = sym (rule-say ∙ ap (λ b. if b then refused why.Broken else said (length (messages r.version r.timetable h)) due_bytes) (sym is.broken ∙ broken)) in (
         rule,
         record {
           conflict_free = stands.conflict_free;
           run = (rule, stands.run);
           count = stands.count;
-          members = λ k b at. say-goes r.timetable h i k b (refused why.Broken) (stands.members k b at);
-          messages = stands.messages ∙ sym (append-nil (messages h));
+          members = λ k b at. say-goes r.version r.timetable h i k b (refused why.Broken) (stands.members k b at);
+          messages = stands.messages ∙ sym (append-nil (messages r.version r.timetable h));
         },
       )
 
-  -- another says how many moves it has finished
-  pub say-on : (note : Note) → a.broken ≡ false → note.sender ≡ i → note.done ≡ states.done (state_of sim_state a)
-      → (said (length r.notes) (message_bytes a.timetable.number a.id note.done) ≡ answer r.timetable h (Say i))
-      × StandsAt (record r { notes = r.notes ++ note ∷ [] }) (record { event = Say i; answer = said (length r.notes) (message_bytes a.timetable.number a.id note.done) } ∷ h)
-  say-on note whole sender done =
-      let told = done ∙ done-is r.timetable h stands.run i known.0 a is in
-      let count = sym (length-map r.notes message_of) ∙ ap length stands.messages in
-      let bytes = ap (λ t. message_bytes t.number a.id note.done) is.timetable ∙ ap (λ k. message_bytes r.timetable.number k note.done) is.id ∙ ap (message_bytes r.timetable.number i) told in
-      let rule = ap (λ n. said n (message_bytes a.timetable.number a.id note.done)) count ∙ ap (said (length (messages h))) bytes
-      ∙ sym (rule-say ∙ ap (λ b. if b then refused why.Broken else said (length (messages h)) (message_bytes r.timetable.number i (history.done h i))) (sym is.broken ∙ whole)) in (
+  -- another says what it knows
+  said_on : (message : Message) (bytes : List ℕ) → a.broken ≡ false → message ≡ due_message → bytes ≡ due_bytes
+      → (said (length r.messages) bytes ≡ answer r.version r.timetable h (Say i))
+      × StandsAt (record r { messages = r.messages ++ message ∷ [] }) (record { event = Say i; answer = said (length r.messages) bytes } ∷ h)
+  said_on message bytes whole same spelled =
+      let rule = ap (λ l. said (length l) bytes) stands.messages ∙ ap (said (length (messages r.version r.timetable h))) spelled
+      ∙ sym (rule-say ∙ ap (λ b. if b then refused why.Broken else said (length (messages r.version r.timetable h)) due_bytes) (sym is.broken ∙ whole)) in (
         rule,
         record {
           conflict_free = stands.conflict_free;
           run = (rule, stands.run);
           count = stands.count;
-          members = λ k b at. say-goes r.timetable h i k b _ (stands.members k b at);
-          messages = map-append message_of r.notes (note ∷ []) ∙ ap (λ l. l ++ message_of note ∷ []) stands.messages
-              ∙ ap (λ m. messages h ++ m ∷ []) (ap (λ k. own_message k note.done) sender ∙ ap (own_message i) told);
+          members = λ k b at. say-goes r.version r.timetable h i k b _ (stands.members k b at);
+          messages = ap (λ l. l ++ message ∷ []) stands.messages ∙ ap (λ x. messages r.version r.timetable h ++ x ∷ []) same;
         },
       )
+
+  done_is : states.done (state_of sim_state a) ≡ history.done h i
+  done_is = done-is r.version r.timetable h stands.run i is_there.0 a is
+
+  -- at version 1 how many moves it has finished
+  pub own-on : (sender done : ℕ) → r.version ≡ One → a.broken ≡ false → sender ≡ i → done ≡ states.done (state_of sim_state a)
+      → (said (length r.messages) (message_bytes a.timetable.number a.id done) ≡ answer r.version r.timetable h (Say i))
+      × StandsAt (record r { messages = r.messages ++ own_message sender done ∷ [] }) (record { event = Say i; answer = said (length r.messages) (message_bytes a.timetable.number a.id done) } ∷ h)
+  own-on sender done version whole own is_done =
+      let finished = is_done ∙ done_is in
+      said_on (own_message sender done) (message_bytes a.timetable.number a.id done) whole
+      (ap (λ k. own_message k done) own ∙ ap (own_message i) finished
+      ∙ ap (λ v. message_said v (length r.timetable.tracks) i (history.done h i) (known r.version r.timetable h i)) (sym version))
+      (ap (λ t. message_bytes t.number a.id done) is.timetable ∙ ap (λ k. message_bytes r.timetable.number k done) is.id ∙ ap (message_bytes r.timetable.number i) finished
+      ∙ ap (λ v. bytes_said v r.timetable.number (length r.timetable.tracks) i (history.done h i) (known r.version r.timetable h i)) (sym version))
+
+  whole_is : message_told a ≡ whole_message (length r.timetable.tracks) i (history.done h i) (known r.version r.timetable h i)
+  whole_is =
+      ap (λ t. whole_message (length t.tracks) a.id (states.done (state_of sim_state a)) (known_in a.heard)) is.timetable
+      ∙ ap (λ k. whole_message (length r.timetable.tracks) k (states.done (state_of sim_state a)) (known_in a.heard)) is.id
+      ∙ ap (λ d. whole_message (length r.timetable.tracks) i d (known_in a.heard)) done_is
+      ∙ same-message (length r.timetable.tracks) i (history.done h i) (known_in a.heard) (known r.version r.timetable h i) is.heard
+
+  -- at version 2 all that it knows
+  pub told-on : r.version ≡ Two → a.broken ≡ false
+      → (said (length r.messages) (told_bytes a.timetable.number (message_told a)) ≡ answer r.version r.timetable h (Say i))
+      × StandsAt (record r { messages = r.messages ++ message_told a ∷ [] }) (record { event = Say i; answer = said (length r.messages) (told_bytes a.timetable.number (message_told a)) } ∷ h)
+  told-on version whole =
+      said_on (message_told a) (told_bytes a.timetable.number (message_told a)) whole
+      (whole_is ∙ ap (λ v. message_said v (length r.timetable.tracks) i (history.done h i) (known r.version r.timetable h i)) (sym version))
+      (ap (λ t. told_bytes t.number (message_told a)) is.timetable ∙ ap (told_bytes r.timetable.number) whole_is
+      ∙ ap (λ v. bytes_said v r.timetable.number (length r.timetable.tracks) i (history.done h i) (known r.version r.timetable h i)) (sym version))

@@ -6,9 +6,11 @@ use Rattle.std.proofs.lemmas.Bool.{cases_lt, eq-eqb, ne_eqb, true≢false}
 use Rattle.std.proofs.lemmas.List.{length-append, length-take-le}
 use Rattle.std.proofs.lemmas.Option.{same_Some, none-some}
 use Rattle.grid.specs.declared.cell.Cell.{Cell}
+use Rattle.model.specs.declared.version.Version.{Version}
 use Rattle.model.specs.declared.event.Event.{Event}
 use Rattle.model.specs.declared.event.Event.TheVariants.{Start, Finish}
-use Rattle.model.specs.History.{Answer, History, refused, moving, arrived, armed_after, armed_of, broken_after, is_broken, is_begun, is_ended, is_store_failed, stores_all, starts_of, finishes_of, known_after, known}
+use Rattle.model.specs.History.{Answer, History, refused, moving, arrived, armed_after, armed_of, broken_after, is_broken, is_begun, is_ended, is_store_failed, stores_all, starts_of, finishes_of, known_after, messages, known}
+use Rattle.model.specs.Messages.{Message}
 use Rattle.model.specs.Rules.{stored, start_answer, finish_answer, IsRun}
 use Rattle.model.specs.Dependency.{Need, need}
 use Rattle.model.specs.Timetable.{Track, Timetable, moves}
@@ -87,7 +89,7 @@ pub record IsStoring (event : Event) (of : Cell → Answer) (i : ℕ) : Type 0 w
   pub stored_none : (why : Refusal) → IsQuiet why → (tear : Option ℕ) → starts_of event (refused (why_of why)) i tear + finishes_of event (refused (why_of why)) i tear ≡ 0
   pub armed : (r : Answer) (before : Option ℕ) → armed_after event r i before ≡ (if is_store_failed r then None else before)
   pub broken : (r : Answer) (before : Bool) → broken_after event r i before ≡ (if is_store_failed r then true else before)
-  pub known : (r : Answer) (h : History) (j before : ℕ) → known_after event r h i j before ≡ before
+  pub known : (r : Answer) (ms : List Message) (j before : ℕ) → known_after event r ms i j before ≡ before
   pub fine : (c : Cell) → is_store_failed (of c) ≡ false
 
 pub start-stores : (i : ℕ) → IsStoring (Start i) moving i
@@ -97,7 +99,7 @@ start-stores i = record {
   stored_none = λ why quiet tear. ap (λ n. n + 0) (own_test i (is_begun (refused (why_of why)) tear) 1 0 ∙ ap (λ b. if b then 1 else 0) (quiet.0 tear).0);
   armed = λ r before. own_test i (is_store_failed r) None before;
   broken = λ r before. own_test i (is_store_failed r) true before;
-  known = λ r h j before. refl;
+  known = λ r ms j before. refl;
   fine = λ c. refl;
 }
 
@@ -108,11 +110,11 @@ finish-stores i = record {
   stored_none = λ why quiet tear. ap (λ n. 0 + n) (own_test i (is_ended (refused (why_of why)) tear) 1 0 ∙ ap (λ b. if b then 1 else 0) (quiet.0 tear).1);
   armed = λ r before. own_test i (is_store_failed r) None before;
   broken = λ r before. own_test i (is_store_failed r) true before;
-  known = λ r h j before. refl;
+  known = λ r ms j before. refl;
   fine = λ c. refl;
 }
 
-module _ (table : Timetable) (h : History) (i : ℕ) (track : Track) (a b : AgentOn SimTape) (is : IsMember table h i a)
+module _ (v : Version) (table : Timetable) (h : History) (i : ℕ) (track : Track) (a b : AgentOn SimTape) (is : IsMember v table h i a)
     (event : Event) (of : Cell → Answer) (storing : IsStoring event of i) where
   abbrev due : List ℕ
   due = due_record a.timetable.number a.id (whole_records (sim_state a.tape))
@@ -124,24 +126,24 @@ module _ (table : Timetable) (h : History) (i : ℕ) (track : Track) (a b : Agen
   next : (r : Answer) (added : ℕ) → starts_of event r i (armed_of h i) + finishes_of event r i (armed_of h i) ≡ added → b.timetable ≡ a.timetable → b.id ≡ a.id
       → whole_records (sim_state b.tape) ≡ whole_records (sim_state a.tape) + added → b.heard ≡ a.heard
       → b.broken ≡ (if is_store_failed r then true else a.broken) → sim_armed b.tape ≡ (if is_store_failed r then None else sim_armed a.tape)
-      → IsMember table (record { event = event; answer = r } ∷ h) i b
+      → IsMember v table (record { event = event; answer = r } ∷ h) i b
   next r added adds timetable id records heard broken armed = record {
     timetable = timetable ∙ is.timetable;
     id = id ∙ is.id;
     records = (let before = is.records in omega (arith, adds, records, before));
-    heard = λ j. ap (λ l. known_in l j) heard ∙ is.heard j ∙ sym (storing.known r h j (known h i j));
+    heard = λ j. ap (λ l. known_in l j) heard ∙ is.heard j ∙ sym (storing.known r (messages v table h) j (known v table h i j));
     broken = broken ∙ ap (λ x. if is_store_failed r then true else x) is.broken ∙ sym (storing.broken r (is_broken h i));
     armed = armed ∙ ap (λ x. if is_store_failed r then None else x) is.armed ∙ sym (storing.armed r (armed_of h i));
   }
 
   -- a refusal
   refuses : (why : Refusal) (answer : Result Cell Refusal) → IsQuiet why → Moves sim_state sim_writes track (Some why) a b answer
-      → (answered of answer ≡ refused (why_of why)) × IsMember table (record { event = event; answer = answered of answer } ∷ h) i b
+      → (answered of answer ≡ refused (why_of why)) × IsMember v table (record { event = event; answer = answered of answer } ∷ h) i b
   refuses why answer quiet moves =
       let same = ap (answered of) moves.state.0 in
       let tape = moves.tape in (
         same,
-        subst (λ r. IsMember table (record { event = event; answer = r } ∷ h) i b) (sym same)
+        subst (λ r. IsMember v table (record { event = event; answer = r } ∷ h) i b) (sym same)
             (next (refused (why_of why)) 0 (storing.stored_none why quiet (armed_of h i)) moves.timetable moves.id
             (ap (λ t. whole_records (sim_state t)) tape ∙ omega arith) (ap (λ s. s.heard) moves.state.1)
             (ap (λ s. s.broken) moves.state.1 ∙ sym (ap (λ t. if t then true else a.broken) quiet.1))
@@ -150,14 +152,14 @@ module _ (table : Timetable) (h : History) (i : ℕ) (track : Track) (a b : Agen
 
   -- a write of the due record, as the tape was armed
   stores : (cell : Cell) (answer : Result Cell Refusal) (tear : Option ℕ) → sim_armed a.tape ≡ tear → Moves sim_state sim_writes track None a b answer
-      → (cell ≡ next_cell track (state_of sim_state a)) → (answered of answer ≡ stored tear (of cell)) × IsMember table (record { event = event; answer = answered of answer } ∷ h) i b
+      → (cell ≡ next_cell track (state_of sim_state a)) → (answered of answer ≡ stored tear (of cell)) × IsMember v table (record { event = event; answer = answered of answer } ∷ h) i b
   stores cell answer None unarmed moves is_cell = elim moves.state.outcome [
     | inl good ↦ (
         let value = good.0 ∙ ap (λ c. Ok c) (sym is_cell) in
         let same = ap (answered of) value in
         let torn = subst (TornBy answer) unarmed moves.tape.torn in (
           same,
-          subst (λ r. IsMember table (record { event = event; answer = r } ∷ h) i b) (sym same)
+          subst (λ r. IsMember v table (record { event = event; answer = r } ∷ h) i b) (sym same)
               (next (of cell) 1 (storing.stored_cell cell (armed_of h i)) moves.timetable moves.id good.1 moves.state.heard
               (good.2 ∙ sym (ap (λ t. if t then true else a.broken) (storing.fine cell)))
               (torn.1 ∙ sym unarmed ∙ sym (ap (λ t. if t then None else sim_armed a.tape) (storing.fine cell)))),
@@ -179,31 +181,31 @@ module _ (table : Timetable) (h : History) (i : ℕ) (track : Track) (a b : Agen
         let most = a.tape.in_record n armed in
         let added = storing.stored_torn (armed_of h i) ∙ ap (λ t. if stores_all t then 1 else 0) (sym is.armed ∙ armed) in (
           same,
-          subst (λ r. IsMember table (record { event = event; answer = r } ∷ h) i b) (sym same)
+          subst (λ r. IsMember v table (record { event = event; answer = r } ∷ h) i b) (sym same)
               (next (refused (why_of StoreFailed)) (if n == 10 then 1 else 0) added moves.timetable moves.id
               (torn-records (sim_state a.tape) (sim_state b.tape) due n most refl torn.2) moves.state.heard bad.2 torn.1),
         )
         )
   ]
 
-module _ (table : Timetable) (h : History) (run : IsRun table h) (i : ℕ) (track : Track) (a b : AgentOn SimTape) (is : IsMember table h i a) where
+module _ (v : Version) (table : Timetable) (h : History) (run : IsRun v table h) (i : ℕ) (track : Track) (a b : AgentOn SimTape) (is : IsMember v table h i a) where
   -- the agent answers as the rules do, and is where they leave it
   goes-by : (event : Event) (of : Cell → Answer) (storing : IsStoring event of i) (rule : Answer) (o : Option Refusal) (answer : Result Cell Refusal)
       → ((why : Refusal) → o ≡ Some why → IsQuiet why) → rule ≡ unless o (stored (armed_of h i) (of (next_cell track (state_of sim_state a))))
-      → Moves sim_state sim_writes track o a b answer → (answered of answer ≡ rule) × IsMember table (record { event = event; answer = answered of answer } ∷ h) i b
+      → Moves sim_state sim_writes track o a b answer → (answered of answer ≡ rule) × IsMember v table (record { event = event; answer = answered of answer } ∷ h) i b
   goes-by event of storing rule None answer quiet by moves =
-      let found = stores table h i track a b is event of storing (next_cell track (state_of sim_state a)) answer (sim_armed a.tape) refl moves refl in
+      let found = stores v table h i track a b is event of storing (next_cell track (state_of sim_state a)) answer (sim_armed a.tape) refl moves refl in
       (found.0 ∙ ap (λ t. stored t (of (next_cell track (state_of sim_state a)))) is.armed ∙ sym by, found.1)
   goes-by event of storing rule (Some why) answer quiet by moves =
-      let found = refuses table h i track a b is event of storing why answer (quiet why refl) moves in
+      let found = refuses v table h i track a b is event of storing why answer (quiet why refl) moves in
       (found.0 ∙ sym by, found.1)
 
   pub start-goes : (answer : Result Cell Refusal) → Moves sim_state sim_writes track (start_refusal table i track (state_of sim_state a)) a b answer
-      → (answered moving answer ≡ start_answer table h i track) × IsMember table (record { event = Start i; answer = answered moving answer } ∷ h) i b
+      → (answered moving answer ≡ start_answer v table h i track) × IsMember v table (record { event = Start i; answer = answered moving answer } ∷ h) i b
   start-goes answer moves =
-      goes-by (Start i) moving (start-stores i) _ _ answer (quiet-start table i track (state_of sim_state a)) (start-rule table h run i track a is) moves
+      goes-by (Start i) moving (start-stores i) _ _ answer (quiet-start table i track (state_of sim_state a)) (start-rule v table h run i track a is) moves
 
   pub finish-goes : (answer : Result Cell Refusal) → Moves sim_state sim_writes track (finish_refusal (state_of sim_state a)) a b answer
-      → (answered arrived answer ≡ finish_answer h i track) × IsMember table (record { event = Finish i; answer = answered arrived answer } ∷ h) i b
+      → (answered arrived answer ≡ finish_answer h i track) × IsMember v table (record { event = Finish i; answer = answered arrived answer } ∷ h) i b
   finish-goes answer moves =
-      goes-by (Finish i) arrived (finish-stores i) _ _ answer (quiet-finish (state_of sim_state a)) (finish-rule table h run i track a is) moves
+      goes-by (Finish i) arrived (finish-stores i) _ _ answer (quiet-finish (state_of sim_state a)) (finish-rule v table h run i track a is) moves

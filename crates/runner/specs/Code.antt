@@ -2,3 +2,7 @@
 
 -- an agent whose own tape was opened again
 pub mod Reopening
+-- which entries notes name
+pub mod Notes
+-- what an agent tells
+pub mod Telling

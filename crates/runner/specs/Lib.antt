@@ -2,6 +2,8 @@
 
 -- the tape that tears where it is told to
 pub mod SimTape
+-- messages as they are kept
+pub mod SaidMessages
 -- what a runner is, and at which history it stands
 pub mod Standing
 -- what is promised of every run

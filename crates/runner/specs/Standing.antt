@@ -1,50 +1,47 @@
 -- What a runner is, and at which history it stands.
-use Rattle.std.specs.Prelude.{◌≡◌, ℕ, ◌+◌, List, ◌∷◌, length, map, Some, slice_get, ⊤}
+use Rattle.std.specs.Prelude.{◌≡◌, ℕ, ◌+◌, List, ◌∷◌, length, Some, slice_get, ⊤}
 use Rattle.model.specs.declared.event.Event.{Event}
 use Rattle.model.specs.declared.event.Event.TheVariants.{Start, Finish, Say, Deliver, Restart, Tear}
+use Rattle.model.specs.declared.version.Version.{Version}
 use Rattle.model.specs.History.{Answer, History, armed_of, is_broken, kept_starts, done, messages, known}
-use Rattle.model.specs.Messages.{Message, own_message}
+use Rattle.model.specs.Messages.{Message}
 use Rattle.model.specs.Rules.{answer, IsRun}
 use Rattle.model.specs.Timetable.{Timetable, IsConflictFree}
 use Rattle.agent.specs.Agents.{AgentOn}
 use Rattle.agent.specs.Counters.{known_in}
 use Rattle.agent.specs.Tape.{whole_records}
-use Rattle.runner.specs.declared.note.Note.{Note}
 use Rattle.runner.specs.declared.sim_tape.SimTape.{SimTape}
 use Rattle.runner.specs.SimTape.{sim_state, sim_armed}
 
--- the timetable of the graph, the agents, agent 0 first, and what was said, in order
+-- the timetable of the graph, the version of the messages, the agents, agent 0 first, and what was said, in order
 pub record RunnerState : Type 0 where
   pub timetable : Timetable
+  pub version : Version
   pub agents : List (AgentOn SimTape)
-  pub notes : List Note
-
--- the message of a note
-abbrev pub message_of : Note → Message
-message_of note = own_message note.sender note.done
+  pub messages : List Message
 
 -- An agent is where a history leaves it: its tape has a record for each begun and each finished move, it knows what was heard, and is
 -- broken and armed by what happened.
-pub record IsMember (tt : Timetable) (h : History) (i : ℕ) (a : AgentOn SimTape) : Type 0 where
+pub record IsMember (version : Version) (tt : Timetable) (h : History) (i : ℕ) (a : AgentOn SimTape) : Type 0 where
   pub timetable : a.timetable ≡ tt
   pub id : a.id ≡ i
   pub records : whole_records (sim_state a.tape) ≡ kept_starts h i + done h i
-  pub heard : (j : ℕ) → known_in a.heard j ≡ known h i j
+  pub heard : (j : ℕ) → known_in a.heard j ≡ known version tt h i j
   pub broken : a.broken ≡ is_broken h i
   pub armed : sim_armed a.tape ≡ armed_of h i
 
--- A runner stands at a run, over a timetable without vertex conflicts: there is an agent for each track, each where the run leaves it,
--- and just the messages of the run were said.
+-- A runner stands at a run of its version, over a timetable without vertex conflicts: there is an agent for each track, each where the
+-- run leaves it, and just the messages of the run were said.
 pub record StandsAt (r : RunnerState) (h : History) : Type 0 where
   pub conflict_free : IsConflictFree r.timetable
-  pub run : IsRun r.timetable h
+  pub run : IsRun r.version r.timetable h
   pub count : length r.agents ≡ length r.timetable.tracks
-  pub members : (i : ℕ) (a : AgentOn SimTape) → slice_get r.agents i ≡ Some a → IsMember r.timetable h i a
-  pub messages : map message_of r.notes ≡ messages h
+  pub members : (i : ℕ) (a : AgentOn SimTape) → slice_get r.agents i ≡ Some a → IsMember r.version r.timetable h i a
+  pub messages : r.messages ≡ messages r.version r.timetable h
 
 -- An event is answered as the rules say after every run at which the runner stands, and then it stands at that run with the event and the answer.
 abbrev pub GoesOn : RunnerState → RunnerState → Event → Answer → Type 0
-GoesOn old new event r = (h : History) → StandsAt old h → (r ≡ answer old.timetable h event) × StandsAt new (record { event = event; answer = r } ∷ h)
+GoesOn old new event r = (h : History) → StandsAt old h → (r ≡ answer old.version old.timetable h event) × StandsAt new (record { event = event; answer = r } ∷ h)
 
 -- only saying and delivering a message take memory
 abbrev pub TakesMemory : Event → Type 0

@@ -1,12 +1,12 @@
 //! Whole runs: all agents of a graph over tapes that tear, and every message that was said.
 #![tactic(auto)]
 
-mod note;
 mod runner;
 mod runs;
+mod said;
 mod sim_tape;
 
-pub use model::{Event, Reply, Why};
+pub use model::{Event, Reply, Version, Why};
 pub use runner::Runner;
-pub use runs::run;
+pub use runs::{run, run_with};
 pub use sim_tape::SimTape;

@@ -3,18 +3,20 @@ ghost use Rattle.std.specs.Prelude.{◌≡◌, ◌<◌, [], length, IfOk, OnErr}
 ghost use Rattle.model.specs.Timetable.{track_of};
 ghost use Rattle.model.specs.History.{History};
 ghost use Rattle.model.specs.declared.event.Event.TheVariants as event;
+ghost use Rattle.model.specs.declared.version.Version.{Version};
+ghost use Rattle.model.specs.declared.version.Version.TheVariants.{One, Two};
 ghost use Rattle.model.specs.Replies.{answer_of};
 ghost use Rattle.runner.specs.Standing.{IsMember};
 ghost use Rattle.runner.specs.Code.Reopening.{Reopens};
 
 use crate::SimTape;
-use crate::note::{self, Note};
-use agent::Agent;
+use crate::said::Said;
 use agent::replies::{
     reply_to_delivery, reply_to_finish, reply_to_restart, reply_to_start, why_of,
 };
+use agent::{Agent, Finished, TellFault};
 use depgraph::{Graph, OutOfMemory};
-use model::{Event, Held, Reply, Why};
+use model::{Entry, Event, Held, Reply, Version, Why};
 use std::alloc::{AllocError, Global};
 use std::marker::Model;
 
@@ -24,7 +26,7 @@ pub struct Runner<'g> {
     alloc: Global,
     graph: &'g Graph,
     agents: Vec<Agent<'g, SimTape>>,
-    notes: Vec<Note>,
+    said: Said,
 }
 
 impl<'g> Model for Runner<'g> {
@@ -33,7 +35,7 @@ impl<'g> Model for Runner<'g> {
 
     ghost Value = { RunnerState };
 
-    ghost view = { λ r. record { timetable = r.graph.now; agents = r.agents.items; notes = r.notes.items } };
+    ghost view = { λ r. record { timetable = r.graph.now; version = r.said.version; agents = r.agents.items; messages = r.said.messages } };
 
     ghost invariant = { λ r. length r.agents.items ≤ 10000 };
 }
@@ -44,9 +46,24 @@ impl<'g> Runner<'g> {
     ghost use Rattle.runner.specs.SafeRuns.{IsSafeRun};
     ghost use Rattle.runner.specs.Standing.{RunnerState, StandsAt, GoesOn, TakesMemory};
 
-    /// All agents of a graph, none of which has begun a move.
+    /// All agents of a graph, none of which has begun a move, that say messages of version 1.
     pub fn new(alloc: Global, graph: &'g Graph) -> Result<Runner<'g>, OutOfMemory>
         ensures timetable { IfOk result (λ r. r.timetable ≡ graph.now) }
+        ensures version { IfOk result (λ r. r.version ≡ One) }
+        ensures stands { IfOk result (λ r. StandsAt r []) }
+        ensures safe { IsSafeRun graph.now [] }
+    {
+        Runner::with_version(alloc, graph, Version::One)
+    }
+
+    /// The same with messages of a version.
+    pub fn with_version(
+        alloc: Global,
+        graph: &'g Graph,
+        version: Version,
+    ) -> Result<Runner<'g>, OutOfMemory>
+        ensures timetable { IfOk result (λ r. r.timetable ≡ graph.now) }
+        ensures version { IfOk result (λ r. r.version ≡ version) }
         ensures stands { IfOk result (λ r. StandsAt r []) }
         ensures safe { IsSafeRun graph.now [] }
     {
@@ -64,7 +81,7 @@ impl<'g> Runner<'g> {
             alloc,
             graph,
             agents,
-            notes: Vec::new(alloc),
+            said: Said::new(alloc, version),
         })
     }
 
@@ -74,6 +91,7 @@ impl<'g> Runner<'g> {
         ensures refused { OnErr result (self.new ≡ self.old) }
         ensures memory { OnErr result (TakesMemory event) }
         ensures same_graph { self.new.timetable ≡ self.old.timetable }
+        ensures same_version { self.new.version ≡ self.old.version }
         ensures safe { (h : History) → StandsAt self.new h → IsSafeRun self.new.timetable h }
     {
         model::laws::every_run_is_safe();
@@ -101,6 +119,7 @@ impl<'g> Runner<'g> {
     fn start(&mut self, agent: u32) -> Reply
         ensures goes { GoesOn self.old self.new (event.Start agent) (answer_of result) }
         ensures same_graph { self.new.timetable ≡ self.old.timetable }
+        ensures same_version { self.new.version ≡ self.old.version }
     {
         let index = agent as usize;
         if index >= self.agents.len() {
@@ -112,6 +131,7 @@ impl<'g> Runner<'g> {
     fn finish(&mut self, agent: u32) -> Reply
         ensures goes { GoesOn self.old self.new (event.Finish agent) (answer_of result) }
         ensures same_graph { self.new.timetable ≡ self.old.timetable }
+        ensures same_version { self.new.version ≡ self.old.version }
     {
         let index = agent as usize;
         if index >= self.agents.len() {
@@ -123,48 +143,120 @@ impl<'g> Runner<'g> {
     fn say(&mut self, agent: u32) -> Result<Reply, AllocError>
         ensures said { IfOk result (λ reply. GoesOn self.old self.new (event.Say agent) (answer_of reply)) }
         ensures same_graph { self.new.timetable ≡ self.old.timetable }
+        ensures same_version { self.new.version ≡ self.old.version }
         ensures err { OnErr result (self.new ≡ self.old) }
     {
-        let index = agent as usize;
-        if index >= self.agents.len() {
+        if agent as usize >= self.agents.len() {
             return Ok(Reply::Refused(Why::NoSuchAgent));
         }
-        let sender = &self.agents[index];
+        match self.said.version() {
+            Version::One => self.say_own(agent),
+            Version::Two => self.tell(agent),
+        }
+    }
+
+    /// Says a message of version 1.
+    fn say_own(&mut self, agent: u32) -> Result<Reply, AllocError>
+        requires there { agent < length self.old.agents }
+        requires version { self.old.version ≡ One }
+        ensures said { IfOk result (λ reply. GoesOn self.old self.new (event.Say agent) (answer_of reply)) }
+        ensures same_graph { self.new.timetable ≡ self.old.timetable }
+        ensures same_version { self.new.version ≡ self.old.version }
+        ensures err { OnErr result (self.new ≡ self.old) }
+    {
+        let sender = &self.agents[agent as usize];
         let done = sender.done();
         let bytes = match sender.say() {
             Ok(bytes) => Vec::from_slice(self.alloc, &bytes)?,
             Err(refusal) => return Ok(Reply::Refused(why_of(refusal))),
         };
-        let number = self.notes.len() as u64;
-        self.notes.push(Note {
-            sender: agent as u16,
+        let number = self.said.count();
+        self.said.keep_own(Entry {
+            agent: agent as u16,
             done,
         })?;
+        Ok(Reply::Said(number, bytes))
+    }
+
+    /// Says a message of version 2.
+    fn tell(&mut self, agent: u32) -> Result<Reply, AllocError>
+        requires there { agent < length self.old.agents }
+        requires version { self.old.version ≡ Two }
+        ensures said { IfOk result (λ reply. GoesOn self.old self.new (event.Say agent) (answer_of reply)) }
+        ensures same_graph { self.new.timetable ≡ self.old.timetable }
+        ensures same_version { self.new.version ≡ self.old.version }
+        ensures err { OnErr result (self.new ≡ self.old) }
+    {
+        let sender = &self.agents[agent as usize];
+        let bytes = match sender.tell() {
+            Ok(bytes) => bytes,
+            Err(TellFault::Broken) => return Ok(Reply::Refused(Why::Broken)),
+            Err(TellFault::OutOfMemory) => return Err(AllocError),
+        };
+        let number = self.said.count();
+        self.said.keep_told(sender)?;
         Ok(Reply::Said(number, bytes))
     }
 
     fn deliver(&mut self, agent: u32, message: u64) -> Result<Reply, AllocError>
         ensures heard { IfOk result (λ reply. GoesOn self.old self.new (event.Deliver agent message) (answer_of reply)) }
         ensures same_graph { self.new.timetable ≡ self.old.timetable }
+        ensures same_version { self.new.version ≡ self.old.version }
+        ensures err { OnErr result (self.new ≡ self.old) }
+    {
+        if agent as usize >= self.agents.len() {
+            return Ok(Reply::Refused(Why::NoSuchAgent));
+        }
+        if message >= self.said.count() {
+            return Ok(Reply::Refused(Why::NoSuchMessage));
+        }
+        match self.said.version() {
+            Version::One => self.deliver_own(agent, message),
+            Version::Two => self.deliver_told(agent, message),
+        }
+    }
+
+    /// Delivers a message of version 1.
+    fn deliver_own(&mut self, agent: u32, message: u64) -> Result<Reply, AllocError>
+        requires there { agent < length self.old.agents }
+        requires said { message < length self.old.messages }
+        requires version { self.old.version ≡ One }
+        ensures heard { IfOk result (λ reply. GoesOn self.old self.new (event.Deliver agent message) (answer_of reply)) }
+        ensures same_graph { self.new.timetable ≡ self.old.timetable }
+        ensures same_version { self.new.version ≡ self.old.version }
         ensures err { OnErr result (self.new ≡ self.old) }
     {
         model::laws::messages_of_runs();
-        agent::laws::messages();
-        let index = agent as usize;
-        if index >= self.agents.len() {
-            return Ok(Reply::Refused(Why::NoSuchAgent));
-        }
-        if message >= self.notes.len() as u64 {
-            return Ok(Reply::Refused(Why::NoSuchMessage));
-        }
-        let note = self.notes[message as usize];
-        let bytes = note::message(note.sender, self.graph.number(), note.done);
-        reply_to_delivery(self.agents[index].hear(&bytes))
+        let entry = self.said.own(message);
+        let finished = Finished {
+            from: entry.agent,
+            plan: self.graph.number(),
+            done: entry.done,
+        };
+        reply_to_delivery(self.agents[agent as usize].hear_finished(finished))
+    }
+
+    /// Delivers a message of version 2, whose bytes are not made again.
+    fn deliver_told(&mut self, agent: u32, message: u64) -> Result<Reply, AllocError>
+        requires there { agent < length self.old.agents }
+        requires said { message < length self.old.messages }
+        requires version { self.old.version ≡ Two }
+        ensures heard { IfOk result (λ reply. GoesOn self.old self.new (event.Deliver agent message) (answer_of reply)) }
+        ensures same_graph { self.new.timetable ≡ self.old.timetable }
+        ensures same_version { self.new.version ≡ self.old.version }
+        ensures err { OnErr result (self.new ≡ self.old) }
+    {
+        model::laws::messages_of_runs();
+        model::laws::entries_of_agents();
+        agent::laws::whole_messages();
+        let (sender, entries) = self.said.told(message);
+        reply_to_delivery(self.agents[agent as usize].hear_entries(sender, entries))
     }
 
     fn tear(&mut self, agent: u32, stored: u32) -> Reply
         ensures goes { GoesOn self.old self.new (event.Tear agent stored) (answer_of result) }
         ensures same_graph { self.new.timetable ≡ self.old.timetable }
+        ensures same_version { self.new.version ≡ self.old.version }
     {
         let index = agent as usize;
         if index >= self.agents.len() {
@@ -180,6 +272,7 @@ impl<'g> Runner<'g> {
     fn restart(&mut self, agent: u32) -> Reply
         ensures goes { GoesOn self.old self.new (event.Restart agent) (answer_of result) }
         ensures same_graph { self.new.timetable ≡ self.old.timetable }
+        ensures same_version { self.new.version ≡ self.old.version }
     {
         let index = agent as usize;
         if index >= self.agents.len() {
@@ -194,7 +287,7 @@ impl<'g> Runner<'g> {
 /// An agent over an empty tape with room for two records a move.
 fn new_agent(alloc: Global, graph: &Graph, id: u16) -> Result<Agent<'_, SimTape>, OutOfMemory>
     requires { id < length graph.now.tracks }
-    ensures { IfOk result (IsMember graph.now [] id) }
+    ensures { IfOk result (λ a. (version : Version) → IsMember version graph.now [] id a) }
 {
     let moves = graph.moves(u32::from(id)).unwrap();
     let tape = SimTape::new(alloc, 20 * moves)?;

@@ -1,4 +1,5 @@
-//! Tests of the crate runner: whole runs, stops at each write, events at random, memory that is refused, and a long line of agents.
+//! Tests of the crate runner: whole runs at both versions, stops at each write, events at random, memory that is refused, and a long line
+//! of agents.
 #![tactic(auto)]
 
 #[cfg(test)]
@@ -7,6 +8,8 @@ mod holdings;
 mod lines;
 #[cfg(test)]
 mod long_line;
+#[cfg(test)]
+mod plain_run;
 #[cfg(test)]
 mod random_runs;
 #[cfg(test)]
@@ -17,5 +20,7 @@ mod small_runs;
 mod stops;
 #[cfg(test)]
 mod texts;
+#[cfg(test)]
+mod versions;
 #[cfg(test)]
 mod watch;

@@ -1,6 +1,6 @@
 //! Replies as lines of text.
 use depgraph::{Graph, OutOfMemory};
-use runner::{Event, Reply, Runner, Why, run};
+use runner::{Event, Reply, Runner, Version, Why, run, run_with};
 use std::alloc::{AllocError, Global};
 use std::process::Abort;
 use std::test::Fail;
@@ -35,6 +35,29 @@ fn said(alloc: Global, number: u64, bytes: &[u8]) -> Result<String, AllocError> 
     Ok(text)
 }
 
+/// The lines of replies, each ended by an LF.
+pub fn text_of(alloc: Global, replies: &[Reply]) -> Result<String, AllocError> {
+    let mut text = String::new(alloc);
+    for reply in replies {
+        text.push_str(line(alloc, reply)?.as_str())?;
+        text.push_str("\n")?;
+    }
+    Ok(text)
+}
+
+/// The replies to events at once.
+pub fn replies_at(
+    alloc: Global,
+    graph: &Graph,
+    version: Version,
+    events: &[Event],
+) -> Result<Vec<Reply>, OutOfMemory> {
+    match version {
+        Version::One => run(alloc, graph, events),
+        Version::Two => run_with(alloc, graph, version, events),
+    }
+}
+
 /// Answers events, and compares each reply with its line.
 pub fn expect(
     rt: &impl Abort,
@@ -63,9 +86,11 @@ pub fn expect_list(
     rt: &impl Abort,
     alloc: Global,
     graph: &Graph,
+    version: Version,
     rows: &[(Event, &str)],
 ) -> Result<(), OutOfMemory> {
-    let replies = run(alloc, graph, events_of(alloc, rows)?.as_slice())?;
+    let events = events_of(alloc, rows)?;
+    let replies = replies_at(alloc, graph, version, &events)?;
     assert_eq!(rt; replies.len(), rows.len());
     for (reply, (event, expected)) in replies.iter().zip(rows) {
         let reply = line(alloc, reply)?;

@@ -1,9 +1,10 @@
-//! Events at random, on small plans of several kinds.
-use crate::lines::line;
+//! Events at random, on small plans of several kinds, at both versions of messages.
+use crate::lines::{line, replies_at};
+use crate::plain_run::PlainRun;
 use crate::texts::{FIELD, checked};
 use crate::watch::Watch;
 use depgraph::Graph;
-use runner::{Event, Reply, run};
+use runner::{Event, Reply, Version};
 use std::alloc::Global;
 use std::process::Abort;
 use std::test::Fail;
@@ -81,11 +82,12 @@ struct Noted {
     lines: Vec<String>,
 }
 
-/// Events at random among so many agents, each of which is looked at.
+/// Events at random among so many agents, each of which is looked at, and answered by a plain run too.
 fn watched(
     rt: &impl Abort,
     alloc: Global,
     watch: &mut Watch<'_>,
+    plain: &mut PlainRun<'_>,
     agents: u32,
     seed: u64,
 ) -> Result<Noted, Fail> {
@@ -101,15 +103,24 @@ fn watched(
         if matches!(&reply, Reply::Said(_, _)) {
             said = said.saturating_add(1);
         }
+        let expected = line(alloc, &plain.step(event)?)?;
+        let reply = line(alloc, &reply)?;
+        assert_eq!(rt; reply.as_str(), expected.as_str(), "after {event:?}");
         noted.events.push(event)?;
-        noted.lines.push(line(alloc, &reply)?)?;
+        noted.lines.push(reply)?;
     }
     Ok(noted)
 }
 
 /// The replies to the same events at once are the same.
-fn compare(rt: &impl Abort, alloc: Global, graph: &Graph, noted: &Noted) -> Result<(), Fail> {
-    let replies = run(alloc, graph, noted.events.as_slice())?;
+fn compare(
+    rt: &impl Abort,
+    alloc: Global,
+    graph: &Graph,
+    version: Version,
+    noted: &Noted,
+) -> Result<(), Fail> {
+    let replies = replies_at(alloc, graph, version, &noted.events)?;
     assert_eq!(rt; replies.len(), noted.lines.len());
     for (reply, expected) in replies.iter().zip(noted.lines.iter()) {
         let reply = line(alloc, reply)?;
@@ -123,24 +134,28 @@ fn is_run_to_the_end(
     rt: &impl Abort,
     alloc: Global,
     agents: &str,
+    version: Version,
     seed: u64,
 ) -> Result<bool, Fail> {
     let plan = checked(alloc, FIELD, agents)?;
     let graph = Graph::build(alloc, &plan)?;
-    let mut watch = Watch::new(alloc, &plan, &graph)?;
-    let noted = watched(rt, alloc, &mut watch, plan.agents(), seed)?;
-    compare(rt, alloc, &graph, &noted)?;
+    let mut watch = Watch::new(alloc, &plan, &graph, version)?;
+    let mut plain = PlainRun::new(alloc, &graph, version)?;
+    let noted = watched(rt, alloc, &mut watch, &mut plain, plan.agents(), seed)?;
+    compare(rt, alloc, &graph, version, &noted)?;
     Ok(watch.is_over())
 }
 
 /// Several such runs of a plan, each of which ends, or none.
 fn runs(rt: &impl Abort, alloc: Global, agents: &str, end: bool) -> Result<(), Fail> {
-    for seed in 0..8 {
-        assert_eq!(rt;
-            is_run_to_the_end(rt, alloc, agents, seed)?,
-            end,
-            "seed {seed}"
-        );
+    for version in [Version::One, Version::Two] {
+        for seed in 0..8 {
+            assert_eq!(rt;
+                is_run_to_the_end(rt, alloc, agents, version, seed)?,
+                end,
+                "{version:?}, seed {seed}"
+            );
+        }
     }
     Ok(())
 }

@@ -1,10 +1,11 @@
 //! Runs in which any one allocation may fail, as the one with the number N does under `rt try --test --fail-alloc N`.
 use crate::lines::{expect_list, line};
-use crate::texts::{ONE_BEHIND, ROW, SQUARE, TURNING};
+use crate::plain_run::PlainRun;
+use crate::texts::{ONE_BEHIND, ROW, SQUARE, TURNING, plan_text};
 use depgraph::{Graph, OutOfMemory};
 use grid::{Counted, Map, MapFault, read_map};
 use plan::{Plan, PlanFault, PlanTextFault, check, read_plan};
-use runner::{Event, Reply, Runner};
+use runner::{Event, Reply, Runner, Version};
 use std::alloc::Global;
 use std::process::Abort;
 use std::test::Fail;
@@ -26,6 +27,22 @@ const MESSAGE_ROWS: [(Event, &str); 7] = [
     (Event::Start(1), "moving 1 0"),
 ];
 
+/// Agent 1 hears the same message before and after a restart, and agent 0 one without an entry.
+const TELLING_ROWS: [(Event, &str); 12] = [
+    (Event::Start(0), "moving 2 0"),
+    (Event::Finish(0), "arrived 2 0"),
+    (Event::Say(0), "said 0 46020000000000070001000000000001"),
+    (Event::Say(1), "said 1 46020001000000070000"),
+    (Event::Deliver(0, 1), "heard 1 0"),
+    (Event::Deliver(1, 0), "heard 0 1"),
+    (Event::Deliver(1, 0), "heard 0 1"),
+    (Event::Restart(1), "at 0 0 done 0"),
+    (Event::Deliver(1, 0), "heard 0 1"),
+    (Event::Deliver(1, 0), "heard 0 1"),
+    (Event::Say(1), "said 2 46020001000000070001000000000001"),
+    (Event::Start(1), "moving 1 0"),
+];
+
 /// The map of a text; nothing but memory is lacking.
 fn map_of(rt: &impl Abort, alloc: Global, text: &str) -> Result<Map, OutOfMemory> {
     match read_map(alloc, &mut Counted::new(text.as_bytes())) {
@@ -39,7 +56,7 @@ fn map_of(rt: &impl Abort, alloc: Global, text: &str) -> Result<Map, OutOfMemory
 
 /// The plan of the agents of these lines; nothing but memory is lacking.
 fn plan_of(rt: &impl Abort, alloc: Global, agents: &str) -> Result<Plan, OutOfMemory> {
-    let text = format!(in alloc; "mapf-plan 1\nnumber 7\n{agents}")?;
+    let text = plan_text(alloc, agents)?;
     match read_plan(alloc, &mut Counted::new(text.as_bytes())) {
         Ok(plan) => Ok(plan),
         Err(fault) => {
@@ -62,12 +79,17 @@ fn graph_of(rt: &impl Abort, alloc: Global, map: &str, agents: &str) -> Result<G
     }
 }
 
-/// The reply to an event, which is asked again where memory was refused, as only saying and delivering may be.
-fn answer(rt: &impl Abort, runner: &mut Runner<'_>, event: Event) -> Result<Reply, OutOfMemory> {
+/// The reply to an event, which is asked again where memory was refused, as it may be.
+fn answer(
+    rt: &impl Abort,
+    runner: &mut Runner<'_>,
+    plain: &PlainRun<'_>,
+    event: Event,
+) -> Result<Reply, OutOfMemory> {
     match runner.step(event) {
         Ok(reply) => Ok(reply),
         Err(OutOfMemory) => {
-            let may = matches!(&event, Event::Say(_) | Event::Deliver(_, _));
+            let may = plain.may_take_memory(event);
             assert!(rt; may, "memory was refused to {event:?}");
             runner.step(event)
         }
@@ -80,15 +102,18 @@ fn attempt(
     alloc: Global,
     map: &str,
     agents: &str,
+    version: Version,
     rows: &[(Event, &str)],
 ) -> Result<(), OutOfMemory> {
     let graph = graph_of(rt, alloc, map, agents)?;
-    let mut runner = Runner::new(alloc, &graph)?;
+    let mut runner = Runner::with_version(alloc, &graph, version)?;
+    let mut plain = PlainRun::new(alloc, &graph, version)?;
     for (event, expected) in rows {
-        let reply = line(alloc, &answer(rt, &mut runner, *event)?)?;
+        let reply = line(alloc, &answer(rt, &mut runner, &plain, *event)?)?;
         assert_eq!(rt; reply.as_str(), *expected, "after {event:?}");
+        plain.step(*event)?;
     }
-    expect_list(rt, alloc, &graph, rows)
+    expect_list(rt, alloc, &graph, version, rows)
 }
 
 /// At most one allocation fails, so the second attempt needs to succeed where the first did not.
@@ -97,20 +122,43 @@ fn attempt_twice(
     alloc: Global,
     map: &str,
     agents: &str,
+    version: Version,
     rows: &[(Event, &str)],
 ) -> Result<(), Fail> {
-    if attempt(rt, alloc, map, agents, rows).is_err() {
-        attempt(rt, alloc, map, agents, rows)?;
+    if attempt(rt, alloc, map, agents, version, rows).is_err() {
+        attempt(rt, alloc, map, agents, version, rows)?;
     }
     Ok(())
 }
 
 #[test]
 fn memory_refused_to_agents_that_turn(rt: HostRuntime) -> Result<(), Fail> {
-    attempt_twice(&rt, rt.alloc(), SQUARE, TURNING, &TURNING_ROWS)
+    for version in [Version::One, Version::Two] {
+        attempt_twice(&rt, rt.alloc(), SQUARE, TURNING, version, &TURNING_ROWS)?;
+    }
+    Ok(())
 }
 
 #[test]
 fn memory_refused_to_a_message(rt: HostRuntime) -> Result<(), Fail> {
-    attempt_twice(&rt, rt.alloc(), ROW, ONE_BEHIND, &MESSAGE_ROWS)
+    attempt_twice(
+        &rt,
+        rt.alloc(),
+        ROW,
+        ONE_BEHIND,
+        Version::One,
+        &MESSAGE_ROWS,
+    )
+}
+
+#[test]
+fn memory_refused_to_a_message_with_entries(rt: HostRuntime) -> Result<(), Fail> {
+    attempt_twice(
+        &rt,
+        rt.alloc(),
+        ROW,
+        ONE_BEHIND,
+        Version::Two,
+        &TELLING_ROWS,
+    )
 }

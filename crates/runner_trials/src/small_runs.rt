@@ -3,7 +3,7 @@ use crate::lines::{expect, expect_list};
 use crate::texts::{ONE_BEHIND, ROW, graph_of};
 use grid::Cell;
 use model::Held;
-use runner::{Event, Runner};
+use runner::{Event, Runner, Version};
 use std::alloc::Global;
 use std::process::Abort;
 use std::test::Fail;
@@ -19,7 +19,7 @@ fn expect_replies(
     let graph = graph_of(alloc, map, agents)?;
     let mut runner = Runner::new(alloc, &graph)?;
     expect(rt, alloc, &mut runner, rows)?;
-    expect_list(rt, alloc, &graph, rows)?;
+    expect_list(rt, alloc, &graph, Version::One, rows)?;
     Ok(())
 }
 

@@ -5,7 +5,7 @@ use crate::watch::Watch;
 use depgraph::Graph;
 use grid::Cell;
 use model::Held;
-use runner::Event;
+use runner::{Event, Version};
 use std::alloc::Global;
 use std::process::Abort;
 use std::test::Fail;
@@ -114,7 +114,7 @@ fn each_write_is_torn(rt: HostRuntime) -> Result<(), Fail> {
     let graph = Graph::build(rt.alloc(), &plan)?;
     for number in 0..4 {
         for stored in 0..11 {
-            let mut watch = Watch::new(rt.alloc(), &plan, &graph)?;
+            let mut watch = Watch::new(rt.alloc(), &plan, &graph, Version::One)?;
             stopped(&rt, rt.alloc(), &mut watch, number, stored)?;
             assert!(rt; watch.is_over(), "write {number} after {stored} bytes");
             let ends = [Cell { x: 2, y: 0 }, Cell { x: 1, y: 0 }];

@@ -2,7 +2,7 @@
 use depgraph::Graph;
 use grid::{Counted, read_map};
 use plan::{CheckedPlan, check, read_plan};
-use std::alloc::Global;
+use std::alloc::{AllocError, Global};
 use std::test::Fail;
 
 /// A row of three passable cells.
@@ -20,10 +20,15 @@ pub const ONE_BEHIND: &str = "agents 2\nagent 1 0 e-\nagent 0 0 e\n";
 /// On the square, each agent goes into the cell of the next.
 pub const TURNING: &str = "agents 4\nagent 0 0 e\nagent 1 0 s\nagent 1 1 w\nagent 0 1 n\n";
 
-/// The plan of these agents under the number 7, checked on a map.
+/// The text of the plan of these agents under the number 7.
+pub fn plan_text(alloc: Global, agents: &str) -> Result<String, AllocError> {
+    format!(in alloc; "mapf-plan 1\nnumber 7\n{agents}")
+}
+
+/// The plan, checked on a map.
 pub fn checked(alloc: Global, map: &str, agents: &str) -> Result<CheckedPlan, Fail> {
     let map = read_map(alloc, &mut Counted::new(map.as_bytes()))?;
-    let text = format!(in alloc; "mapf-plan 1\nnumber 7\n{agents}")?;
+    let text = plan_text(alloc, agents)?;
     let plan = read_plan(alloc, &mut Counted::new(text.as_bytes()))?;
     Ok(check(alloc, &map, plan).map_err(|rejected| rejected.fault)?)
 }

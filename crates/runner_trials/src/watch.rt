@@ -4,7 +4,7 @@ use depgraph::Graph;
 use grid::Cell;
 use model::Held;
 use plan::CheckedPlan;
-use runner::{Event, Reply, Runner};
+use runner::{Event, Reply, Runner, Version};
 use std::alloc::Global;
 use std::process::Abort;
 use std::test::Fail;
@@ -32,7 +32,12 @@ fn path(alloc: Global, plan: &CheckedPlan, agent: u32) -> Result<Vec<Cell>, Fail
 
 impl<'g> Watch<'g> {
     /// No agent has begun a move.
-    pub fn new(alloc: Global, plan: &CheckedPlan, graph: &'g Graph) -> Result<Watch<'g>, Fail> {
+    pub fn new(
+        alloc: Global,
+        plan: &CheckedPlan,
+        graph: &'g Graph,
+        version: Version,
+    ) -> Result<Watch<'g>, Fail> {
         let mut walks = Vec::new(alloc);
         let mut paths = Vec::new(alloc);
         for agent in 0..plan.agents() {
@@ -41,7 +46,7 @@ impl<'g> Watch<'g> {
             paths.push(path(alloc, plan, agent)?)?;
         }
         Ok(Watch {
-            runner: Runner::new(alloc, graph)?,
+            runner: Runner::with_version(alloc, graph, version)?,
             agents: plan.agents(),
             walks,
             paths,

@@ -10,7 +10,7 @@ use Rattle.agent.specs.Agents.{AgentOn, state_of}
 use Rattle.agent.specs.States.{State}
 use Rattle.agent.specs.Tape.{TapeState}
 use Rattle.event_text.specs.ReplyText.{reply_line}
-use Rattle.dialogue.specs.Turns.{IsTurn, said_line, not_understood, state_line, store_failed}
+use Rattle.dialogue.specs.Turns.{IsTurn, said_line, told_line, not_understood, state_line, store_failed}
 use Rattle.dialogue.specs.declared.line_answer.LineAnswer.{LineAnswer}
 use Rattle.dialogue.specs.declared.line_answer.LineAnswer.TheVariants as the_answer
 use Rattle.dialogue.specs.declared.talk_fault.TalkFault.{TalkFault}
@@ -20,6 +20,7 @@ use Rattle.dialogue.specs.declared.talk_fault.TalkFault.TheVariants.{ReadFailed,
 abbrev pub answer_line : LineAnswer → List ℕ
 answer_line (the_answer.Reply r) = reply_line (answer_of r)
 answer_line (the_answer.Said message) = said_line (Ok message)
+answer_line (the_answer.Told message) = told_line (Ok message.items)
 answer_line the_answer.OutOfMemory = codes "refused OutOfMemory"
 answer_line the_answer.BadLine = not_understood
 

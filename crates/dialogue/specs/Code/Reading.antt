@@ -10,7 +10,7 @@ use Rattle.grid.specs.Source.{source_reader}
 use Rattle.grid.specs.Text.{IsLine, ended}
 use Rattle.dialogue.specs.Requests as requests
 use Rattle.dialogue.specs.declared.request.Request.{Request}
-use Rattle.dialogue.specs.declared.request.Request.TheVariants.{Start, Finish, Say, Held, Hear}
+use Rattle.dialogue.specs.declared.request.Request.TheVariants.{Start, Finish, Say, Tell, Held, Hear}
 use Rattle.dialogue.specs.declared.input_lines.NextLine.{NextLine}
 use Rattle.dialogue.specs.declared.input_lines.NextLine.TheVariants.{Line, LastLine, End, Failed}
 
@@ -19,6 +19,7 @@ abbrev pub request_in : List ℕ → Request → requests.Request
 request_in room Start = requests.start
 request_in room Finish = requests.finish
 request_in room Say = requests.say
+request_in room Tell = requests.tell
 request_in room Held = requests.held
 request_in room (Hear count) = requests.hear (take count room)
 

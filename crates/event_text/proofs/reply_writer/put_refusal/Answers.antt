@@ -41,13 +41,35 @@ returns-in-Waits-clause-err g c =
     ∙ ap (λ w. refusal_name c.args.why ++ spaced_numbers (refusal_numbers w)) (sym c.in-Waits.is))) in
     Breaks-last g.W.Write.contents _ _ _ _ rest _ c.put_numbers.result less given c.put_numbers.ensures.err
 
+pub returns-in-BadEntry-clause-ok : goal.returns-in-BadEntry-clause-ok
+returns-in-BadEntry-clause-ok g c =
+    let rest = refusal_name c.args.why ++ spaced_numbers (refusal_numbers c.args.why) in
+    let all = Leaves-all g.W.Write.contents _ (codes "refused " ++ rest) (codes "refused " ++ rest) refl in
+    let less = Leaves-less g.W.Write.contents _ _ _ _ (codes "refused ") rest _ all refl c.in_ok-put.ensures.ok in
+    let name = c.as_bytes-name.ensures.value ∙ c.refusal_name.ensures in
+    let given = ap (λ n. n ++ spaced_numbers (c.from-in-BadEntry.result ∷ [])) name
+    ∙ (ap (λ n. refusal_name c.args.why ++ spaced_numbers (n ∷ [])) c.from-in-BadEntry.ensures
+    ∙ ap (λ w. refusal_name c.args.why ++ spaced_numbers (refusal_numbers w)) (sym c.in-BadEntry.is)) in
+    Puts-last g.W.Write.contents _ _ _ _ rest _ c.put_numbers-in-BadEntry.result less given c.put_numbers-in-BadEntry.ensures.ok
+
+pub returns-in-BadEntry-clause-err : goal.returns-in-BadEntry-clause-err
+returns-in-BadEntry-clause-err g c =
+    let rest = refusal_name c.args.why ++ spaced_numbers (refusal_numbers c.args.why) in
+    let all = Leaves-all g.W.Write.contents _ (codes "refused " ++ rest) (codes "refused " ++ rest) refl in
+    let less = Leaves-less g.W.Write.contents _ _ _ _ (codes "refused ") rest _ all refl c.in_ok-put.ensures.ok in
+    let name = c.as_bytes-name.ensures.value ∙ c.refusal_name.ensures in
+    let given = ap (λ n. n ++ spaced_numbers (c.from-in-BadEntry.result ∷ [])) name
+    ∙ (ap (λ n. refusal_name c.args.why ++ spaced_numbers (n ∷ [])) c.from-in-BadEntry.ensures
+    ∙ ap (λ w. refusal_name c.args.why ++ spaced_numbers (refusal_numbers w)) (sym c.in-BadEntry.is)) in
+    Breaks-last g.W.Write.contents _ _ _ _ rest _ c.put_numbers-in-BadEntry.result less given c.put_numbers-in-BadEntry.ensures.err
+
 pub returns-in_default : goal.returns-in_default
 returns-in_default g c =
     let rest = refusal_name c.args.why ++ spaced_numbers (refusal_numbers c.args.why) in
     let all = Leaves-all g.W.Write.contents _ (codes "refused " ++ rest) (codes "refused " ++ rest) refl in
     let less = Leaves-less g.W.Write.contents _ _ _ _ (codes "refused ") rest _ all refl c.in_ok-put.ensures.ok in
     let name = c.as_bytes-name.ensures.value ∙ c.refusal_name.ensures in
-    let none = ap (λ ns. refusal_name c.args.why ++ spaced_numbers ns) (numbers-none c.args.why c.in_default.not-Waits) in
+    let none = ap (λ ns. refusal_name c.args.why ++ spaced_numbers ns) (numbers-none c.args.why c.in_default.not-Waits c.in_default.not-BadEntry) in
     let given = name ∙ sym (none ∙ append-nil (refusal_name c.args.why)) in
     record {
       ok = Puts-last g.W.Write.contents _ _ _ _ rest _ c.put-in_default.result less given c.put-in_default.ensures.ok;

@@ -21,4 +21,4 @@ pub returns-clause-in_step : goal.returns-clause-in_step
 returns-clause-in_step c = in_step
 
 pub returns-clause-still : goal.returns-clause-still
-returns-clause-still c = λ tab h i run rests. let bounds = in_step tab h i run in level h i bounds.0 bounds.1 rests
+returns-clause-still c = λ v tab h i run rests. let bounds = in_step v tab h i run in level h i bounds.0 bounds.1 rests

@@ -3,6 +3,7 @@ use Rattle.std.proofs.Common.{◌≡◌, ℕ, ◌+◌, [], ◌∷◌, ◌++◌, 
 use Rattle.std.specs.Prelude.{Option, MatchOption}
 use Rattle.std.proofs.lemmas.Bool.{eqb-true, cond_both}
 use Rattle.grid.specs.declared.cell.Cell.{Cell}
+use Rattle.model.specs.declared.version.Version.{Version}
 use Rattle.model.specs.declared.held.Held.TheVariants.{At, Between}
 use Rattle.model.specs.Timetable.{Track, Timetable, track_of, IsConflictFree}
 use Rattle.model.specs.History.{History, kept_starts, done, is_moving}
@@ -15,14 +16,14 @@ use Rattle.model.proofs.RunLemmas.{Progress, progress}
 use Rattle.model.proofs.WalkedLemmas.{walk-beginning}
 use Rattle.model.proofs.laws.every_run_is_safe.Goals as goal
 
-earlier_run : (tab : Timetable) (later earlier : History) → IsRun tab (later ++ earlier) → IsRun tab earlier
-earlier_run tab [] earlier run = run
-earlier_run tab (now ∷ later) earlier run = earlier_run tab later earlier run.1
+earlier_run : (v : Version) (tab : Timetable) (later earlier : History) → IsRun v tab (later ++ earlier) → IsRun v tab earlier
+earlier_run v tab [] earlier run = run
+earlier_run v tab (now ∷ later) earlier run = earlier_run v tab later earlier run.1
 
-kept : (tab : Timetable) (h : History) → IsRun tab h → IsKept tab (kept_starts h) (done h)
-kept tab h run = record {
-  order = λ i track there. (progress tab h i track there run).low;
-  met = λ i track k there less. (progress tab h i track there run).met k less;
+kept : (v : Version) (tab : Timetable) (h : History) → IsRun v tab h → IsKept tab (kept_starts h) (done h)
+kept v tab h run = record {
+  order = λ i track there. (progress v tab h i track there run).low;
+  met = λ i track k there less. (progress v tab h i track there run).met k less;
 }
 
 -- what it holds are cells of its path that it has begun and not left
@@ -43,13 +44,13 @@ held_inside tab h i track c there went =
     ])
     (λ still inside. (track, k, there, omega (arith, low, limit, count), inside, omega arith, low))
 
-inside : (tab : Timetable) (h : History) → IsRun tab h → (i : ℕ) (c : Cell) → Holds tab h i c → IsInside tab (kept_starts h) (done h) i c
-inside tab h run i c holds =
+inside : (v : Version) (tab : Timetable) (h : History) → IsRun v tab h → (i : ℕ) (c : Cell) → Holds tab h i c → IsInside tab (kept_starts h) (done h) i c
+inside v tab h run i c holds =
     let known = found (track_of tab i) _ holds in
-    held_inside tab h i known.0 c known.1 (progress tab h i known.0 known.1 run) known.2
+    held_inside tab h i known.0 c known.1 (progress v tab h i known.0 known.1 run) known.2
 
-apart : (tab : Timetable) (h : History) → IsConflictFree tab → IsRun tab h → (i j : ℕ) (c : Cell) → Holds tab h i c → Holds tab h j c → i ≡ j
-apart tab h free run i j c p q = inside-apart tab (kept_starts h) (done h) free (kept tab h run) i j c (inside tab h run i c p) (inside tab h run j c q)
+apart : (v : Version) (tab : Timetable) (h : History) → IsConflictFree tab → IsRun v tab h → (i j : ℕ) (c : Cell) → Holds tab h i c → Holds tab h j c → i ≡ j
+apart v tab h free run i j c p q = inside-apart tab (kept_starts h) (done h) free (kept v tab h run) i j c (inside v tab h run i c p) (inside v tab h run j c q)
 
 holds_first : (o : Option Track) (h : History) (i : ℕ) (u v : Cell)
     → MatchOption o ⊥ (λ track. held track h i ≡ Between u v) → MatchOption o ⊥ (λ track. IsIn u (held track h i))
@@ -62,11 +63,11 @@ holds_second None h i u v b = b
 holds_second (Some track) h i u v b = subst (IsIn v) (sym b) (inr refl)
 
 pub returns : goal.returns
-returns c = λ tab later earlier free whole.
-    let run = earlier_run tab later earlier whole in
+returns c = λ version tab later earlier free whole.
+    let run = earlier_run version tab later earlier whole in
     record {
-      apart = apart tab earlier free run;
+      apart = apart version tab earlier free run;
       no_exchange = λ i j u v p q.
-          apart tab earlier free run i j u (holds_first (track_of tab i) earlier i u v p) (holds_second (track_of tab j) earlier j v u q);
-      walks = λ i track there. walk-beginning tab earlier i track there run;
+          apart version tab earlier free run i j u (holds_first (track_of tab i) earlier i u v p) (holds_second (track_of tab j) earlier j v u q);
+      walks = λ i track there. walk-beginning version tab earlier i track there run;
     }

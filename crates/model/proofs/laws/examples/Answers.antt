@@ -412,7 +412,7 @@ pub returns-clause-dependencies : goal.returns-clause-dependencies
 returns-clause-dependencies c = (refl, refl, refl, refl, refl, refl, refl, refl, refl, refl, refl)
 
 pub returns-clause-runs : goal.returns-clause-runs
-returns-clause-runs c = (refl, refl, refl, refl, refl, refl, refl, refl, refl, refl, refl, refl)
+returns-clause-runs c = (refl, refl, refl, refl, refl, refl, refl, refl, refl, refl, refl, refl, refl, refl, refl)
 
 both_rest : (k : ℕ) (other : Track) → k < 2 → EndsAtRest (get_or row.tracks k other)
 both_rest zero other less = refl
@@ -474,10 +474,21 @@ returns-clause-last_stands c = (
 )
 
 pub returns-clause-messages : goal.returns-clause-messages
-returns-clause-messages c = (refl, refl, refl, refl, record { spelled = refl })
+returns-clause-messages c = (
+  refl,
+  refl,
+  refl,
+  refl,
+  record { spelled = refl },
+  refl,
+  refl,
+  record { spelled = refl; rising = (omega arith, omega arith, (omega arith, omega arith, tt)) },
+  λ rising. (let past = rising.2.0 in omega (arith, past)),
+  λ rising. (let above = rising.1 in omega (arith, above)),
+)
 
 pub returns-clause-histories : goal.returns-clause-histories
-returns-clause-histories c = (refl, refl, refl, refl, refl, refl, refl, refl, refl, refl, refl, refl, refl, refl, refl)
+returns-clause-histories c = (refl, refl, refl, refl, refl, refl, refl, refl, refl, refl, refl, refl, refl, refl, refl, refl, refl, refl)
 
 head_cell : List Cell → Cell
 head_cell [] = cell 0 0
@@ -500,5 +511,5 @@ returns-clause-safety c = (
   refl,
   inr refl,
   λ safe. (let same = safe.apart 0 1 (cell 1 0) refl (inr refl) in omega (arith, same)),
-  λ run. cc,
+  λ version run. cc,
 )

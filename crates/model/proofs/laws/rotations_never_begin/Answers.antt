@@ -4,6 +4,7 @@ use Rattle.std.specs.Prelude.{Option, slice_get, nat_lt}
 use Rattle.std.proofs.lemmas.Bool.{cases_lt, cond-true, cond-false, lt-ltb, ltb-true, ne_eqb, cond_both}
 use Rattle.std.proofs.lemmas.Option.{same_Some, slice_get-get_or, slice_get_within}
 use Rattle.grid.specs.declared.cell.Cell.{Cell}
+use Rattle.model.specs.declared.version.Version.{Version}
 use Rattle.model.specs.Timetable.{Track, Timetable, cell_at, moves_before, step_of, track_of, Stands, IsConflictFree}
 use Rattle.model.specs.Dependency.{Stand, Need, need_by, need, last_stand, moves_in, MovesInto, following, IsRotation}
 use Rattle.model.specs.History.{History, kept_starts, done, known}
@@ -69,14 +70,14 @@ after agents place within three =
           )
     ]
 
-never : (tab : Timetable) (step : ℕ) (agents : List ℕ) → IsConflictFree tab → IsRotation tab step agents → (h : History) → IsRun tab h
+never : (v : Version) (tab : Timetable) (step : ℕ) (agents : List ℕ) → IsConflictFree tab → IsRotation tab step agents → (h : History) → IsRun v tab h
     → (place i : ℕ) (track : Track) → slice_get agents place ≡ Some i → track_of tab i ≡ Some track → kept_starts h i ≤ moves_before track step
-never tab step agents free turns [] run place i track member there = omega arith
-never tab step agents free turns (now ∷ h) run place i track member there =
-    let so_far = never tab step agents free turns h run.1 in
-    let was = progress tab h i track there run.1 in
+never v tab step agents free turns [] run place i track member there = omega arith
+never v tab step agents free turns (now ∷ h) run place i track member there =
+    let so_far = never v tab step agents free turns h run.1 in
+    let was = progress v tab h i track there run.1 in
     let most = so_far place i track member there in
-    elim (begun_now tab h i track there was now.event now.answer run.0) [
+    elim (begun_now v tab h i track there was now.event now.answer run.0) [
       | inl none ↦ omega (arith, none, most)
       | inr begun ↦
           let even = level h i was.low was.high begun.2 in
@@ -97,14 +98,14 @@ never tab step agents free turns (now ∷ h) run place i track member there =
                 let apart : i ≡ j → ⊥ = λ e. next.4 (turns.different next.0 place i (next.3 ∙ ap {A = ℕ} {B = Option ℕ} (λ n. Some n) (sym e)) member) in
                 let number : done h i ≡ moves_before track step = omega (arith, most, past, even) in
                 let met = subst (λ n. IsMet (done h) (need tab i track n)) number
-                (is_met-rise (known h i) (done h) (need tab i track (done h i)) (known-done h i) begun.4) in
+                (is_met-rise (known v tab h i) (done h) (need tab i track (done h i)) (known-done v tab h i) begun.4) in
                 let from_met = subst (λ k. IsMet (done h) (need tab i k (moves_before k step))) (sym mine) met in
                 let finished = need_of tab step i j (done h) free into leaves apart from_met in
                 let its_most = so_far next.0 j into.to next.3 into.is_to in
-                let low = (progress tab h j into.to into.is_to run.1).low in
+                let low = (progress v tab h j into.to into.is_to run.1).low in
                 omega (arith, finished, its_most, low))
           ]
     ]
 
 pub returns : goal.returns
-returns c = λ tab step agents h place i track free turns run member there. never tab step agents free turns h run place i track member there
+returns c = λ v tab step agents h place i track free turns run member there. never v tab step agents free turns h run place i track member there

@@ -1,10 +1,10 @@
 -- What was put is handed on, and so written.
-use Rattle.std.proofs.Common.{◌++◌, [], true, false, sym, subst, append-nil}
+use Rattle.std.proofs.Common.{[], true, false, sym, subst, append-nil}
 use Rattle.std.proofs.lemmas.Result.{err_from_is_err_and}
 use Rattle.grid.specs.Sink.{Puts, Breaks}
 use Rattle.grid.specs.Source.{source_reader}
-use Rattle.grid.proofs.SinkLemmas.{Puts-trans, Breaks-after}
-use Rattle.replay.proofs.ReplyLemmas.{Wrote, handed_on, left_off, not_handed_on, put_broken, put_whole}
+use Rattle.grid.proofs.SinkLemmas.{Breaks-after}
+use Rattle.replay.proofs.ReplyLemmas.{Wrote, left_off, not_handed_on, put_broken}
 use Rattle.replay.proofs.replaying.answer_all.Goals as goal
 
 pub returns-in_err-hand_on-clause-answers : goal.returns-in_err-hand_on-clause-answers

@@ -19,14 +19,20 @@ overflow_mul-number g c =
 
 pub invariant_of-self : goal.invariant_of-self
 invariant_of-self g c =
-    let own = c.self.invariant in
+    let own = c.self.invariant.own in
     let number = c.records-number.ensures.records ∙ sym (ap (λ a. whole_records (g.T.Tape.state a.tape)) c.self.view_is) in
     let less = subst (λ a. whole_records (g.T.Tape.state a.tape) < 2 * moves own.track) (sym c.self.view_is) (c.requires own.track (subst (λ a. track_of a.timetable a.id ≡ Some own.track) c.self.view_is own.is_track)) in
-    own-written g.T.Tape.state g.T.Tape.may_write g.met.T.Tape.writes _ _ _ _ own own.track own.is_track less _ _ _ _ c.number.ensures.number number c.due_record-record.ensures c.write_at.ensures
+    record {
+      own = own-written g.T.Tape.state g.T.Tape.may_write g.met.T.Tape.writes _ _ _ _ own own.track own.is_track less _ _ _ _ c.number.ensures.number number c.due_record-record.ensures c.write_at.ensures;
+      within = c.self.invariant.within;
+    }
 
 pub invariant_of-self-else-is_err : goal.invariant_of-self-else-is_err
 invariant_of-self-else-is_err g c =
-    let own = c.self.invariant in
+    let own = c.self.invariant.own in
     let number = c.records-number.ensures.records ∙ sym (ap (λ a. whole_records (g.T.Tape.state a.tape)) c.self.view_is) in
     let less = subst (λ a. whole_records (g.T.Tape.state a.tape) < 2 * moves own.track) (sym c.self.view_is) (c.requires own.track (subst (λ a. track_of a.timetable a.id ≡ Some own.track) c.self.view_is own.is_track)) in
-    own-written g.T.Tape.state g.T.Tape.may_write g.met.T.Tape.writes _ _ _ _ own own.track own.is_track less _ _ _ _ c.number.ensures.number number c.due_record-record.ensures c.write_at.ensures
+    record {
+      own = own-written g.T.Tape.state g.T.Tape.may_write g.met.T.Tape.writes _ _ _ _ own own.track own.is_track less _ _ _ _ c.number.ensures.number number c.due_record-record.ensures c.write_at.ensures;
+      within = c.self.invariant.within;
+    }
