@@ -9,6 +9,7 @@ from texts import (
     CORNER_WRITTEN,
     LANE,
     NOBODY,
+    RELAY,
     ROW,
     ROW_WRITTEN,
     SHORT,
@@ -296,6 +297,32 @@ RUNS = [
     ),
 ]
 
+# The same where agents tell all that they know.
+TOLD = "said 0 46020000000000070001000000000001"
+TELLING_RUNS = [
+    (LANE, BEHIND, [*ASKING, "say 0", "deliver 1 0", "start 1"], [*ASKED, TOLD, "heard 0 1", "moving 1 0"]),
+    # A restarted agent tells of itself alone.
+    (
+        LANE,
+        BEHIND,
+        ["start 0", "finish 0", "say 0", "deliver 1 0", "start 1", "finish 1", "say 1", "restart 1", "say 1"],
+        [
+            *("moving 2 0", "arrived 2 0", TOLD, "heard 0 1", "moving 1 0", "arrived 1 0"),
+            *("said 1 46020001000000070002000000000001000100000001", "at 1 0 done 1", "said 2 46020001000000070001000100000001"),
+        ],
+    ),
+    # The third agent hears of the first by the second, and not by a message of the first's own.
+    (
+        SQUARE,
+        RELAY,
+        ["start 0", "finish 0", "say 0", "deliver 1 0", "say 1", "deliver 2 1", "start 2"],
+        ["moving 1 1", "arrived 1 1", TOLD, "heard 0 1", "said 1 46020001000000070001000000000001", "heard 1 0", "moving 1 0"],
+    ),
+    # Nobody has finished anything.
+    (LANE, BEHIND, ["say 0", "deliver 1 0"], ["said 0 46020000000000070000", "heard 0 0"]),
+    (LANE, NOBODY, ["say 0"], ["refused NoSuchAgent"]),
+]
+
 # Texts of events of the plan BEHIND that have a fault: the text, the replies before it, and the fault.
 EVENT_FAULTS = [
     (events("start 0", "jump"), "moving 2 0\n", "BadEvent 3"),
@@ -307,7 +334,8 @@ EVENT_FAULTS = [
     (events("start 4294967296"), "", "BadEvent 2"),
     (events("deliver 0 18446744073709551616"), "", "BadEvent 2"),
     (events("start 0".ljust(64, "0")), "", "BadEvent 2"),
-    ("mapf-events 2\nstart 0\n", "", "NoHeader"),
+    (events("start 0", "jump", version=2), "moving 2 0\n", "BadEvent 3"),
+    ("mapf-events 3\nstart 0\n", "", "NoHeader"),
     ("start 0\n", "", "NoHeader"),
     ("mapf-events 1", "", "NoHeader"),
     ("", "", "NoHeader"),
@@ -359,6 +387,7 @@ TURNS = [
     ("finish", "arrived 2 0", 20),
     ("say", "said 460100000000000700000001", 20),
     ("held", "at 2 0 done 1", 20),
+    ("tell", "said 46020000000000070001000000000001", 20),
     ("start", "refused AtEnd", 20),
     ("hear 4601", "refused BadLength", 20),
     ("hear 4", "refused BadLine", 20),
@@ -389,12 +418,27 @@ BEHIND_TURNS = [
     ("start", "refused AlreadyMoving"),
     ("finish", "arrived 1 0"),
     ("say", "said 460100010000000700000001"),
+    ("tell", "said 46020001000000070002000000000001000100000001"),
+]
+
+# The same where agent 0 tells all that it knows; what agent 1 hears of itself it does not tell.
+TOLD_TURNS = [
+    ("tell", "said 46020001000000070000"),
+    ("hear 46020000000000070000", "heard 0 0"),
+    ("start", "refused Waits 0 1"),
+    ("hear 46020000000000070001000100000001", "heard 0 0"),
+    ("tell", "said 46020001000000070000"),
+    ("hear 46020001000000070001000000000001", "heard 1 1"),
+    ("tell", "said 46020001000000070001000000000001"),
+    ("start", "moving 1 0"),
+    ("finish", "arrived 1 0"),
+    ("tell", "said 46020001000000070002000000000001000100000001"),
 ]
 
 # Lines that are not understood.
 NO_REQUESTS = [
     *(b"", b" ", b"\0", b"\xff", b"s", b"star", b"starts", b"Start", b"START", b" start", b"start ", b"start\r", b"start\0", b"start 0"),
-    *(b"finish\t", b"say 0", b"held\r", b"known 0", b"restart", b"hear", b"hear\t4601", b"hear  4601", b"hear 4601 ", b"hear 4601\r"),
+    *(b"tell ", b"tell 0", b"tells", b"Tell", b"finish\t", b"say 0", b"held\r", b"known 0", b"restart", b"hear", b"hear\t4601", b"hear  4601", b"hear 4601 ", b"hear 4601\r"),
     *(b"hear 46 01", b"hear 0x4601", b"hear 4", b"hear 460", b"hear 4601000000000007000000zz", b"Hear 4601"),
 ]
 
@@ -406,11 +450,21 @@ BAD_MESSAGES = [
     ("4601", "BadLength"),
     ("4701", "BadMagic"),
     ("4702", "BadMagic"),
-    ("4602", "BadVersion"),
+    ("4602", "BadLength"),
+    ("4603", "BadVersion"),
     ("4600", "BadVersion"),
     ("4601000000000007000000", "BadLength"),
     ("46010000000000070000000000", "BadLength"),
-    ("4602000000000007000000", "BadVersion"),
+    ("460200000000000700", "BadLength"),
+    ("4602000000000007000000", "BadLength"),
+    ("460200000000000700000001", "BadLength"),
+    ("46020000000000070001000000000000", "BadEntry 0"),
+    ("46020000000000070002000100000001000000000001", "BadEntry 1"),
+    ("46020000000000070002000000000001000000000001", "BadEntry 1"),
+    ("46020000000000080001000200000009", "WrongPlan"),
+    ("46020002000000070001000000000009", "NoSuchAgent"),
+    ("46020000000000070002000000000009000200000001", "NoSuchAgent"),
+    ("46020000000000070002000000000001000100000002", "TooMany"),
     ("460100000000000800000002", "WrongPlan"),
     ("460100020000000700000002", "NoSuchAgent"),
     ("46010000000000070000000A", "TooMany"),
@@ -490,6 +544,9 @@ def of_graphs_and_runs(harness: Harness) -> Iterator[Outcome]:
     for map_text, text, lines, replies in RUNS:
         files = {"M": map_text, "P": text, "E": events(*lines)}
         yield asked(harness, "run M P E", files, answer(0, "".join(f"{reply}\n" for reply in replies)))
+    for map_text, text, lines, replies in TELLING_RUNS:
+        files = {"M": map_text, "P": text, "E": events(*lines, version=2)}
+        yield asked(harness, "run M P E", files, answer(0, "".join(f"{reply}\n" for reply in replies)))
     for text, replies, fault in EVENT_FAULTS:
         due = Ended(1, replies.encode(), f"mapf: {fault}\n".encode())
         yield asked(harness, "run M P E", {"M": LANE, "P": BEHIND, "E": text}, due)
@@ -551,9 +608,10 @@ def line_after_line(harness: Harness) -> Iterator[Outcome]:
 def lines_of_agents(harness: Harness) -> Iterator[Outcome]:
     """Lines that are no request, messages that are refused, last lines and long ones: none changes the tape."""
     at = "at 1 0 done 0"
-    given, answers = zip(*BEHIND_TURNS)
     stored = OTHER_AGENT + ARRIVED_AS_OTHER
-    yield talked(harness, 1, b"", lines(*given), Ended(0, lines("at 0 0 done 0", *answers), b""), stored)
+    for turns in (BEHIND_TURNS, TOLD_TURNS):
+        given, answers = zip(*turns)
+        yield talked(harness, 1, b"", lines(*given), Ended(0, lines("at 0 0 done 0", *answers), b""), stored)
     for line in NO_REQUESTS:
         yield talked(harness, 0, b"", line + b"\nheld\n", Ended(0, lines(at, "refused BadLine", at), b""), b"")
     for digits, name in BAD_MESSAGES:

@@ -9,17 +9,18 @@ SHORT, LONG = range(1, 5), range(1, 21)
 RATES = ((0.2, 0.02), (0.5, 0.1))
 
 
-def drive(harness: Harness, seed: int, loss: float, kills: float) -> Outcome:
-    words = ["--seed", str(seed), "--loss", str(loss), "--kills", str(kills), "--quiet", "--program", str(harness.program)]
+def drive(harness: Harness, seed: int, loss: float, kills: float, more: list[str]) -> Outcome:
+    words = [*more, "--seed", str(seed), "--loss", str(loss), "--kills", str(kills), "--quiet", "--program", str(harness.program)]
     command = [sys.executable, str(ROOT / "examples" / "fleet" / "fleet.py"), *words]
     ended = harness.run(command)
     arrived = ended.status == 0 and ended.out.startswith(f"seed {seed}: 12 robots arrived".encode())
     wrote = (ended.status, ended.out[-2000:], ended.err[-2000:])
     due = wrote if arrived else f"status 0, and a line that all 12 robots of seed {seed} arrived"
-    return compared(f"seed {seed}, {loss} lost, {kills} killed", shown(command), wrote, due)
+    return compared(" ".join([f"seed {seed}, {loss} lost, {kills} killed", *more]), shown(command), wrote, due)
 
 
 def outcomes(harness: Harness) -> Iterator[Outcome]:
     for seed in LONG if harness.is_long else SHORT:
         for loss, kills in RATES:
-            yield drive(harness, seed, loss, kills)
+            for more in ([], ["--tell"]):
+                yield drive(harness, seed, loss, kills, more)

@@ -209,13 +209,20 @@ EVENT_TEXTS = [
     ("mapf-events 1", "NoHeader"),
     ("mapf-events 1\r\n", "NoHeader"),
     ("mapf-events 1 \n", "NoHeader"),
-    ("mapf-events 2\nsay 0\n", "NoHeader"),
+    ("mapf-events 2", "NoHeader"),
+    ("mapf-events 2\r\n", "NoHeader"),
+    ("mapf-events 02\n", "NoHeader"),
+    ("mapf-events 3\nsay 0\n", "NoHeader"),
+    ("mapf-events 12\nsay 0\n", "NoHeader"),
     ("say 0\n", "NoHeader"),
     ("\nmapf-events 1\n", "NoHeader"),
     ("mapf-events 1\n", ""),
     ("mapf-events 1\nsay 0\nx\n", "BadEvent 3"),
     ("mapf-events 1\nsay 0\nx", "Unfinished 3"),
     ("mapf-events 1\nx\nsay 0", "BadEvent 2"),
+    ("mapf-events 2\n", ""),
+    ("mapf-events 2\nsay 0\nx\n", "BadEvent 3"),
+    ("mapf-events 2\nmapf-events 2\n", "BadEvent 2"),
 ]
 
 # Second lines of a text of events, each an event or a fault.

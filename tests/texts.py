@@ -26,6 +26,8 @@ VERTEX = plan("0 0 =", "2 0 ww")
 BACK = plan("1 0 ew", "0 0 =")
 # Four that turn round in a circle.
 TURN = plan("0 0 e", "1 0 s", "1 1 w", "0 1 n", number=14)
+# One that leaves its cell, one that stays, and one that comes into the first one's cell.
+RELAY = plan("1 0 s", "0 1 =", "0 0 e")
 NOBODY = plan()
 
 
@@ -41,5 +43,5 @@ ROW = "version 1.0\r\n0 m.map 3 2 0 1 1 0 2.00000000\r\n"
 ROW_WRITTEN = "version 1\n0\tm.map\t3\t2\t0\t1\t1\t0\t2.00000000\n"
 
 
-def events(*lines: str) -> str:
-    return "".join(f"{line}\n" for line in ("mapf-events 1", *lines))
+def events(*lines: str, version: int = 1) -> str:
+    return "".join(f"{line}\n" for line in (f"mapf-events {version}", *lines))

@@ -1,12 +1,13 @@
 #!/usr/bin/env python3
 """Drives a fleet: one process `mapf agent` for each agent of a plan.
 
-Usage: fleet.py [--agents N] [--seed N] [--loss RATE] [--kills RATE] [--quiet] [--program PATH] [--plan FILE --map FILE]
+Usage: fleet.py [--agents N] [--seed N] [--loss RATE] [--kills RATE] [--tell] [--quiet] [--program PATH] [--plan FILE --map FILE]
 
-Each robot asks its own process when it may go on, and tells the others what it has finished. The link between them loses messages,
-repeats them and lets them overtake one another; drives take their time; and at any moment a process may be killed (`kill -9`) and
-started again on its tape. What the robots hold is watched from outside: the run ends with status 1 as soon as two of them hold a
-common cell, and with status 0 once all have arrived and each tape, opened once more, says so. The same seed gives the same run, but for what a kill interrupts.
+Each robot asks its own process when it may go on, and says to the others what it has finished, or with `--tell` all that it knows of
+anyone. The link between them loses messages, repeats them and lets them overtake one another; drives take their time; and at any moment
+a process may be killed (`kill -9`) and started again on its tape. What the robots hold is watched from outside: the run ends with status 1
+as soon as two of them hold a common cell, and with status 0 once all have arrived and each tape, opened once more, says so. The same seed
+gives the same run, but for what a kill interrupts.
 """
 import argparse
 import pathlib
@@ -189,7 +190,7 @@ def run(given, folder):
                 if number not in arrived and robot.go_on():
                     arrived.add(number)
                 if (step + number) % SAY_EACH == 0:
-                    message = robot.ask("say")[1]
+                    message = robot.ask("tell" if given.tell else "say")[1]
                     for other in range(len(robots)):
                         if other != number:
                             link.send(step, other, message)
@@ -217,6 +218,7 @@ def main():
     parser.add_argument("--seed", type=int, default=1, help="the seed of all chances (1)")
     parser.add_argument("--loss", type=float, default=0.2, help="how many messages are lost, and how many come twice (0.2)")
     parser.add_argument("--kills", type=float, default=0.02, help="how many questions end in a kill of the process (0.02)")
+    parser.add_argument("--tell", action="store_true", help="each message has all that its sender knows, and not only what it has finished itself")
     parser.add_argument("--quiet", action="store_true", help="shows no map, only how it ended")
     parser.add_argument("--program", default=str(HERE.parent.parent / "mapf"), help="the program `mapf`")
     parser.add_argument("--map", type=pathlib.Path, default=HERE / "warehouse.map")
