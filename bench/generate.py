@@ -278,9 +278,9 @@ def event_lines(text, seed, mishaps):
             done[agent] += 1
 
 
-def events_text(text, seed, count, mishaps=0.0):
-    """The text of the first so many of these events."""
-    return "\n".join(["mapf-events 1", *itertools.islice(event_lines(text, seed, mishaps), count), ""])
+def events_text(text, seed, count, mishaps=0.0, version=1):
+    """The text of the first so many of these events, which agents answer with messages of this version."""
+    return "\n".join([f"mapf-events {version}", *itertools.islice(event_lines(text, seed, mishaps), count), ""])
 
 
 def main():

@@ -128,13 +128,13 @@ def measure_deps(programs, kind, side, agents, acts, folder, rounds):
     report(f"deps {kind} {acts}", measured, [whole_peak_memory(program, words) for program in programs])
 
 
-def measure_run(programs, name, events, mishaps, folder, rounds):
+def measure_run(programs, name, events, mishaps, folder, rounds, version=1):
     """Measures programs that answer events which bring a dense plan of 1,000 agents to its end, or so many of them."""
     map_path, plan_path, events_path = (folder / f"{name}.{kind}" for kind in ("map", "plan", "events"))
     plan = generate.plan_text("crowd", 48, 48, 1, 1_000, 400)
     map_path.write_text(generate.map_text("open", 48, 48, 1))
     plan_path.write_text(plan)
-    events_path.write_text(generate.events_text(plan, 1, events, mishaps))
+    events_path.write_text(generate.events_text(plan, 1, events, mishaps, version))
     words = ["run", str(map_path), str(plan_path), str(events_path)]
     measured, written = measure(programs, words, folder, rounds)
     if written[0] != written[1]:
@@ -180,6 +180,7 @@ def main():
             for events in (100_000, 1_000_000):
                 measure_run(programs, "plain", events, 0.0, folder, given.rounds)
             measure_run(programs, "mishaps", 100_000, 0.2, folder, given.rounds)
+            measure_run(programs, "telling", 100_000, 0.0, folder, given.rounds, version=2)
 
 
 if __name__ == "__main__":

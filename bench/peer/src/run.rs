@@ -47,6 +47,38 @@ impl Agent {
         }
     }
 
+    /// Raises what was heard by entries in order of agents, all at once where one of them is new.
+    fn hear_all(&mut self, entries: &[(u16, u32)]) {
+        let mut at = 0;
+        let mut all_known = true;
+        for &(agent, done) in entries {
+            at += self.heard[at..].iter().take_while(|&&(other, _)| other < agent).count();
+            match self.heard.get_mut(at) {
+                Some((other, known)) if *other == agent => *known = done.max(*known),
+                _ => all_known = false,
+            }
+        }
+        if all_known {
+            return;
+        }
+        let mut merged = Vec::with_capacity(self.heard.len() + entries.len());
+        let mut rest = self.heard.as_slice();
+        for &(agent, done) in entries {
+            let lesser = rest.iter().take_while(|&&(other, _)| other < agent).count();
+            merged.extend_from_slice(&rest[..lesser]);
+            rest = &rest[lesser..];
+            match rest.first() {
+                Some(&(other, known)) if other == agent => {
+                    merged.push((agent, known));
+                    rest = &rest[1..];
+                }
+                _ => merged.push((agent, done)),
+            }
+        }
+        merged.extend_from_slice(rest);
+        self.heard = merged;
+    }
+
     /// Writes the next record; false where that fails.
     fn store(&mut self) -> bool {
         match self.armed.take() {
@@ -63,13 +95,24 @@ impl Agent {
     }
 }
 
+/// A message: its sender, and what that one had finished, or where its entries begin and how many there are.
+struct Message {
+    sender: u16,
+    count: u32,
+    first: usize,
+}
+
 struct Runner<'g> {
     graph: &'g Graph,
     number: u32,
     width: u32,
     agents: Vec<Agent>,
+    /// Whether messages have all that their sender knows (version 2).
+    tells: bool,
     /// Who said what.
-    messages: Vec<(u16, u32)>,
+    messages: Vec<Message>,
+    /// What was told, one message's entries behind the other's.
+    entries: Vec<(u16, u32)>,
     out: Output,
 }
 
@@ -190,25 +233,55 @@ impl Runner<'_> {
         let done = agent.done();
         self.out.put_long(b"said ", self.messages.len() as u64);
         self.out.put(b" ");
+        if self.tells {
+            return self.tell(i, done);
+        }
         let mut bytes = [0x46, 1, 0, 0, 0, 0, 0, 0, 0, 0, 0, 0];
         bytes[2..4].copy_from_slice(&(i as u16).to_be_bytes());
         bytes[4..8].copy_from_slice(&self.number.to_be_bytes());
         bytes[8..].copy_from_slice(&done.to_be_bytes());
-        const DIGITS: &[u8; 16] = b"0123456789abcdef";
-        for b in bytes {
-            self.out.put(&[DIGITS[usize::from(b >> 4)], DIGITS[usize::from(b & 15)]]);
+        put_digits(&mut self.out, &bytes);
+        self.messages.push(Message { sender: i as u16, count: done, first: 0 });
+    }
+
+    fn tell(&mut self, i: usize, done: u32) {
+        let id = i as u16;
+        let heard = &self.agents[i].heard;
+        let own = heard.partition_point(|&(other, _)| other < id);
+        let behind = own + usize::from(heard.get(own).is_some_and(|&(other, _)| other == id));
+        let of_itself = [(id, done)];
+        let first = self.entries.len();
+        let known = heard[..own].iter().chain(&of_itself).chain(&heard[behind..]).filter(|entry| entry.1 > 0);
+        self.entries.extend(known.copied());
+        let entries = &self.entries[first..];
+        let count = entries.len() as u16;
+        let mut head = [0x46, 2, 0, 0, 0, 0, 0, 0, 0, 0];
+        head[2..4].copy_from_slice(&id.to_be_bytes());
+        head[4..8].copy_from_slice(&self.number.to_be_bytes());
+        head[8..].copy_from_slice(&count.to_be_bytes());
+        put_digits(&mut self.out, &head);
+        for &(agent, done) in entries {
+            let mut bytes = [0; 6];
+            bytes[..2].copy_from_slice(&agent.to_be_bytes());
+            bytes[2..].copy_from_slice(&done.to_be_bytes());
+            put_digits(&mut self.out, &bytes);
         }
-        self.messages.push((i as u16, done));
+        self.messages.push(Message { sender: id, count: count.into(), first });
     }
 
     fn deliver(&mut self, i: usize, message: u64) {
-        let Some(&(sender, done)) = usize::try_from(message).ok().and_then(|at| self.messages.get(at)) else {
+        let Some(&Message { sender, count, first }) = usize::try_from(message).ok().and_then(|at| self.messages.get(at)) else {
             return self.refuse("NoSuchMessage");
         };
         if self.agents[i].broken {
             return self.refuse("Broken");
         }
-        let known = self.agents[i].hear(sender, done);
+        let known = if self.tells {
+            self.agents[i].hear_all(&self.entries[first..first + count as usize]);
+            self.agents[i].known(sender)
+        } else {
+            self.agents[i].hear(sender, count)
+        };
         self.out.put_number(b"heard ", sender.into());
         self.out.put_number(b" ", known);
     }
@@ -236,6 +309,13 @@ impl Runner<'_> {
         }
         self.agents[i].armed = Some(stored);
         self.out.put(b"armed");
+    }
+}
+
+fn put_digits(out: &mut Output, bytes: &[u8]) {
+    const DIGITS: &[u8; 16] = b"0123456789abcdef";
+    for b in bytes {
+        out.put(&[DIGITS[usize::from(b >> 4)], DIGITS[usize::from(b & 15)]]);
     }
 }
 
@@ -275,7 +355,9 @@ fn take_line(source: &mut Source<File>, line: &mut Vec<u8>) -> io::Result<Line> 
 fn answer_all(runner: &mut Runner<'_>, events: File) -> Result<(), Fault> {
     let mut source = Source::new(events);
     let mut line = Vec::with_capacity(LONGEST_LINE + 1);
-    if !matches!(take_line(&mut source, &mut line)?, Line::Whole) || line != b"mapf-events 1" {
+    let header = take_line(&mut source, &mut line)?;
+    runner.tells = line == b"mapf-events 2";
+    if !matches!(header, Line::Whole) || !(runner.tells || line == b"mapf-events 1") {
         return fault("NoHeader", &[]);
     }
     for number in 2.. {
@@ -298,7 +380,8 @@ pub fn replay(map: File, plan: File, events: File, output: impl FnOnce() -> io::
     let number = plan.number;
     drop(plan);
     let file = output().map_err(|_| Fault::Device("WriteFailed"))?;
-    let mut runner = Runner { graph: &graph, number, width: width as u32, agents, messages: Vec::new(), out: Output::new(file) };
+    let out = Output::new(file);
+    let mut runner = Runner { graph: &graph, number, width: width as u32, agents, tells: false, messages: Vec::new(), entries: Vec::new(), out };
     let answered = answer_all(&mut runner, events);
     runner.out.hand_on().map_err(|_| Fault::Device("WriteFailed"))?;
     answered
