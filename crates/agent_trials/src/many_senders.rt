@@ -1,6 +1,8 @@
 //! Agents that hear of many others.
 use crate::walks::new_agent;
-use agent::{Agent, Finished, HearFault, MemTape, TellFault, encode};
+use agent::{
+    Agent, Finished, HearFault, MemTape, Message, MsgFault, TellFault, encode, read_message,
+};
 use depgraph::{Graph, OutOfMemory};
 use grid::{Cell, Counted, Map, read_map};
 use plan::{Act, Plan, check};
@@ -112,6 +114,27 @@ fn ten_thousand_entries(rt: HostRuntime) -> Result<(), Fail> {
     let message = telling(rt.alloc(), 9_999, 0..10_000)?;
     let told = hears_and_tells_of_all(&rt, rt.alloc(), &graph, 9_999, &message)?;
     hears_and_tells_of_all(&rt, rt.alloc(), &graph, 0, &told)?;
+    Ok(())
+}
+
+/// As many entries as a message can have are read, and refused as a whole.
+#[test]
+fn most_entries(rt: HostRuntime) -> Result<(), Fail> {
+    let graph = wide_graph(rt.alloc(), 10)?;
+    let mut agent = new_agent(rt.alloc(), &graph, 0, 20)?;
+    let mut message = telling(rt.alloc(), 1, 0..u16::MAX)?;
+    let Message::Two(told) = read_message(&message)? else {
+        return Err("another version was read")?;
+    };
+    assert_eq!(rt; told.count(), 65_535);
+    assert_eq!(rt; told.entry(65_534), Some((65_534, 1)));
+    assert_eq!(rt; agent.hear(&message), Err(HearFault::NoSuchAgent));
+    if let Some(byte) = message.last_mut() {
+        *byte = 0;
+    }
+    let fault = MsgFault::BadEntry(65_534);
+    assert_eq!(rt; agent.hear(&message), Err(HearFault::Message(fault)));
+    assert_eq!(rt; moves_known(&agent), 0);
     Ok(())
 }
 
