@@ -2,7 +2,7 @@
 use Rattle.std.proofs.Common.{◌≡◌, ℕ, zero, suc, ◌+◌, ◌*◌, ◌/◌, ◌-◌, ◌<◌, ◌≤◌, Bool, true, false, List, [], ◌∷◌, length, get_or, take, drop, Some, None, inl, inr, arith, refl, sym, ap, ◌∙◌}
 use Rattle.std.specs.Prelude.{◌==◌, ◌||◌, nat_lt, Option, slice_get}
 use Rattle.std.proofs.lemmas.List.{get_or-drop, get_or-take, drop_more, drop_all}
-use Rattle.std.proofs.lemmas.Option.{get_or_from_slice_get, none-some}
+use Rattle.std.proofs.lemmas.Option.{get_or_from_slice_get, same_Some, none-some}
 use Rattle.std.proofs.lemmas.Bool.{cases_Bool, cond-true, cond-false, ltb-false, true≢false}
 use Rattle.std.proofs.lemmas.Bool.Decides.{nat_tests}
 use Rattle.model.specs.declared.entry.Entry.{Entry}
@@ -62,6 +62,16 @@ wrong-here es at least entry there less wrong =
 pub none-wrong : (es : List Entry) (at least : ℕ) → length es ≤ at → wrong_entry at least (drop at es) ≡ None
 none-wrong es at least past = ap (wrong_entry at least) (drop_all at es past)
 
+right_agent : (agent least : ℕ) (b : Bool) → (b || nat_lt agent least) ≡ false → least ≤ agent
+right_agent agent least true h = absurd (true≢false h)
+right_agent agent least false h = ltb-false agent least h
+
+right_number : (done : ℕ) (b : Bool) → ((done == 0) || b) ≡ false → 0 < done
+right_number done b h = grind (arith, nat_tests)
+
+right_test : (done agent least : ℕ) → 0 < done → least ≤ agent → ((done == 0) || nat_lt agent least) ≡ false
+right_test done agent least above most = grind (arith, nat_tests)
+
 -- entries of which none is wrong rise
 pub rising-of : (number least : ℕ) (es : List Entry) → wrong_entry number least es ≡ None → AreRising least es
 rising-of number least [] none = tt
@@ -72,23 +82,34 @@ rising-of number least (e ∷ es) none = elim (cases_Bool ((e.done == 0) || nat_
     right_number e.done (nat_lt e.agent least) right,
     rising-of (number + 1) (e.agent + 1) es (sym (cond-false ((e.done == 0) || nat_lt e.agent least) (Some number) (wrong_entry (number + 1) (e.agent + 1) es) right) ∙ none),
   )
-] where
-  right_agent : (agent least : ℕ) (b : Bool) → (b || nat_lt agent least) ≡ false → least ≤ agent
-  right_agent agent least true h = absurd (true≢false h)
-  right_agent agent least false h = ltb-false agent least h
-
-  right_number : (done : ℕ) (b : Bool) → ((done == 0) || b) ≡ false → 0 < done
-  right_number done b h = grind (arith, nat_tests)
+]
 
 -- and of those that rise none is wrong
 pub none-of : (number least : ℕ) (es : List Entry) → AreRising least es → wrong_entry number least es ≡ None
 none-of number least [] rising = refl
 none-of number least (e ∷ es) rising =
-    cond-false ((e.done == 0) || nat_lt e.agent least) (Some number) (wrong_entry (number + 1) (e.agent + 1) es) (right e.done e.agent least rising.1 rising.0)
+    cond-false ((e.done == 0) || nat_lt e.agent least) (Some number) (wrong_entry (number + 1) (e.agent + 1) es) (right_test e.done e.agent least rising.1 rising.0)
     ∙ none-of (number + 1) (e.agent + 1) es rising.2
-  where
-    right : (done agent least : ℕ) → 0 < done → least ≤ agent → ((done == 0) || nat_lt agent least) ≡ false
-    right done agent least above most = grind (arith, nat_tests)
+
+-- the first wrong one is the first with which they don't rise
+abbrev pub FirstAt : ℕ → ℕ → List Entry → ℕ → Type 0
+FirstAt number least es n = (e : ℕ) × (n ≡ number + e) × AreRising least (take e es) × (AreRising least (take (suc e) es) → ⊥)
+
+pub first-of : (number least : ℕ) (es : List Entry) (n : ℕ) → wrong_entry number least es ≡ Some n → FirstAt number least es n
+first-of number least [] n wrong = absurd (none-some n wrong)
+first-of number least (e ∷ es) n found = elim (cases_Bool ((e.done == 0) || nat_lt e.agent least)) [
+  | inl wrong ↦
+      let same = same_Some number n (sym (cond-true ((e.done == 0) || nat_lt e.agent least) (Some number) (wrong_entry (number + 1) (e.agent + 1) es) wrong) ∙ found) in
+      (0, omega (arith, same), tt, λ rising. true≢false (sym wrong ∙ right_test e.done e.agent least rising.1 rising.0))
+  | inr right ↦
+      let later = first-of (number + 1) (e.agent + 1) es n (sym (cond-false ((e.done == 0) || nat_lt e.agent least) (Some number) (wrong_entry (number + 1) (e.agent + 1) es) right) ∙ found) in
+      let place = later.1 in (
+        suc later.0,
+        omega (arith, place),
+        (right_agent e.agent least (e.done == 0) right, right_number e.done (nat_lt e.agent least) right, later.2),
+        λ rising. later.3 rising.2,
+      )
+]
 
 -- a byte of the part of a list that an entry takes
 pub part-at : (bytes : List ℕ) (at k i : ℕ) → k < 6 → i ≡ 6 * at + k → get_or (take (6 * at + 6 - 6 * at) (drop (6 * at) bytes)) k 0 ≡ get_or bytes i 0

@@ -56,10 +56,6 @@ pub record Hears {T : Type 0} (seen : T → TapeState) (old new : AgentOn T) (by
   pub state : IsHeard old.timetable (state_of seen old) (state_of seen new) bytes answer
   pub same : new ≡ record old { heard = new.heard }
 
--- what it holds
-abbrev pub Holds : {T : Type 0} → (T → TapeState) → AgentOn T → Held → Type 0
-Holds seen a answer = (track : Track) × (track_of a.timetable a.id ≡ Some track) × (answer ≡ held track (state_of seen a))
-
 -- the same of a message of version 2 by its entries
 pub record HearsOf {T : Type 0} (seen : T → TapeState) (old new : AgentOn T) (message : Message) (answer : Result (ℕ × ℕ) HearFault) : Type 0 where
   pub state : IsHeardOf old.timetable (state_of seen old) (state_of seen new) message answer
@@ -69,6 +65,10 @@ pub record HearsOf {T : Type 0} (seen : T → TapeState) (old new : AgentOn T) (
 pub record HearsFrom {T : Type 0} (seen : T → TapeState) (old new : AgentOn T) (f : Finished) (answer : Result (ℕ × ℕ) HearFault) : Type 0 where
   pub state : IsHeardFrom old.timetable (state_of seen old) (state_of seen new) f answer
   pub same : new ≡ record old { heard = new.heard }
+
+-- what it holds
+abbrev pub Holds : {T : Type 0} → (T → TapeState) → AgentOn T → Held → Type 0
+Holds seen a answer = (track : Track) × (track_of a.timetable a.id ≡ Some track) × (answer ≡ held track (state_of seen a))
 
 -- what it says
 abbrev pub Says : {T : Type 0} → (T → TapeState) → AgentOn T → Result (List ℕ) Refusal → Type 0

@@ -278,7 +278,28 @@ impl<'g, T: Tape> Agent<'g, T> {
         self.records() / 2
     }
 
+    /// Whether it has begun a move and not finished it, by the whole records.
+    pub fn is_moving(&self) -> bool
+        ensures { result ≡ is_moving (state_of T.state self.now) }
+    {
+        self.records() % 2 == 1
+    }
+
+    /// Whether a write has failed since the tape was opened.
+    pub fn is_broken(&self) -> bool
+        ensures { result ≡ self.now.broken }
+    {
+        self.broken
+    }
+
     /// The tape.
+    pub fn tape(&self) -> &T
+        ensures { result.now ≡ self.now.tape }
+    {
+        &self.tape
+    }
+
+    /// The tape, taken from the agent.
     pub fn into_tape(self) -> T
         ensures { result ≡ self.entry.tape }
     {
@@ -323,12 +344,6 @@ impl<'g, T: Tape> Agent<'g, T> {
             return Err(Refusal::StoreFailed);
         }
         Ok(cell)
-    }
-
-    fn is_moving(&self) -> bool
-        ensures { result ≡ is_moving (state_of T.state self.now) }
-    {
-        self.records() % 2 == 1
     }
 
     /// How many whole records there are.

@@ -9,3 +9,9 @@ pub mod HistoryLemmas
 pub mod RunLemmas
 pub mod WalkedLemmas
 pub mod PlaceLemmas
+pub mod RoundLemmas
+pub mod WaitLemmas
+pub mod ReadyLemmas
+pub mod RotationLemmas
+pub mod AfterLemmas
+pub mod CompletionLemmas

@@ -1,13 +1,13 @@
 -- Who was last in a cell.
-use Rattle.std.proofs.Common.{◌≡◌, ℕ, zero, suc, ◌+◌, ◌<◌, false, List, [], ◌∷◌, Some, None, inl, inr, arith, refl, sym, ap, subst, ◌∙◌}
+use Rattle.std.proofs.Common.{◌≡◌, ℕ, zero, suc, ◌+◌, ◌<◌, ◌≤◌, eqb, false, List, [], ◌∷◌, Some, None, inl, inr, arith, refl, sym, ap, subst, ◌∙◌}
 use Rattle.std.specs.Prelude.{Option, MatchOption, slice_get}
-use Rattle.std.proofs.lemmas.Bool.{cond_both, cases_lt, false≢true}
+use Rattle.std.proofs.lemmas.Bool.{cases_Bool, cond_both, cond-true, cond-false, cases_lt, eqb-false, false≢true}
 use Rattle.std.proofs.lemmas.Option.{same_Some, none-some}
 use Rattle.grid.specs.declared.cell.Cell.{Cell}
-use Rattle.model.specs.Timetable.{Track, Timetable, same_cell, cell_at, track_of, Stands}
-use Rattle.model.specs.Dependency.{Stand, stander_among, stander, stand_or, last_stand}
+use Rattle.model.specs.Timetable.{Track, Timetable, same_cell, cell_at, moves_before, moves, step_of, track_of, Stands, IsConflictFree}
+use Rattle.model.specs.Dependency.{Need, Stand, stander_among, stander, stand_or, last_stand, moves_in, moves_to, need_by, need, IsLastStand, IsNeed}
 use Rattle.model.proofs.Options.{found}
-use Rattle.model.proofs.TrackLemmas.{same_cell-same, same_cell-true}
+use Rattle.model.proofs.TrackLemmas.{same_cell-same, same_cell-true, moves-leave, step-of_move, moving_step}
 
 -- ---- standing
 
@@ -80,3 +80,94 @@ last_stand-is tt c zero = last_next tt c 0 (stander tt 0 c) None (stander_stands
 last_stand-is tt c (suc t) =
     let before = subst (λ n. IsLastBelow tt c n (last_stand tt c t)) (omega arith) (last_stand-is tt c t) in
     last_next tt c (suc t) (stander tt (suc t) c) (last_stand tt c t) (stander_stands tt (suc t) c) before
+
+pub up_to : (tab : Timetable) (c : Cell) (t : ℕ) (o : Option Stand) → IsLastBelow tab c (t + 1) o → IsLastStand tab c t o
+up_to tab c t None h = λ r j most s. h r j (omega (arith, most)) s
+up_to tab c t (Some last) h = (h.0, omega (arith, h.1), λ r j past most s. h.2 r j past (omega (arith, most)) s)
+
+-- ---- the need of a move
+
+pub is_need : (tab : Timetable) (i k : ℕ) (track : Track) → k < moves track → IsNeed tab i track k (need tab i track k)
+is_need tab i k track h =
+    let found = moving_step track.start track.later k h in
+    let t = found.0 in
+    let one : t + 1 ≡ suc t = omega arith in
+    let step : step_of track k ≡ t = ap (step_of track) (sym found.1) ∙ step-of_move track.start track.later t found.2 in
+    record {
+      step = t;
+      last = last_stand tab (cell_at track (t + 1)) t;
+      is_step = found.1;
+      leaves = λ e. found.2 (e ∙ ap (cell_at track) one);
+      is_last = up_to tab (cell_at track (t + 1)) t _ (last_stand-is tab (cell_at track (t + 1)) t);
+      asks = ap (λ n. need_by tab i (last_stand tab (cell_at track (n + 1)) n)) step;
+    }
+
+-- Of a move that waits: another agent was the last in the cell that it enters, and left it no later than the move is planned.
+pub record Awaits (tt : Timetable) (i : ℕ) (track : Track) (k : ℕ) (n : Need) : Type 0 where
+  pub to : Track
+  pub time : ℕ
+  pub step : ℕ
+  pub is_to : track_of tt n.agent ≡ Some to
+  pub is_step : moves_before track step ≡ k
+  pub leaves : cell_at track step ≡ cell_at track (step + 1) → ⊥
+  pub there : cell_at to time ≡ cell_at track (step + 1)
+  pub in_time : time ≤ step
+  pub left : cell_at to time ≡ cell_at to (suc time) → ⊥
+  pub count : n.count ≡ moves_before to time + 1
+  pub other : n.agent ≡ i → ⊥
+
+pub awaits : (tt : Timetable) (i : ℕ) (track : Track) (k : ℕ) (n : Need) → IsConflictFree tt → track_of tt i ≡ Some track → k < moves track
+    → need tt i track k ≡ Some n → Awaits tt i track k n
+awaits tt i track k n free there less asks = by_last is.last is.is_last (sym is.asks ∙ asks) where
+  is : IsNeed tt i track k (need tt i track k)
+  is = is_need tt i k track less
+
+  by_stand : (st : Stand) → Stands tt st.agent st.time (cell_at track (is.step + 1)) → st.time ≤ is.step
+      → ((r j : ℕ) → st.time < r → r ≤ is.step → Stands tt j r (cell_at track (is.step + 1)) → ⊥)
+      → eqb st.agent i ≡ false → Some (record { agent = st.agent; count = moves_to tt st.agent (st.time + 1) }) ≡ Some n → Awaits tt i track k n
+  by_stand st stands in_time none other same = record {
+    to = found.0;
+    time = st.time;
+    step = is.step;
+    is_to = ap (track_of tt) (sym agent) ∙ found.1;
+    is_step = is.is_step;
+    leaves = is.leaves;
+    there = found.2;
+    in_time = in_time;
+    left = left;
+    count = sym count ∙ ap (λ o. moves_in o (st.time + 1)) found.1 ∙ ap (moves_before found.0) one ∙ moves-leave found.0.start found.0.later st.time left;
+    other = λ e. eqb-false st.agent i other (agent ∙ e);
+  } where
+    same_need : record { agent = st.agent; count = moves_to tt st.agent (st.time + 1) } ≡ n
+    same_need = same_Some _ n same
+
+    agent : st.agent ≡ n.agent
+    agent = ap (λ x. x.agent) same_need
+
+    count : moves_to tt st.agent (st.time + 1) ≡ n.count
+    count = ap (λ x. x.count) same_need
+
+    one : st.time + 1 ≡ suc st.time
+    one = omega arith
+
+    found : (to : Track) × (track_of tt st.agent ≡ Some to) × (cell_at to st.time ≡ cell_at track (is.step + 1))
+    found = stands-track tt st.agent st.time (cell_at track (is.step + 1)) stands
+
+    left : cell_at found.0 st.time ≡ cell_at found.0 (suc st.time) → ⊥
+    left stays =
+        let later = stands-from tt st.agent (suc st.time) (cell_at track (is.step + 1)) found.0 found.1 (sym stays ∙ found.2) in
+        elim (cases_lt (suc st.time) (is.step + 1)) [
+          | inl before ↦ none (suc st.time) st.agent (omega arith) (omega (arith, before)) later
+          | inr past ↦
+              let now : suc st.time ≡ is.step + 1 = omega (arith, in_time, past) in
+              eqb-false st.agent i other (free st.agent i (is.step + 1) (cell_at track (is.step + 1))
+              (subst (λ t. Stands tt st.agent t (cell_at track (is.step + 1))) now later)
+              (stands-from tt i (is.step + 1) (cell_at track (is.step + 1)) track there refl))
+        ]
+
+  by_last : (o : Option Stand) → IsLastStand tt (cell_at track (is.step + 1)) is.step o → need_by tt i o ≡ Some n → Awaits tt i track k n
+  by_last None last e = absurd (none-some n e)
+  by_last (Some st) last e = elim (cases_Bool (eqb st.agent i)) [
+    | inl own ↦ absurd (none-some n (sym (cond-true (eqb st.agent i) None _ own) ∙ e))
+    | inr other ↦ by_stand st last.0 last.1 last.2 other (sym (cond-false (eqb st.agent i) None _ other) ∙ e)
+  ]

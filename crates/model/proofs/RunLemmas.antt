@@ -7,11 +7,10 @@ use Rattle.model.specs.declared.event.Event.{Event}
 use Rattle.model.specs.declared.event.Event.TheVariants.{Start, Finish, Say, Deliver, Restart, Tear}
 use Rattle.model.specs.declared.why.Why.TheVariants.{Broken, AlreadyMoving, AtEnd, Waits, NotMoving}
 use Rattle.model.specs.Timetable.{Track, Timetable, moves, track_of}
-use Rattle.model.specs.Dependency.{Need, need}
+use Rattle.model.specs.Dependency.{Need, need, IsMet}
 use Rattle.model.specs.History.{Answer, refused, History, Happening, armed_of, is_broken, is_begun, is_ended, starts_of, finishes_of, kept_starts, done, is_moving, known}
 use Rattle.model.specs.Rules.{unless_waiting, start_answer, finish_answer, agent_answer, agent_of, answer_by, answer, IsRun}
 use Rattle.model.proofs.HistoryLemmas.{done-next, known-done}
-use Rattle.model.proofs.Visited.{IsMet}
 
 -- ---- what an answer says of the agent
 

@@ -1,6 +1,6 @@
 -- Tracks: where an agent stands, how many moves it has made, and its path.
 use Rattle.std.proofs.Common.{◌≡◌, ℕ, zero, suc, ◌+◌, ◌-◌, ◌<◌, ◌≤◌, eqb, Bool, true, false, cond, List, [], ◌∷◌, length, get_or, inl, inr, arith, refl, sym, ap, subst, ◌∙◌}
-use Rattle.std.proofs.lemmas.Bool.{cases_Bool, cases_lt, cond-true, cond-false, and_parts, and_from, eqb-true, eq-eqb, ne_eqb, false_from_ne_true}
+use Rattle.std.proofs.lemmas.Bool.{cases_Bool, cases_lt, cond-true, cond-false, and_parts, and_from, eqb-true, eq-eqb, ne_eqb, false≢true, false_from_ne_true}
 use Rattle.grid.specs.declared.cell.Cell.{Cell}
 use Rattle.model.specs.Timetable.{same_cell, cell_after, moves_after, collapsed, step_after}
 
@@ -166,3 +166,22 @@ step-of_move c (d ∷ cells) (suc t) h =
           ∙ cond-false (same_cell c d) _ _ e ∙ cond-false (eqb (n + 1) 0) _ _ (ne_eqb (n + 1) 0 (λ z. omega (arith, z)))
           ∙ (let one : n + 1 - 1 ≡ n = omega arith in ap (λ k. step_after d cells k + 1) one) ∙ omega (arith, rest)
     ]
+
+-- the step of a move
+pub moving_step : (c : Cell) (cells : List Cell) (k : ℕ) → k < moves_after c cells (length cells)
+    → (t : ℕ) × (moves_after c cells t ≡ k) × (cell_after c cells t ≡ cell_after c cells (suc t) → ⊥)
+moving_step c [] k h = absurd (omega (arith, h))
+moving_step c (d ∷ cells) k h =
+    elim (cases_Bool (same_cell c d)) [
+      | inl same ↦
+          let rest = moving_step d cells k (subst (λ n. k < n) (cond-true (same_cell c d) _ _ same) h) in
+          (suc rest.0, cond-true (same_cell c d) _ _ same ∙ rest.1, rest.2)
+      | inr other ↦ first_or c d cells k other (subst (λ n. k < n) (cond-false (same_cell c d) _ _ other) h) (moving_step d cells)
+    ] where
+      first_or : (c d : Cell) (cells : List Cell) (k : ℕ) → same_cell c d ≡ false → k < moves_after d cells (length cells) + 1
+          → ((k : ℕ) → k < moves_after d cells (length cells) → (t : ℕ) × (moves_after d cells t ≡ k) × (cell_after d cells t ≡ cell_after d cells (suc t) → ⊥))
+          → (t : ℕ) × (moves_after c (d ∷ cells) t ≡ k) × (cell_after c (d ∷ cells) t ≡ cell_after c (d ∷ cells) (suc t) → ⊥)
+      first_or c d cells zero other h steps = (0, refl, λ e. false≢true (sym other ∙ same_cell-true c d (e ∙ cell_at-start d cells)))
+      first_or c d cells (suc k) other h steps =
+          let rest = steps k (omega (arith, h)) in
+          (suc rest.0, cond-false (same_cell c d) _ _ other ∙ omega (arith, rest.1), rest.2)

@@ -1,18 +1,14 @@
 -- A visit that was begun has every earlier visit of its cell left.
 use Rattle.std.proofs.Common.{◌≡◌, ℕ, zero, suc, ◌+◌, ◌<◌, ◌≤◌, eqb, false, length, get_or, Some, None, inl, inr, arith, sym, ap, subst, ◌∙◌}
-use Rattle.std.specs.Prelude.{Option, MatchOption}
+use Rattle.std.specs.Prelude.{Option}
 use Rattle.std.proofs.lemmas.Bool.{cases_Bool, cases_lt, cases_order, cond-false, eqb-true, eqb-false, false≢true}
 use Rattle.std.proofs.lemmas.Option.{same_Some}
 use Rattle.grid.specs.declared.cell.Cell.{Cell}
 use Rattle.model.specs.Timetable.{Track, Timetable, same_cell, cell_at, moves_before, path, step_of, track_of, Stands, IsConflictFree}
-use Rattle.model.specs.Dependency.{Need, Stand, need_by, need, last_stand, moves_in}
+use Rattle.model.specs.Dependency.{Need, Stand, need_by, need, IsMet, last_stand, moves_in}
 use Rattle.model.specs.Rules.{path_cell}
 use Rattle.model.proofs.TrackLemmas.{same_cell-same, same_cell-true, moves-leave, moves-rise, cell-visit, visit_time, step-of_move}
 use Rattle.model.proofs.NeedLemmas.{stands-track, stands-from, IsLastBelow, last_stand-is}
-
--- the moves that a need asks for are finished
-abbrev pub IsMet : (ℕ → ℕ) → Option Need → Type 0
-IsMet finished o = MatchOption o (Unit {0}) (λ n. n.count ≤ finished n.agent)
 
 -- how many moves each agent has begun and finished, where each begun move has its need met
 pub record IsKept (tt : Timetable) (begun finished : ℕ → ℕ) : Type 0 where

@@ -1,7 +1,7 @@
 -- Which move waits for which (Hönig et al. 2019, "Action Dependency Graph"), one dependency a move.
 use Rattle.std.specs.Prelude.{◌≡◌, ℕ, ◌+◌, ◌<◌, ◌≤◌, ◌==◌, ◌⊎◌, zero, suc, if◌then◌else◌, nat_lt, List, [], ◌∷◌, length, Option, None, Some, MatchOption, slice_get}
 use Rattle.grid.specs.declared.cell.Cell.{Cell}
-use Rattle.model.specs.Timetable.{Track, Timetable, same_cell, cell_at, moves_before, step_of, track_of, Stands}
+use Rattle.model.specs.Timetable.{Track, Timetable, same_cell, cell_at, moves_before, moves, step_of, track_of, Stands}
 
 -- an agent, and how many moves it must have finished
 pub record Need : Type 0 where
@@ -46,6 +46,19 @@ need_by tt i (Some s) = if s.agent == i then None else Some (record { agent = s.
 -- the need of a move: at its step, who was last in the cell that it enters
 abbrev pub need : Timetable → ℕ → Track → ℕ → Option Need
 need tt i track k = need_by tt i (last_stand tt (cell_at track (step_of track k + 1)) (step_of track k))
+
+-- the moves that a need asks for are finished, by how many each agent has finished
+abbrev pub IsMet : (ℕ → ℕ) → Option Need → Type 0
+IsMet finished o = MatchOption o (Unit {0}) (λ n. n.count ≤ finished n.agent)
+
+-- The next move of the one agent waits for a move of the other that isn't finished, by how many each has finished.
+pub record WaitsFor (tt : Timetable) (finished : ℕ → ℕ) (i j : ℕ) : Type 0 where
+  pub track : Track
+  pub count : ℕ
+  pub is_track : track_of tt i ≡ Some track
+  pub left : finished i < moves track
+  pub asks : need tt i track (finished i) ≡ Some (record { agent = j; count = count })
+  pub unmet : finished j < count
 
 -- ---- what need and last stand come to, in words without a computation
 

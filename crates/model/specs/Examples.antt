@@ -23,6 +23,7 @@ use Rattle.model.specs.History.{Answer, moving, arrived, said, heard, at, betwee
 use Rattle.model.specs.Replies.{answer_of}
 use Rattle.model.specs.Rules.{answer, IsRun}
 use Rattle.model.specs.Safety.{held, Holds, IsBetween, walk, IsBeginningOf, IsSafe}
+use Rattle.model.specs.Completion.{history_after, IsCompletion, IsBlocked}
 
 abbrev pub cell : ℕ → ℕ → Cell
 cell x y = record { x = x; y = y }
@@ -322,16 +323,12 @@ Messages =
     × (AreRising 0 (entry 1 2 ∷ entry 1 3 ∷ []) → ⊥) × (AreRising 0 (entry 1 0 ∷ []) → ⊥)
 
 -- what has happened after these events, the newest first
-abbrev run_on : Version → Timetable → History → List Event → History
-run_on version tt h [] = h
-run_on version tt h (e ∷ events) = run_on version tt (record { event = e; answer = answer version tt h e } ∷ h) events
-
 abbrev run_of : List Event → History
-run_of events = run_on One row [] events
+run_of events = history_after One row [] events
 
 -- where the leader has told the follower that it is gone, and both have spoken after that, at version 2
 abbrev both_told : History
-both_told = run_on Two row [] (Start 0 ∷ Finish 0 ∷ Say 0 ∷ Deliver 1 0 ∷ Say 1 ∷ [])
+both_told = history_after Two row [] (Start 0 ∷ Finish 0 ∷ Say 0 ∷ Deliver 1 0 ∷ Say 1 ∷ [])
 
 abbrev tear_due : ℕ → Option ℕ
 tear_due n = Some n
@@ -375,3 +372,22 @@ Safety =
     × IsRun One row (run_of (Start 1 ∷ Start 0 ∷ []))
     -- where it enters too early it holds what another holds
     × Holds row hasty 0 (cell 1 0) × Holds row hasty 1 (cell 1 0) × (IsSafe row hasty → ⊥) × ((version : Version) → IsRun version row hasty → ⊥)
+
+-- the leader goes and says so, and the follower follows
+abbrev one_after_another : List Event
+one_after_another = Start 0 ∷ Finish 0 ∷ Say 0 ∷ Deliver 1 0 ∷ Start 1 ∷ Finish 1 ∷ []
+
+abbrev pub Completions : Type 0
+Completions =
+    IsCompletion One row [] one_after_another × IsCompletion Two row [] one_after_another
+    -- a move that is under way is finished, and who is at the end needs nothing
+    × IsCompletion One row (run_of (Start 0 ∷ Finish 0 ∷ Say 0 ∷ Deliver 1 0 ∷ Start 1 ∷ [])) (Finish 1 ∷ []) × IsCompletion One nobody [] []
+    -- a broken agent is opened anew, and so is one whose next write would fail
+    × IsCompletion One row (run_of (Tear 0 9 ∷ Start 0 ∷ [])) (Restart 0 ∷ one_after_another)
+    × IsCompletion One row (run_of (Tear 0 10 ∷ [])) (Restart 0 ∷ one_after_another)
+    × (IsCompletion One row (run_of (Tear 0 10 ∷ [])) one_after_another → ⊥)
+    -- nobody may be left on the way, and nothing may be refused
+    × (IsCompletion One row [] [] → ⊥) × (IsCompletion One row [] (Start 0 ∷ Finish 0 ∷ Say 0 ∷ Deliver 1 0 ∷ Start 1 ∷ []) → ⊥)
+    × (IsCompletion One row [] (Start 0 ∷ Start 0 ∷ Finish 0 ∷ Say 0 ∷ Deliver 1 0 ∷ Start 1 ∷ Finish 1 ∷ []) → ⊥)
+    -- a rotation is a block, and following is none
+    × IsBlocked square [] × (IsBlocked row [] → ⊥)

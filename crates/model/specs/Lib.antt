@@ -21,5 +21,9 @@ pub mod Rules
 pub mod Speech
 -- what an agent holds and where it walked, and when a run is safe
 pub mod Safety
+-- what completes a run, and what blocks it
+pub mod Completion
+-- what brings agents on that are ready for it
+pub mod Ready
 -- small plans and runs, and what has to come out
 pub mod Examples

@@ -1,5 +1,5 @@
 use Rattle.std.proofs.Common.{ℕ, ◌≤◌, [], ◌∷◌, ◌++◌, arith}
-use Rattle.model.specs.History.{History, done}
+use Rattle.model.specs.History.{History, kept_starts, done}
 use Rattle.model.proofs.HistoryLemmas.{done-next, known-done}
 use Rattle.model.proofs.RunLemmas.{level, in_step}
 use Rattle.model.proofs.laws.counters.Goals as goal
@@ -10,6 +10,13 @@ done-later (now ∷ later) earlier i =
     let first = done-later later earlier i in
     let next = done-next now (later ++ earlier) i in
     omega (arith, first, next)
+
+starts-later : (later earlier : History) (i : ℕ) → kept_starts earlier i ≤ kept_starts (later ++ earlier) i
+starts-later [] earlier i = omega arith
+starts-later (now ∷ later) earlier i = (let first = starts-later later earlier i in omega (arith, first))
+
+pub returns-clause-starts_never_fall : goal.returns-clause-starts_never_fall
+returns-clause-starts_never_fall c = starts-later
 
 pub returns-clause-never_falls : goal.returns-clause-never_falls
 returns-clause-never_falls c = done-later

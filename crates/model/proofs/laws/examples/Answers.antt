@@ -1,5 +1,5 @@
 -- What computes needs no more; that there is no fault, and no rotation, goes by the agents and the times that there are.
-use Rattle.std.proofs.Common.{◌≡◌, ℕ, zero, suc, ◌+◌, ◌≤◌, List, [], ◌∷◌, length, Some, inl, inr, arith, refl, sym, ap, subst, ◌∙◌}
+use Rattle.std.proofs.Common.{◌≡◌, ℕ, zero, suc, ◌+◌, ◌≤◌, false, List, [], ◌∷◌, length, Some, inl, inr, arith, refl, sym, ap, subst, ◌∙◌}
 use Rattle.std.specs.Prelude.{Option, slice_get, get_or, ◌<◌, ◌⊎◌, nat_lt}
 use Rattle.std.proofs.lemmas.Bool.{cond-true, lt-ltb}
 use Rattle.std.proofs.lemmas.Option.{same_Some, none-some}
@@ -13,6 +13,12 @@ use Rattle.model.specs.Timetable.{Track, cell_at, track_of, Stands}
 use Rattle.model.specs.Plan.{Position, position_of, moved, position_at, HasPlanFault, IsLegal, IsAt, key_of, IsBefore, IsTrackOf}
 use Rattle.model.specs.Dependency.{IsLastStand, MovesInto, following, IsRotation}
 use Rattle.model.specs.Costs.{EndsAtRest, Task, Fits}
+use Rattle.model.specs.declared.event.Event.TheVariants.{Start, Finish, Say, Deliver}
+use Rattle.model.specs.declared.version.Version.{Version}
+use Rattle.model.specs.declared.version.Version.TheVariants.{One, Two}
+use Rattle.model.specs.declared.why.Why.TheVariants.{AlreadyMoving, StoreFailed}
+use Rattle.model.specs.History.{History, done, is_moving}
+use Rattle.model.specs.Completion.{HasArrived, IsCompletion}
 use Rattle.model.specs.Examples.{cell, course, ground_of_row, swapping, crowding, following_plan, ground_of_square, turning_plan, row, square, turning, leader, follower, late_follower, exchange, first_task, second_task}
 use Rattle.model.proofs.CostLemmas.{cost-rests, cost-least}
 use Rattle.model.proofs.laws.examples.Goals as goal
@@ -348,16 +354,16 @@ no_three step (a ∷ b ∷ c ∷ others) round =
       | inr a1 ↦ elim is_b [ inr b1 ↦ apart (a1 ∙ sym b1) | inl b0 ↦ elim is_c [ inl c0 ↦ apart_on (b0 ∙ sym c0) | inr c1 ↦ apart_round (a1 ∙ sym c1) ] ]
     ]
 
+square_turns : IsRotation square 0 (0 ∷ 1 ∷ 2 ∷ 3 ∷ [])
+square_turns = record {
+  three = omega arith;
+  different = λ n m i e f. by_place n i e ∙ sym (by_place m i f);
+  least = λ n first i e f. (let zeroth = same_Some 0 first e in omega (arith, zeroth));
+  cycle = turns;
+}
+
 pub returns-clause-rotations : goal.returns-clause-rotations
-returns-clause-rotations c = (
-  record {
-    three = omega arith;
-    different = λ n m i e f. by_place n i e ∙ sym (by_place m i f);
-    least = λ n first i e f. (let zeroth = same_Some 0 first e in omega (arith, zeroth));
-    cycle = turns;
-  },
-  no_three,
-)
+returns-clause-rotations c = (square_turns, no_three)
 
 -- ---- what computes
 
@@ -513,3 +519,45 @@ returns-clause-safety c = (
   λ safe. (let same = safe.apart 0 1 (cell 1 0) refl (inr refl) in omega (arith, same)),
   λ version run. cc,
 )
+
+-- ---- completions
+
+-- both agents of the row are at their ends
+both_arrived : (h : History) → done h 0 ≡ 1 → done h 1 ≡ 1 → is_moving h 0 ≡ false → is_moving h 1 ≡ false
+    → (i : ℕ) (track : Track) → track_of row i ≡ Some track → HasArrived h i track
+both_arrived h first second first_still second_still zero track there =
+    subst (HasArrived h 0) (same_Some leader track there) (record { all = first; still = first_still })
+both_arrived h first second first_still second_still (suc zero) track there =
+    subst (HasArrived h 1) (same_Some follower track there) (record { all = second; still = second_still })
+both_arrived h first second first_still second_still (suc (suc i)) track there = absurd (none-some track there)
+
+pub returns-clause-completions : goal.returns-clause-completions
+returns-clause-completions c = (
+  in_turn One,
+  in_turn Two,
+  record { accepted = (λ w. let e = w.1 in cc, tt); arrived = both_arrived _ refl refl refl refl },
+  record { accepted = tt; arrived = λ i track there. absurd (none-some track there) },
+  record {
+    accepted = (λ w. let e = w.1 in cc, (λ w. let e = w.1 in cc, (λ w. let e = w.1 in cc, (λ w. let e = w.1 in cc, (λ w. let e = w.1 in cc, (λ w. let e = w.1 in cc, (λ w. let e = w.1 in cc, tt)))))));
+    arrived = both_arrived _ refl refl refl refl;
+  },
+  record {
+    accepted = (λ w. let e = w.1 in cc, (λ w. let e = w.1 in cc, (λ w. let e = w.1 in cc, (λ w. let e = w.1 in cc, (λ w. let e = w.1 in cc, (λ w. let e = w.1 in cc, (λ w. let e = w.1 in cc, tt)))))));
+    arrived = both_arrived _ refl refl refl refl;
+  },
+  λ h. h.accepted.0 (StoreFailed, refl),
+  λ h. (let none = (h.arrived 0 leader refl).all in omega (arith, none)),
+  λ h. (let none = (h.arrived 1 follower refl).all in omega (arith, none)),
+  λ h. h.accepted.1.0 (AlreadyMoving, refl),
+  (0, 0 ∷ 1 ∷ 2 ∷ 3 ∷ [], square_turns, (0, 0, turning (cell 0 0) (cell 1 0), refl, refl, omega arith)),
+  λ h. no_three h.0 h.1 h.2,
+) where
+  in_turn : (v : Version) → IsCompletion v row [] (Start 0 ∷ Finish 0 ∷ Say 0 ∷ Deliver 1 0 ∷ Start 1 ∷ Finish 1 ∷ [])
+  in_turn One = record {
+    accepted = (λ w. let e = w.1 in cc, (λ w. let e = w.1 in cc, (λ w. let e = w.1 in cc, (λ w. let e = w.1 in cc, (λ w. let e = w.1 in cc, (λ w. let e = w.1 in cc, tt))))));
+    arrived = both_arrived _ refl refl refl refl;
+  }
+  in_turn Two = record {
+    accepted = (λ w. let e = w.1 in cc, (λ w. let e = w.1 in cc, (λ w. let e = w.1 in cc, (λ w. let e = w.1 in cc, (λ w. let e = w.1 in cc, (λ w. let e = w.1 in cc, tt))))));
+    arrived = both_arrived _ refl refl refl refl;
+  }
