@@ -69,7 +69,7 @@ run_command = record {
   name = codes "run";
   required = codes "map" ∷ codes "plan" ∷ codes "events" ∷ [];
   options = [];
-  flags = [];
+  flags = codes "complete" ∷ [];
 }
 
 abbrev pub agent_command : Usage
@@ -147,9 +147,10 @@ IsCommand name rows (Check map_file plan_file scen_file json) =
 IsCommand name rows (Deps map_file plan_file) =
     (name ≡ codes "deps") × (first_of (codes "map") rows ≡ Some (string_bytes map_file))
     × (first_of (codes "plan") rows ≡ Some (string_bytes plan_file))
-IsCommand name rows (Run map_file plan_file events_file) =
+IsCommand name rows (Run map_file plan_file events_file complete) =
     (name ≡ codes "run") × (first_of (codes "map") rows ≡ Some (string_bytes map_file))
     × (first_of (codes "plan") rows ≡ Some (string_bytes plan_file)) × (first_of (codes "events") rows ≡ Some (string_bytes events_file))
+    × (complete ≡ true ↔ IsFlagGiven (codes "complete") rows)
 IsCommand name rows (Agent map_file plan_file id tape_file) =
     (name ≡ codes "agent") × (first_of (codes "map") rows ≡ Some (string_bytes map_file))
     × (first_of (codes "plan") rows ≡ Some (string_bytes plan_file)) × GivesNumber (codes "id") rows id

@@ -37,11 +37,12 @@ pub enum Line {
         map: String,
         plan: String,
     },
-    /// Runs a plan on the events of a text.
+    /// Runs a plan on the events of a text; `complete` asks for how the run ends too.
     Run {
         map: String,
         plan: String,
         events: String,
+        complete: bool,
     },
     /// Answers for one agent of a plan, by its tape.
     Agent {

@@ -150,11 +150,16 @@ pub(crate) const RUN: CommandText<'static> = CommandText {
     after_help: "\
 Standard output is one line for each event, as `moving 2 0`, `arrived 2 0` or
 `refused Waits 0 1`. A refusal is a reply like any other.
+With --complete these lines follow:
+  complete N   with N events, a line each, that bring each agent to the end of
+               its path
+  blocked N    no events do: rotation N, counted from 0 as `mapf deps` lists
+               them, has an unfinished move
 
 Status:
   0  every event has its reply
   1  a text or the plan has a fault: one line on standard error, behind the
-     replies to the events before it
+     replies to the events before it; or the answer is `blocked`
   2  a bad command line
   3  a file can't be opened, a device failed, or memory was refused
 
@@ -164,6 +169,7 @@ Example:
         Required("map", "The file of the map"),
         Required("plan", "The file of the plan"),
         Required("events", "The file of the events"),
+        Flag("complete", "Writes how the run ends too"),
     ],
 };
 

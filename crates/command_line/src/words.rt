@@ -106,11 +106,7 @@ fn read_command(alloc: Global, name: &str, given: &ArgMatches<'_>) -> Result<Lin
             map: word(alloc, given, "map")?,
             plan: word(alloc, given, "plan")?,
         }),
-        "run" => Ok(Line::Run {
-            map: word(alloc, given, "map")?,
-            plan: word(alloc, given, "plan")?,
-            events: word(alloc, given, "events")?,
-        }),
+        "run" => read_run(alloc, given),
         "agent" => read_agent(alloc, given),
         _ => Err(no_command(alloc)),
     }
@@ -127,6 +123,20 @@ fn read_check(alloc: Global, given: &ArgMatches<'_>) -> Result<Line, LineFault>
         plan: word(alloc, given, "plan")?,
         scen: optional_word(alloc, given, "scen")?,
         json: has_flag(given, "json"),
+    })
+}
+
+/// Reads `run` by the words that it was given.
+fn read_run(alloc: Global, given: &ArgMatches<'_>) -> Result<Line, LineFault>
+    ensures ok { IfOk result (IsCommand (codes "run") (rows_of (found_of given.now))) }
+    ensures err { IfErr result (λ e. HasWords (codes "run") (rows_of (found_of given.now)) → e ≡ LineFault.OutOfMemory) }
+    ensures refusal { IfErr result IsRefusal }
+{
+    Ok(Line::Run {
+        map: word(alloc, given, "map")?,
+        plan: word(alloc, given, "plan")?,
+        events: word(alloc, given, "events")?,
+        complete: has_flag(given, "complete"),
     })
 }
 

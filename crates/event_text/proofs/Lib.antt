@@ -7,5 +7,6 @@ pub mod FirstLemmas
 pub mod TextScanned
 pub mod TextRead
 pub mod OneReading
+pub mod OneText
 pub mod EventsRead
 pub mod ReplyLemmas

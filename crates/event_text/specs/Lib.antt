@@ -12,5 +12,7 @@ pub mod FirstEvents
 pub mod Taking
 -- the text that is written for replies
 pub mod ReplyText
+-- the text that is written for events
+pub mod EventLine
 -- The code's own words, of which no promise speaks.
 pub mod Code

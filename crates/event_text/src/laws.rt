@@ -1,9 +1,10 @@
 //! What the definitions of a text of events mean: laws, which hold of all values and need no code.
-ghost use Rattle.std.specs.Prelude.{◌≡◌, ◌≢◌, ℕ, ◌⊎◌, ◌↔◌, List, [], Option, Some};
+ghost use Rattle.std.specs.Prelude.{◌≡◌, ◌≢◌, ℕ, ◌⊎◌, ◌↔◌, List, [], ◌∷◌, map, All, Option, Some};
 ghost use Rattle.grid.specs.declared.counted.Counted.{Counted};
 ghost use Rattle.grid.specs.declared.source.Source.{Source};
 ghost use Rattle.grid.specs.Lines.{HasTaken};
 ghost use Rattle.grid.specs.Reading.{IsFirstFault};
+ghost use Rattle.grid.specs.Text.{ended};
 ghost use Rattle.model.specs.declared.event.Event.{Event};
 ghost use Rattle.model.specs.declared.version.Version.{Version};
 ghost use Rattle.model.specs.declared.version.Version.TheVariants.{One, Two};
@@ -11,7 +12,8 @@ ghost use Rattle.event_text.specs.declared.event_fault.EventFault.{EventFault};
 ghost use Rattle.event_text.specs.declared.event_fault.EventFault.TheVariants.{NoHeader};
 ghost use Rattle.event_text.specs.declared.header.Headers.{Headers};
 ghost use Rattle.event_text.specs.declared.header.Headers.TheVariants.{VersionOne, Either};
-ghost use Rattle.event_text.specs.EventText.{EventText, RunText};
+ghost use Rattle.event_text.specs.EventText.{EventText, RunText, event_header};
+ghost use Rattle.event_text.specs.EventLine.{event_line, IsWithinWidths};
 ghost use Rattle.event_text.specs.EventFault.{EventFaultAt};
 ghost use Rattle.event_text.specs.FirstEvents.{FirstEvents};
 ghost use Rattle.event_text.specs.declared.event_reader.EventReader.{EventReader};
@@ -33,6 +35,14 @@ pub fn one_reading_any()
     ensures one_run { (text : List ℕ) (r s : Version × List Event) → RunText Either r text → RunText Either s text → r ≡ s }
     ensures one_fault { (text : List ℕ) (f g : EventFault) → IsFirstFault (EventFaultAt Either) f text → IsFirstFault (EventFaultAt Either) g text → f ≡ g }
     ensures never_both { (text : List ℕ) (r : Version × List Event) (f : EventFault) → RunText Either r text → IsFirstFault (EventFaultAt Either) f text → ⊥ }
+{}
+
+/// A list of events has exactly one text at each version where its numbers are within their widths, and else none: the header's line,
+/// and for each event the line that is written for it.
+pub fn one_text()
+    ensures one { (version : Version) (es : List Event) (text : List ℕ) → EventText version es text → text ≡ ended (event_header version ∷ map event_line es) }
+    ensures some { (version : Version) (es : List Event) → All IsWithinWidths es → EventText version es (ended (event_header version ∷ map event_line es)) }
+    ensures within { (version : Version) (es : List Event) (text : List ℕ) → EventText version es text → All IsWithinWidths es }
 {}
 
 /// Texts with the header of version 1 are read alike whichever headers are taken, events and faults, and a text of version 2 has no header

@@ -131,7 +131,7 @@ fn refusal_name(why: Why) -> &'static str
 }
 
 /// Puts a word, and each number with a space before it.
-fn put_numbers<W: Write>(
+pub(crate) fn put_numbers<W: Write>(
     sink: &mut Sink<'_, W>,
     word: &[u8],
     numbers: &[u64],

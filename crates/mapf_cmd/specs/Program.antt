@@ -46,9 +46,9 @@ PerformsOn {F} remaining input_left contents Told (Check map_file plan_file (Som
     × AnswersCheckFit remaining remaining remaining contents Told m n p q s t json old new code × (new_in ≡ old_in)
 PerformsOn {F} remaining input_left contents Told (Deps map_file plan_file) old_in new_in old new code =
     (m n : Counted F) × (p q : Counted F) × AnswersDeps remaining remaining contents Told m n p q old new code × (new_in ≡ old_in)
-PerformsOn {F} remaining input_left contents Told (Run map_file plan_file events_file) old_in new_in old new code =
+PerformsOn {F} remaining input_left contents Told (Run map_file plan_file events_file complete) old_in new_in old new code =
     (m n : Counted F) × (p q : Counted F) × (s t : Counted F)
-    × AnswersRun remaining remaining remaining contents Told m n p q s t old new code × (new_in ≡ old_in)
+    × AnswersRun remaining remaining remaining contents Told m n p q s t complete old new code × (new_in ≡ old_in)
 PerformsOn {F} remaining input_left contents Told (Agent map_file plan_file id tape_file) old_in new_in old new code =
     (m n : Counted F) × (p q : Counted F) × AnswersAgent remaining remaining remaining input_left contents Told id m n p q old_in new_in old new code
 

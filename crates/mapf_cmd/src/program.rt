@@ -124,11 +124,24 @@ fn perform_on_files<R: Files + AllocGlobal, I: Read, W: Write, E: Write>(
             let mut plan = Counted::new(fs::open(rt, &plan)?);
             Ok(deps_cmd(rt.alloc(), &mut map, &mut plan, out, err))
         }
-        Line::Run { map, plan, events } => {
+        Line::Run {
+            map,
+            plan,
+            events,
+            complete,
+        } => {
             let mut map = Counted::new(fs::open(rt, &map)?);
             let mut plan = Counted::new(fs::open(rt, &plan)?);
             let mut events = Counted::new(fs::open(rt, &events)?);
-            Ok(run_cmd(rt.alloc(), &mut map, &mut plan, &mut events, out, err))
+            Ok(run_cmd(
+                rt.alloc(),
+                &mut map,
+                &mut plan,
+                &mut events,
+                complete,
+                out,
+                err,
+            ))
         }
         Line::Agent {
             map,

@@ -22,6 +22,7 @@ use Rattle.runner.specs.SafeRuns.{IsSafeRun, IsSafeRunAt}
 use Rattle.runner.specs.Standing.{RunnerState, StandsAt, GoesOn}
 use Rattle.runner.proofs.SafeLemmas.{safe-run-at}
 use Rattle.replay.specs.Replaying.{Answered}
+use Rattle.replay.specs.Code.Standing.{AnsweredBy}
 
 -- one more is the newest
 pub newest : {X : Type 0} (h xs : List X) (x : X) → h ≡ reverse xs → x ∷ h ≡ reverse (xs ++ x ∷ [])
@@ -105,6 +106,19 @@ module _
       };
       came = so_far.came;
     }
+
+    -- and the runner stands at their run
+    pub answered-by : (tt : Timetable) (r : RunnerState) (events : List Event) (CameOf : List ℕ → Type 0)
+        → SoFar tt r events CameOf → AnsweredBy tt r events CameOf
+    unfolding answered-so-far
+    answered-by tt r events CameOf so_far =
+        let all = answered-so-far tt r events CameOf so_far in record {
+          same_graph = so_far.same_graph;
+          answers = all.answers;
+          answered = all.answered;
+          stands = so_far.stands;
+          came = all.came;
+        }
 
 -- no event is answered yet
 pub none-answered : (version : Version) (table : Timetable) (CameOf : List ℕ → Type 0) → IsSafeRun table [] → CameOf [] → Answered version table [] CameOf

@@ -57,7 +57,7 @@ some_on events_left tt old new CameOf MoreOf a on = record {
   replies = came_on a.version tt a.events CameOf MoreOf a.replies on;
 }
 
-all_some : {E : Type 0} (events_left : E → Option (List ℕ)) (tt : Timetable) (old new : Counted E) (outcome : List Event → Outcome (List Event) EventFault)
+pub all_some : {E : Type 0} (events_left : E → Option (List ℕ)) (tt : Timetable) (old new : Counted E) (outcome : List Event → Outcome (List Event) EventFault)
     (CameOf MoreOf : List ℕ → Type 0) → AnswersAll events_left tt old new outcome CameOf
     → ((text : List ℕ) → CameOf text → MoreOf text) → AnswersSome events_left tt old new MoreOf
 all_some events_left tt old new outcome CameOf MoreOf a on = record {

@@ -2,3 +2,7 @@
 
 -- what a map, a plan and events come to, as texts
 pub mod Replaying
+-- and how the run ends
+pub mod Completing
+-- The code's own words, of which no promise speaks.
+pub mod Code

@@ -107,7 +107,7 @@ AnswersEvents events_left tt old new Whole Broken (Err (run_fault.PlanText fault
 AnswersEvents events_left tt old new Whole Broken (Err (run_fault.Plan fault)) = ⊥
 
 -- whether no write failed
-abbrev pub was_written : Result Unit RunFault → Bool
+abbrev pub was_written : {V : Type 0} → Result V RunFault → Bool
 was_written (Err run_fault.WriteFailed) = false
 was_written _ = true
 

@@ -4,6 +4,8 @@ ghost use Rattle.grid.specs.Lines.{HasTaken};
 ghost use Rattle.grid.specs.Sink.{held_back, sink_writer, Puts, Breaks};
 ghost use Rattle.grid.specs.Source.{source_reader};
 ghost use Rattle.replay.specs.Replaying.{ReadsTimetable, AnswersEvents, Replays, RunsText, was_written};
+ghost use Rattle.replay.specs.Code.HandingOn.{IsHandedOn};
+ghost use Rattle.replay.specs.Code.Standing.{AnswersBy};
 
 use crate::RunFault;
 use depgraph::Graph;
@@ -15,8 +17,8 @@ use std::alloc::Global;
 use std::io::{Read, Write};
 
 /// Reads a map and then a plan, checks the plan on the map, and then answers one event after another, by the version of the events'
-/// header: the reply to each is put into the output before the next line of the events is looked at. All replies so far are in the output when a fault is answered. The
-/// output is not flushed.
+/// header: the reply to each is put into the output before the next line of the events is looked at. All replies so far are in the
+/// output when a fault is answered. The output is not flushed.
 pub fn run_text<M: Read, P: Read, E: Read, W: Write>(
     alloc: Global,
     map: &mut Counted<M>,
@@ -31,7 +33,7 @@ pub fn run_text<M: Read, P: Read, E: Read, W: Write>(
 }
 
 /// Reads the map and then the plan, checks the plan, and builds its graph.
-fn read_graph<M: Read, P: Read>(
+pub(crate) fn read_graph<M: Read, P: Read>(
     alloc: Global,
     map: &mut Counted<M>,
     plan: &mut Counted<P>,
@@ -74,14 +76,25 @@ fn answer_all<E: Read, W: Write>(
     ensures answers { Replays E.remaining W.contents graph.now (source_reader source.old) (source_reader source.new) (sink_writer sink.old) (sink_writer sink.new) result }
 {
     let answer = answer_events(alloc, graph, source, sink);
+    hand_on(answer, sink)
+}
+
+/// Hands on what was put, unless it could not be written before.
+pub(crate) fn hand_on<T: Copy, W: Write>(
+    answer: Result<T, RunFault>,
+    sink: &mut Sink<'_, W>,
+) -> Result<T, RunFault>
+    ensures same_writer { sink.new.writer.ghost_name ≡ sink.old.writer.ghost_name }
+    ensures handed { IsHandedOn W.contents (was_written answer) sink.old sink.new answer result }
+{
     if was_written(&answer) {
         sink.hand_on()?;
     }
     answer
 }
 
-/// Whether no reply could not be written.
-pub fn was_written(answer: &Result<(), RunFault>) -> bool
+/// Whether no write failed.
+pub fn was_written<T>(answer: &Result<T, RunFault>) -> bool
     ensures { result ≡ was_written answer.now }
 {
     !matches!(answer, Err(RunFault::WriteFailed))
@@ -100,6 +113,23 @@ fn answer_events<E: Read, W: Write>(
     ensures answers { AnswersEvents E.remaining graph.now (source_reader source.old) (source_reader source.new)
         (Puts W.contents sink.old sink.new) (Breaks W.contents sink.old sink.new) result }
 {
+    let _runner = run_events(alloc, graph, source, sink)?;
+    Ok(())
+}
+
+/// Answers one event after another, and gives back the runner that answered all.
+pub(crate) fn run_events<'g, E: Read, W: Write>(
+    alloc: Global,
+    graph: &'g Graph,
+    source: &mut Source<'_, E>,
+    sink: &mut Sink<'_, W>,
+) -> Result<Runner<'g>, RunFault>
+    requires { HasTaken E.remaining (source_reader source.old) source.old [] }
+    ensures same_reader { source.new.reader.ghost_name ≡ source.old.reader.ghost_name }
+    ensures same_writer { sink.new.writer.ghost_name ≡ sink.old.writer.ghost_name }
+    ensures answers { AnswersBy E.remaining graph.now (source_reader source.old) (source_reader source.new)
+        (Puts W.contents sink.old sink.new) (Breaks W.contents sink.old sink.new) result }
+{
     model::laws::every_run_is_safe();
     model::laws::rotations_never_begin();
     event_text::laws::none_read::<E>();
@@ -110,5 +140,5 @@ fn answer_events<E: Read, W: Write>(
         let reply = runner.step(event)?;
         put_reply(sink, &reply)?;
     }
-    Ok(())
+    Ok(runner)
 }

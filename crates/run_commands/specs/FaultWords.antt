@@ -4,6 +4,7 @@ use Rattle.event_text.specs.FaultWords.{event_fault_words}
 use Rattle.grid.specs.FaultWords.{map_fault_words}
 use Rattle.plan_commands.specs.FaultWords.{plan_fault_words}
 use Rattle.plan_text.specs.FaultWords.{plan_text_fault_words}
+use Rattle.replay.specs.declared.completion.Completion.{Completion}
 use Rattle.replay.specs.declared.run_fault.RunFault.{RunFault}
 use Rattle.replay.specs.declared.run_fault.RunFault.TheVariants as run_fault
 
@@ -17,6 +18,6 @@ run_fault_words run_fault.WriteFailed = codes "WriteFailed" ∷ []
 run_fault_words run_fault.OutOfMemory = codes "OutOfMemory" ∷ []
 
 -- what is told of a run: its fault, if it has one
-abbrev pub told_of_run : Result Unit RunFault → Option (List (List ℕ))
-told_of_run (Ok done) = None
+abbrev pub told_of_run : Result Completion RunFault → Option (List (List ℕ))
+told_of_run (Ok completion) = None
 told_of_run (Err fault) = Some (run_fault_words fault)

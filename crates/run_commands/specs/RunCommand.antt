@@ -1,25 +1,41 @@
 -- What `mapf run` does and answers.
-use Rattle.std.specs.Prelude.{◌≡◌, ℕ, List, Option, Some, Result}
+use Rattle.std.specs.Prelude.{◌≡◌, ℕ, Bool, true, false, List, Option, Some, Result, Ok, Err}
 use Rattle.grid.specs.declared.counted.Counted.{Counted}
-use Rattle.replay.specs.Replaying.{RunsText, was_written}
+use Rattle.replay.specs.declared.completion.Completion.{Completion}
+use Rattle.replay.specs.declared.completion.Completion.TheVariants.{Ends, Blocked}
 use Rattle.replay.specs.declared.run_fault.RunFault.{RunFault}
 use Rattle.replay.specs.declared.run_fault.RunFault.TheVariants.{WriteFailed}
+use Rattle.replay.specs.Completing.{CompletesText}
+use Rattle.replay.specs.Replaying.{RunsText, was_written}
 use Rattle.text_commands.specs.declared.status.Status.{Status}
 use Rattle.text_commands.specs.Finishing.{Finishes}
 use Rattle.text_commands.specs.Status.{code_of}
 use Rattle.run_commands.specs.FaultWords.{run_fault_words, told_of_run}
 use Rattle.run_commands.specs.RunStatus.{run_status}
 
--- The texts were read and the events were answered, and then the output was flushed, unless it had failed: the status and the fault that
--- was told are what the texts came to, or those of a failure where the flush failed.
+-- The texts were read and the events were answered; where it was asked for, and there alone, it was also said how their run ends.
+abbrev pub RunsOrCompletes
+    : {M P V W : Type 0} → (M → Option (List ℕ)) → (P → Option (List ℕ)) → (V → Option (List ℕ)) → (W → Option (List ℕ))
+    → Counted M → Counted M → Counted P → Counted P → Counted V → Counted V → (complete : Bool) → Counted W → Counted W → Result Completion RunFault → Type 0
+RunsOrCompletes map_left plan_left events_left contents old_map new_map old_plan new_plan old_events new_events true old_out new_out answer =
+    CompletesText map_left plan_left events_left contents old_map new_map old_plan new_plan old_events new_events old_out new_out answer
+RunsOrCompletes map_left plan_left events_left contents old_map new_map old_plan new_plan old_events new_events false old_out new_out (Ok Ends) =
+    RunsText map_left plan_left events_left contents old_map new_map old_plan new_plan old_events new_events old_out new_out (Ok tt)
+RunsOrCompletes map_left plan_left events_left contents old_map new_map old_plan new_plan old_events new_events false old_out new_out (Ok (Blocked n)) = ⊥
+RunsOrCompletes map_left plan_left events_left contents old_map new_map old_plan new_plan old_events new_events false old_out new_out (Err fault) =
+    RunsText map_left plan_left events_left contents old_map new_map old_plan new_plan old_events new_events old_out new_out (Err fault)
+
+-- The texts were read, the events were answered, and the ending was said where it was asked for, and then the output was flushed, unless it
+-- had failed: the status and the fault that was told are what the texts came to, or those of a failure where the flush failed.
 pub record AnswersRun
     {M P V W : Type 0} (map_left : M → Option (List ℕ)) (plan_left : P → Option (List ℕ)) (events_left : V → Option (List ℕ))
     (contents : W → Option (List ℕ)) (Told : Option (List (List ℕ)) → Type 0) (old_map new_map : Counted M) (old_plan new_plan : Counted P)
-    (old_events new_events : Counted V) (old_out new_out : Counted W) (code : ℕ) : Type 0 where
-  pub answer : Result Unit RunFault
-  pub replied : Counted W
-  pub runs : RunsText map_left plan_left events_left contents old_map new_map old_plan new_plan old_events new_events old_out replied answer
+    (old_events new_events : Counted V) (complete : Bool) (old_out new_out : Counted W) (code : ℕ) : Type 0 where
+  pub answer : Result Completion RunFault
+  pub written : Counted W
+  pub runs : RunsOrCompletes map_left plan_left events_left contents old_map new_map old_plan new_plan old_events new_events complete old_out written
+      answer
   pub status : Status
   pub finishes : Finishes contents (Told (told_of_run answer)) (Told (Some (run_fault_words WriteFailed))) (was_written answer) (run_status answer)
-      replied new_out status
+      written new_out status
   pub is_code : code ≡ code_of status

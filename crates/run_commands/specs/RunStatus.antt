@@ -4,6 +4,8 @@ use Rattle.model.specs.declared.plan_fault.PlanFault.TheVariants as plan_fault
 use Rattle.event_text.specs.declared.event_fault.EventFault.{EventFault}
 use Rattle.event_text.specs.declared.event_fault.EventFault.TheVariants as event_fault
 use Rattle.plan_commands.specs.CheckStatus.{plan_text_fault_status}
+use Rattle.replay.specs.declared.completion.Completion.{Completion}
+use Rattle.replay.specs.declared.completion.Completion.TheVariants.{Ends, Blocked}
 use Rattle.replay.specs.declared.run_fault.RunFault.{RunFault}
 use Rattle.replay.specs.declared.run_fault.RunFault.TheVariants as run_fault
 use Rattle.text_commands.specs.Status.{map_fault_status}
@@ -25,7 +27,8 @@ run_fault_status (run_fault.Events f) = event_fault_status f
 run_fault_status run_fault.WriteFailed = Failure
 run_fault_status run_fault.OutOfMemory = Failure
 
--- the status of a run by what its texts came to
-abbrev pub run_status : Result Unit RunFault → Status
-run_status (Ok done) = Done
+-- the status of a run by what its texts came to: that a rotation blocks it is a fault
+abbrev pub run_status : Result Completion RunFault → Status
+run_status (Ok Ends) = Done
+run_status (Ok (Blocked n)) = Fault
 run_status (Err fault) = run_fault_status fault

@@ -32,12 +32,12 @@ use Rattle.runner.proofs.RestartLemmas.{tear-goes, tear-refused, held-is, restar
 use Rattle.runner.proofs.StoreLemmas.{start-goes, finish-goes}
 
 -- an element that was written is there, and the others stay
-set-at : {X : Type 0} (l : List X) (i : ℕ) (b : X) → i < length l → slice_get (set l i b) i ≡ Some b
+pub set-at : {X : Type 0} (l : List X) (i : ℕ) (b : X) → i < length l → slice_get (set l i b) i ≡ Some b
 set-at [] i b less = absurd (omega (arith, less))
 set-at (x ∷ l) zero b less = refl
 set-at (x ∷ l) (suc i) b less = set-at l i b (omega (arith, less))
 
-set-other : {X : Type 0} (l : List X) (i k : ℕ) (b : X) → k ≢ i → slice_get (set l i b) k ≡ slice_get l k
+pub set-other : {X : Type 0} (l : List X) (i k : ℕ) (b : X) → k ≢ i → slice_get (set l i b) k ≡ slice_get l k
 set-other [] i k b other = refl
 set-other (x ∷ l) zero zero b other = absurd (other refl)
 set-other (x ∷ l) zero (suc k) b other = refl

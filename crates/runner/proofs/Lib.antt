@@ -12,3 +12,6 @@ pub mod DeliverLemmas
 pub mod SafeLemmas
 pub mod CrewLemmas
 pub mod SaidLemmas
+pub mod BlockLemmas
+pub mod LeadLemmas
+pub mod ChainLemmas

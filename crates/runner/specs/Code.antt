@@ -6,3 +6,7 @@ pub mod Reopening
 pub mod Notes
 -- what an agent tells
 pub mod Telling
+-- where events lead that bring agents to their ends
+pub mod Leading
+-- agents that wait for one another meanwhile
+pub mod Waiting

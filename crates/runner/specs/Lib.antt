@@ -8,5 +8,7 @@ pub mod SaidMessages
 pub mod Standing
 -- what is promised of every run
 pub mod SafeRuns
+-- how a run ends, or what blocks it
+pub mod Endings
 -- the code's own words
 pub mod Code

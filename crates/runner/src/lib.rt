@@ -1,11 +1,15 @@
 //! Whole runs: all agents of a graph over tapes that tear, and every message that was said.
 #![tactic(auto)]
 
+mod complete_fault;
+mod ending;
+pub mod laws;
 mod runner;
 mod runs;
 mod said;
 mod sim_tape;
 
+pub use complete_fault::CompleteFault;
 pub use model::{Event, Reply, Version, Why};
 pub use runner::Runner;
 pub use runs::{run, run_with};

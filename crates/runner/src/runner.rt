@@ -9,8 +9,9 @@ ghost use Rattle.model.specs.Replies.{answer_of};
 ghost use Rattle.runner.specs.Standing.{IsMember};
 ghost use Rattle.runner.specs.Code.Reopening.{Reopens};
 
-use crate::SimTape;
+use crate::ending::bring_all_to_ends;
 use crate::said::Said;
+use crate::{CompleteFault, SimTape};
 use agent::replies::{
     reply_to_delivery, reply_to_finish, reply_to_restart, reply_to_start, why_of,
 };
@@ -31,18 +32,19 @@ pub struct Runner<'g> {
 
 impl<'g> Model for Runner<'g> {
     ghost use Rattle.runner.specs.Standing.{RunnerState};
-    ghost use Rattle.std.specs.Prelude.{◌≤◌, length};
+    ghost use Rattle.std.specs.Prelude.{◌≡◌, ◌≤◌, ◌*◌, length};
 
     ghost Value = { RunnerState };
 
     ghost view = { λ r. record { timetable = r.graph.now; version = r.said.version; agents = r.agents.items; messages = r.said.messages } };
 
-    ghost invariant = { λ r. length r.agents.items ≤ 10000 };
+    ghost invariant = { λ r. (length r.agents.items ≡ length r.graph.now.tracks) × (length r.agents.items ≤ 10000) };
 }
 
 impl<'g> Runner<'g> {
     ghost use Rattle.std.specs.Prelude.{[], option_map};
     ghost use Rattle.model.specs.Safety.{held};
+    ghost use Rattle.runner.specs.Endings.{IsEnding};
     ghost use Rattle.runner.specs.SafeRuns.{IsSafeRun};
     ghost use Rattle.runner.specs.Standing.{RunnerState, StandsAt, GoesOn, TakesMemory};
 
@@ -114,6 +116,18 @@ impl<'g> Runner<'g> {
         model::laws::every_run_is_safe();
         model::laws::rotations_never_begin();
         Some(self.agents.get(agent as usize)?.held())
+    }
+
+    /// Events that bring every agent to its end, answered after those before without a refusal; or the rotation that no events get out of.
+    pub fn complete(&self) -> Result<Vec<Event>, CompleteFault>
+        ensures { (h : History) → StandsAt self.now h → IsEnding self.now.version self.now.timetable h result }
+    {
+        let is_free = self.graph.rotations().is_empty();
+        if !is_free {
+            return Err(CompleteFault::Rotation(0));
+        }
+        let messages = self.said.count();
+        Ok(bring_all_to_ends(self.alloc, self.graph, &self.agents, messages)?)
     }
 
     fn start(&mut self, agent: u32) -> Reply

@@ -1,5 +1,5 @@
 //! Messages that were said.
-ghost use Rattle.std.specs.Prelude.{◌≡◌, ◌<◌, [], ◌∷◌, ◌++◌, length, Some, IfOk, OnOk, OnErr, slice_get};
+ghost use Rattle.std.specs.Prelude.{◌≡◌, ◌<◌, ◌^◌, [], ◌∷◌, ◌++◌, length, Some, IfOk, OnOk, OnErr, slice_get};
 ghost use Rattle.model.specs.declared.version.Version.TheVariants.{One, Two};
 ghost use Rattle.model.specs.Messages.{own_message};
 ghost use Rattle.runner.specs.Code.Telling.{message_told};
@@ -59,7 +59,8 @@ impl Said {
 
     /// How many messages were said.
     pub(crate) fn count(&self) -> u64
-        ensures { result ≡ length self.now.messages }
+        ensures count { result ≡ length self.now.messages }
+        ensures within { result < 2 ^ 63 }
     {
         match self.version {
             Version::One => self.entries.len() as u64,

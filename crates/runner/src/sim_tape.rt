@@ -29,6 +29,13 @@ impl SimTape {
             failures: 0,
         })
     }
+
+    /// After how many bytes its next write fails, if it is armed.
+    pub fn armed(&self) -> Option<u8>
+        ensures { result ≡ sim_armed self.now }
+    {
+        self.armed
+    }
 }
 
 impl Tape for SimTape {

@@ -1,32 +1,28 @@
 -- What was put is handed on, and so written.
-use Rattle.std.proofs.Common.{[], true, false, sym, subst, append-nil}
-use Rattle.std.proofs.lemmas.Result.{err_from_is_err_and}
+use Rattle.std.proofs.Common.{ℕ, List, true, false}
 use Rattle.grid.specs.Sink.{Puts, Breaks}
 use Rattle.grid.specs.Source.{source_reader}
-use Rattle.grid.proofs.SinkLemmas.{Breaks-after}
-use Rattle.replay.proofs.ReplyLemmas.{Wrote, left_off, not_handed_on, put_broken}
+use Rattle.replay.specs.Replaying.{AnswersEvents}
+use Rattle.replay.proofs.HandingLemmas.{written}
+use Rattle.replay.proofs.ReplyLemmas.{Wrote, handed_on, not_handed_on, left_off}
 use Rattle.replay.proofs.replaying.answer_all.Goals as goal
 
-pub returns-in_err-hand_on-clause-answers : goal.returns-in_err-hand_on-clause-answers
-returns-in_err-hand_on-clause-answers g c =
-    let p = err_from_is_err_and c.from_residual.result c.from_residual.ensures.1 in
+pub returns-clause-answers : goal.returns-clause-answers
+returns-clause-answers g c =
     let contents = g.W.Write.contents in
     let first = c.args.sink.now in
     let put = c.answer_events-answer.new.sink in
-    let last = c.hand_on.new.self in
-    rw (p.1, p.2)
-    (not_handed_on g.E.Read.remaining c.args.graph.now (source_reader c.args.source.now) (source_reader c.answer_events-answer.new.source)
-    (Puts contents first put) (Breaks contents first put) (λ text. Wrote contents first last text false) c.answer_events-answer.result
-    (sym c.if-was_written.ensures) c.answer_events-answer.ensures.answers
-    (λ text puts. put_broken contents first last text c.requires.none_held
-    (subst (Breaks contents first last) (append-nil text) (Breaks-after contents first put last text [] puts c.in_err-hand_on.ensures.err))))
-
-pub returns-else-was_written-clause-answers : goal.returns-else-was_written-clause-answers
-returns-else-was_written-clause-answers g c =
-    let contents = g.W.Write.contents in
-    let first = c.args.sink.now in
-    let last = c.answer_events-answer.new.sink in
-    left_off g.E.Read.remaining c.args.graph.now (source_reader c.args.source.now) (source_reader c.answer_events-answer.new.source)
-    (Puts contents first last) (Breaks contents first last) (λ text. Wrote contents first last text true) (λ text. Wrote contents first last text false)
-    c.answer_events-answer.result (sym c.if-was_written.ensures) c.answer_events-answer.ensures.answers
-    (λ text breaks. put_broken contents first last text c.requires.none_held breaks)
+    let last = c.hand_on.new.sink in
+    let left = g.E.Read.remaining in
+    let old = source_reader c.args.source.now in
+    let new = source_reader c.answer_events-answer.new.source in
+    let tt = c.args.graph.now in
+    let whole = Puts contents first put in
+    let broken = Breaks contents first put in
+    let all = λ (text : List ℕ). Wrote contents first last text true in
+    let part = λ (text : List ℕ). Wrote contents first last text false in
+    written contents first put last (AnswersEvents left tt old new) c.requires.none_held
+    (handed_on left tt old new whole broken all part)
+    (not_handed_on left tt old new whole broken part)
+    (left_off left tt old new whole broken all part)
+    c.answer_events-answer.result c.hand_on.result c.answer_events-answer.ensures.answers c.hand_on.ensures.handed

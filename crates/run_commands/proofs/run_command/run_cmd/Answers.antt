@@ -1,4 +1,5 @@
 use Rattle.std.proofs.Common.{◌∙◌, Result, ap, subst}
+use Rattle.replay.specs.declared.completion.Completion.{Completion}
 use Rattle.replay.specs.declared.run_fault.RunFault.{RunFault}
 use Rattle.text_commands.specs.Status.{code_of}
 use Rattle.text_commands.specs.Telling.{Tells}
@@ -9,11 +10,11 @@ use Rattle.run_commands.proofs.run_command.run_cmd.Goals as goal
 
 pub returns : goal.returns
 returns g c =
-    let Told : Result Unit RunFault → Type 0 = λ answer. Tells g.E.Write.contents c.args.err.now c.conclude.new.err (told_of_run answer) in
+    let Told : Result Completion RunFault → Type 0 = λ answer. Tells g.E.Write.contents c.args.err.now c.conclude.new.err (told_of_run answer) in
     record {
-      answer = c.run_text-answer.result;
-      replied = c.run_text-answer.new.out;
-      runs = c.run_text-answer.ensures;
+      answer = c.answer_run-answer.result;
+      written = c.answer_run-answer.new.out;
+      runs = c.answer_run-answer.ensures;
       status = run_status c.flush-answer.result;
       finishes = finishes_so g.W.Write.contents _ _ _ _ _ c.flush-answer.ensures (λ same. subst Told same c.conclude.ensures.told) (λ failed. subst Told failed c.conclude.ensures.told);
       is_code = c.code.ensures ∙ ap code_of c.conclude.ensures.status;

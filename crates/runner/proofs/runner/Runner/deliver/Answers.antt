@@ -11,4 +11,4 @@ returns-then-agent-len-clause-heard c h stands =
 pub returns-then-message-count-clause-heard : goal.returns-then-message-count-clause-heard
 returns-then-message-count-clause-heard c h stands =
     no-message-on c.args.self.now h stands c.args.agent (let past = c.if-agent-len.false in let count = c.len.ensures in let same = c.self.view_is in rw (← same) (omega (arith, past, count)))
-    c.args.message (let past = c.if-message-count.true in let count = c.count.ensures in let same = c.self.view_is in rw (← same) (omega (arith, past, count)))
+    c.args.message (let past = c.if-message-count.true in let count = c.count.ensures.count in let same = c.self.view_is in rw (← same) (omega (arith, past, count)))

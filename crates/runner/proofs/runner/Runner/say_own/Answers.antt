@@ -30,7 +30,7 @@ returns-clause-said c h stands =
     let bytes = c.in_ok-bytes-in-Ok.bytes.items in
     let found = own-on _ h inside c.args.agent c.index-sender.result.now there c.args.agent c.done-done.result version c.in-Ok.ensures.0 refl c.done-done.ensures.done in
     let told = c.in_ok-bytes-in-Ok.ensures.items ∙ c.in-Ok.ensures.1.spelled ∙ ap (message_bytes c.index-sender.result.now.timetable.number c.index-sender.result.now.id) (sym c.done-done.ensures.done) in
-    let answered = ap (λ n. said n bytes) c.count-number.ensures ∙ ap (said (length c.self.inside.said.messages)) told in
+    let answered = ap (λ n. said n bytes) c.count-number.ensures.count ∙ ap (said (length c.self.inside.said.messages)) told in
     subst (λ s. (said c.count-number.result bytes ≡ answer c.args.self.now.version c.args.self.now.timetable h (Say c.args.agent))
     × StandsAt (record { timetable = c.self.inside.graph.now; version = s.version; agents = c.self.inside.agents.items; messages = s.messages }) (record { event = Say c.args.agent; answer = said c.count-number.result bytes } ∷ h))
     (sym c.in_ok-keep_own.ensures.ok)

@@ -30,7 +30,7 @@ returns-clause-said c h stands =
     let version : c.self.inside.said.version ≡ Two = ap (λ r. r.version) c.self.view_is ∙ c.requires.version in
     let bytes = c.in-Ok.bytes.items in
     let found = told-on _ h inside c.args.agent c.index-sender.result.now there version c.in-Ok.ensures.0 in
-    let answered = ap (λ n. said n bytes) c.count-number.ensures ∙ ap (said (length c.self.inside.said.messages)) c.in-Ok.ensures.1.spelled in
+    let answered = ap (λ n. said n bytes) c.count-number.ensures.count ∙ ap (said (length c.self.inside.said.messages)) c.in-Ok.ensures.1.spelled in
     subst (λ s. (said c.count-number.result bytes ≡ answer c.args.self.now.version c.args.self.now.timetable h (Say c.args.agent))
     × StandsAt (record { timetable = c.self.inside.graph.now; version = s.version; agents = c.self.inside.agents.items; messages = s.messages }) (record { event = Say c.args.agent; answer = said c.count-number.result bytes } ∷ h))
     (sym c.in_ok-keep_told.ensures.ok)

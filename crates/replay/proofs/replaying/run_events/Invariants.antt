@@ -5,7 +5,7 @@ use Rattle.model.specs.declared.event.Event.{Event}
 use Rattle.event_text.specs.declared.header.Headers.TheVariants.{Either}
 use Rattle.event_text.specs.Taking.{HasReadEvents}
 use Rattle.replay.proofs.AnswerLemmas.{SoFar}
-use Rattle.replay.proofs.replaying.answer_events.Given as goal
+use Rattle.replay.proofs.replaying.run_events.Given as goal
 
 -- the events so far were read, behind the header of the runner's version, and the lines of their replies put
 abbrev pub invariant-events : goal.invariant-events

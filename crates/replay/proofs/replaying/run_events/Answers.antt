@@ -8,8 +8,8 @@ use Rattle.event_text.specs.declared.header.Headers.TheVariants.{Either}
 use Rattle.event_text.specs.FirstEvents.{BeginsWithEvents}
 use Rattle.event_text.specs.Taking.{EventTaken}
 use Rattle.event_text.proofs.EventsRead.{stopped_as}
-use Rattle.replay.proofs.AnswerLemmas.{answered-so-far, break-more, fewer, none-answered, none-so-far, put-more}
-use Rattle.replay.proofs.replaying.answer_events.Goals as goal
+use Rattle.replay.proofs.AnswerLemmas.{answered-by, answered-so-far, break-more, fewer, none-answered, none-so-far, put-more}
+use Rattle.replay.proofs.replaying.run_events.Goals as goal
 
 pub returns-in_err-version-clause-answers : goal.returns-in_err-version-clause-answers
 returns-in_err-version-clause-answers g c =
@@ -152,12 +152,10 @@ returns-clause-answers g c =
     let before = c.events.invariant in
     let first = source_reader c.args.source.now in
     record {
-      version = Some c.events.runner.version;
       events = before.events;
       read =
           stopped_as g.E.Read.remaining first _ Either _ _ before.events _ (sym (c.in_ok-event.ensures.same_version _ before.same_version))
           (subst (λ r. EventTaken Either g.E.Read.remaining first c.next_event.new.source c.next_event.new.self before.events (Ok r)) c.in_default.is
           (c.in_ok-event.ensures.next Either first before.events before.read));
-      replies =
-          answered-so-far c.every_run_is_safe.ensures c.rotations_never_begin.ensures c.args.graph.now c.events.runner before.events _ before.so_far;
+      replies = answered-by c.every_run_is_safe.ensures c.rotations_never_begin.ensures c.args.graph.now c.events.runner before.events _ before.so_far;
     }

@@ -1,0 +1,18 @@
+-- The rotation's number could not be put.
+use Rattle.std.proofs.Common.{refl}
+use Rattle.std.proofs.lemmas.Result.{err_from_is_err_and}
+use Rattle.replay.specs.declared.completion.Completion.TheVariants.{Blocked}
+use Rattle.replay.specs.Completing.{blocked_text}
+use Rattle.replay.proofs.completing.put_ending.Goals as goal
+
+pub returns-in_err-put_blocked-in-Err-Rotation-clause-ending : goal.returns-in_err-put_blocked-in-Err-Rotation-clause-ending
+returns-in_err-put_blocked-in-Err-Rotation-clause-ending g c h stands =
+    let p =
+    err_from_is_err_and c.from_residual-in_err-put_blocked-in-Err-Rotation.result
+    c.from_residual-in_err-put_blocked-in-Err-Rotation.ensures.1 in
+    let number = c.in-Err-Rotation.number in
+    let blocks = rw c.in-Err-Rotation.field-0-is at (c.in-Err-Rotation.ensures h stands) in
+    rw (p.1, p.2) (
+      Blocked number,
+      (blocked_text number, (blocks, refl), c.in_err-put_blocked-in-Err-Rotation.ensures.err),
+    )
