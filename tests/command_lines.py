@@ -9,12 +9,15 @@ FILES = {
     "P": b"mapf-plan 1\nnumber 7\nagents 2\nagent 1 0 e-\nagent 0 0 e\n",
     "S": b"version 1\n0 m.map 3 1 1 0 2 0 1\n0 m.map 3 1 0 0 1 0 1\n0 m.map 3 1 0 0 2 0 2\n",
     "E": b"mapf-events 1\nstart 0\n",
+    # A plan without agents, whose runs end in one way only.
+    "O": b"mapf-plan 1\nnumber 7\nagents 0\n",
 }
-NAMED_AS_OPTIONS = {"-h": FILES["M"], "--json": FILES["P"], "--scen": FILES["S"], "-": FILES["E"]}
+NAMED_AS_OPTIONS = {"-h": FILES["M"], "--json": FILES["P"], "--scen": FILES["S"], "-": FILES["E"], "--complete": FILES["E"]}
 MAP = FILES["M"].decode()
 SCEN = "version 1\n0\tm.map\t3\t1\t1\t0\t2\t0\t1\n0\tm.map\t3\t1\t0\t0\t1\t0\t1\n0\tm.map\t3\t1\t0\t0\t2\t0\t2\n"
 ACCEPTED = "accepted agents 2 cost 2 makespan 1\n"
 JSON = '{"accepted":true,"agents":2,"cost":2,"makespan":1}\n'
+COMPLETE = "refused NoSuchAgent\ncomplete 0\n"
 NEEDS = "agents 2 moves 2 needs 1 rotations 0\nneed 1 0 0 1\n"
 
 # Words that are a command, and what it writes. After `--` each word is a word, and none an option.
@@ -55,6 +58,14 @@ COMMANDS = [
     ("run M P E", "moving 2 0\n"),
     ("run M P -", "moving 2 0\n"),
     ("run -- -h --json -", "moving 2 0\n"),
+    ("run M O E", "refused NoSuchAgent\n"),
+    ("run M O E --complete", COMPLETE),
+    ("run M O --complete E", COMPLETE),
+    ("run M --complete O E", COMPLETE),
+    ("run --complete M O E", COMPLETE),
+    ("run --complete -- M O E", COMPLETE),
+    ("run --complete -- -h O --complete", COMPLETE),
+    ("run M O -- --complete", "refused NoSuchAgent\n"),
     ("agent M P 0 T", "at 1 0 done 0\n"),
     ("agent M P 0001 T", "at 0 0 done 0\n"),
     ("agent -- M P 1 T", "at 0 0 done 0\n"),
@@ -76,6 +87,8 @@ OTHER_FILES = [
     ("run P M E", 1, "BadHeader 1"),
     ("run M E P", 1, "BadHeader 1"),
     ("run M P P", 1, "NoHeader"),
+    ("run P M E --complete", 1, "BadHeader 1"),
+    ("run M P P --complete", 1, "NoHeader"),
     ("agent P M 0 T", 1, "BadHeader 1"),
     ("agent M P 2 T", 1, "NoSuchAgent"),
     ("agent M P 65535 T", 1, "NoSuchAgent"),
@@ -94,6 +107,7 @@ OTHER_FILES = [
     ("run N P E", 3, "OpenFailed"),
     ("run M N E", 3, "OpenFailed"),
     ("run S S N", 3, "OpenFailed"),
+    ("run S S N --complete", 3, "OpenFailed"),
     ("agent N P 0 T", 3, "OpenFailed"),
     ("agent M N 0 T", 3, "OpenFailed"),
     ("agent M P 0 no/T", 3, "OpenFailed"),
@@ -159,7 +173,16 @@ BAD = [
     ("run M P", "<events>", "Usage: mapf run"),
     ("run M P E X", "'X'", "Usage: mapf run"),
     ("run M P E --json", "'--json'", "Usage: mapf run"),
-    ("run M P E --complete", "'--complete'", "Usage: mapf run"),
+    ("run M P --complete", "<events>", "Usage: mapf run"),
+    ("run M P E X --complete", "'X'", "Usage: mapf run"),
+    ("run M P E --complete --complete", "--complete", "Usage: mapf run"),
+    ("run M P E --complete=x", "--complete", "Usage: mapf run"),
+    ("run M P E --comp", "--comp", "Usage: mapf run"),
+    ("run M P E -c", "-c", "Usage: mapf run"),
+    ("--complete run M P E", "'--complete'", "Usage: mapf <COMMAND>"),
+    ("check M P --complete", "'--complete'", "Usage: mapf check"),
+    ("deps M P --complete", "'--complete'", "Usage: mapf deps"),
+    ("agent M P 0 T --complete", "'--complete'", "Usage: mapf agent"),
     ("agent", "<map>", "Usage: mapf agent <map> <plan> <id> <tape>"),
     ("agent M P 0", "<tape>", "Usage: mapf agent <map> <plan> <id> <tape>"),
     ("agent M P 0 T X", "'X'", "Usage: mapf agent <map> <plan> <id> <tape>"),
@@ -204,7 +227,7 @@ HELP = {
     "row": ("Usage: mapf row <map> <scen> <row>", "mapf row examples/corner.map examples/corner.scen 0\n"),
     "check": ("Usage: mapf check [OPTIONS] <map> <plan>", "mapf check examples/corner.map examples/corner.plan --scen examples/corner.scen\n"),
     "deps": ("Usage: mapf deps <map> <plan>", "mapf deps examples/turn.map examples/turn.plan\n"),
-    "run": ("Usage: mapf run <map> <plan> <events>", "mapf run examples/plain.map examples/behind.plan examples/behind.events\n"),
+    "run": ("Usage: mapf run [OPTIONS] <map> <plan> <events>", "mapf run examples/plain.map examples/behind.plan examples/behind.events\n"),
     "agent": ("Usage: mapf agent <map> <plan> <id> <tape>", "mapf agent examples/plain.map examples/behind.plan 0 robot0.tape\n"),
 }
 FIRST_LINES = {

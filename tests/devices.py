@@ -11,7 +11,7 @@ import tty
 from typing import Iterator, Optional, Sequence
 
 from harness import LONGEST, Ended, Harness, Outcome, compared, ended_as
-from texts import BEHIND, CORNER, CORNER_WRITTEN, LANE, ROW, ROW_WRITTEN, SHORT, SWAP, TASKS, events
+from texts import BEHIND, CORNER, CORNER_WRITTEN, LANE, NOBODY, ROW, ROW_WRITTEN, SHORT, SQUARE, SWAP, TASKS, TURN, events
 
 FILES = {
     "M": LANE.encode(),
@@ -23,6 +23,9 @@ FILES = {
     "F": TASKS.encode(),
     "E": events("start 1", "start 0", "finish 0", "start 1").encode(),
     "J": events("start 0", "jump").encode(),
+    "O": NOBODY.encode(),
+    "Q": SQUARE.encode(),
+    "R": TURN.encode(),
 }
 REPLIES = "refused Waits 0 1\nmoving 2 0\narrived 2 0\nrefused Waits 0 1\n"
 
@@ -38,6 +41,9 @@ WRITING = [
     ("deps M P", "agents 2 moves 2 needs 1 rotations 0\nneed 1 0 0 1\n"),
     ("run M P E", REPLIES),
     ("run M P J", "moving 2 0\n"),
+    ("run M O E --complete", "refused NoSuchAgent\n" * 4 + "complete 0\n"),
+    ("run Q R J --complete", "refused Waits 1 1\n"),
+    ("run Q R E --complete", "refused Waits 2 1\nrefused Waits 1 1\nrefused NotMoving\nrefused Waits 2 1\nblocked 0\n"),
     ("agent M P 0 T", "at 1 0 done 0\n"),
     ("--version", "mapf 0.1.0\n"),
 ]
@@ -49,13 +55,14 @@ FAULTY = [
     ("check M M", "mapf: BadHeader 1\n"),
     ("deps M X", "mapf: Swap 0 1 0\n"),
     ("run M X E", "mapf: Swap 0 1 0\n"),
+    ("run M X E --complete", "mapf: Swap 0 1 0\n"),
     ("agent M P 2 T", "mapf: NoSuchAgent\n"),
 ]
 
 # Commands that read a folder.
 UNREADABLE = [
     *("map D", "scen D", "row D S 0", "row C D 0", "check D P", "check M D", "check M P --scen D"),
-    *("deps D P", "deps M D", "run D P E", "run M D E", "run M P D", "agent D P 0 T", "agent M D 0 T"),
+    *("deps D P", "deps M D", "run D P E", "run M D E", "run M P D", "run M P D --complete", "agent D P 0 T", "agent M D 0 T"),
 ]
 # Commands with a file that is not there, and one in front of it, which is opened all the same, or behind it, which is not.
 OPENED = [

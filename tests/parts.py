@@ -13,6 +13,7 @@ import answers
 import command_lines
 import devices
 import documents
+import endings
 import fleet
 import formats
 import launcher
@@ -29,6 +30,7 @@ PARTS: dict[str, tuple[str, Callable[[Harness], Iterator[Outcome]]]] = {
     "formats": ("the texts of maps, scenarios, plans and events, up to their limits", formats.outcomes),
     "answers": ("whole commands on texts, files and tapes", answers.outcomes),
     "devices": ("files, inputs and outputs that fail", devices.outcomes),
+    "endings": ("how runs end: the events that complete them, or the rotation in the way", endings.outcomes),
     "vectors": ("the answers of an independent implementation", vectors.outcomes),
     "fleet": ("robots as processes that are killed at random", fleet.outcomes),
 }
