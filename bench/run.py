@@ -4,7 +4,8 @@
 Usage: run.py [--program PATH] [--rounds N] [--side N] [--rows N] [--only COMMAND]
 Both programs run in turn over the same texts, many rounds, and at least ten seconds for each text. A line for each text: the
 best time of each in milliseconds, the median of the rounds' ratios, and the most memory that each held, in megabytes. For `row`
-our program finds the lengths and certifies them, and the other one only finds them.
+our program finds the lengths and certifies them, and the other one only finds them. What each program
+answers to `complete` is judged by a run of it, since which events it answers with is free; a second line says how many they are.
 """
 import argparse
 import pathlib
@@ -15,7 +16,8 @@ import tempfile
 import time
 
 BENCH = pathlib.Path(__file__).resolve().parent
-sys.path.insert(0, str(BENCH))
+sys.path[:0] = [str(BENCH), str(BENCH.parent / "tests")]
+import completing  # noqa: E402
 import generate  # noqa: E402
 
 
@@ -128,18 +130,50 @@ def measure_deps(programs, kind, side, agents, acts, folder, rounds):
     report(f"deps {kind} {acts}", measured, [whole_peak_memory(program, words) for program in programs])
 
 
-def measure_run(programs, name, events, mishaps, folder, rounds, version=1):
-    """Measures programs that answer events which bring a dense plan of 1,000 agents to its end, or so many of them."""
+def write_dense_plan(folder, name):
+    """Writes the map and the plan of a crowd of 1,000 agents, and names a file for events. Answers the words, and the plan."""
     map_path, plan_path, events_path = (folder / f"{name}.{kind}" for kind in ("map", "plan", "events"))
     plan = generate.plan_text("crowd", 48, 48, 1, 1_000, 400)
     map_path.write_text(generate.map_text("open", 48, 48, 1))
     plan_path.write_text(plan)
-    events_path.write_text(generate.events_text(plan, 1, events, mishaps, version))
-    words = ["run", str(map_path), str(plan_path), str(events_path)]
+    return ["run", str(map_path), str(plan_path), str(events_path)], plan
+
+
+def measure_run(programs, name, events, mishaps, folder, rounds, version=1):
+    """Measures programs that answer events which bring a dense plan of 1,000 agents to its end, or so many of them."""
+    words, plan = write_dense_plan(folder, name)
+    pathlib.Path(words[-1]).write_text(generate.events_text(plan, 1, events, mishaps, version))
     measured, written = measure(programs, words, folder, rounds)
     if written[0] != written[1]:
         sys.exit(f"the two programs wrote other replies for {name}")
     report(f"run {name} {events}", measured, [whole_peak_memory(program, words) for program in programs])
+
+
+def judge(program, words, plan, answer):
+    """Runs the events that are said to complete a run from its beginning, and ends this program where they don't. How many there are."""
+    header, ends = "mapf-events 1\n", completing.ends_of(plan)
+    replies, events = completing.told(answer.decode(), 0)
+    if events is None:
+        sys.exit(f"no events that complete a run: {answer[:100]!r}")
+    pathlib.Path(words[-1]).write_text(completing.asked_again(header, events, len(ends)))
+    again = subprocess.run([program, *words], capture_output=True, text=True, check=True).stdout
+    fault = completing.fault_in(replies, events, ends, again)
+    if fault:
+        sys.exit(f"the events don't complete the run: {fault}")
+    return len(events)
+
+
+def measure_complete(programs, folder, rounds):
+    """Measures programs that complete a run of a dense plan of 1,000 agents in which nothing has happened."""
+    words, plan = write_dense_plan(folder, "complete")
+    pathlib.Path(words[-1]).write_text("mapf-events 1\n")
+    completing_words = [*words, "--complete"]
+    measured, written = measure(programs, completing_words, folder, rounds)
+    most = [whole_peak_memory(program, completing_words) for program in programs]
+    # each answer is run by our program
+    counts = [judge(programs[0], words, plan, answer) for answer in written]
+    report("complete plain", measured, most)
+    print(f"  events: mapf {counts[0]}, peer {counts[1]}", flush=True)
 
 
 def main():
@@ -148,7 +182,7 @@ def main():
     parser.add_argument("--rounds", type=int, default=9)
     parser.add_argument("--side", type=int, default=2048)
     parser.add_argument("--rows", type=int, default=100_000)
-    parser.add_argument("--only", choices=("map", "scen", "row", "check", "deps", "run"))
+    parser.add_argument("--only", choices=("map", "scen", "row", "check", "deps", "run", "complete"))
     given = parser.parse_args()
     programs = [str(pathlib.Path(given.program).resolve()), str(build_peer())]
     shared = pathlib.Path("/dev/shm")
@@ -181,6 +215,8 @@ def main():
                 measure_run(programs, "plain", events, 0.0, folder, given.rounds)
             measure_run(programs, "mishaps", 100_000, 0.2, folder, given.rounds)
             measure_run(programs, "telling", 100_000, 0.0, folder, given.rounds, version=2)
+        if given.only in (None, "complete"):
+            measure_complete(programs, folder, given.rounds)
 
 
 if __name__ == "__main__":

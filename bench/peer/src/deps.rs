@@ -136,6 +136,10 @@ impl Graph {
         Graph { paths, visits, needs, rotations }
     }
 
+    pub fn has_rotations(&self) -> bool {
+        !self.rotations.is_empty()
+    }
+
     /// The needs of an agent's moves, from the first move on.
     pub fn needs_of(&self, agent: usize) -> &[Need] {
         &self.needs[self.paths.begins[agent] + 1..self.paths.begins[agent + 1]]

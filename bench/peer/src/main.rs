@@ -53,10 +53,8 @@ fn run(words: &[&str]) -> Result<Option<bool>, Fault> {
             deps::tell(open(map)?, open(plan)?, output)?;
             Ok(Some(true))
         }
-        ["run", map, plan, events] => {
-            run::replay(open(map)?, open(plan)?, open(events)?, output)?;
-            Ok(Some(true))
-        }
+        ["run", map, plan, events] => Ok(Some(run::replay(open(map)?, open(plan)?, open(events)?, false, output)?)),
+        ["run", map, plan, events, "--complete"] => Ok(Some(run::replay(open(map)?, open(plan)?, open(events)?, true, output)?)),
         _ => Ok(None),
     }
 }
@@ -68,7 +66,7 @@ fn main() -> ExitCode {
         Ok(Some(true)) => ExitCode::SUCCESS,
         Ok(Some(false)) => ExitCode::from(1),
         Ok(None) => {
-            eprintln!("usage: peer map FILE | peer scen FILE | peer row MAP SCEN N | peer check MAP PLAN | peer deps MAP PLAN");
+            eprintln!("usage: peer map FILE | peer scen FILE | peer row MAP SCEN N | peer check MAP PLAN | peer deps MAP PLAN | peer run MAP PLAN EVENTS [--complete]");
             ExitCode::from(2)
         }
         Err(Fault::Text(text)) => {

@@ -60,6 +60,16 @@ impl Output {
         Ok(())
     }
 
+    /// Takes back what was put and not handed on.
+    pub fn take(&mut self) -> Vec<u8> {
+        std::mem::take(&mut self.text)
+    }
+
+    /// Writes bytes at once, behind what was handed on.
+    pub fn write(&mut self, bytes: &[u8]) -> io::Result<()> {
+        self.file.write_all(bytes)
+    }
+
     pub fn hand_on(&mut self) -> io::Result<()> {
         self.file.write_all(&self.text)?;
         self.text.clear();

@@ -6,6 +6,8 @@ use crate::source::{fault, Fault, Source};
 use std::fs::File;
 use std::io;
 
+mod complete;
+
 const LONGEST_LINE: usize = 64;
 const RECORD: u32 = 10;
 
@@ -372,8 +374,8 @@ fn answer_all(runner: &mut Runner<'_>, events: File) -> Result<(), Fault> {
     Ok(())
 }
 
-/// Answers the events of a file over a map and a plan.
-pub fn replay(map: File, plan: File, events: File, output: impl FnOnce() -> io::Result<File>) -> Result<(), Fault> {
+/// Answers the events of a file over a map and a plan, and perhaps says how the run ends; false where it is blocked.
+pub fn replay(map: File, plan: File, events: File, complete: bool, output: impl FnOnce() -> io::Result<File>) -> Result<bool, Fault> {
     let (width, height, plan) = plan::read_checked(map, plan)?;
     let graph = Graph::of(&plan, width, height);
     let agents = plan.starts.iter().map(|_| Agent { records: 0, heard: Vec::new(), broken: false, armed: None }).collect();
@@ -382,7 +384,11 @@ pub fn replay(map: File, plan: File, events: File, output: impl FnOnce() -> io::
     let file = output().map_err(|_| Fault::Device("WriteFailed"))?;
     let out = Output::new(file);
     let mut runner = Runner { graph: &graph, number, width: width as u32, agents, tells: false, messages: Vec::new(), entries: Vec::new(), out };
-    let answered = answer_all(&mut runner, events);
-    runner.out.hand_on().map_err(|_| Fault::Device("WriteFailed"))?;
-    answered
+    let failed = |_| Fault::Device("WriteFailed");
+    let mut ended = answer_all(&mut runner, events).map(|()| true);
+    if complete && ended.is_ok() {
+        ended = runner.complete().map_err(failed);
+    }
+    runner.out.hand_on().map_err(failed)?;
+    ended
 }
