@@ -1,7 +1,9 @@
-//! Tests of the crate runner: whole runs at both versions, stops at each write, events at random, memory that is refused, and a long line
+//! Tests of the crate runner: whole runs at both versions and how they end, stops at each write, events at random, memory that is refused, and a long line
 //! of agents.
 #![tactic(auto)]
 
+#[cfg(test)]
+mod endings;
 #[cfg(test)]
 mod holdings;
 #[cfg(test)]

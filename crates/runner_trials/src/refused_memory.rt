@@ -5,7 +5,7 @@ use crate::texts::{ONE_BEHIND, ROW, SQUARE, TURNING, plan_text};
 use depgraph::{Graph, OutOfMemory};
 use grid::{Counted, Map, MapFault, read_map};
 use plan::{Plan, PlanFault, PlanTextFault, check, read_plan};
-use runner::{Event, Reply, Runner, Version};
+use runner::{CompleteFault, Event, Reply, Runner, Version};
 use std::alloc::Global;
 use std::process::Abort;
 use std::test::Fail;
@@ -96,7 +96,7 @@ fn answer(
     }
 }
 
-/// The replies to events, one by one and then at once: each is the right one, or memory was refused.
+/// The replies to events, one by one and then at once: each is the right one, or memory was refused, and so is what completes their run.
 fn attempt(
     rt: &impl Abort,
     alloc: Global,
@@ -112,6 +112,9 @@ fn attempt(
         let reply = line(alloc, &answer(rt, &mut runner, &plain, *event)?)?;
         assert_eq!(rt; reply.as_str(), *expected, "after {event:?}");
         plain.step(*event)?;
+    }
+    if let Err(CompleteFault::OutOfMemory) = runner.complete() {
+        return Err(OutOfMemory);
     }
     expect_list(rt, alloc, &graph, version, rows)
 }
