@@ -9,7 +9,7 @@ use Rattle.clap.specs.Takes.{is_given, is_valid, level_passes, walk_passes}
 use Rattle.clap.specs.Walk.{Held, Names, Row, Rule, Text, finished, first_of, has_row, nothing_held, reading_by, rows_after, used, walk, walk_from}
 use Rattle.clap.specs.declared.parser.matches.ValueSource.TheVariants.{CommandLine, DefaultValue}
 use Rattle.clap.proofs.WalkLemmas.{both}
-use Rattle.command_line.specs.Words.{Usage, command_of, named_flag, named_option, required_word}
+use Rattle.command_line.specs.Words.{Usage, command_of, named_cell, named_flag, named_option, required_word}
 use Rattle.command_line.proofs.Filled.{AllFill, AreFilled, Fills, HasValue, either_fills, first_given, new_values_fill, rows_filled, values_fill}
 
 -- ---- a use of an argument, of a row of the wanted word
@@ -19,6 +19,9 @@ word_rule i name = with_index i (filled (required_word name))
 
 abbrev option_rule : ℕ → Text → Rule
 option_rule i name = with_index i (filled (named_option name))
+
+abbrev cell_rule : ℕ → Text → Rule
+cell_rule i name = with_index i (filled (named_cell name))
 
 abbrev flag_rule : ℕ → Text → Rule
 flag_rule i name = with_index i (filled (named_flag name))
@@ -48,6 +51,18 @@ module _ (wanted : Text) where
     is_other = λ unplaced. other;
   }
 
+  cell_used : (i : ℕ) (name : Text) (values : List Text) (rows : List Row) → HasValue wanted name values → AreFilled wanted rows
+      → AreFilled wanted (used (cell_rule i name) values rows)
+  cell_used i name [] rows some all = new_values_fill wanted name _ CommandLine [] rows some all
+  cell_used i name (v ∷ vs) rows some all = new_values_fill wanted name _ CommandLine (v ∷ vs) rows some all
+
+  cell_fills : (i : ℕ) (name : Text) → bytes_eq name wanted ≡ false → Fills wanted (cell_rule i name)
+  cell_fills i name other = record {
+    use_fills = cell_used i name;
+    default_fills = λ rows all. either_fills wanted (has_row name rows) rows rows all all;
+    is_other = λ unplaced. other;
+  }
+
   flag_used : (i : ℕ) (name : Text) (values : List Text) (rows : List Row) → HasValue wanted name values → AreFilled wanted rows
       → AreFilled wanted (used (flag_rule i name) values rows)
   flag_used i name [] rows some all = new_values_fill wanted name _ CommandLine (codes "true" ∷ []) rows (λ same. search rules) all
@@ -68,7 +83,7 @@ module _ (wanted : Text) where
     is_other = λ unplaced. other;
   }
 
-  -- ---- the arguments of a command: its words, its options, its flags, and the flag for help
+  -- ---- the arguments of a command: its words, its options, those that take a cell, its flags, and the flag for help
 
   -- each of the names is another than the wanted word
   abbrev AreOthers : List Text → Type 0
@@ -79,18 +94,23 @@ module _ (wanted : Text) where
   flags_fill i [] others help = (help_fills i help, tt)
   flags_fill i (flag ∷ flags) others help = (flag_fills i flag others.0, flags_fill i flags others.1 help)
 
-  options_fill : (i : ℕ) (options flags : List Text) → AreOthers options → AreOthers flags → bytes_eq (codes "help") wanted ≡ false
-      → AllFill wanted (filled_from i ((map named_option options ++ map named_flag flags) ++ help_rule ∷ []))
-  options_fill i [] flags others more help = flags_fill i flags more help
-  options_fill i (name ∷ options) flags others more help = (option_fills i name others.0, options_fill i options flags others.1 more help)
+  cells_fill : (i : ℕ) (cells flags : List Text) → AreOthers cells → AreOthers flags → bytes_eq (codes "help") wanted ≡ false
+      → AllFill wanted (filled_from i ((map named_cell cells ++ map named_flag flags) ++ help_rule ∷ []))
+  cells_fill i [] flags others more help = flags_fill i flags more help
+  cells_fill i (name ∷ cells) flags others more help = (cell_fills i name others.0, cells_fill i cells flags others.1 more help)
+
+  options_fill : (i : ℕ) (options cells flags : List Text) → AreOthers options → AreOthers cells → AreOthers flags → bytes_eq (codes "help") wanted ≡ false
+      → AllFill wanted (filled_from i ((map named_option options ++ (map named_cell cells ++ map named_flag flags)) ++ help_rule ∷ []))
+  options_fill i [] cells flags others more rest help = cells_fill i cells flags more rest help
+  options_fill i (name ∷ options) cells flags others more rest help = (option_fills i name others.0, options_fill i options cells flags others.1 more rest help)
 
   -- no option or flag of the command has the name of the wanted word
   abbrev IsApart : Usage → Type 0
-  IsApart u = AreOthers u.options × AreOthers u.flags × (bytes_eq (codes "help") wanted ≡ false)
+  IsApart u = AreOthers u.options × AreOthers u.cells × AreOthers u.flags × (bytes_eq (codes "help") wanted ≡ false)
 
   words_fill : (u : Usage) (i : ℕ) (names : List Text) → IsApart u
-      → AllFill wanted (filled_from i ((map required_word names ++ (map named_option u.options ++ map named_flag u.flags)) ++ help_rule ∷ []))
-  words_fill u i [] apart = options_fill i u.options u.flags apart.0 apart.1 apart.2
+      → AllFill wanted (filled_from i ((map required_word names ++ (map named_option u.options ++ (map named_cell u.cells ++ map named_flag u.flags))) ++ help_rule ∷ []))
+  words_fill u i [] apart = options_fill i u.options u.cells u.flags apart.0 apart.1 apart.2 apart.3
   words_fill u i (name ∷ names) apart = (word_fills i name, words_fill u (min (i + 1) usize_max) names apart)
 
 abbrev command_shape : Usage → Shape
@@ -133,4 +153,4 @@ command_given u words apart passes =
     let shape = command_shape u in
     let rows = rows_after shape.rules [] words in
     let valid : is_valid shape rows false ≡ true = (level_parts shape [] nothing_held words false passes).1 in
-    all_given 1 u.required (map named_option u.options ++ map named_flag u.flags) rows (all_filled u words u.required apart) (valid_parts shape rows false valid).1
+    all_given 1 u.required (map named_option u.options ++ (map named_cell u.cells ++ map named_flag u.flags)) rows (all_filled u words u.required apart) (valid_parts shape rows false valid).1

@@ -1,9 +1,10 @@
 -- The command line of `mapf`, in the words of clap.
-use Rattle.std.specs.Prelude.{◌≡◌, ◌↔◌, ℕ, ◌^◌, ◌<◌, ◌⊎◌, true, List, [], ◌∷◌, ◌++◌, map, option_map, fold, codes, Some, String, string_bytes}
+use Rattle.std.specs.Prelude.{◌≡◌, ◌↔◌, ℕ, ◌^◌, ◌<◌, ◌⊎◌, true, List, [], ◌∷◌, ◌++◌, map, option_map, fold, codes, Option, None, Some, String, string_bytes}
 use Rattle.std.specs.Global.{Global}
+use Rattle.grid.specs.declared.cell.Cell.{Cell}
 use Rattle.grid.specs.Text.{SpellsNumber}
 use Rattle.clap.specs.Kinds.{IsAmong}
-use Rattle.clap.specs.Words.{App, fault_of, Row, Rule, Text, first_of, new_app, new_rule, one_of, subcommand_of, with_subcommand}
+use Rattle.clap.specs.Words.{App, fault_of, Row, Rule, Text, all_of, first_of, new_app, new_rule, one_of, subcommand_of, with_subcommand}
 use Rattle.clap.specs.declared.builder.action.ArgAction.TheVariants.{SetTrue}
 use Rattle.clap.specs.declared.error.kind.ErrorKind.{ErrorKind}
 use Rattle.clap.specs.declared.error.kind.ErrorKind.TheVariants as kind
@@ -23,16 +24,18 @@ ComesTo _ fault = (text : String Global) × (fault ≡ BadCommand text)
 abbrev pub SaysBad : Text → LineFault → Type 0
 SaysBad said fault = (fault ≡ OutOfMemory) ⊎ ((text : String Global) × (fault ≡ BadCommand text) × (string_bytes text ≡ said))
 
--- a command: its name, the names of the words that it requires, and the long names of its options, which take one value, and of its flags
+-- a command: its name, the names of the words that it requires, and the long names of its options, which take one value, of those that
+-- take the two numbers of a cell, and of its flags
 pub record Usage : Type 0 where
   pub name : Text
   pub required : List Text
   pub options : List Text
+  pub cells : List Text
   pub flags : List Text
 
 -- the command with this name that takes a file
 abbrev pub file_command : Text → Usage
-file_command name = record { name = name; required = codes "file" ∷ []; options = []; flags = [] }
+file_command name = record { name = name; required = codes "file" ∷ []; options = []; cells = []; flags = [] }
 
 abbrev pub map_command : Usage
 map_command = file_command (codes "map")
@@ -45,6 +48,7 @@ row_command = record {
   name = codes "row";
   required = codes "map" ∷ codes "scen" ∷ codes "row" ∷ [];
   options = [];
+  cells = [];
   flags = [];
 }
 
@@ -53,6 +57,7 @@ check_command = record {
   name = codes "check";
   required = codes "map" ∷ codes "plan" ∷ [];
   options = codes "scen" ∷ [];
+  cells = [];
   flags = codes "json" ∷ [];
 }
 
@@ -61,6 +66,7 @@ deps_command = record {
   name = codes "deps";
   required = codes "map" ∷ codes "plan" ∷ [];
   options = [];
+  cells = codes "cell" ∷ [];
   flags = [];
 }
 
@@ -69,6 +75,7 @@ run_command = record {
   name = codes "run";
   required = codes "map" ∷ codes "plan" ∷ codes "events" ∷ [];
   options = [];
+  cells = [];
   flags = codes "complete" ∷ [];
 }
 
@@ -77,6 +84,7 @@ agent_command = record {
   name = codes "agent";
   required = codes "map" ∷ codes "plan" ∷ codes "id" ∷ codes "tape" ∷ [];
   options = [];
+  cells = [];
   flags = [];
 }
 
@@ -92,13 +100,17 @@ required_word name = record (new_rule name) { required = true }
 abbrev pub named_option : Text → Rule
 named_option name = record (new_rule name) { long = Some name }
 
+-- an option that takes a cell: `--name X Y`
+abbrev pub named_cell : Text → Rule
+named_cell name = record (named_option name) { range = Some (record { start_inclusive = 2; end_inclusive = 2 }); value_names = 2 }
+
 -- a flag: `--name`
 abbrev pub named_flag : Text → Rule
 named_flag name = record (named_option name) { action = Some SetTrue }
 
 -- the arguments of a command
 abbrev pub rules_of_usage : Usage → List Rule
-rules_of_usage u = map required_word u.required ++ (map named_option u.options ++ map named_flag u.flags)
+rules_of_usage u = map required_word u.required ++ (map named_option u.options ++ (map named_cell u.cells ++ map named_flag u.flags))
 
 -- a command as clap takes it
 abbrev pub command_of : Usage → App
@@ -120,10 +132,26 @@ GivesNumber word rows n = (digits : Text) × (first_of word rows ≡ Some digits
 abbrev pub GivesNumberBelow : ℕ → Text → List Row → Type 0
 GivesNumberBelow limit word rows = (n : ℕ) × (n < limit) × GivesNumber word rows n
 
--- the number that the command with this name wants, if it wants one, is spelled: that of a row below 2^32, that of an agent below 2^16
+-- the values are two, digits alone, and spell the column and the row of the cell
+abbrev pub SpellsCell : Cell → List Text → Type 0
+SpellsCell cell values = (x : Text) × (y : Text) × (values ≡ x ∷ y ∷ []) × SpellsNumber cell.x x × SpellsNumber cell.y y
+
+-- the rows give this option a cell, or it is left out
+abbrev pub MayGiveCell : Text → List Row → Option Cell → Type 0
+MayGiveCell option rows None = all_of option rows ≡ None
+MayGiveCell option rows (Some cell) = (values : List Text) × (all_of option rows ≡ Some values) × SpellsCell cell values
+
+-- where the rows give this option values, they spell a cell, whose numbers are below 2^16
+abbrev pub GivesCells : Text → List Row → Type 0
+GivesCells option rows =
+    (values : List Text) → all_of option rows ≡ Some values → (cell : Cell) × (cell.x < 2 ^ 16) × (cell.y < 2 ^ 16) × SpellsCell cell values
+
+-- the numbers that the command with this name wants, if it wants some, are spelled: that of a row below 2^32, that of an agent below 2^16,
+-- and those of a cell where one is given
 abbrev pub HasNumbers : Text → List Row → Type 0
 HasNumbers name rows =
     (name ≡ codes "row" → GivesNumberBelow (2 ^ 32) (codes "row") rows) × (name ≡ codes "agent" → GivesNumberBelow (2 ^ 16) (codes "id") rows)
+    × (name ≡ codes "deps" → GivesCells (codes "cell") rows)
 
 -- the same of the words of the command line
 abbrev pub GiveNumbers : List Text → Type 0
@@ -144,9 +172,9 @@ IsCommand name rows (Check map_file plan_file scen_file json) =
     (name ≡ codes "check") × (first_of (codes "map") rows ≡ Some (string_bytes map_file))
     × (first_of (codes "plan") rows ≡ Some (string_bytes plan_file)) × (first_of (codes "scen") rows ≡ option_map string_bytes scen_file)
     × (json ≡ true ↔ IsFlagGiven (codes "json") rows)
-IsCommand name rows (Deps map_file plan_file) =
+IsCommand name rows (Deps map_file plan_file cell) =
     (name ≡ codes "deps") × (first_of (codes "map") rows ≡ Some (string_bytes map_file))
-    × (first_of (codes "plan") rows ≡ Some (string_bytes plan_file))
+    × (first_of (codes "plan") rows ≡ Some (string_bytes plan_file)) × MayGiveCell (codes "cell") rows cell
 IsCommand name rows (Run map_file plan_file events_file complete) =
     (name ≡ codes "run") × (first_of (codes "map") rows ≡ Some (string_bytes map_file))
     × (first_of (codes "plan") rows ≡ Some (string_bytes plan_file)) × (first_of (codes "events") rows ≡ Some (string_bytes events_file))

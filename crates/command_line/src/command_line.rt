@@ -5,6 +5,7 @@ ghost use Rattle.command_line.specs.Words.{ComesTo, SaysBad};
 ghost use Rattle.command_line.specs.declared.command_line.LineFault.TheVariants.{OutOfMemory as out_of_memory};
 
 use clap::error::{Error as ClapError, ErrorKind};
+use grid::Cell;
 use std::alloc::{AllocError, Global};
 use thiserror::Error;
 
@@ -32,10 +33,11 @@ pub enum Line {
         scen: Option<String>,
         json: bool,
     },
-    /// Says which moves of a plan wait for which.
+    /// Says which moves of a plan wait for which, or, of a cell, who comes into it.
     Deps {
         map: String,
         plan: String,
+        cell: Option<Cell>,
     },
     /// Runs a plan on the events of a text; `complete` asks for how the run ends too.
     Run {

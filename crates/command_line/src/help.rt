@@ -6,11 +6,13 @@ pub(crate) enum Word<'a> {
     Required(&'a str, &'a str),
     /// Takes a value, as `--name VALUE`.
     Named(&'a str, &'a str),
+    /// Takes the column and the row of a cell, as `--name X Y`.
+    Cell(&'a str, &'a str),
     /// Is there or not, as `--name`.
     Flag(&'a str, &'a str),
 }
 
-use Word::{Flag, Named, Required};
+use Word::{Cell, Flag, Named, Required};
 
 /// A command with its words. `about` is one line, and `after_help` stands below the words.
 pub(crate) struct CommandText<'a> {
@@ -129,6 +131,8 @@ Standard output:
                         moves; a line for each move that waits
   rotation S I J ..     in step S these agents turn round in a circle; a line
                         for each such circle
+With --cell instead a line for each visit to the cell, as their times rise:
+  visit I K T           agent I comes into it at time T, as cell K of its path
 
 Status:
   0  the lines are written
@@ -141,6 +145,7 @@ Example:
     words: &[
         Required("map", "The file of the map"),
         Required("plan", "The file of the plan"),
+        Cell("cell", "Writes who comes into this cell, and when"),
     ],
 };
 
@@ -226,6 +231,15 @@ pub(crate) const AGENT_ID: NumberText = NumberText {
     wanted: "the number of an agent, from 0 to 65535, is wanted",
     usage: "mapf agent <map> <plan> <id> <tape>",
 };
+
+/// What is said of words that are no cell.
+pub(crate) const NO_CELL: &str =
+    "error: invalid value for '--cell <X> <Y>': two numbers from 0 to 65535 are wanted, in digits alone
+
+Usage: mapf deps [OPTIONS] <map> <plan>
+
+For more information, try '--help'.
+";
 
 /// For words that `clap` takes and that are no command: there are none.
 pub(crate) const NO_COMMAND: &str =

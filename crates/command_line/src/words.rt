@@ -3,14 +3,16 @@ ghost use Rattle.std.specs.Prelude.{◌≡◌, ◌↔◌, ℕ, ◌^◌, ◌<◌,
 ghost use Rattle.std.specs.Char.{is_ascii_digit};
 ghost use Rattle.std.specs.List.{list_all};
 ghost use Rattle.clap.specs.Words.{app_of, with_subcommand, first_of, found_of, rows_of, rule_of, takes, fault_of};
+ghost use Rattle.grid.specs.declared.cell.Cell.{Cell};
 ghost use Rattle.grid.specs.Text.{SpellsNumber};
-ghost use Rattle.command_line.specs.Words.{program_app, IsFlagGiven, HasNumbers, GivesNumber, GivesNumberBelow, GiveNumbers, IsCommand, IsLineOf, IsFaultOf};
+ghost use Rattle.command_line.specs.Words.{program_app, IsFlagGiven, HasNumbers, GivesNumber, GivesNumberBelow, GiveNumbers, SpellsCell, MayGiveCell, GivesCells, IsCommand, IsLineOf, IsFaultOf};
 ghost use Rattle.command_line.specs.Code.Parts.{HasWords, IsRefusal, rule_of_word, shape_of_text};
 
 use crate::command_line::refused;
 use crate::help::{self, CommandText, NumberText, Word};
 use crate::{Line, LineFault};
 use clap::{Arg, ArgAction, ArgMatches, Command};
+use grid::Cell;
 use std::alloc::{AllocError, Global};
 
 /// Reads the words of the command line, the program's name first.
@@ -75,6 +77,11 @@ fn argument<'a>(alloc: Global, word: &Word<'a>) -> Arg<'a>
     match *word {
         Word::Required(name, text) => Arg::new(alloc, name).required(true).help(text),
         Word::Named(name, text) => Arg::new(alloc, name).long(name).help(text),
+        Word::Cell(name, text) => Arg::new(alloc, name)
+            .long(name)
+            .num_args(2)
+            .value_names(&["X", "Y"])
+            .help(text),
         Word::Flag(name, text) => Arg::new(alloc, name)
             .long(name)
             .action(ArgAction::SetTrue)
@@ -102,10 +109,7 @@ fn read_command(alloc: Global, name: &str, given: &ArgMatches<'_>) -> Result<Lin
             row: row_number(alloc, given)?,
         }),
         "check" => read_check(alloc, given),
-        "deps" => Ok(Line::Deps {
-            map: word(alloc, given, "map")?,
-            plan: word(alloc, given, "plan")?,
-        }),
+        "deps" => read_deps(alloc, given),
         "run" => read_run(alloc, given),
         "agent" => read_agent(alloc, given),
         _ => Err(no_command(alloc)),
@@ -123,6 +127,20 @@ fn read_check(alloc: Global, given: &ArgMatches<'_>) -> Result<Line, LineFault>
         plan: word(alloc, given, "plan")?,
         scen: optional_word(alloc, given, "scen")?,
         json: has_flag(given, "json"),
+    })
+}
+
+/// Reads `deps` by the words that it was given.
+fn read_deps(alloc: Global, given: &ArgMatches<'_>) -> Result<Line, LineFault>
+    ensures ok { IfOk result (IsCommand (codes "deps") (rows_of (found_of given.now))) }
+    ensures err { IfErr result (λ e. HasWords (codes "deps") (rows_of (found_of given.now)) → HasNumbers (codes "deps") (rows_of (found_of given.now))
+        → e ≡ LineFault.OutOfMemory) }
+    ensures refusal { IfErr result IsRefusal }
+{
+    Ok(Line::Deps {
+        map: word(alloc, given, "map")?,
+        plan: word(alloc, given, "plan")?,
+        cell: optional_cell(alloc, given)?,
     })
 }
 
@@ -179,6 +197,35 @@ fn agent_id(alloc: Global, given: &ArgMatches<'_>) -> Result<u16, LineFault>
     }
 }
 
+/// The cell that was given, if one was.
+fn optional_cell(alloc: Global, given: &ArgMatches<'_>) -> Result<Option<Cell>, LineFault>
+    ensures ok { IfOk result (MayGiveCell (codes "cell") (rows_of (found_of given.now))) }
+    ensures none { OnErr result (GivesCells (codes "cell") (rows_of (found_of given.now)) → ⊥) }
+    ensures err { IfErr result IsRefusal }
+{
+    let Some(values) = given.get_strs("cell") else {
+        return Ok(None);
+    };
+    match cell_of(values) {
+        Some(cell) => Ok(Some(cell)),
+        None => Err(LineFault::bad_command(alloc, help::NO_CELL)),
+    }
+}
+
+/// The cell whose column and row are spelled, if there are two such values.
+fn cell_of(values: &[&str]) -> Option<Cell>
+    ensures { MatchOption result ((cell : Cell) → cell.x < 2 ^ 16 → cell.y < 2 ^ 16 → SpellsCell cell (map (λ v. v.now) values.now) → ⊥)
+        (λ cell. SpellsCell cell (map (λ v. v.now) values.now)) }
+{
+    match values {
+        [x, y] => Some(Cell {
+            x: spelled_short(x)?,
+            y: spelled_short(y)?,
+        }),
+        _ => None,
+    }
+}
+
 /// Says that the word that was given is no number of the kind that is wanted.
 fn no_number(alloc: Global, given: &ArgMatches<'_>, name: &str, text: &NumberText) -> LineFault
     ensures { IsRefusal result }
@@ -226,6 +273,13 @@ fn spelled(digits: &str) -> Option<u32>
     } else {
         None
     }
+}
+
+/// The same of a number below 2^16.
+fn spelled_short(digits: &str) -> Option<u16>
+    ensures { MatchOption result ((n : ℕ) → n < 2 ^ 16 → SpellsNumber n digits.now → ⊥) (λ n. SpellsNumber n digits.now) }
+{
+    u16::try_from(spelled(digits)?).ok()
 }
 
 fn are_digits(text: &str) -> bool

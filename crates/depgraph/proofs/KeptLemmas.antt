@@ -1,18 +1,18 @@
 -- What a graph keeps tells its timetable, its routes and its visits.
-use Rattle.std.proofs.Common.{◌≡◌, ℕ, suc, ◌+◌, ◌-◌, ◌^◌, ◌<◌, ◌≤◌, List, length, get_or, map, take, drop, Some, None, inl, inr, arith, refl, sym, ap, subst, ◌∙◌}
-use Rattle.std.specs.Prelude.{◌⊎◌, Option, ◌==◌, slice_get}
+use Rattle.std.proofs.Common.{◌≡◌, ℕ, suc, ◌+◌, ◌-◌, ◌^◌, ◌<◌, ◌≤◌, List, length, get_or, map, take, Some, None, inl, inr, arith, refl, sym, ap, subst, ◌∙◌}
+use Rattle.std.specs.Prelude.{◌⊎◌, Option, ◌==◌, option_map, slice_get}
 use Rattle.std.specs.List.{range_with_len}
 use Rattle.std.proofs.lemmas.Bool.{cases_lt, cases_Bool, cond-true, cond-false, eq-eqb, ne_eqb}
 use Rattle.std.proofs.lemmas.List.{length-map}
 use Rattle.std.proofs.lemmas.List.FromFn.{get_or-map-range_with_len, length-map-range_with_len}
-use Rattle.std.proofs.lemmas.Option.{slice_get-get_or, slice_get_past}
+use Rattle.std.proofs.lemmas.Option.{slice_get-get_or, slice_get-map, slice_get_past, slice_get_within, get_or_from_slice_get, same_Some}
 use Rattle.grid.specs.declared.cell.Cell.{Cell}
 use Rattle.model.specs.declared.visit.Visit.{Visit}
 use Rattle.model.specs.Dependency.{need}
 use Rattle.model.specs.Timetable.{Track, Timetable, cell_at, moves, path, step_of, track_of}
 use Rattle.model.proofs.TrackLemmas.{length-path}
 use Rattle.depgraph.specs.Routes.{IsRouteOf, asked_by}
-use Rattle.depgraph.specs.Visits.{Visited, AreAllVisits}
+use Rattle.depgraph.specs.Visits.{IsVisitTo, AreVisitsTo, Visited, AreAllVisits}
 use Rattle.depgraph.specs.declared.waiting.Wait.{Wait}
 use Rattle.depgraph.specs.Code.Entries.{begin_in, IsEntry, arrival_time}
 use Rattle.depgraph.specs.Code.Keeping.{IsKept, route_by, route_in, need_of, asked_of}
@@ -23,10 +23,10 @@ use Rattle.depgraph.specs.Code.Placing.{part_of, visited, listing}
 use Rattle.depgraph.specs.Code.Ranks.{tally, below, rank}
 use Rattle.depgraph.specs.Code.Schedules.{entry_in}
 use Rattle.depgraph.specs.Code.Waits.{no_visit, no_wait, entry_for, wait_of, before_at}
-use Rattle.depgraph.proofs.BlockLemmas.{name-of, listing-get, number-within, part-visit, begin-below, end-below, part-within, at-cell, visit-at_rank, all_visits}
+use Rattle.depgraph.proofs.BlockLemmas.{name-of, listing-get, number-within, begin-below, end-below, part-within, visit-at_rank, all_visits}
 use Rattle.depgraph.proofs.PositionLemmas.{visit_at, cell_of}
 use Rattle.depgraph.proofs.NoteLemmas.{later-is}
-use Rattle.depgraph.proofs.RankLemmas.{occurrences_rise, occurs, occurrence-rank, rank-is, rank-least, rank-most, ranked, tally-within, below-all}
+use Rattle.depgraph.proofs.RankLemmas.{occurrences_rise, occurs, occurrence-rank, rank-is, rank-least, rank-most, tally-within}
 use Rattle.depgraph.proofs.ScheduleLemmas.{same_count, begin_most, position}
 use Rattle.depgraph.proofs.PathLemmas.{no_track}
 use Rattle.depgraph.proofs.VisitLemmas.{begin_is, end_is, IsArrival, arrives, arrival-cell, entry_own, entry_track, entry_at, entry-one, entry-within}
@@ -256,25 +256,6 @@ module _ (tt : Timetable) (cells : List Cell) (times ends : List ℕ) (needs : L
       let all = same_count tt.tracks (all_entered tt.tracks) (all_times tt.tracks) ends h.line.paths in
       (omega (arith, within, same), omega (arith, within, timed, all), omega (arith, within, noted_all, count, scheduled, all))
 
-  -- each visit is one of the entries
-  pub visit_inside : (n : ℕ) → n < length visits → ((get_or visits n no_visit).agent < length ends)
-      × (begin_in ends (get_or visits n no_visit).agent + (get_or visits n no_visit).index < length cells) × ((get_or visits n no_visit).index < 2 ^ 16)
-  visit_inside n less =
-      let all = h.placing.all in
-      let count = h.placing.visit_count in
-      let whole = below-all h.placing.listed (length h.placing.names) h.placing.numbered.known in
-      let found = ranked h.placing.listed (length h.placing.names) n (omega (arith, less, count, all, whole)) in
-      let p = found.0 in
-      let inside = found.1 in
-      let in_p : p < length h.arrivals = omega (arith, inside, all) in
-      let is = sym (ap (λ k. get_or visits k no_visit) found.2) ∙ rank-visit p in_p in
-      let entry = h.line.schedule.entries p in_p in
-      let within = entry_inside (arrives_at p).agent (arrives_at p).index (entry_in ends h.arrivals p) entry in (
-        subst (λ v. v.agent < length ends) (sym is) entry.is_agent,
-        subst (λ v. begin_in ends v.agent + v.index < length cells) (sym is) within.0,
-        subst (λ v. v.index < 2 ^ 16) (sym is) (h.line.few.own (arrives_at p).agent (arrives_at p).index (entry_in ends h.arrivals p) entry),
-      )
-
   -- ---- the agents
 
   pub ends_count : length ends ≡ length tt.tracks
@@ -310,28 +291,19 @@ module _ (tt : Timetable) (cells : List Cell) (times ends : List ℕ) (needs : L
 
   -- ---- the visits
 
-  -- the part of a visited cell, and its first visit
-  pub kept_part : (n : ℕ) → n < length visit_ends → (begin_in visit_ends n < get_or visit_ends n 0) × (get_or visit_ends n 0 ≤ length visits)
-      × (get_or h.placing.names n no_cell ≡ get_or cells (begin_in ends (get_or visits (begin_in visit_ends n) no_visit).agent + (get_or visits (begin_in visit_ends n) no_visit).index) no_cell)
+  -- the visits of a cell stand between two places
+  kept_part : (n : ℕ) → n < length visit_ends → (begin_in visit_ends n < get_or visit_ends n 0) × (get_or visit_ends n 0 ≤ length visits)
   kept_part n less =
       let held = h.placing.end_count in
       let within : n < length h.placing.names = omega (arith, less, held) in
       let listed = h.placing.listed in
       let found = h.placing.numbered.occurs n within in
       let some = tally-within listed found.0 n found.1 found.2 in
-      let first = part-visit tt.number tt.tracks ends h.arrivals h.step_ends h.line visits visit_ends h.placing n 0 within (omega (arith, some)) in
-      let q = first.0 in
       let begin = begin-below tt.number tt.tracks ends h.arrivals h.step_ends h.line visits visit_ends h.placing n within in
       let end = end-below tt.number tt.tracks ends h.arrivals h.step_ends h.line visits visit_ends h.placing n within in
       let next : below listed (suc n) ≡ below listed n + tally listed n = refl in
       let most = part-within tt.number tt.tracks ends h.arrivals h.step_ends h.line visits visit_ends h.placing n within in
-      let place = occurrence-rank listed n 0 q first.1 in
-      let is : get_or visits (begin_in visit_ends n) no_visit ≡ arrives_at q = ap (λ k. get_or visits k no_visit) (omega (arith, begin, place)) ∙ rank-visit q first.2 in (
-        omega (arith, begin, end, next, some),
-        omega (arith, end, most),
-        sym (at-cell tt.number tt.tracks ends h.arrivals h.step_ends h.line visits visit_ends h.placing n 0 q first.2 first.1) ∙ sym (visit_cell q first.2)
-            ∙ ap (λ v. get_or cells (begin_in ends v.agent + v.index) no_cell) (sym is),
-      )
+      (omega (arith, begin, end, next, some), omega (arith, end, most))
 
   module _ (order : List ℕ) (first : IsOrder h.placing.listed order) where
     abbrev pub visited_cells : List Visited
@@ -352,52 +324,42 @@ module _ (tt : Timetable) (cells : List Cell) (times ends : List ℕ) (needs : L
         let limit = h.line.few.all in
         omega (arith, few, all, scheduled, times, limit)
 
-    -- the number of a cell in the order is one
-    pub kept_number : (m : ℕ) → m < length order → get_or order m 0 < length visit_ends
-    kept_number m less =
+    -- Each number in the order is that of a cell, whose visits stand between two places.
+    pub record IsNumber (m n : ℕ) : Type 0 where
+      pub known : n < length visit_ends
+      pub begin : begin_in visit_ends n ≤ get_or visit_ends n 0
+      pub within : get_or visit_ends n 0 ≤ length visits
+      pub listed : slice_get visited_cells m ≡ Some (record { cell = get_or h.placing.names n no_cell; visits = part_of visit_ends visits n })
+
+    pub kept_number : (m n : ℕ) → slice_get order m ≡ Some n → IsNumber m n
+    kept_number m n at =
+        let less = slice_get_within order m n at in
         let found = first.sound m less in
         let known = h.placing.numbered.known found.0 found.1 in
-        let is = found.2 in
+        let is = found.2 ∙ get_or_from_slice_get order m n 0 at in
         let held = h.placing.end_count in
-        omega (arith, known, is, held)
+        let within : n < length visit_ends = omega (arith, known, is, held) in
+        let part = kept_part n within in
+        let some = part.0 in
+        record { known = within; begin = omega (arith, some); within = part.1; listed = listing-get order h.placing.names visit_ends visits m n at }
 
-    -- The visits of the cell at a place of the order stand between two places.
-    pub record IsBlock (m begin end : ℕ) : Type 0 where
-      pub some : begin < end
-      pub most : end ≤ length visits
-      pub few : begin < 2 ^ 32
-      pub agent : (get_or visits begin no_visit).agent < length ends
-      pub entry : begin_in ends (get_or visits begin no_visit).agent + (get_or visits begin no_visit).index < length cells
-      pub listed : slice_get visited_cells m
-          ≡ Some (record {
-            cell = get_or cells (begin_in ends (get_or visits begin no_visit).agent + (get_or visits begin no_visit).index) no_cell;
-            visits = take (end - begin) (drop begin visits);
-          })
+    pub past_visits : (m : ℕ) → slice_get order m ≡ None → slice_get visited_cells m ≡ None
+    past_visits m none = slice_get-map (visited h.placing.names visit_ends visits) order m ∙ ap (option_map (visited h.placing.names visit_ends visits)) none
 
-    pub kept_block : (m n begin end : ℕ) → m < length order → n ≡ get_or order m 0 → begin ≡ begin_in visit_ends n → end ≡ get_or visit_ends n 0 → IsBlock m begin end
-    kept_block m n begin end less is begins ends_at =
-        subst (λ k. IsBlock m k end) (sym (begins ∙ ap (begin_in visit_ends) is)) (subst (IsBlock m (begin_in visit_ends (get_or order m 0))) (sym (ends_at ∙ ap (λ k. get_or visit_ends k 0) is)) own) where
-          own : IsBlock m (begin_in visit_ends (get_or order m 0)) (get_or visit_ends (get_or order m 0) 0)
-          own =
-              let part = kept_part (get_or order m 0) (kept_number m less) in
-              let some = part.0 in
-              let most = part.1 in
-              let first_visit = visit_inside (begin_in visit_ends (get_or order m 0)) (omega (arith, some, most)) in
-              record {
-                some = part.0;
-                most = part.1;
-                few = (
-                    let count = h.placing.visit_count in
-                    let scheduled = h.line.schedule.count in
-                    let times = same_count tt.tracks (all_entered tt.tracks) (all_times tt.tracks) ends h.line.paths in
-                    let limit = h.line.few.all in
-                    omega (arith, some, most, count, scheduled, times, limit)
-                    );
-                agent = first_visit.0;
-                entry = first_visit.1;
-                listed = listing-get order h.placing.names visit_ends visits m (get_or order m 0) (slice_get-get_or order m 0 less)
-                    ∙ ap (λ x. Some (record { cell = x; visits = part_of visit_ends visits (get_or order m 0) })) part.2;
-              }
+    -- ---- the visits of one cell
 
-    pub past_visits : (m : ℕ) → length order ≤ m → slice_get visited_cells m ≡ None
-    past_visits m past = (let count = kept_count in slice_get_past visited_cells m (omega (arith, past, count)))
+    pub visits_of_cell : (m n : ℕ) (c : Cell) → slice_get order m ≡ Some n → get_or h.placing.names n no_cell ≡ c → AreVisitsTo tt c (part_of visit_ends visits n)
+    visits_of_cell m n c at is =
+        subst (λ x. AreVisitsTo tt x (part_of visit_ends visits n)) is
+        (kept_visits.sound m (visited h.placing.names visit_ends visits n) (listing-get order h.placing.names visit_ends visits m n at))
+
+    -- no visit leads to a cell that has no number in the order
+    pub not_visited : (c : Cell) → ((m n : ℕ) → slice_get order m ≡ Some n → get_or h.placing.names n no_cell ≡ c → ⊥) → (v : Visit) → IsVisitTo tt c v → ⊥
+    not_visited c none v is =
+        let found = kept_visits.whole c v is in
+        let inside = slice_get_within visited_cells found.0 found.1 found.2 in
+        let count = kept_count in
+        let at = slice_get-get_or order found.0 0 (omega (arith, inside, count)) in
+        let listed = listing-get order h.placing.names visit_ends visits found.0 (get_or order found.0 0) at in
+        let same = same_Some (visited h.placing.names visit_ends visits (get_or order found.0 0)) found.1 (sym listed ∙ found.2) in
+        none found.0 (get_or order found.0 0) at (ap (λ x. x.cell) same ∙ found.3)

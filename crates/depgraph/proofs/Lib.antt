@@ -10,6 +10,7 @@ pub mod NumberLemmas
 pub mod TileLemmas
 pub mod NumberingLemmas
 pub mod OrderLemmas
+pub mod CellLemmas
 pub mod PartLemmas
 pub mod SortedLemmas
 pub mod PlacingLemmas

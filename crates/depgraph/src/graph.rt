@@ -4,18 +4,19 @@ ghost use Rattle.model.specs.Timetable.{moves, track_of};
 ghost use Rattle.depgraph.specs.Graphs.{IsGraphed};
 ghost use Rattle.depgraph.specs.Rotations.{AreRotations, turns_of};
 ghost use Rattle.depgraph.specs.Routes.{IsRouteOf, need_at};
-ghost use Rattle.depgraph.specs.Visits.{Visited, AreAllVisits};
+ghost use Rattle.depgraph.specs.Visits.{Visited, IsVisitTo, AreVisitsTo, AreAllVisits};
 ghost use Rattle.depgraph.specs.Code.Keeping.{route_in};
 
 use crate::entries::{begin_in, entry_at};
 use crate::numbering::cell_at;
-use crate::order::order_of;
+use crate::order::{numbered_cells, order_of};
 use crate::out_of_memory::OutOfMemory;
 use crate::paths::{Paths, paths_of};
-use crate::placing::{Placed, bounds_in, place_visits};
+use crate::placing::{Placed, place_visits, visits_of};
 use crate::rotations::find_rotations;
 use crate::waiting::{Wait, waits_of};
 use grid::Cell;
+use indexmap::IndexMap;
 use model::{Rotation, Visit};
 use plan::CheckedPlan;
 use std::alloc::Global;
@@ -37,8 +38,8 @@ pub struct Graph {
     visits: Vec<Visit>,
     /// The visits of each cell stand together. Where those of the cell with each number end.
     visit_ends: Vec<u32>,
-    /// The numbers of the cells, in order of first visit.
-    order: Vec<u32>,
+    /// The number of each visited cell, in order of first visit.
+    cells: IndexMap<Cell, u32>,
     rotations: Vec<Rotation>,
 }
 
@@ -47,7 +48,7 @@ impl Model for Graph {
     ghost use Rattle.depgraph.specs.Rotations.{AreRotations, turns_of};
     ghost use Rattle.depgraph.specs.Code.Keeping.{IsKept};
     ghost use Rattle.depgraph.specs.Code.Numbers.{cells_by, AreKnown};
-    ghost use Rattle.depgraph.specs.Code.Orders.{IsOrder};
+    ghost use Rattle.depgraph.specs.Code.Orders.{AreOrdered};
     ghost use Rattle.depgraph.specs.Code.Tracks.{timetable_by};
 
     ghost Value = { Timetable };
@@ -56,7 +57,7 @@ impl Model for Graph {
 
     ghost invariant = { λ g. (kept : IsKept (timetable_by g.number (cells_by g.names.items g.numbers.items) g.times.items g.ends.items) (cells_by g.names.items g.numbers.items) g.times.items g.ends.items g.needs.items
         g.visits.items g.visit_ends.items)
-        × IsOrder kept.placing.listed g.order.items
+        × AreOrdered kept.placing.names kept.placing.listed g.cells.entries
         × AreRotations (timetable_by g.number (cells_by g.names.items g.numbers.items) g.times.items g.ends.items) (turns_of g.rotations.items)
         × AreKnown g.names.items g.numbers.items };
 }
@@ -78,6 +79,7 @@ impl Graph {
         let needs = waits_of(alloc, &ends, &visits, &next.next)?;
         let rotations = find_rotations(alloc, plan, &times, &ends, &needs)?;
         let order = order_of(alloc, &visits, &next.next)?;
+        let cells = numbered_cells(alloc, &names, &order)?;
         Ok(Graph {
             number,
             numbers,
@@ -87,7 +89,7 @@ impl Graph {
             needs,
             visits,
             visit_ends: next.next,
-            order,
+            cells,
             rotations,
         })
     }
@@ -136,19 +138,24 @@ impl Graph {
     pub fn cell_count(&self) -> u32
         ensures { (cells : List Visited) × AreAllVisits self.now cells × (result ≡ length cells) }
     {
-        self.order.len() as u32
+        self.cells.len() as u32
     }
 
     /// The n-th visited cell, in order of first visit by time and then by agent, and its visits by time; `None` past the last.
     pub fn visits(&self, n: u32) -> Option<(Cell, &[Visit])>
         ensures { (cells : List Visited) × AreAllVisits self.now cells × (option_map (λ at. record { cell = at.0; visits = at.1.now }) result ≡ slice_get cells n) }
     {
-        let number = *self.order.get(n as usize)? as usize;
-        let (begin, end) = bounds_in(&self.visit_ends, number);
-        let first = self.visits[begin];
-        let entry = begin_in(&self.ends, usize::from(first.agent)) + first.index as usize;
-        let cell = cell_at(&self.names, &self.numbers, entry);
-        Some((cell, &self.visits[begin..end]))
+        let (cell, number) = self.cells.get_index(n as usize)?;
+        let visits = visits_of(&self.visits, &self.visit_ends, *number);
+        Some((*cell, visits))
+    }
+
+    /// The visits of a cell, as their times rise: who comes into it, in which order; `None` where nobody does.
+    pub fn visits_at(&self, cell: Cell) -> Option<&[Visit]>
+        ensures { MatchOption result ((v : Visit) → IsVisitTo self.now cell v → ⊥) (λ visits. AreVisitsTo self.now cell visits.now) }
+    {
+        let number = *self.cells.get(&cell)?;
+        Some(visits_of(&self.visits, &self.visit_ends, number))
     }
 
     /// All rotations, by step and then by least agent.

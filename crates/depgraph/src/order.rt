@@ -1,9 +1,12 @@
 //! The visited cells in order of first visit.
-ghost use Rattle.std.specs.Prelude.{◌≡◌, ◌+◌, ◌*◌, ◌%◌, ◌<◌, ◌≤◌, ◌^◌, ℕ, length, get_or, IfOk};
+ghost use Rattle.std.specs.Prelude.{◌≡◌, ◌+◌, ◌*◌, ◌%◌, ◌<◌, ◌≤◌, ◌^◌, ℕ, length, get_or, slice_get, Some, IfOk};
 ghost use Rattle.depgraph.specs.Code.Entries.{begin_in};
-ghost use Rattle.depgraph.specs.Code.Orders.{AreByFirst};
+ghost use Rattle.depgraph.specs.Code.Numbers.{AreDistinct};
+ghost use Rattle.depgraph.specs.Code.Orders.{AreByFirst, numbered};
 ghost use Rattle.depgraph.specs.Code.Waits.{no_visit};
 
+use grid::Cell;
+use indexmap::IndexMap;
 use model::Visit;
 use std::alloc::{AllocError, Global};
 
@@ -34,6 +37,24 @@ pub(crate) fn order_of(
         order.push(number_of(*first))?;
     }
     Ok(order)
+}
+
+/// The cells with these numbers, in this order, each with its number.
+pub(crate) fn numbered_cells(
+    alloc: Global,
+    names: &[Cell],
+    order: &[u32],
+) -> Result<IndexMap<Cell, u32>, AllocError>
+    requires distinct { AreDistinct names.now }
+    requires known { (m : ℕ) → m < length order.now → get_or order.now m 0 < length names.now }
+    requires different { (m l n : ℕ) → slice_get order.now m ≡ Some n → slice_get order.now l ≡ Some n → m ≡ l }
+    ensures { IfOk result (λ cells. cells.entries ≡ numbered names.now order.now) }
+{
+    let mut cells = IndexMap::with_capacity(alloc, order.len())?;
+    for number in order {
+        cells.insert(names[*number as usize], *number)?;
+    }
+    Ok(cells)
 }
 
 /// When the first visit of the cell with a number begins, whose it is, and the number, as one number that goes by these in turn.

@@ -13,6 +13,7 @@ use Rattle.mapf_cmd.specs.declared.program.ProgramFault.{ProgramFault}
 use Rattle.mapf_cmd.specs.declared.program.ProgramFault.TheVariants as program_fault
 use Rattle.agent_commands.specs.AgentCommand.{AnswersAgent}
 use Rattle.plan_commands.specs.CheckCommand.{AnswersCheck, AnswersCheckFit}
+use Rattle.plan_commands.specs.DepsCellCommand.{AnswersDepsCell}
 use Rattle.plan_commands.specs.DepsCommand.{AnswersDeps}
 use Rattle.run_commands.specs.RunCommand.{AnswersRun}
 use Rattle.text_commands.specs.MapCommand.{RewritesMap}
@@ -44,8 +45,10 @@ PerformsOn {F} remaining input_left contents Told (Check map_file plan_file None
 PerformsOn {F} remaining input_left contents Told (Check map_file plan_file (Some scen_file) json) old_in new_in old new code =
     (m n : Counted F) × (p q : Counted F) × (s t : Counted F)
     × AnswersCheckFit remaining remaining remaining contents Told m n p q s t json old new code × (new_in ≡ old_in)
-PerformsOn {F} remaining input_left contents Told (Deps map_file plan_file) old_in new_in old new code =
+PerformsOn {F} remaining input_left contents Told (Deps map_file plan_file None) old_in new_in old new code =
     (m n : Counted F) × (p q : Counted F) × AnswersDeps remaining remaining contents Told m n p q old new code × (new_in ≡ old_in)
+PerformsOn {F} remaining input_left contents Told (Deps map_file plan_file (Some cell)) old_in new_in old new code =
+    (m n : Counted F) × (p q : Counted F) × AnswersDepsCell remaining remaining contents Told cell m n p q old new code × (new_in ≡ old_in)
 PerformsOn {F} remaining input_left contents Told (Run map_file plan_file events_file complete) old_in new_in old new code =
     (m n : Counted F) × (p q : Counted F) × (s t : Counted F)
     × AnswersRun remaining remaining remaining contents Told m n p q s t complete old new code × (new_in ≡ old_in)

@@ -5,7 +5,7 @@ mod program;
 
 pub use agent_commands::agent_cmd;
 pub use command_line::{Line, LineFault, line};
-pub use plan_commands::{Verdict, check_cmd, check_fit_cmd, deps_cmd, verdict_json};
+pub use plan_commands::{Verdict, check_cmd, check_fit_cmd, deps_cell_cmd, deps_cmd, verdict_json};
 pub use program::{refuse, run};
 pub use run_commands::run_cmd;
 pub use text_commands::{Status, map_cmd, report, row_cmd, scen_cmd};

@@ -4,10 +4,12 @@ use Rattle.std.specs.Prelude.{Option, codes, decimal, sum_by}
 use Rattle.grid.specs.declared.sink.Sink.{Sink}
 use Rattle.grid.specs.Sink.{Puts, Breaks}
 use Rattle.grid.specs.Text.{line_feed, ended, spaced_numbers}
+use Rattle.model.specs.declared.visit.Visit.{Visit}
 use Rattle.model.specs.Timetable.{Timetable, moves}
 use Rattle.depgraph.specs.Rotations.{Turn}
 use Rattle.model.specs.Dependency.{Need}
 use Rattle.scen.proofs.PutLemmas.{Leaves, Leaves-all, Leaves-less, Leaves-broken, Puts-last, Breaks-last}
+use Rattle.plan_commands.specs.CellVisitsText.{visit_line}
 use Rattle.plan_commands.specs.DepsText.{all_need_lines, counts_line, deps_text, need_line, rotation_line}
 use Rattle.grid.proofs.WordLemmas.{joined}
 use Rattle.plan_commands.proofs.DepsLemmas.{ended-append}
@@ -29,6 +31,10 @@ pub need-parts : (agent move : ℕ) (n : Need)
     → four_parts (said (codes "need ") agent) (said (codes " ") move) (said (codes " ") n.agent) (said (codes " ") n.count)
     ≡ need_line agent move n ++ line_feed ∷ []
 need-parts agent move n = simp append_assoc
+
+pub visit-parts : (v : Visit)
+    → four_parts (codes "visit") (said (codes " ") v.agent) (said (codes " ") v.index) (said (codes " ") v.time) ≡ visit_line v ++ line_feed ∷ []
+visit-parts v = simp append_assoc
 
 -- the same counts
 pub counts-same : (agents moves needs rotations a m n r : ℕ) → agents ≡ a → moves ≡ m → needs ≡ n → rotations ≡ r

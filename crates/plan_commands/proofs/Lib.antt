@@ -3,3 +3,4 @@ mod CheckAnswers
 mod PlainText
 mod DepsLemmas
 mod DepsPuts
+mod VisitLines

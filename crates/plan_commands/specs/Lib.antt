@@ -13,5 +13,9 @@ pub mod CheckCommand
 pub mod DepsText
 -- what `mapf deps` does and answers
 pub mod DepsCommand
+-- what is written of the visits of a cell
+pub mod CellVisitsText
+-- what `mapf deps --cell` does and answers
+pub mod DepsCellCommand
 -- The code's own words, of which no promise speaks.
 pub mod Code

@@ -3,13 +3,17 @@
 
 mod check_command;
 mod check_fault;
+mod deps_cell_command;
 mod deps_command;
 mod deps_text;
+pub mod laws;
 mod rejection;
 mod verdict;
+mod visits_text;
 
 pub use check_command::{check_cmd, check_fit_cmd};
 pub use check_fault::{CheckFault, plan_text_fault_status};
+pub use deps_cell_command::deps_cell_cmd;
 pub use deps_command::{deps_cmd, read_graph};
 pub use rejection::Rejection;
 pub use verdict::{Verdict, verdict_json};

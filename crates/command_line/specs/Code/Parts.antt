@@ -8,8 +8,8 @@ use Rattle.command_line.specs.declared.command_line.LineFault.{LineFault}
 use Rattle.command_line.specs.declared.command_line.LineFault.TheVariants.{BadCommand, OutOfMemory}
 use Rattle.command_line.specs.declared.help.CommandText.{CommandText}
 use Rattle.command_line.specs.declared.help.Word.{Word}
-use Rattle.command_line.specs.declared.help.Word.TheVariants.{Flag, Named, Required}
-use Rattle.command_line.specs.Words.{commands, named_flag, named_option, required_word}
+use Rattle.command_line.specs.declared.help.Word.TheVariants.{Cell, Flag, Named, Required}
+use Rattle.command_line.specs.Words.{commands, named_cell, named_flag, named_option, required_word}
 
 -- a fault that is no want of help
 abbrev pub IsRefusal : LineFault → Type 0
@@ -24,6 +24,7 @@ HasWords name rows =
 abbrev pub rule_of_word : Word → Rule
 rule_of_word (Required name help) = required_word name.now
 rule_of_word (Named name help) = named_option name.now
+rule_of_word (Cell name help) = named_cell name.now
 rule_of_word (Flag name help) = named_flag name.now
 
 -- a command as clap takes it

@@ -1,7 +1,9 @@
 -- Numbers in the order in which they come first.
-use Rattle.std.specs.Prelude.{◌≡◌, ℕ, ◌+◌, ◌*◌, ◌<◌, ◌≤◌, List, length, get_or, Some, slice_get}
+use Rattle.std.specs.Prelude.{◌≡◌, ℕ, ◌+◌, ◌*◌, ◌<◌, ◌≤◌, List, length, get_or, map, Some, slice_get}
+use Rattle.grid.specs.declared.cell.Cell.{Cell}
 use Rattle.model.specs.declared.visit.Visit.{Visit}
 use Rattle.depgraph.specs.Code.Entries.{begin_in}
+use Rattle.depgraph.specs.Code.Numbers.{no_cell}
 use Rattle.depgraph.specs.Code.Waits.{no_visit}
 
 -- Each listed number stands in the order, behind those that are listed before it.
@@ -23,3 +25,13 @@ pub record AreByFirst (visits : List Visit) (visit_ends order : List ℕ) : Type
   pub whole : (n : ℕ) → n < length visit_ends → (m : ℕ) × (slice_get order m ≡ Some n)
   pub different : (m l n : ℕ) → slice_get order m ≡ Some n → slice_get order l ≡ Some n → m ≡ l
   pub rising : (m l : ℕ) → m < l → l < length order → first_of visits visit_ends (get_or order m 0) ≤ first_of visits visit_ends (get_or order l 0)
+
+-- the cells with these numbers, each with its number
+abbrev pub numbered : List Cell → List ℕ → List (Cell × ℕ)
+numbered names order = map (λ n. (get_or names n no_cell, n)) order
+
+-- The cells, each with its number, in such an order of numbers.
+pub record AreOrdered (names : List Cell) (listed : List ℕ) (cells : List (Cell × ℕ)) : Type 0 where
+  pub order : List ℕ
+  pub ordered : IsOrder listed order
+  pub are : cells ≡ numbered names order

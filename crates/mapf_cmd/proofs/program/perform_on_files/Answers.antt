@@ -1,7 +1,7 @@
 -- The command ends as its call says, on the files that were opened.
 use Rattle.std.proofs.Common.{sym, subst, refl}
 use Rattle.command_line.specs.declared.command_line.Line.{Line}
-use Rattle.command_line.specs.declared.command_line.Line.TheVariants.{Check}
+use Rattle.command_line.specs.declared.command_line.Line.TheVariants.{Check, Deps}
 use Rattle.text_commands.specs.Telling.{Tells}
 use Rattle.mapf_cmd.specs.Program.{PerformsOn}
 use Rattle.mapf_cmd.proofs.program.perform_on_files.Goals as goal
@@ -43,10 +43,19 @@ returns-in-Check g c =
       refl,
     ))
 
+pub returns-in-None-cell : goal.returns-in-None-cell
+returns-in-None-cell g c =
+    let Ends : Line → Type 0 = λ line. PerformsOn g.R.File.Read.remaining g.I.Read.remaining g.W.Write.contents (Tells g.E.Write.contents c.args.err.now c.deps_cmd.new.err) line c.args.input.now c.args.input.now c.args.out.now c.deps_cmd.new.out c.deps_cmd.result in
+    subst Ends (sym c.in-Deps.is)
+    (subst (λ cell. Ends (Deps c.in-Deps.map c.in-Deps.plan cell)) (sym c.in-None-cell.is)
+    (c.new-map-in-Deps.result, c.deps_cmd.new.map, c.new-plan-in-Deps.result, c.deps_cmd.new.plan, c.deps_cmd.ensures, refl))
+
 pub returns-in-Deps : goal.returns-in-Deps
 returns-in-Deps g c =
-    let Ends : Line → Type 0 = λ line. PerformsOn g.R.File.Read.remaining g.I.Read.remaining g.W.Write.contents (Tells g.E.Write.contents c.args.err.now c.deps_cmd.new.err) line c.args.input.now c.args.input.now c.args.out.now c.deps_cmd.new.out c.deps_cmd.result in
-    subst Ends (sym c.in-Deps.is) (c.new-map-in-Deps.result, c.deps_cmd.new.map, c.new-plan-in-Deps.result, c.deps_cmd.new.plan, c.deps_cmd.ensures, refl)
+    let Ends : Line → Type 0 = λ line. PerformsOn g.R.File.Read.remaining g.I.Read.remaining g.W.Write.contents (Tells g.E.Write.contents c.args.err.now c.deps_cell_cmd.new.err) line c.args.input.now c.args.input.now c.args.out.now c.deps_cell_cmd.new.out c.deps_cell_cmd.result in
+    subst Ends (sym c.in-Deps.is)
+    (subst (λ cell. Ends (Deps c.in-Deps.map c.in-Deps.plan cell)) (sym c.in-Some-cell.is)
+    (c.new-map-in-Deps.result, c.deps_cell_cmd.new.map, c.new-plan-in-Deps.result, c.deps_cell_cmd.new.plan, c.deps_cell_cmd.ensures, refl))
 
 pub returns-in-Run : goal.returns-in-Run
 returns-in-Run g c =

@@ -1,5 +1,6 @@
 -- The paths and the visits are those of the plan's timetable, and tell it.
-use Rattle.std.proofs.Common.{◌≡◌, ℕ, ◌^◌, ◌+◌, ◌<◌, ◌≤◌, List, length, get_or, refl, sym, ap, subst, ◌∙◌, arith}
+use Rattle.std.proofs.Common.{◌≡◌, ℕ, ◌^◌, ◌+◌, ◌<◌, ◌≤◌, List, length, get_or, Some, refl, sym, ap, subst, ◌∙◌, arith}
+use Rattle.std.specs.Prelude.{slice_get}
 use Rattle.grid.specs.declared.cell.Cell.{Cell}
 use Rattle.model.specs.declared.visit.Visit.{Visit}
 use Rattle.model.specs.Timetable.{Track, Timetable}
@@ -12,8 +13,8 @@ use Rattle.depgraph.specs.Rotations.{AreRotations, turns_of}
 use Rattle.depgraph.specs.Code.Entries.{begin_in, AreFew}
 use Rattle.depgraph.specs.Code.Keeping.{IsKept}
 use Rattle.depgraph.specs.Code.Links.{all_links}
-use Rattle.depgraph.specs.Code.Numbers.{cells_by, AreNumbered}
-use Rattle.depgraph.specs.Code.Orders.{IsOrder, AreByFirst}
+use Rattle.depgraph.specs.Code.Numbers.{cells_by, AreDistinct, AreNumbered}
+use Rattle.depgraph.specs.Code.Orders.{IsOrder, AreByFirst, AreOrdered, numbered as numbered_by}
 use Rattle.depgraph.specs.Code.Paths.{all_entered, all_times, ArePaths}
 use Rattle.depgraph.specs.Code.Placing.{IsTimeline, AreSortedVisits, IsPlacing}
 use Rattle.depgraph.specs.Code.Turning.{AreLaid}
@@ -40,11 +41,12 @@ graphed checked h = record {
 }
 
 -- The visits of these paths stand in their places, by a schedule of all arrivals.
-record IsBuilt (tracks : List Track) (ends : List ℕ) (visits : List Visit) (visit_ends : List ℕ) : Type 0 where
+record IsBuilt (tracks : List Track) (names : List Cell) (ends : List ℕ) (visits : List Visit) (visit_ends : List ℕ) : Type 0 where
   arrivals : List Arrival
   step_ends : List ℕ
   line : IsTimeline tracks ends arrivals step_ends
   placing : IsPlacing tracks ends arrivals visits visit_ends
+  named : placing.names ≡ names
 
 -- ---- the lists of a graph
 
@@ -67,7 +69,7 @@ module _ (checked : Checked) (is : IsChecked checked) (names : List Cell) (numbe
       number_count ∙ sym (same_count checked.timetable.tracks (all_entered checked.timetable.tracks) (all_times checked.timetable.tracks) ends paths) ∙ ap length (sym h.are_times)
 
   built : (visits : List Visit) (visit_ends : List ℕ) → AreSortedVisits times ends numbers visits visit_ends → length visit_ends ≡ length names
-      → IsBuilt checked.timetable.tracks ends visits visit_ends
+      → IsBuilt checked.timetable.tracks names ends visits visit_ends
   built visits visit_ends sorted long =
       let tracks = checked.timetable.tracks in
       let cells = all_entered tracks in
@@ -87,16 +89,12 @@ module _ (checked : Checked) (is : IsChecked checked) (names : List Cell) (numbe
       } in
       let listed = are_listed cells names numbers ends s.0 t.0 numbered number_count t.1 (λ p less. arrival-within tracks cells all ends s.0 p paths s.1 less)
       (position tracks cells all ends s.0 limit paths s.1 known) in
-      record {
-        arrivals = s.0;
-        step_ends = e.0;
-        line = line;
-        placing = (is_placing checked.timetable.number tracks ends s.0 e.0 line is.conflict_free numbers t.0 visits visit_ends (length names) (names, listed, t.1.count, refl) t.1
-            (number_count ∙ sym (same_count tracks cells all ends paths)) (are_known cells names numbers numbered)
-            (subst (λ l. AreSortedVisits l ends numbers visits visit_ends) h.are_times sorted) long).0;
-      }
+      let placed = is_placing checked.timetable.number tracks ends s.0 e.0 line is.conflict_free numbers t.0 visits visit_ends (length names) (names, listed, t.1.count, refl) t.1
+      (number_count ∙ sym (same_count tracks cells all ends paths)) (are_known cells names numbers numbered)
+      (subst (λ l. AreSortedVisits l ends numbers visits visit_ends) h.are_times sorted) long in
+      record { arrivals = s.0; step_ends = e.0; line = line; placing = placed.0; named = placed.1 }
 
-  module _ (visits : List Visit) (visit_ends : List ℕ) (b : IsBuilt checked.timetable.tracks ends visits visit_ends) where
+  module _ (visits : List Visit) (visit_ends : List ℕ) (b : IsBuilt checked.timetable.tracks names ends visits visit_ends) where
     blocks : AreBlocks ends visits visit_ends
     blocks = are_blocks checked.timetable.number checked.timetable.tracks ends b.arrivals b.step_ends b.line visits visit_ends b.placing is.conflict_free
 
@@ -149,7 +147,7 @@ lent R a given_a b given_b c given_c p q r x = subst (λ z. R given_a given_b z)
 -- what was placed of the lists that were lent
 stands : (checked : Checked) (is : IsChecked checked) (names : List Cell) (numbers given_numbers times given_times ends given_ends : List ℕ) → AreNumbered (cells_by names numbers) names numbers
     → ArePaths checked.timetable.tracks (cells_by names numbers) times ends → given_times ≡ times → given_ends ≡ ends → given_numbers ≡ numbers → (visits : List Visit) (visit_ends : List ℕ)
-    → AreSortedVisits given_times given_ends given_numbers visits visit_ends → length visit_ends ≡ length names → IsBuilt checked.timetable.tracks ends visits visit_ends
+    → AreSortedVisits given_times given_ends given_numbers visits visit_ends → length visit_ends ≡ length names → IsBuilt checked.timetable.tracks names ends visits visit_ends
 stands checked is names numbers given_numbers times given_times ends given_ends n h times_are ends_are numbers_are visits visit_ends sorted long =
     built checked is names numbers times ends n h visits visit_ends
     (lent (λ a b d. AreSortedVisits a b d visits visit_ends) given_times times given_ends ends given_numbers numbers (sym times_are) (sym ends_are) (sym numbers_are) sorted) long
@@ -304,6 +302,27 @@ order_of-requires-clause-times c =
     subst (λ l. (k : ℕ) → k < length l → (get_or l k no_visit).time < 2 ^ 16) (sym c.deref-10.ensures.value)
     (few_visit_times checked.timetable.number checked.timetable.tracks p.ends.items b.arrivals b.step_ends b.line visits visit_ends b.placing is.step_limit)
 
+pub numbered_cells-requires-clause-distinct : goal.numbered_cells-requires-clause-distinct
+numbered_cells-requires-clause-distinct c = subst AreDistinct (sym c.deref-12.ensures.value) c.in_ok-numbers.ensures.numbered.distinct
+
+pub numbered_cells-requires-clause-known : goal.numbered_cells-requires-clause-known
+numbered_cells-requires-clause-known c =
+    let p = c.in_ok-numbers.field-0 in
+    let visit_ends = c.in_ok-placed.placed.next.next.items in
+    let order = c.in_ok-order.order.items in
+    let by = c.in_ok-order.ensures in
+    let asked = c.len.ensures in
+    let items = p.names.ok.0 in
+    let count = c.in_ok-placed.ensures.count in
+    let ends = ap length c.deref-11.ensures.value in
+    let names = ap length c.deref-12.ensures.value in
+    subst (λ l. (m : ℕ) → m < length l → get_or l m 0 < length c.deref-12.result.now) (sym c.deref-13.ensures.value)
+    (λ m less. let own = by.sound m less in omega (arith, own, asked, items, count, ends, names))
+
+pub numbered_cells-requires-clause-different : goal.numbered_cells-requires-clause-different
+numbered_cells-requires-clause-different c =
+    subst (λ l. (m k n : ℕ) → slice_get l m ≡ Some n → slice_get l k ≡ Some n → m ≡ k) (sym c.deref-13.ensures.value) c.in_ok-order.ensures.different
+
 pub invariant_of-result : goal.invariant_of-result
 invariant_of-result c =
     let checked = c.args.plan.now in
@@ -328,7 +347,11 @@ invariant_of-result c =
     let by = subst (λ l. AreByFirst visits l order) c.deref-11.ensures.value (subst (λ l. AreByFirst l c.deref-11.result.now order) c.deref-10.ensures.value c.in_ok-order.ensures) in
     let ordered : IsOrder keeps.placing.listed order = is_order checked.timetable.number checked.timetable.tracks p.ends.items b.arrivals b.step_ends b.line visits visit_ends b.placing order by in
     let is_told = sym (told checked c.number-number.result cells p.times.items p.ends.items is c.number-number.ensures.number did.paths) in
-    let holds = subst (λ tt. (k : IsKept tt cells p.times.items p.ends.items needs visits visit_ends) × IsOrder k.placing.listed order) is_told (keeps, ordered) in (
+    let entries = c.in_ok-cells.cells.entries in
+    let are : entries ≡ numbered_by keeps.placing.names order =
+    c.in_ok-cells.ensures ∙ ap (λ l. numbered_by l c.deref-13.result.now) c.deref-12.ensures.value ∙ ap (numbered_by names) c.deref-13.ensures.value ∙ ap (λ l. numbered_by l order) (sym b.named) in
+    let listed : AreOrdered keeps.placing.names keeps.placing.listed entries = record { order = order; ordered = ordered; are = are } in
+    let holds = subst (λ tt. (k : IsKept tt cells p.times.items p.ends.items needs visits visit_ends) × AreOrdered k.placing.names k.placing.listed entries) is_told (keeps, listed) in (
       holds.0,
       holds.1,
       subst (λ tt. AreRotations tt (turns_of c.in_ok-rotations.rotations.items)) is_told c.in_ok-rotations.ensures,
