@@ -43,6 +43,7 @@ pub record Moves {T : Type 0} (seen : T → TapeState) (may_write : T → ℕ �
   pub state : Answers refusal (state_of seen old) (state_of seen new) (next_cell track (state_of seen old)) answer
   pub tape : Writes seen may_write refusal old new (is_ok answer)
   pub failure : answer ≡ Err StoreFailed → HasFailed (seen old.tape).failures (seen new.tape).failures
+  pub no_failure : (answer ≡ Err StoreFailed → ⊥) → (seen new.tape).failures ≡ (seen old.tape).failures
 
 abbrev pub Starts : {T : Type 0} → (T → TapeState) → (T → ℕ → List ℕ → Bool → T → Type 0) → AgentOn T → AgentOn T → Result Cell Refusal → Type 0
 Starts seen may_write old new answer =

@@ -18,7 +18,7 @@ use Rattle.agent.specs.Agents.{AgentOn, state_of}
 use Rattle.agent.specs.States.{State}
 use Rattle.agent.specs.Tape.{TapeState}
 use Rattle.dialogue.specs.Turns.{IsTurn, state_line, store_failed}
-use Rattle.dialogue.specs.Dialogue.{AreTurns, dialogue_lines, EndsInFailedStore, AreFirst, BreaksInLast, Leads, Talks}
+use Rattle.dialogue.specs.Dialogue.{AreTurns, dialogue_lines, EndsInFailedStore, AreFirst, BreaksInLast, BlamesTape, Leads, Talks}
 use Rattle.dialogue.specs.Code.Answering.{IsSameAgent, Sends, Replies}
 use Rattle.dialogue.specs.Code.Reading.{HasRest, IsOver, IsKept}
 use Rattle.dialogue.specs.declared.talk_fault.TalkFault.{TalkFault}
@@ -105,6 +105,7 @@ pub record SoFar
   pub lines : List (List ℕ)
   pub texts : List (List ℕ)
   pub turns : AreTurns old.timetable old.id track lines texts (state_of seen old) (state_of seen new)
+  pub failures : (seen new.tape).failures ≡ (seen old.tape).failures
   pub well : AllByRecursion GoesOn texts
   pub taken : HasTaken remaining first_in source lines
   pub put : Puts contents first_sink sink (ended (dialogue_lines track (state_of seen old) texts))
@@ -190,6 +191,7 @@ module _
           input = read.input;
           consumed = read.consumed;
           reads = (read.are_first, read.failures);
+          blames = inl refl;
           written = broke contents first_sink none first_sink sink [] (state_line track (state_of seen old)) none (Puts-same contents first_sink) breaks;
         }
 
@@ -212,6 +214,7 @@ module _
             input = read.input;
             consumed = read.consumed;
             reads = (read.are_all, read.spent, no_failed_store far.texts far.well, read.failures);
+            blames = far.failures;
             written = wrote contents first_sink none sink (ended said) far.none_held far.put;
           }
 
@@ -229,12 +232,20 @@ module _
         input = has.delivered;
         consumed = has.consumed;
         reads = ((rest, has.in_order, has.are_lines, has.is_line), no_failed_store far.texts far.well, rises);
+        blames = far.failures;
         written = wrote contents first_sink none sink (ended said) far.none_held far.put;
       }
 
       module _ (line : List ℕ) (next : Source R) (sent : Sink W) (new : AgentOn T) (same : IsSameAgent mid new) where
         abbrev Replied : Result Unit TalkFault → Type 0
         Replied result = Replies contents old.timetable old.id far.track line (state_of seen mid) (state_of seen new) sink sent result
+
+        -- what is said of the tape, as of that of the first
+        abbrev Blames : Result Unit TalkFault → Type 0
+        Blames result = BlamesTape result (seen mid.tape).failures (seen new.tape).failures
+
+        blamed : (result : Result Unit TalkFault) → Blames result → BlamesTape result (seen old.tape).failures (seen new.tape).failures
+        blamed result blames = subst (λ n. BlamesTape result n (seen new.tape).failures) far.failures blames
 
         -- the answer as one to the agent of the first
         pub replied : (room : List ℕ) (kept : Option ℕ) (result : Result Unit TalkFault)
@@ -265,8 +276,8 @@ module _
         put_on text sends = subst (Puts contents first_sink sent) (sym (ended_push said text)) (Puts-trans contents first_sink sink sent (ended said) _ far.put sends.puts)
 
         -- one turn more
-        pub far_more : HasTaken remaining first_in next (far.lines ++ line ∷ []) → Replied (Ok tt) → Far next sent new
-        far_more taken r = record {
+        pub far_more : HasTaken remaining first_in next (far.lines ++ line ∷ []) → Blames (Ok tt) → Replied (Ok tt) → Far next sent new
+        far_more taken blames r = record {
           track = far.track;
           is_track = far.is_track;
           timetable = same.timetable ∙ far.timetable;
@@ -274,6 +285,7 @@ module _
           lines = far.lines ++ line ∷ [];
           texts = far.texts ++ r.0 ∷ [];
           turns = turns_on r.0 r.1;
+          failures = blames ∙ far.failures;
           well = AllByRecursion_push GoesOn far.texts r.0 far.well r.3;
           taken = taken;
           put = put_on r.0 r.2;
@@ -281,8 +293,8 @@ module _
         }
 
         -- the answer could not be written
-        pub led_to_broken : HasRead remaining first_in next (far.lines ++ line ∷ []) → Replied (Err WriteFailed) → Led next sent new (Err WriteFailed)
-        led_to_broken read r = record {
+        pub led_to_broken : HasRead remaining first_in next (far.lines ++ line ∷ []) → Blames (Err WriteFailed) → Replied (Err WriteFailed) → Led next sent new (Err WriteFailed)
+        led_to_broken read blames r = record {
           track = far.track;
           is_track = far.is_track;
           timetable = same.timetable ∙ far.timetable;
@@ -293,12 +305,13 @@ module _
           input = read.input;
           consumed = read.consumed;
           reads = (read.are_first, read.failures);
+          blames = blamed (Err WriteFailed) blames;
           written = broke contents first_sink none sink sent said r.0 far.none_held far.put r.2;
         }
 
         -- the answer is that a store failed
-        pub led_to_failed_store : HasRead remaining first_in next (far.lines ++ line ∷ []) → Replied (Err StoreFailed) → Led next sent new (Err StoreFailed)
-        led_to_failed_store read r = record {
+        pub led_to_failed_store : HasRead remaining first_in next (far.lines ++ line ∷ []) → Blames (Err StoreFailed) → Replied (Err StoreFailed) → Led next sent new (Err StoreFailed)
+        led_to_failed_store read blames r = record {
           track = far.track;
           is_track = far.is_track;
           timetable = same.timetable ∙ far.timetable;
@@ -309,12 +322,13 @@ module _
           input = read.input;
           consumed = read.consumed;
           reads = (read.are_first, (far.texts, refl), read.failures);
+          blames = blamed (Err StoreFailed) blames;
           written = wrote contents first_sink none sent _ r.1.none_held (put_on store_failed r.1);
         }
 
         -- the line was the last
-        led_to_last : HasReadAll remaining first_in next (far.lines ++ line ∷ []) → Replied (Ok tt) → Led next sent new (Ok tt)
-        led_to_last read r = record {
+        led_to_last : HasReadAll remaining first_in next (far.lines ++ line ∷ []) → Blames (Ok tt) → Replied (Ok tt) → Led next sent new (Ok tt)
+        led_to_last read blames r = record {
           track = far.track;
           is_track = far.is_track;
           timetable = same.timetable ∙ far.timetable;
@@ -330,20 +344,21 @@ module _
             no_failed_store (far.texts ++ r.0 ∷ []) (AllByRecursion_push GoesOn far.texts r.0 far.well r.3),
             read.failures,
           );
+          blames = blamed (Ok tt) blames;
           written = wrote contents first_sink none sent _ r.2.none_held (put_on r.0 r.2);
         }
 
         -- a line whose answer ended the dialogue
-        pub led_to_fault : (fault : TalkFault) → HasRead remaining first_in next (far.lines ++ line ∷ []) → Replied (Err fault) → Led next sent new (Err fault)
-        led_to_fault ReadFailed read r = absurd r
-        led_to_fault WriteFailed read r = led_to_broken read r
-        led_to_fault StoreFailed read r = led_to_failed_store read r
-        led_to_fault OutOfMemory read r = absurd r
+        pub led_to_fault : (fault : TalkFault) → HasRead remaining first_in next (far.lines ++ line ∷ []) → Blames (Err fault) → Replied (Err fault) → Led next sent new (Err fault)
+        led_to_fault ReadFailed read blames r = absurd r
+        led_to_fault WriteFailed read blames r = led_to_broken read blames r
+        led_to_fault StoreFailed read blames r = led_to_failed_store read blames r
+        led_to_fault OutOfMemory read blames r = absurd r
 
         -- the last line, whatever came of its answer
-        pub led_by_last : (result : Result Unit TalkFault) → HasReadAll remaining first_in next (far.lines ++ line ∷ []) → Replied result → Led next sent new result
-        led_by_last (Ok done) read r = led_to_last read r
-        led_by_last (Err fault) read r = led_to_fault fault (all_are_first remaining first_in next _ read) r
+        pub led_by_last : (result : Result Unit TalkFault) → HasReadAll remaining first_in next (far.lines ++ line ∷ []) → Blames result → Replied result → Led next sent new result
+        led_by_last (Ok done) read blames r = led_to_last read blames r
+        led_by_last (Err fault) read blames r = led_to_fault fault (all_are_first remaining first_in next _ read) blames r
 
 -- a dialogue that was led is one
 pub talk_of

@@ -8,7 +8,7 @@ use Rattle.grid.specs.Text.{line_feed, IsLine, ended, lines_of}
 use Rattle.model.specs.Timetable.{Track, Timetable, track_of}
 use Rattle.agent.specs.Agents.{AgentOn, state_of}
 use Rattle.agent.specs.States.{State}
-use Rattle.agent.specs.Tape.{TapeState}
+use Rattle.agent.specs.Tape.{TapeState, HasFailed}
 use Rattle.dialogue.specs.Turns.{IsTurn, state_line, store_failed}
 use Rattle.dialogue.specs.declared.talk_fault.TalkFault.{TalkFault}
 use Rattle.dialogue.specs.declared.talk_fault.TalkFault.TheVariants.{ReadFailed, WriteFailed, StoreFailed, OutOfMemory}
@@ -63,6 +63,12 @@ abbrev pub WritesLines : Option (List ℕ) → Option (List ℕ) → ℕ → ℕ
 WritesLines old new old_failures new_failures lines (Err WriteFailed) = BreaksInLast old new old_failures new_failures lines
 WritesLines old new old_failures new_failures lines _ = Appends old new (ended lines) × (new_failures ≡ old_failures)
 
+-- that a store failed is told only where a call on the tape failed, and where none failed that can be told
+abbrev pub BlamesTape : Result Unit TalkFault → (old_failures new_failures : ℕ) → Type 0
+BlamesTape (Err StoreFailed) old_failures new_failures = HasFailed old_failures new_failures
+BlamesTape (Err WriteFailed) old_failures new_failures = (new_failures ≡ old_failures) ⊎ HasFailed old_failures new_failures
+BlamesTape _ old_failures new_failures = new_failures ≡ old_failures
+
 -- The dialogue was led: its lines were written, up to the one that failed, and the agent is in the state that the last turn left.
 pub record Leads
     {R W T : Type 0} (remaining : R → Option (List ℕ)) (contents : W → Option (List ℕ)) (seen : T → TapeState) (old_in new_in : Counted R)
@@ -77,6 +83,7 @@ pub record Leads
   pub input : List ℕ
   pub consumed : Consumes (remaining (counted_inner old_in)) (remaining (counted_inner new_in)) input
   pub reads : ReadsLines lines texts input (remaining (counted_inner new_in)) (failures_of old_in) (failures_of new_in) result
+  pub blames : BlamesTape result (seen old.tape).failures (seen new.tape).failures
   pub written : WritesLines (contents (counted_inner old_out)) (contents (counted_inner new_out)) (failures_of old_out) (failures_of new_out)
       (dialogue_lines track (state_of seen old) texts) result
 

@@ -1,10 +1,10 @@
 //! Answering an input line.
-ghost use Rattle.std.specs.Prelude.{◌≡◌, ◌≤◌, ◌*◌, List, ℕ, Some, length, IfSome};
+ghost use Rattle.std.specs.Prelude.{◌≡◌, ◌≤◌, ◌*◌, false, List, ℕ, Some, length, IfSome};
 ghost use Rattle.model.specs.Timetable.{Track, track_of};
 ghost use Rattle.agent.specs.Agents.{state_of};
 ghost use Rattle.dialogue.specs.Requests.{longest_request, say, tell, hear};
 ghost use Rattle.dialogue.specs.Turns.{Takes, IsTurn, state_line};
-ghost use Rattle.dialogue.specs.Code.Answering.{answer_line, IsSameAgent};
+ghost use Rattle.dialogue.specs.Code.Answering.{answer_line, says_store_failed, CountsFailures, IsSameAgent};
 ghost use Rattle.dialogue.specs.Code.Reading.{request_in, FitsIn, IsKept};
 
 use crate::line_answer::LineAnswer;
@@ -26,6 +26,7 @@ pub(crate) fn answer_kept<T: Tape>(
     requires has_room { longest_request ≤ 2 * length room.old }
     requires within { IfSome kept (λ count. count ≤ length line.now) }
     ensures same { IsSameAgent agent.old agent.new }
+    ensures counts { CountsFailures (says_store_failed result) (T.state agent.old.tape).failures (T.state agent.new.tape).failures }
     ensures turn { (track : Track) (text : List ℕ) → track_of agent.old.timetable agent.old.id ≡ Some track → IsKept text line.now kept
         → IsTurn agent.old.timetable agent.old.id track text (state_of T.state agent.old) (state_of T.state agent.new) (answer_line result) }
 {
@@ -40,6 +41,7 @@ fn answer_text<T: Tape>(agent: &mut Agent<'_, T>, line: &[u8], room: &mut [u8]) 
     requires not_longer { length line.now ≤ longest_request }
     requires has_room { longest_request ≤ 2 * length room.old }
     ensures same { IsSameAgent agent.old agent.new }
+    ensures counts { CountsFailures (says_store_failed result) (T.state agent.old.tape).failures (T.state agent.new.tape).failures }
     ensures turn { (track : Track) → track_of agent.old.timetable agent.old.id ≡ Some track
         → IsTurn agent.old.timetable agent.old.id track line.now (state_of T.state agent.old) (state_of T.state agent.new) (answer_line result) }
 {
@@ -53,6 +55,7 @@ fn answer_text<T: Tape>(agent: &mut Agent<'_, T>, line: &[u8], room: &mut [u8]) 
 fn answer_request<T: Tape>(agent: &mut Agent<'_, T>, request: Request, room: &[u8]) -> LineAnswer
     requires { FitsIn room.now request }
     ensures same { IsSameAgent agent.old agent.new }
+    ensures counts { CountsFailures (says_store_failed result) (T.state agent.old.tape).failures (T.state agent.new.tape).failures }
     ensures takes { (track : Track) → track_of agent.old.timetable agent.old.id ≡ Some track
         → Takes agent.old.timetable agent.old.id track (request_in room.now request) (state_of T.state agent.old) (state_of T.state agent.new) (answer_line result) }
 {
@@ -67,7 +70,8 @@ fn answer_request<T: Tape>(agent: &mut Agent<'_, T>, request: Request, room: &[u
 }
 
 fn answer_say<T: Tape>(agent: &Agent<'_, T>) -> LineAnswer
-    ensures { (track : Track) → Takes agent.now.timetable agent.now.id track say (state_of T.state agent.now) (state_of T.state agent.now) (answer_line result) }
+    ensures never { says_store_failed result ≡ false }
+    ensures takes { (track : Track) → Takes agent.now.timetable agent.now.id track say (state_of T.state agent.now) (state_of T.state agent.now) (answer_line result) }
 {
     match agent.say() {
         Ok(message) => LineAnswer::Said(message),
@@ -76,7 +80,8 @@ fn answer_say<T: Tape>(agent: &Agent<'_, T>) -> LineAnswer
 }
 
 fn answer_tell<T: Tape>(agent: &Agent<'_, T>) -> LineAnswer
-    ensures { (track : Track) → Takes agent.now.timetable agent.now.id track tell (state_of T.state agent.now) (state_of T.state agent.now) (answer_line result) }
+    ensures never { says_store_failed result ≡ false }
+    ensures takes { (track : Track) → Takes agent.now.timetable agent.now.id track tell (state_of T.state agent.now) (state_of T.state agent.now) (answer_line result) }
 {
     match agent.tell() {
         Ok(message) => LineAnswer::Told(message),
@@ -87,6 +92,7 @@ fn answer_tell<T: Tape>(agent: &Agent<'_, T>) -> LineAnswer
 
 fn answer_hear<T: Tape>(agent: &mut Agent<'_, T>, message: &[u8]) -> LineAnswer
     ensures same { IsSameAgent agent.old agent.new }
+    ensures counts { CountsFailures (says_store_failed result) (T.state agent.old.tape).failures (T.state agent.new.tape).failures }
     ensures takes { (track : Track) → Takes agent.old.timetable agent.old.id track (hear message.now) (state_of T.state agent.old) (state_of T.state agent.new) (answer_line result) }
 {
     match reply_to_delivery(agent.hear(message)) {
@@ -97,7 +103,8 @@ fn answer_hear<T: Tape>(agent: &mut Agent<'_, T>, message: &[u8]) -> LineAnswer
 
 /// Where the agent is, and how many moves it has finished.
 pub(crate) fn state_answer<T: Tape>(agent: &Agent<'_, T>) -> LineAnswer
-    ensures { (track : Track) × (track_of agent.now.timetable agent.now.id ≡ Some track)
+    ensures never { says_store_failed result ≡ false }
+    ensures line { (track : Track) × (track_of agent.now.timetable agent.now.id ≡ Some track)
         × (answer_line result ≡ state_line track (state_of T.state agent.now)) }
 {
     LineAnswer::Reply(reply_to_restart(agent.held(), agent.done()))

@@ -3,7 +3,7 @@ ghost use Rattle.std.specs.Prelude.{◌≡◌, ◌++◌, [], ◌∷◌, ◌↔�
 ghost use Rattle.grid.specs.Text.{line_feed};
 ghost use Rattle.grid.specs.Sink.{held_back, Puts, Breaks};
 ghost use Rattle.dialogue.specs.Turns.{said_line, store_failed};
-ghost use Rattle.dialogue.specs.Code.Answering.{answer_line};
+ghost use Rattle.dialogue.specs.Code.Answering.{answer_line, says_store_failed};
 
 use event_text::{put_hexadecimal, put_reply};
 use grid::{Sink, WriteFault};
@@ -27,7 +27,8 @@ pub(crate) enum LineAnswer {
 impl LineAnswer {
     /// Whether it says that a store failed.
     pub(crate) fn says_store_failed(&self) -> bool
-        ensures { IsTrue result ↔ (answer_line self.now ≡ store_failed) }
+        ensures line { IsTrue result ↔ (answer_line self.now ≡ store_failed) }
+        ensures says { result ≡ says_store_failed self.now }
     {
         matches!(self, LineAnswer::Reply(Reply::Refused(Why::StoreFailed)))
     }

@@ -6,7 +6,7 @@ ghost use Rattle.grid.specs.Source.{source_reader};
 ghost use Rattle.model.specs.Timetable.{Track, track_of};
 ghost use Rattle.agent.specs.Agents.{state_of};
 ghost use Rattle.dialogue.specs.Requests.{longest_request};
-ghost use Rattle.dialogue.specs.Dialogue.{Leads, Talks};
+ghost use Rattle.dialogue.specs.Dialogue.{BlamesTape, Leads, Talks};
 ghost use Rattle.dialogue.specs.Code.Answering.{IsSameAgent, SaysState, Replies};
 ghost use Rattle.dialogue.specs.Code.Reading.{IsKept};
 
@@ -111,6 +111,7 @@ fn reply<W: Write, T: Tape>(
     requires has_room { longest_request ≤ 2 * length message.old }
     requires within { IfSome kept (λ count. count ≤ length line.now) }
     ensures same { IsSameAgent agent.old agent.new }
+    ensures blames { BlamesTape result (T.state agent.old.tape).failures (T.state agent.new.tape).failures }
     ensures replies { (track : Track) (text : List ℕ) → track_of agent.old.timetable agent.old.id ≡ Some track → IsKept text line.now kept
         → Replies W.contents agent.old.timetable agent.old.id track text (state_of T.state agent.old) (state_of T.state agent.new) sink.old sink.new result }
 {

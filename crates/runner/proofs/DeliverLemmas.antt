@@ -1,6 +1,6 @@
 -- How a runner goes on after a message is delivered.
 use Rattle.std.proofs.Common.{◌≡◌, ℕ, zero, suc, ◌<◌, ◌≤◌, Bool, true, false, List, [], ◌∷◌, length, set, max, nat_lt, Some, None, Result, Ok, Err, inl, inr, refl, sym, ap, subst, ◌∙◌, arith}
-use Rattle.std.specs.Prelude.{◌==◌, ◌⊎◌, ◌||◌, Option, option_map, unwrap_or, if◌then◌else◌, nat_le, slice_get, MatchBool, MatchOption, MatchResult, IfOk}
+use Rattle.std.specs.Prelude.{◌==◌, ◌⊎◌, ◌||◌, Option, option_map, unwrap_or, if◌then◌else◌, nat_le, slice_get, MatchBool, MatchOption, MatchResult, IfOk, OnErr}
 use Rattle.std.specs.List.{list_any}
 use Rattle.std.proofs.lemmas.Bool.{cond-true, cond-false, eq-eqb}
 use Rattle.std.proofs.lemmas.Bool.Decides.{nat_tests}
@@ -14,12 +14,12 @@ use Rattle.model.specs.declared.version.Version.TheVariants.{One, Two}
 use Rattle.model.specs.declared.why.Why.{Why}
 use Rattle.model.specs.declared.why.Why.TheVariants as why
 use Rattle.model.specs.History.{Answer, History, heard, refused, done, messages, known}
-use Rattle.model.specs.Messages.{Message, told, own_message, message_said}
-use Rattle.model.specs.Rules.{deliver_answer, answer_by, answer}
+use Rattle.model.specs.Messages.{Message, AreRising, told, own_message, entries_from, message_said}
+use Rattle.model.specs.Rules.{deliver_answer, answer_by, answer, IsRun}
 use Rattle.model.specs.Speech.{WasSaid}
 use Rattle.model.specs.Timetable.{Track, Timetable, moves, track_of}
 use Rattle.agent.specs.Agents.{AgentOn, state_of, HearsOf, HearsFrom}
-use Rattle.agent.specs.Counters.{known_in, Raises}
+use Rattle.agent.specs.Counters.{known_in, is_heard_of, Raises, TellsOfNew}
 use Rattle.agent.specs.Decoding.{wrong_entry}
 use Rattle.agent.specs.States.{Keeps, Refuses, names_nobody, moves_of, tells_too_many, message_refusal, telling_refusal, IsTaken}
 use Rattle.agent.specs.declared.finished.Finished.{Finished}
@@ -28,7 +28,7 @@ use Rattle.agent.specs.declared.refusal.HearFault.TheVariants as fault
 use Rattle.runner.specs.declared.sim_tape.SimTape.{SimTape}
 use Rattle.agent.specs.Replies.{delivered}
 use Rattle.runner.specs.SimTape.{sim_state}
-use Rattle.runner.specs.Standing.{RunnerState, IsMember, StandsAt}
+use Rattle.runner.specs.Standing.{RunnerState, IsMember, StandsAt, TakesMemory}
 use Rattle.runner.proofs.GoesLemmas.{no_track, one-agent}
 use Rattle.runner.proofs.MessageLemmas.{raised-known, deliver-goes, deliver-refused}
 
@@ -38,17 +38,17 @@ use Rattle.runner.proofs.MessageLemmas.{raised-known, deliver-goes, deliver-refu
 same-agent : (a b : AgentOn SimTape) → b ≡ record a { heard = b.heard } → state_of sim_state b ≡ state_of sim_state a → b ≡ a
 same-agent a b same state = same ∙ ap (λ l. record a { heard = l }) (ap (λ s. s.heard) state)
 
--- what a hearing gives: a broken agent refuses, another has no memory, or all entries raise their counters
+-- what a hearing gives: a broken agent refuses, another has no memory where it has to hear of somebody new, or all entries raise their counters
 abbrev pub Gives : AgentOn SimTape → AgentOn SimTape → Message → Result (ℕ × ℕ) HearFault → Type 0
 Gives a b message answer =
     ((a.broken ≡ true) × (answer ≡ Err fault.Broken) × (b ≡ a))
-    ⊎ ((answer ≡ Err fault.OutOfMemory) × (b ≡ a))
+    ⊎ ((a.broken ≡ false) × (answer ≡ Err fault.OutOfMemory) × TellsOfNew a.heard message.entries × (b ≡ a))
     ⊎ ((a.broken ≡ false) × (answer ≡ Ok (message.sender, known_in b.heard message.sender)) × Raises a.heard b.heard message.entries × (b ≡ record a { heard = b.heard }))
 
 module _ (a b : AgentOn SimTape) (message : Message) (answer : Result (ℕ × ℕ) HearFault) (same : b ≡ record a { heard = b.heard }) where
   kept : a.broken ≡ false → (r : Result (ℕ × ℕ) HearFault) → Keeps (state_of sim_state a) (state_of sim_state b) message r → Gives a b message r
   kept whole (Ok pair) keeps = inr (inr (whole, ap (λ p. Ok p) keeps.0, keeps.1, same))
-  kept whole (Err why) keeps = inr (inl (ap (λ w. Err w) keeps.0, same-agent a b same keeps.2))
+  kept whole (Err why) keeps = inr (inl (whole, ap (λ w. Err w) keeps.0, keeps.1, same-agent a b same keeps.2))
 
   taken : a.broken ≡ false → (plan : ℕ) → telling_refusal a.timetable (record { plan = plan; message = message }) ≡ None
       → IsTaken a.timetable (state_of sim_state a) (state_of sim_state b) (record { plan = plan; message = message }) answer → Gives a b message answer
@@ -202,6 +202,29 @@ module _ (r : RunnerState) (h : History) (stands : StandsAt r h) (i : ℕ) (with
           one-agent r h (Deliver i m) i b _ stands refl within rule (deliver-goes r.version r.timetable h i m message a b _ refl said-there is same raises) refl,
         )
 
+    -- ---- what the agent gives for a message of the run
+
+    module _ (of_runs : (v : Version) (table : Timetable) (g : History) (n : ℕ) (x : Message) → IsRun v table g → slice_get (messages v table g) n ≡ Some x → WasSaid v table g n x)
+        (b : AgentOn SimTape) (result : Result (ℕ × ℕ) HearFault) where
+      was : WasSaid r.version r.timetable h m message
+      was = of_runs r.version r.timetable h m message stands.run said-there
+
+      -- at version 1
+      pub own-gives : (f : Finished) → message ≡ own_message f.from f.done → f.plan ≡ r.timetable.number → HearsFrom sim_state a b f result → Gives a b message result
+      own-gives f same plan hears =
+          subst (λ x. Gives a b x result) (sym same)
+          (from-gives a b f result (none-refused-by r.version r.timetable a.timetable h m f.plan (own_message f.from f.done) is.timetable plan (subst (WasSaid r.version r.timetable h m) same was)) hears)
+
+      -- at version 2
+      pub told-gives : r.version ≡ Two → ((f : ℕ → ℕ) (first count : ℕ) → AreRising first (entries_from f first count)) → ((es : List Entry) → AreRising 0 es → wrong_entry 0 0 es ≡ None)
+          → HearsOf sim_state a b message result → Gives a b message result
+      told-gives version of_agents right hears =
+          of-gives a b message result
+          (right message.entries (subst (λ x. AreRising 0 x.entries)
+          (sym (was.tells ∙ ap (λ v. message_said v (length r.timetable.tracks) was.agent (done was.earlier was.agent) (known r.version r.timetable was.earlier was.agent)) version))
+          (of_agents _ 0 (length r.timetable.tracks))))
+          (none-refused-by r.version r.timetable a.timetable h m a.timetable.number message is.timetable (ap (λ t. t.number) is.timetable) was) hears
+
     -- ---- the delivery of a message that there is
 
     pub delivered-on : (b : AgentOn SimTape) (result : Result (ℕ × ℕ) HearFault) (x : Answer) → Gives a b message result → delivered result ≡ Some x
@@ -215,7 +238,7 @@ module _ (r : RunnerState) (h : History) (stands : StandsAt r h) (i : ℕ) (with
               (subst (λ l. (refused why.Broken ≡ answer r.version r.timetable h (Deliver i m)) × StandsAt (record r { agents = l }) (record { event = Deliver i m; answer = refused why.Broken } ∷ h))
               (sym (ap (set r.agents i) broken.2 ∙ set-same r.agents i a there)) found)
           | inr other ↦ elim other [
-            | inl wanting ↦ absurd (none-some x (sym (ap delivered wanting.0) ∙ answered))
+            | inl wanting ↦ absurd (none-some x (sym (ap delivered wanting.1) ∙ answered))
             | inr hears ↦
                 let found = heard_on b hears.0 hears.3 hears.2 in
                 let same = same_Some (heard message.sender (known_in b.heard message.sender)) x (sym (ap delivered hears.1) ∙ answered) in
@@ -223,7 +246,33 @@ module _ (r : RunnerState) (h : History) (stands : StandsAt r h) (i : ℕ) (with
           ]
         ]
 
+    -- what lacks memory for it tells of somebody new
+    pub wants-on : (b : AgentOn SimTape) (result : Result (ℕ × ℕ) HearFault) → Gives a b message result → delivered result ≡ None
+        → TakesMemory r.version r.timetable h (Deliver i m)
+    wants-on b result given none =
+        elim given [
+          | inl broken ↦ absurd (none-some (refused why.Broken) (sym none ∙ ap delivered broken.1))
+          | inr other ↦ elim other [
+            | inl wanting ↦ (
+                let tells = wanting.2 in
+                let count = stands.count in (
+                  omega (arith, count, within),
+                  sym is.broken ∙ wanting.0,
+                  message,
+                  said-there,
+                  (tells.0, tells.1, tells.2, tells.3, sym (is.heard_of tells.1.agent) ∙ tells.4),
+                )
+                )
+            | inr hears ↦ absurd (none-some (heard message.sender (known_in b.heard message.sender)) (sym none ∙ ap delivered hears.1))
+          ]
+        ]
+
 -- what holds of each answer of a call holds of the one that it gave
 pub each-ok : {X Y : Type 0} (result : Result X Y) (P G : X → Type 0) (Q : Y → Type 0) → ((x : X) → P x → G x) → MatchResult result P Q → IfOk result G
 each-ok (Ok x) P G Q all given = all x given
 each-ok (Err y) P G Q all given = tt
+
+-- and of each refusal
+pub each-err : {X Y : Type 0} (result : Result X Y) (P : X → Type 0) (Q : Y → Type 0) (G : Type 0) → ((y : Y) → Q y → G) → MatchResult result P Q → OnErr result G
+each-err (Ok x) P Q G all given = tt
+each-err (Err y) P Q G all given = all y given

@@ -149,7 +149,6 @@ rest-on v h old new i a track x at there its table crew same_messages none_heard
         → AreAccepted v new.timetable h new.events → end ≡ history_after v new.timetable h new.events → LeadsTo v new h end
     after end end_is accepted whole = record {
       accepted = accepted;
-      is_after = whole;
       said = ap (λ t. length (messages v t end)) table ∙ ap length comes.messages ∙ was.said ∙ sym same_messages;
       stand = subst (λ t. (k : ℕ) (y : Standing) → slice_get new.standings k ≡ Some y → StandsThere v t end k y) (sym table)
           (λ k y at_k. each-pushed (λ n z. StandsThere v old.timetable end n z) old.standings x
@@ -360,7 +359,6 @@ module _ (v : Version) (h : History) (old new : EndingState) (i : ℕ) (x y : St
   pub say-on : Leads v new h
   say-on = leads-more v old new h (Say i ∷ []) events same.timetable was says.0 (λ end end_is accepted whole. record {
     accepted = accepted;
-    is_after = whole;
     said = (
         let more = length-append (messages v old.timetable mid) (text ∷ []) in
         let now = ap length says.1.messages in
@@ -414,7 +412,6 @@ module _ (v : Version) (h : History) (old new : EndingState) (i j : ℕ) (x y : 
   pub deliver-on : Leads v new h
   deliver-on = leads-more v old new h (Deliver i y.message ∷ []) events same.timetable was hears.0 (λ end end_is accepted whole. record {
     accepted = accepted;
-    is_after = whole;
     said = ap (λ t. length (messages v t end)) same.timetable ∙ ap (λ e. length (messages v old.timetable e)) end_is ∙ ap length hears.1.messages ∙ was.said ∙ sym counts;
     stand = λ k z there. (
         let stood = was.stand k z (ap (λ l. slice_get l k) (sym standings) ∙ there) in
@@ -476,7 +473,6 @@ module _ (v : Version) (h : History) (old new : EndingState) (i : ℕ) (x y : St
   pub move-on : Leads v new h
   move-on = leads-more v old new h (Start i ∷ Finish i ∷ []) events same.timetable was goes.0 (λ end end_is accepted whole. record {
     accepted = accepted;
-    is_after = whole;
     said = ap (λ t. length (messages v t end)) same.timetable ∙ ap (λ e. length (messages v old.timetable e)) end_is ∙ ap length goes.1.messages ∙ was.said ∙ sym counts;
     stand = λ k z there. subst (λ t. StandsThere v t end k z) (sym same.timetable) (subst (λ e. StandsThere v old.timetable e k z) (sym end_is)
         (each-set (λ n s. StandsThere v old.timetable moved n s) old.standings i y
@@ -542,7 +538,6 @@ pub leads-nowhere : (v : Version) (h : History) (s : EndingState) → s.events �
 leads-nowhere v h s no_events nobody nothing begins said =
     subst (LeadsTo v s h) (sym (ap (history_after v s.timetable h) no_events)) (record {
       accepted = subst (AreAccepted v s.timetable h) (sym no_events) tt;
-      is_after = sym (ap (history_after v s.timetable h) no_events);
       said = said;
       stand = λ i x there. absurd (none-some x (sym (ap (λ l. slice_get l i) nobody) ∙ there));
       others = λ i past less. record { broken = refl; armed = refl; begun = refl; finished = refl };
@@ -558,7 +553,6 @@ leads-same v h old new same none_heard was =
     = ap (λ t. history_after v t h new.events) table ∙ ap (history_after v old.timetable h) same.events in
     subst (LeadsTo v new h) (sym after) (record {
       accepted = subst (λ t. AreAccepted v t h new.events) (sym table) (subst (AreAccepted v old.timetable h) (sym same.events) was.accepted);
-      is_after = sym after;
       said = ap (λ t. length (messages v t (history_after v old.timetable h old.events))) table ∙ was.said ∙ sym same.messages;
       stand = λ i x there. subst (λ t. StandsThere v t (history_after v old.timetable h old.events) i x) (sym table) (was.stand i x (ap (λ l. slice_get l i) (sym same.standings) ∙ there));
       others = λ i past less. was.others i (subst (λ l. length l ≤ i) same.standings past) (subst (λ l. i < length l) same.same.agents less);

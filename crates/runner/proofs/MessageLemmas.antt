@@ -1,6 +1,6 @@
 -- Where an agent is after a message was said or delivered.
 use Rattle.std.proofs.Common.{◌≡◌, ℕ, Bool, true, false, List, [], ◌∷◌, max, Some, refl, sym, ap, ◌∙◌, arith}
-use Rattle.std.specs.Prelude.{◌==◌, ◌&&◌, ◌||◌, if◌then◌else◌, unwrap_or, slice_get}
+use Rattle.std.specs.Prelude.{◌==◌, ◌&&◌, ◌||◌, if◌then◌else◌, is_some, unwrap_or, slice_get}
 use Rattle.std.proofs.lemmas.Bool.{true≢false}
 use Rattle.model.specs.declared.entry.Entry.{Entry}
 use Rattle.model.specs.declared.event.Event.TheVariants.{Say, Deliver}
@@ -11,9 +11,10 @@ use Rattle.model.specs.Timetable.{Timetable}
 use Rattle.agent.specs.declared.counters.Counter.{Counter}
 use Rattle.agent.specs.Agents.{AgentOn}
 use Rattle.agent.specs.Tape.{whole_records}
-use Rattle.agent.specs.Counters.{heard_of, known_in, tells_of, raised, Raises}
+use Rattle.agent.specs.Counters.{heard_of, known_in, is_heard_of, tells_of, raised, Raises}
 use Rattle.runner.specs.declared.sim_tape.SimTape.{SimTape}
 use Rattle.runner.specs.SimTape.{sim_state, sim_armed}
+use Rattle.runner.specs.Hearing.{message_tells_of, has_heard_of}
 use Rattle.runner.specs.Standing.{IsMember}
 use Rattle.runner.proofs.StoreLemmas.{own_test}
 
@@ -24,6 +25,7 @@ say-goes v table h i k a r is = record {
   id = is.id;
   records = (let before = is.records in omega (arith, before));
   heard = is.heard;
+  heard_of = is.heard_of;
   broken = is.broken;
   armed = is.armed;
 }
@@ -46,6 +48,13 @@ raised-known old new es raises j = ap (λ o. unwrap_or o 0) (raises j) ∙ by_te
       ap (λ b. unwrap_or (if b then Some (max (known_in old j) (told_by es j)) else heard_of old j) 0) is
       ∙ (let none = untold es j is in omega (arith, none))
 
+-- whoever the entries tell of was heard of then
+raised-heard : (old new : List Counter) (es : List Entry) → Raises old new es → (j : ℕ) → is_heard_of new j ≡ (tells_of es j || is_heard_of old j)
+raised-heard old new es raises j = ap is_some (raises j) ∙ by_test (tells_of es j) where
+  by_test : (b : Bool) → is_some (if b then Some (max (known_in old j) (told_by es j)) else heard_of old j) ≡ (b || is_heard_of old j)
+  by_test true = refl
+  by_test false = refl
+
 -- ---- deliveries
 
 -- a message that is refused leaves the agent where it is
@@ -57,11 +66,13 @@ deliver-refused v table h i m k a r unheard is = record {
   records = (let before = is.records in omega (arith, before));
   heard = λ j. is.heard j ∙ sym (
       ap (λ t. if (i == k) && t then max (known v table h k j) (told_of (slice_get (messages v table h) m) j) else known v table h k j) unheard ∙ never (i == k) _ _);
+  heard_of = λ j. is.heard_of j ∙ sym (
+      ap (λ t. if (i == k) && t then message_tells_of (slice_get (messages v table h) m) j || has_heard_of v table h k j else has_heard_of v table h k j) unheard ∙ never (i == k) _ _);
   broken = is.broken;
   armed = is.armed;
 }
   where
-    never : (t : Bool) (x y : ℕ) → (if t && false then x else y) ≡ y
+    never : {A : Type 0} (t : Bool) (x y : A) → (if t && false then x else y) ≡ y
     never true x y = refl
     never false x y = refl
 
@@ -74,6 +85,7 @@ deliver-goes v table h i m message a b r hears there is same raises = record {
   id = ap (λ x. x.id) same ∙ is.id;
   records = (let tape = ap (λ x. whole_records (sim_state x.tape)) same in let before = is.records in omega (arith, tape, before));
   heard = λ j. raised-known a.heard b.heard message.entries raises j ∙ ap (λ n. max n (told message j)) (is.heard j) ∙ sym (rule j);
+  heard_of = λ j. raised-heard a.heard b.heard message.entries raises j ∙ ap (λ t. tells_of message.entries j || t) (is.heard_of j) ∙ sym (rule_of j);
   broken = ap (λ x. x.broken) same ∙ is.broken;
   armed = ap (λ x. sim_armed x.tape) same ∙ is.armed;
 }
@@ -83,3 +95,9 @@ deliver-goes v table h i m message a b r hears there is same raises = record {
     rule j = own_test i (is_heard r) _ (known v table h i j)
         ∙ ap (λ t. if t then max (known v table h i j) (told_of (slice_get (messages v table h) m) j) else known v table h i j) hears
         ∙ ap (λ o. max (known v table h i j) (told_of o j)) there
+
+    rule_of : (j : ℕ) → (if (i == i) && is_heard r then message_tells_of (slice_get (messages v table h) m) j || has_heard_of v table h i j else has_heard_of v table h i j)
+        ≡ (tells_of message.entries j || has_heard_of v table h i j)
+    rule_of j = own_test i (is_heard r) _ (has_heard_of v table h i j)
+        ∙ ap (λ t. if t then message_tells_of (slice_get (messages v table h) m) j || has_heard_of v table h i j else has_heard_of v table h i j) hears
+        ∙ ap (λ o. message_tells_of o j || has_heard_of v table h i j) there

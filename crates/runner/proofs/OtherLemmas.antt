@@ -11,6 +11,7 @@ use Rattle.model.specs.Rules.{agent_of}
 use Rattle.model.specs.Timetable.{Timetable}
 use Rattle.agent.specs.Agents.{AgentOn}
 use Rattle.runner.specs.declared.sim_tape.SimTape.{SimTape}
+use Rattle.runner.specs.Hearing.{heard_of_after, has_heard_of}
 use Rattle.runner.specs.Standing.{IsMember}
 
 -- a test that names another agent fails
@@ -57,6 +58,14 @@ known-other (Deliver j m) r ms i k before other = not_own j i _ _ before other
 known-other (Restart j) r ms i k before other = not_own j i _ 0 before other
 known-other (Tear j n) r ms i k before other = refl
 
+heard_of-other : (e : Event) (r : Answer) (ms : List Message) (i k : ℕ) (before : Bool) → agent_of e ≢ i → heard_of_after e r ms i k before ≡ before
+heard_of-other (Start j) r ms i k before other = refl
+heard_of-other (Finish j) r ms i k before other = refl
+heard_of-other (Say j) r ms i k before other = refl
+heard_of-other (Deliver j m) r ms i k before other = not_own j i _ _ before other
+heard_of-other (Restart j) r ms i k before other = not_own j i _ false before other
+heard_of-other (Tear j n) r ms i k before other = refl
+
 -- an agent that the event doesn't name stays where it is
 pub member-other : (v : Version) (table : Timetable) (h : History) (now : Happening) (i : ℕ) (a : AgentOn SimTape) → agent_of now.event ≢ i → IsMember v table h i a → IsMember v table (now ∷ h) i a
 member-other v table h now i a other is = record {
@@ -67,6 +76,7 @@ member-other v table h now i a other is = record {
       let records = is.records in
       omega (arith, starts, finishes, records));
   heard = λ j. is.heard j ∙ sym (known-other now.event now.answer (messages v table h) i j (known v table h i j) other);
+  heard_of = λ j. is.heard_of j ∙ sym (heard_of-other now.event now.answer (messages v table h) i j (has_heard_of v table h i j) other);
   broken = is.broken ∙ sym (broken-other now.event now.answer i (is_broken h i) other);
   armed = is.armed ∙ sym (armed-other now.event now.answer i (armed_of h i) other);
 }

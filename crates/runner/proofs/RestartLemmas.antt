@@ -12,12 +12,13 @@ use Rattle.model.specs.Rules.{path_cell, restart_answer, IsRun}
 use Rattle.model.specs.Safety.{held}
 use Rattle.model.specs.Timetable.{Track, Timetable}
 use Rattle.agent.specs.Agents.{AgentOn, state_of}
-use Rattle.agent.specs.Counters.{known_in}
+use Rattle.agent.specs.Counters.{known_in, is_heard_of}
 use Rattle.agent.specs.States as states
 use Rattle.agent.specs.Tape.{whole_records}
 use Rattle.runner.specs.declared.sim_tape.SimTape.{SimTape}
 use Rattle.agent.specs.Replies.{stood}
 use Rattle.runner.specs.SimTape.{sim_state, sim_armed}
+use Rattle.runner.specs.Hearing.{has_heard_of}
 use Rattle.runner.specs.Standing.{IsMember}
 use Rattle.runner.proofs.RuleLemmas.{done-is, moving-is}
 use Rattle.runner.proofs.StoreLemmas.{own_test}
@@ -32,6 +33,7 @@ tear-goes v table h i n a b is same state armed = record {
   id = ap (λ x. x.id) same ∙ is.id;
   records = (let count = ap whole_records state in let before = is.records in omega (arith, count, before));
   heard = λ j. ap (λ x. known_in x.heard j) same ∙ is.heard j;
+  heard_of = λ j. ap (λ x. is_heard_of x.heard j) same ∙ is.heard_of j;
   broken = ap (λ x. x.broken) same ∙ is.broken;
   armed = armed ∙ sym (own_test i true (Some n) (armed_of h i));
 }
@@ -43,6 +45,7 @@ tear-refused v table h i n a is = record {
   id = is.id;
   records = (let before = is.records in omega (arith, before));
   heard = is.heard;
+  heard_of = is.heard_of;
   broken = is.broken;
   armed = is.armed ∙ sym (own_test i false (Some n) (armed_of h i));
 }
@@ -86,6 +89,7 @@ restart-goes v table h i a b r opened is timetable id contents heard broken arme
   id = id ∙ is.id;
   records = (let count = ap (λ c. whole_records (record { contents = c; room = 0; failures = 0 })) contents in let before = is.records in omega (arith, count, before));
   heard = λ j. ap (λ l. known_in l j) heard ∙ sym (reopened 0 (known v table h i j));
+  heard_of = λ j. ap (λ l. is_heard_of l j) heard ∙ sym (reopened false (has_heard_of v table h i j));
   broken = broken ∙ sym (reopened false (is_broken h i));
   armed = armed ∙ sym (reopened None (armed_of h i));
 }

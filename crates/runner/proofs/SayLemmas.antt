@@ -1,6 +1,6 @@
 -- How a runner goes on after a message is said.
-use Rattle.std.proofs.Common.{◌≡◌, ℕ, zero, suc, ◌+◌, ◌++◌, eqb, cond, true, false, List, [], ◌∷◌, length, Some, refl, sym, ap, ◌∙◌, arith}
-use Rattle.std.specs.Prelude.{◌==◌, if◌then◌else◌, slice_get}
+use Rattle.std.proofs.Common.{◌≡◌, ℕ, zero, suc, ◌+◌, ◌++◌, eqb, cond, true, false, List, [], ◌∷◌, length, Some, Result, Ok, Err, refl, sym, ap, ◌∙◌, arith}
+use Rattle.std.specs.Prelude.{◌==◌, if◌then◌else◌, slice_get, OnErr}
 use Rattle.std.proofs.lemmas.List.{append-nil}
 use Rattle.std.proofs.lemmas.Option.{slice_get-get_or, slice_get_within}
 use Rattle.model.specs.declared.entry.Entry.{Entry}
@@ -17,7 +17,7 @@ use Rattle.agent.specs.Counters.{known_in}
 use Rattle.agent.specs.States as states
 use Rattle.runner.specs.declared.sim_tape.SimTape.{SimTape}
 use Rattle.runner.specs.SimTape.{sim_state}
-use Rattle.runner.specs.Standing.{RunnerState, IsMember, StandsAt}
+use Rattle.runner.specs.Standing.{RunnerState, IsMember, StandsAt, TakesMemory}
 use Rattle.runner.specs.Code.Telling.{message_told}
 use Rattle.runner.proofs.GoesLemmas.{no_track}
 use Rattle.runner.proofs.MessageLemmas.{say-goes}
@@ -69,7 +69,11 @@ module _ (r : RunnerState) (h : History) (stands : StandsAt r h) (i : ℕ) (a : 
         },
       )
 
-  -- another says what it knows
+  -- another takes memory for it
+  pub say-takes : a.broken ≡ false → TakesMemory r.version r.timetable h (Say i)
+  say-takes whole = (let count = stands.count in let within = slice_get_within r.agents i a there in omega (arith, count, within), sym is.broken ∙ whole)
+
+  -- and says what it knows
   said_on : (message : Message) (bytes : List ℕ) → a.broken ≡ false → message ≡ due_message → bytes ≡ due_bytes
       → (said (length r.messages) bytes ≡ answer r.version r.timetable h (Say i))
       × StandsAt (record r { messages = r.messages ++ message ∷ [] }) (record { event = Say i; answer = said (length r.messages) bytes } ∷ h)
@@ -117,3 +121,8 @@ module _ (r : RunnerState) (h : History) (stands : StandsAt r h) (i : ℕ) (a : 
       (whole_is ∙ ap (λ v. message_said v (length r.timetable.tracks) i (history.done h i) (known r.version r.timetable h i)) (sym version))
       (ap (λ t. told_bytes t.number (message_told a)) is.timetable ∙ ap (told_bytes r.timetable.number) whole_is
       ∙ ap (λ v. bytes_said v r.timetable.number (length r.timetable.tracks) i (history.done h i) (known r.version r.timetable h i)) (sym version))
+
+-- what holds in any case holds where a call gives a refusal
+pub err-so : {X Y : Type 0} (result : Result X Y) (P : Type 0) → P → OnErr result P
+err-so (Ok x) P holds = tt
+err-so (Err y) P holds = holds

@@ -15,7 +15,7 @@ use Rattle.model.specs.Rules.{stored, start_answer, finish_answer, IsRun}
 use Rattle.model.specs.Dependency.{Need, need}
 use Rattle.model.specs.Timetable.{Track, Timetable, moves}
 use Rattle.agent.specs.Agents.{AgentOn, Moves, state_of}
-use Rattle.agent.specs.Counters.{known_in}
+use Rattle.agent.specs.Counters.{known_in, is_heard_of}
 use Rattle.agent.specs.Records.{due_record}
 use Rattle.agent.specs.States as states
 use Rattle.agent.specs.States.{State, waits_for, start_refusal, finish_refusal, next_cell}
@@ -26,6 +26,7 @@ use Rattle.agent.specs.declared.refusal.Refusal.TheVariants.{Broken, AlreadyMovi
 use Rattle.runner.specs.declared.sim_tape.SimTape.{SimTape}
 use Rattle.agent.specs.Replies.{why_of, unless, answered}
 use Rattle.runner.specs.SimTape.{sim_state, sim_armed, sim_writes}
+use Rattle.runner.specs.Hearing.{heard_of_after, has_heard_of}
 use Rattle.runner.specs.Standing.{IsMember}
 use Rattle.runner.proofs.RuleLemmas.{start-rule, finish-rule}
 
@@ -90,6 +91,7 @@ pub record IsStoring (event : Event) (of : Cell → Answer) (i : ℕ) : Type 0 w
   pub armed : (r : Answer) (before : Option ℕ) → armed_after event r i before ≡ (if is_store_failed r then None else before)
   pub broken : (r : Answer) (before : Bool) → broken_after event r i before ≡ (if is_store_failed r then true else before)
   pub known : (r : Answer) (ms : List Message) (j before : ℕ) → known_after event r ms i j before ≡ before
+  pub heard_of : (r : Answer) (ms : List Message) (j : ℕ) (before : Bool) → heard_of_after event r ms i j before ≡ before
   pub fine : (c : Cell) → is_store_failed (of c) ≡ false
 
 pub start-stores : (i : ℕ) → IsStoring (Start i) moving i
@@ -100,6 +102,7 @@ start-stores i = record {
   armed = λ r before. own_test i (is_store_failed r) None before;
   broken = λ r before. own_test i (is_store_failed r) true before;
   known = λ r ms j before. refl;
+  heard_of = λ r ms j before. refl;
   fine = λ c. refl;
 }
 
@@ -111,6 +114,7 @@ finish-stores i = record {
   armed = λ r before. own_test i (is_store_failed r) None before;
   broken = λ r before. own_test i (is_store_failed r) true before;
   known = λ r ms j before. refl;
+  heard_of = λ r ms j before. refl;
   fine = λ c. refl;
 }
 
@@ -132,6 +136,7 @@ module _ (v : Version) (table : Timetable) (h : History) (i : ℕ) (track : Trac
     id = id ∙ is.id;
     records = (let before = is.records in omega (arith, adds, records, before));
     heard = λ j. ap (λ l. known_in l j) heard ∙ is.heard j ∙ sym (storing.known r (messages v table h) j (known v table h i j));
+    heard_of = λ j. ap (λ l. is_heard_of l j) heard ∙ is.heard_of j ∙ sym (storing.heard_of r (messages v table h) j (has_heard_of v table h i j));
     broken = broken ∙ ap (λ x. if is_store_failed r then true else x) is.broken ∙ sym (storing.broken r (is_broken h i));
     armed = armed ∙ ap (λ x. if is_store_failed r then None else x) is.armed ∙ sym (storing.armed r (armed_of h i));
   }

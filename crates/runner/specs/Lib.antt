@@ -4,6 +4,8 @@
 pub mod SimTape
 -- messages as they are kept
 pub mod SaidMessages
+-- of whom an agent has heard
+pub mod Hearing
 -- what a runner is, and at which history it stands
 pub mod Standing
 -- what is promised of every run

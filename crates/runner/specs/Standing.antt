@@ -1,5 +1,5 @@
 -- What a runner is, and at which history it stands.
-use Rattle.std.specs.Prelude.{◌≡◌, ℕ, ◌+◌, List, ◌∷◌, length, Some, slice_get, ⊤}
+use Rattle.std.specs.Prelude.{◌≡◌, ℕ, ◌+◌, ◌<◌, false, List, ◌∷◌, length, Any, Some, slice_get}
 use Rattle.model.specs.declared.event.Event.{Event}
 use Rattle.model.specs.declared.event.Event.TheVariants.{Start, Finish, Say, Deliver, Restart, Tear}
 use Rattle.model.specs.declared.version.Version.{Version}
@@ -8,10 +8,11 @@ use Rattle.model.specs.Messages.{Message}
 use Rattle.model.specs.Rules.{answer, IsRun}
 use Rattle.model.specs.Timetable.{Timetable, IsConflictFree}
 use Rattle.agent.specs.Agents.{AgentOn}
-use Rattle.agent.specs.Counters.{known_in}
+use Rattle.agent.specs.Counters.{known_in, is_heard_of}
 use Rattle.agent.specs.Tape.{whole_records}
 use Rattle.runner.specs.declared.sim_tape.SimTape.{SimTape}
 use Rattle.runner.specs.SimTape.{sim_state, sim_armed}
+use Rattle.runner.specs.Hearing.{has_heard_of}
 
 -- the timetable of the graph, the version of the messages, the agents, agent 0 first, and what was said, in order
 pub record RunnerState : Type 0 where
@@ -20,13 +21,14 @@ pub record RunnerState : Type 0 where
   pub agents : List (AgentOn SimTape)
   pub messages : List Message
 
--- An agent is where a history leaves it: its tape has a record for each begun and each finished move, it knows what was heard, and is
--- broken and armed by what happened.
+-- An agent is where a history leaves it: its tape has a record for each begun and each finished move, it knows what was heard and of
+-- whom, and is broken and armed by what happened.
 pub record IsMember (version : Version) (tt : Timetable) (h : History) (i : ℕ) (a : AgentOn SimTape) : Type 0 where
   pub timetable : a.timetable ≡ tt
   pub id : a.id ≡ i
   pub records : whole_records (sim_state a.tape) ≡ kept_starts h i + done h i
   pub heard : (j : ℕ) → known_in a.heard j ≡ known version tt h i j
+  pub heard_of : (j : ℕ) → is_heard_of a.heard j ≡ has_heard_of version tt h i j
   pub broken : a.broken ≡ is_broken h i
   pub armed : sim_armed a.tape ≡ armed_of h i
 
@@ -43,11 +45,18 @@ pub record StandsAt (r : RunnerState) (h : History) : Type 0 where
 abbrev pub GoesOn : RunnerState → RunnerState → Event → Answer → Type 0
 GoesOn old new event r = (h : History) → StandsAt old h → (r ≡ answer old.version old.timetable h event) × StandsAt new (record { event = event; answer = r } ∷ h)
 
--- only saying and delivering a message take memory
-abbrev pub TakesMemory : Event → Type 0
-TakesMemory (Start i) = ⊥
-TakesMemory (Finish i) = ⊥
-TakesMemory (Say i) = ⊤
-TakesMemory (Deliver i m) = ⊤
-TakesMemory (Restart i) = ⊥
-TakesMemory (Tear i n) = ⊥
+-- Which events take memory after a history: an agent says a message, or it is delivered one with an entry of an agent of whom it has not
+-- heard since it was opened. A broken agent does neither.
+abbrev pub TakesMemory : Version → Timetable → History → Event → Type 0
+TakesMemory version tt h (Start i) = ⊥
+TakesMemory version tt h (Finish i) = ⊥
+TakesMemory version tt h (Say i) = (i < length tt.tracks) × (is_broken h i ≡ false)
+TakesMemory version tt h (Deliver i m) =
+    (i < length tt.tracks) × (is_broken h i ≡ false)
+    × (message : Message) × (slice_get (messages version tt h) m ≡ Some message) × Any (λ entry. has_heard_of version tt h i entry.agent ≡ false) message.entries
+TakesMemory version tt h (Restart i) = ⊥
+TakesMemory version tt h (Tear i n) = ⊥
+
+-- of a runner, after every run at which it stands
+abbrev pub WantsMemory : RunnerState → Event → Type 0
+WantsMemory r event = (h : History) → StandsAt r h → TakesMemory r.version r.timetable h event

@@ -2,7 +2,7 @@
 ghost use Rattle.std.specs.Prelude.{◌≡◌, ◌<◌, ◌≤◌, ◌+◌, ◌^◌, [], ◌∷◌, ◌++◌, length, None, Some, IfSome, IfNone, IfOk, OnOk, slice_get};
 ghost use Rattle.model.specs.Ready.{rest_events};
 ghost use Rattle.runner.specs.Code.Leading.{is_opened_anew};
-ghost use Rattle.runner.specs.Code.Waiting.{HasNoRotation, Completes};
+ghost use Rattle.runner.specs.Code.Waiting.{HasNoRotation, CompletesFrom};
 
 use crate::SimTape;
 use agent::Agent;
@@ -256,33 +256,36 @@ impl<'r, 'g> Ending<'r, 'g> {
         self.deliver(other, agent)
     }
 
-    /// Tells an agent that the need of its next move is met, unless it knows.
-    fn tell_need(&mut self, agent: u16) -> Result<(), AllocError>
+    /// Tells an agent that this need of its next move is met, unless it knows.
+    fn tell_need(&mut self, agent: u16, need: Option<(u16, u32)>) -> Result<(), AllocError>
         requires there { agent < length self.old.agents }
         requires all { length self.old.standings ≡ length self.old.agents }
-        requires left { HasLeft self.old agent }
+        requires need { NeedsNext self.old agent need }
+        requires other { IfSome need (λ asked. (asked.0 < length self.old.agents) × (0 < asked.1)) }
         requires met { Awaits self.old agent None }
         ensures stayed { OnOk result (HasStayed self.old self.new) }
         ensures leads { OnOk result (LeadsOn self.old self.new) }
         ensures teaches { OnOk result (TeachesNeed self.old self.new agent) }
     {
-        match self.need(agent) {
+        match need {
             Some((other, count)) => self.tell(agent, other, count),
             None => Ok(()),
         }
     }
 
-    /// Lets an agent make its next move, once it knows that it may.
-    fn move_on(&mut self, agent: u16) -> Result<(), AllocError>
+    /// Lets an agent make its next move, which has this need, once it knows that it may.
+    fn move_on(&mut self, agent: u16, need: Option<(u16, u32)>) -> Result<(), AllocError>
         requires there { agent < length self.old.agents }
         requires all { length self.old.standings ≡ length self.old.agents }
         requires left { HasLeft self.old agent }
+        requires need { NeedsNext self.old agent need }
+        requires other { IfSome need (λ asked. (asked.0 < length self.old.agents) × (0 < asked.1)) }
         requires met { Awaits self.old agent None }
         ensures same { OnOk result (IsOf self.old self.new) }
         ensures leads { OnOk result (LeadsOn self.old self.new) }
         ensures moved { OnOk result (HasMoved agent self.old.standings self.new.standings) }
     {
-        self.tell_need(agent)?;
+        self.tell_need(agent, need)?;
         self.make_move(agent)
     }
 
@@ -360,13 +363,14 @@ impl<'r, 'g> Ending<'r, 'g> {
     {
         // Without vertex conflicts, swaps and rotations nobody waits for itself, not even through others.
         prove!(self.graph.agents() <= 10_000);
-        match self.awaited(now) {
+        let need = self.need(now);
+        match self.awaited(now, need) {
             Some(other) => {
                 waiting.push(other)?;
                 Ok(())
             }
             None => {
-                self.move_on(now)?;
+                self.move_on(now, need)?;
                 let _last = waiting.pop();
                 Ok(())
             }
@@ -399,14 +403,14 @@ impl<'r, 'g> Ending<'r, 'g> {
         self.graph.moves(u32::from(agent)).unwrap()
     }
 
-    /// Whom an agent's next move waits for.
-    fn awaited(&self, agent: u16) -> Option<u16>
-        requires there { agent < length self.now.agents }
+    /// Whom an agent's next move waits for, by what it needs.
+    fn awaited(&self, agent: u16, need: Option<(u16, u32)>) -> Option<u16>
         requires all { length self.now.standings ≡ length self.now.agents }
-        requires left { HasLeft self.now agent }
+        requires need { NeedsNext self.now agent need }
+        requires other { IfSome need (λ asked. (asked.0 < length self.now.agents) × (0 < asked.1)) }
         ensures { Awaits self.now agent result }
     {
-        let (other, count) = self.need(agent)?;
+        let (other, count) = need?;
         if self.standings[usize::from(other)].done < count {
             Some(other)
         } else {
@@ -447,7 +451,7 @@ pub(crate) fn bring_all_to_ends(
     requires few { length agents.now ≤ 10000 }
     requires messages { messages < 2 ^ 63 }
     requires still { HasNoRotation graph.now }
-    ensures { IfOk result (λ events. Completes graph.now agents.now messages events.items) }
+    ensures { IfOk result (λ events. CompletesFrom graph.now agents.now messages events.items) }
 {
     let mut ending = Ending {
         graph,

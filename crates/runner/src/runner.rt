@@ -46,7 +46,7 @@ impl<'g> Runner<'g> {
     ghost use Rattle.model.specs.Safety.{held};
     ghost use Rattle.runner.specs.Endings.{IsEnding};
     ghost use Rattle.runner.specs.SafeRuns.{IsSafeRun};
-    ghost use Rattle.runner.specs.Standing.{RunnerState, StandsAt, GoesOn, TakesMemory};
+    ghost use Rattle.runner.specs.Standing.{RunnerState, StandsAt, GoesOn, WantsMemory};
 
     /// All agents of a graph, none of which has begun a move, that say messages of version 1.
     pub fn new(alloc: Global, graph: &'g Graph) -> Result<Runner<'g>, OutOfMemory>
@@ -87,11 +87,12 @@ impl<'g> Runner<'g> {
         })
     }
 
-    /// Answers an event. Only saying and delivering a message take memory.
+    /// Answers an event. Memory is taken only where an agent says a message, and where one is delivered with an entry of an agent that was
+    /// not heard of since the last restart.
     pub fn step(&mut self, event: Event) -> Result<Reply, OutOfMemory>
         ensures answered { IfOk result (λ reply. GoesOn self.old self.new event (answer_of reply)) }
         ensures refused { OnErr result (self.new ≡ self.old) }
-        ensures memory { OnErr result (TakesMemory event) }
+        ensures memory { OnErr result (WantsMemory self.old event) }
         ensures same_graph { self.new.timetable ≡ self.old.timetable }
         ensures same_version { self.new.version ≡ self.old.version }
         ensures safe { (h : History) → StandsAt self.new h → IsSafeRun self.new.timetable h }
@@ -159,6 +160,7 @@ impl<'g> Runner<'g> {
         ensures same_graph { self.new.timetable ≡ self.old.timetable }
         ensures same_version { self.new.version ≡ self.old.version }
         ensures err { OnErr result (self.new ≡ self.old) }
+        ensures memory { OnErr result (WantsMemory self.old (event.Say agent)) }
     {
         if agent as usize >= self.agents.len() {
             return Ok(Reply::Refused(Why::NoSuchAgent));
@@ -177,6 +179,7 @@ impl<'g> Runner<'g> {
         ensures same_graph { self.new.timetable ≡ self.old.timetable }
         ensures same_version { self.new.version ≡ self.old.version }
         ensures err { OnErr result (self.new ≡ self.old) }
+        ensures memory { OnErr result (WantsMemory self.old (event.Say agent)) }
     {
         let sender = &self.agents[agent as usize];
         let done = sender.done();
@@ -200,6 +203,7 @@ impl<'g> Runner<'g> {
         ensures same_graph { self.new.timetable ≡ self.old.timetable }
         ensures same_version { self.new.version ≡ self.old.version }
         ensures err { OnErr result (self.new ≡ self.old) }
+        ensures memory { OnErr result (WantsMemory self.old (event.Say agent)) }
     {
         let sender = &self.agents[agent as usize];
         let bytes = match sender.tell() {
@@ -217,6 +221,7 @@ impl<'g> Runner<'g> {
         ensures same_graph { self.new.timetable ≡ self.old.timetable }
         ensures same_version { self.new.version ≡ self.old.version }
         ensures err { OnErr result (self.new ≡ self.old) }
+        ensures memory { OnErr result (WantsMemory self.old (event.Deliver agent message)) }
     {
         if agent as usize >= self.agents.len() {
             return Ok(Reply::Refused(Why::NoSuchAgent));
@@ -239,6 +244,7 @@ impl<'g> Runner<'g> {
         ensures same_graph { self.new.timetable ≡ self.old.timetable }
         ensures same_version { self.new.version ≡ self.old.version }
         ensures err { OnErr result (self.new ≡ self.old) }
+        ensures memory { OnErr result (WantsMemory self.old (event.Deliver agent message)) }
     {
         model::laws::messages_of_runs();
         let entry = self.said.own(message);
@@ -259,6 +265,7 @@ impl<'g> Runner<'g> {
         ensures same_graph { self.new.timetable ≡ self.old.timetable }
         ensures same_version { self.new.version ≡ self.old.version }
         ensures err { OnErr result (self.new ≡ self.old) }
+        ensures memory { OnErr result (WantsMemory self.old (event.Deliver agent message)) }
     {
         model::laws::messages_of_runs();
         model::laws::entries_of_agents();

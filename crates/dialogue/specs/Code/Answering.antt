@@ -1,14 +1,15 @@
 -- The line of an answer, and what sending it leaves.
-use Rattle.std.specs.Prelude.{◌≡◌, ℕ, List, [], ◌∷◌, ◌++◌, codes, Option, Some, Result, Ok, Err}
+use Rattle.std.specs.Prelude.{◌≡◌, ℕ, Bool, true, false, List, [], ◌∷◌, ◌++◌, codes, Option, Some, Result, Ok, Err}
 use Rattle.grid.specs.declared.sink.Sink.{Sink}
 use Rattle.grid.specs.declared.sink.WriteFault.{WriteFault}
 use Rattle.grid.specs.Sink.{held_back, Puts, Breaks}
 use Rattle.grid.specs.Text.{line_feed}
+use Rattle.model.specs.History.{is_store_failed}
 use Rattle.model.specs.Replies.{answer_of}
 use Rattle.model.specs.Timetable.{Track, Timetable, track_of}
 use Rattle.agent.specs.Agents.{AgentOn, state_of}
 use Rattle.agent.specs.States.{State}
-use Rattle.agent.specs.Tape.{TapeState}
+use Rattle.agent.specs.Tape.{TapeState, HasFailed}
 use Rattle.event_text.specs.ReplyText.{reply_line}
 use Rattle.dialogue.specs.Turns.{IsTurn, said_line, told_line, not_understood, state_line, store_failed}
 use Rattle.dialogue.specs.declared.line_answer.LineAnswer.{LineAnswer}
@@ -23,6 +24,16 @@ answer_line (the_answer.Said message) = said_line (Ok message)
 answer_line (the_answer.Told message) = told_line (Ok message.items)
 answer_line the_answer.OutOfMemory = codes "refused OutOfMemory"
 answer_line the_answer.BadLine = not_understood
+
+-- it is that a store failed
+abbrev pub says_store_failed : LineAnswer → Bool
+says_store_failed (the_answer.Reply r) = is_store_failed (answer_of r)
+says_store_failed _ = false
+
+-- a call on the tape failed where that is said, and else none did
+abbrev pub CountsFailures : Bool → (old new : ℕ) → Type 0
+CountsFailures true old new = HasFailed old new
+CountsFailures false old new = new ≡ old
 
 -- an agent stays the same one, whatever its state
 pub record IsSameAgent {T : Type 0} (old new : AgentOn T) : Type 0 where

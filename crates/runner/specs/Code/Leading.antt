@@ -1,5 +1,5 @@
 -- Where events lead that are to bring every agent to its end.
-use Rattle.std.specs.Prelude.{◌≡◌, ℕ, ◌+◌, ◌-◌, ◌<◌, ◌≤◌, ◌||◌, ◌⊎◌, Bool, false, List, [], ◌∷◌, length, Option, Some, MatchOption, is_some, option_map, unwrap_or, slice_get}
+use Rattle.std.specs.Prelude.{◌≡◌, ℕ, ◌+◌, ◌<◌, ◌≤◌, ◌||◌, ◌⊎◌, Bool, false, List, length, Option, Some, MatchOption, is_some, option_map, unwrap_or, slice_get}
 use Rattle.model.specs.declared.event.Event.{Event}
 use Rattle.model.specs.declared.version.Version.{Version}
 use Rattle.model.specs.Completion.{history_after, AreAccepted}
@@ -61,7 +61,6 @@ pub record IsUntouched (h new : History) (i : ℕ) : Type 0 where
 -- What is so after all events.
 pub record LeadsTo (version : Version) (s : EndingState) (h new : History) : Type 0 where
   pub accepted : AreAccepted version s.timetable h s.events
-  pub is_after : new ≡ history_after version s.timetable h s.events
   pub said : length (messages version s.timetable new) ≡ s.messages
   pub stand : (i : ℕ) (x : Standing) → slice_get s.standings i ≡ Some x → StandsThere version s.timetable new i x
   pub others : (i : ℕ) → length s.standings ≤ i → i < length s.agents → IsUntouched h new i
@@ -150,9 +149,3 @@ pub record HasMoved (i : ℕ) (old new : List Standing) : Type 0 where
   pub count : length new ≡ length old
   pub own : finished_in new i ≡ finished_in old i + 1
   pub others : (k : ℕ) → (k ≡ i → ⊥) → finished_in new k ≡ finished_in old k
-
--- how many moves are left
-abbrev pub left_in : List Track → List Standing → ℕ
-left_in [] standings = 0
-left_in (track ∷ tracks) [] = 0
-left_in (track ∷ tracks) (s ∷ standings) = (moves track - s.done) + left_in tracks standings

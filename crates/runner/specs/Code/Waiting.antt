@@ -56,6 +56,6 @@ abbrev pub LeadsFrom : Timetable → List (AgentOn SimTape) → ℕ → EndingSt
 LeadsFrom tt agents count s = (version : Version) (h : History) → Begins version tt agents h → length (messages version tt h) ≡ count → Leads version s h
 
 -- they complete it
-abbrev pub Completes : Timetable → List (AgentOn SimTape) → ℕ → List Event → Type 0
-Completes tt agents count events =
+abbrev pub CompletesFrom : Timetable → List (AgentOn SimTape) → ℕ → List Event → Type 0
+CompletesFrom tt agents count events =
     (version : Version) (h : History) → Begins version tt agents h → length (messages version tt h) ≡ count → IsCompletion version tt h events

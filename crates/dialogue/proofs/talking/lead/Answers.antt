@@ -30,6 +30,7 @@ lines-preserved g c =
           far_more g.R.Read.remaining g.W.Write.contents g.T.Tape.state (source_reader c.args.source.now) c.args.sink.now c.requires.none_held
           c.args.agent.now c.lines.source c.lines.sink c.lines.agent far came.0 c.next_line.new.source c.reply.new.sink c.reply.new.agent c.reply.ensures.same
           came.2
+          c.in_ok-reply-in-Line.ensures.blames
           (replied g.R.Read.remaining g.W.Write.contents g.T.Tape.state (source_reader c.args.source.now) c.args.sink.now c.requires.none_held
           c.args.agent.now c.lines.source c.lines.sink c.lines.agent far came.0 c.next_line.new.source c.reply.new.sink c.reply.new.agent c.reply.ensures.same
           c.next_line.new.room c.in-Line.kept (Ok tt) c.in_ok-reply-in-Line.ensures.replies came.1);
@@ -55,6 +56,7 @@ returns-in_err-reply-in-Line-clause-leads g c =
     (led_to_fault g.R.Read.remaining g.W.Write.contents g.T.Tape.state (source_reader c.args.source.now) c.args.sink.now c.requires.none_held
     c.args.agent.now c.lines.source c.lines.sink c.lines.agent far came.0 c.next_line.new.source c.reply.new.sink c.reply.new.agent
     c.reply.ensures.same c.in_err-reply-in-Line.field-0.0 (read_first g.R.Read.remaining (source_reader c.args.source.now) c.next_line.new.source _ came.2)
+    c.in_err-reply-in-Line.ensures.blames
     (replied g.R.Read.remaining g.W.Write.contents g.T.Tape.state (source_reader c.args.source.now) c.args.sink.now c.requires.none_held
     c.args.agent.now c.lines.source c.lines.sink c.lines.agent far came.0 c.next_line.new.source c.reply.new.sink c.reply.new.agent
     c.reply.ensures.same c.next_line.new.room c.in-Line.kept (Err c.in_err-reply-in-Line.field-0.0) c.in_err-reply-in-Line.ensures.replies came.1))
@@ -84,6 +86,7 @@ returns-in-LastLine-clause-leads g c =
     c.args.agent.now c.lines.source c.lines.sink c.lines.agent far came.0 c.next_line.new.source c.reply-in-LastLine.new.sink
     c.reply-in-LastLine.new.agent c.reply-in-LastLine.ensures.same c.reply-in-LastLine.result
     (read_last g.R.Read.remaining (source_reader c.args.source.now) c.next_line.new.source far.lines came.0 came.2 came.3)
+    c.reply-in-LastLine.ensures.blames
     (replied g.R.Read.remaining g.W.Write.contents g.T.Tape.state (source_reader c.args.source.now) c.args.sink.now c.requires.none_held
     c.args.agent.now c.lines.source c.lines.sink c.lines.agent far came.0 c.next_line.new.source c.reply-in-LastLine.new.sink c.reply-in-LastLine.new.agent
     c.reply-in-LastLine.ensures.same c.next_line.new.room c.in-LastLine.kept c.reply-in-LastLine.result c.reply-in-LastLine.ensures.replies came.1)

@@ -14,7 +14,7 @@ returns-in_err-send_answer-clause-replies g c =
 
 pub returns-then-says_store_failed-clause-replies : goal.returns-then-says_store_failed-clause-replies
 returns-then-says_store_failed-clause-replies g c = λ track text is kept.
-    replied-store_failed g.W.Write.contents _ _ track text _ _ _ _ (answer_line c.answer_kept-answer.result) (c.if-says_store_failed.ensures.0 refl)
+    replied-store_failed g.W.Write.contents _ _ track text _ _ _ _ (answer_line c.answer_kept-answer.result) (c.if-says_store_failed.ensures.line.0 refl)
     (c.answer_kept-answer.ensures.turn track text is kept)
     (record { puts = c.in_ok-send_answer.ensures.ok; none_held = c.in_ok-send_answer.ensures.none_held })
 
@@ -23,5 +23,5 @@ returns-clause-replies g c = λ track text is kept. (
   answer_line c.answer_kept-answer.result,
   c.answer_kept-answer.ensures.turn track text is kept,
   record { puts = c.in_ok-send_answer.ensures.ok; none_held = c.in_ok-send_answer.ensures.none_held },
-  λ e. absurd (false≢true (c.if-says_store_failed.ensures.1 e)),
+  λ e. absurd (false≢true (c.if-says_store_failed.ensures.line.1 e)),
 )

@@ -1,12 +1,13 @@
-use Rattle.std.proofs.Common.{◌≡◌, ◌<◌, Some, length, sym, ap, subst, ◌∙◌, arith}
+use Rattle.std.proofs.Common.{◌≡◌, ◌<◌, Some, length, refl, sym, ap, subst, ◌∙◌, arith}
 use Rattle.std.proofs.lemmas.Option.{slice_get-get_or}
 use Rattle.model.specs.declared.event.Event.TheVariants.{Deliver}
 use Rattle.model.specs.Messages.{Message, own_message}
 use Rattle.model.specs.Replies.{answer_of}
 use Rattle.model.specs.Rules.{answer}
 use Rattle.agent.specs.Replies.{delivered}
-use Rattle.runner.specs.Standing.{StandsAt}
-use Rattle.runner.proofs.DeliverLemmas.{each-ok, from-gives, none-refused-by, said-there, delivered-on}
+use Rattle.agent.specs.declared.finished.Finished.{Finished}
+use Rattle.runner.specs.Standing.{StandsAt, TakesMemory}
+use Rattle.runner.proofs.DeliverLemmas.{each-ok, each-err, own-gives, delivered-on, wants-on}
 use Rattle.runner.proofs.runner.Runner.deliver_own.Goals as goal
 
 pub returns-clause-heard : goal.returns-clause-heard
@@ -17,8 +18,20 @@ returns-clause-heard c =
     let a = c.index_mut.result.now in
     let there = slice_get-get_or c.self.inside.agents.items c.args.agent a within ∙ ap (λ x. Some x) (sym c.index_mut.ensures.value) in
     let message : Message = own_message c.own-entry.result.agent c.own-entry.result.done in
-    let was = c.messages_of_runs.ensures c.self.inside.said.version c.self.inside.graph.now h c.args.message message inside.run (said-there _ h inside c.args.agent within c.args.message a there message c.own-entry.ensures) in
-    let table = (inside.members c.args.agent a there).timetable in
-    let given = from-gives a c.hear_finished.new.self _ c.hear_finished.result (none-refused-by _ c.self.inside.graph.now a.timetable h c.args.message c.number.result message table c.number.ensures.number was) c.hear_finished.ensures in
+    let finished : Finished = record { from = c.own-entry.result.agent; plan = c.number.result; done = c.own-entry.result.done } in
+    let given = own-gives _ h inside c.args.agent within c.args.message a there message c.own-entry.ensures c.messages_of_runs.ensures c.hear_finished.new.self c.hear_finished.result finished refl c.number.ensures.number c.hear_finished.ensures in
     let found = delivered-on _ h inside c.args.agent within c.args.message a there message c.own-entry.ensures c.hear_finished.new.self c.hear_finished.result (answer_of reply) given is in
     (found.0 ∙ ap (λ r. answer r.version r.timetable h (Deliver c.args.agent c.args.message)) c.self.view_is, found.1)) c.reply_to_delivery.ensures
+
+pub returns-clause-memory : goal.returns-clause-memory
+returns-clause-memory c =
+    each-err c.reply_to_delivery.result _ _ _ (λ lack none h stands.
+    let inside = subst (λ r. StandsAt r h) (sym c.self.view_is) stands in
+    let within : c.args.agent < length c.self.inside.agents.items = (let less = c.requires.there in let same = ap (λ r. length r.agents) c.self.view_is in omega (arith, less, same)) in
+    let a = c.index_mut.result.now in
+    let there = slice_get-get_or c.self.inside.agents.items c.args.agent a within ∙ ap (λ x. Some x) (sym c.index_mut.ensures.value) in
+    let message : Message = own_message c.own-entry.result.agent c.own-entry.result.done in
+    let finished : Finished = record { from = c.own-entry.result.agent; plan = c.number.result; done = c.own-entry.result.done } in
+    let given = own-gives _ h inside c.args.agent within c.args.message a there message c.own-entry.ensures c.messages_of_runs.ensures c.hear_finished.new.self c.hear_finished.result finished refl c.number.ensures.number c.hear_finished.ensures in
+    subst (λ r. TakesMemory r.version r.timetable h (Deliver c.args.agent c.args.message)) c.self.view_is
+    (wants-on _ h inside c.args.agent within c.args.message a there message c.own-entry.ensures c.hear_finished.new.self c.hear_finished.result given none)) c.reply_to_delivery.ensures

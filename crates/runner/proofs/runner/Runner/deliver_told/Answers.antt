@@ -1,13 +1,13 @@
 use Rattle.std.proofs.Common.{◌≡◌, ◌<◌, Some, length, sym, ap, subst, ◌∙◌, arith}
 use Rattle.std.proofs.lemmas.Option.{slice_get-get_or}
 use Rattle.model.specs.declared.event.Event.TheVariants.{Deliver}
-use Rattle.model.specs.Messages.{Message, AreRising, message_said}
-use Rattle.model.specs.History.{done, known}
+use Rattle.model.specs.declared.version.Version.TheVariants.{Two}
+use Rattle.model.specs.Messages.{Message}
 use Rattle.model.specs.Replies.{answer_of}
 use Rattle.model.specs.Rules.{answer}
 use Rattle.agent.specs.Replies.{delivered}
-use Rattle.runner.specs.Standing.{StandsAt}
-use Rattle.runner.proofs.DeliverLemmas.{each-ok, of-gives, none-refused-by, said-there, delivered-on}
+use Rattle.runner.specs.Standing.{StandsAt, TakesMemory}
+use Rattle.runner.proofs.DeliverLemmas.{each-ok, each-err, told-gives, delivered-on, wants-on}
 use Rattle.runner.proofs.runner.Runner.deliver_told.Goals as goal
 
 pub returns-clause-heard : goal.returns-clause-heard
@@ -18,13 +18,22 @@ returns-clause-heard c =
     let a = c.index_mut.result.now in
     let there = slice_get-get_or c.self.inside.agents.items c.args.agent a within ∙ ap (λ x. Some x) (sym c.index_mut.ensures.value) in
     let message : Message = record { sender = c.told-sender.result.0; entries = c.told-sender.result.1.now } in
-    let was = c.messages_of_runs.ensures c.self.inside.said.version c.self.inside.graph.now h c.args.message message inside.run (said-there _ h inside c.args.agent within c.args.message a there message c.told-sender.ensures) in
-    let table = (inside.members c.args.agent a there).timetable in
-    let given = of-gives a c.hear_entries.new.self message c.hear_entries.result
-    ((c.whole_messages.ensures.rising message.entries).0
-    (subst (λ m. AreRising 0 m.entries)
-    (sym (was.tells ∙ ap (λ v. message_said v (length c.self.inside.graph.now.tracks) was.agent (done was.earlier was.agent) (known c.self.inside.said.version c.self.inside.graph.now was.earlier was.agent)) (ap (λ r. r.version) c.self.view_is ∙ c.requires.version)))
-    (c.entries_of_agents.ensures.rising _ 0 (length c.self.inside.graph.now.tracks))))
-    (none-refused-by _ c.self.inside.graph.now a.timetable h c.args.message a.timetable.number message table (ap (λ t. t.number) table) was) c.hear_entries.ensures in
+    let version : c.self.inside.said.version ≡ Two = ap (λ r. r.version) c.self.view_is ∙ c.requires.version in
+    let given = told-gives _ h inside c.args.agent within c.args.message a there message c.told-sender.ensures c.messages_of_runs.ensures c.hear_entries.new.self c.hear_entries.result version
+    c.entries_of_agents.ensures.rising (λ es rising. (c.whole_messages.ensures.rising es).0 rising) c.hear_entries.ensures in
     let found = delivered-on _ h inside c.args.agent within c.args.message a there message c.told-sender.ensures c.hear_entries.new.self c.hear_entries.result (answer_of reply) given is in
     (found.0 ∙ ap (λ r. answer r.version r.timetable h (Deliver c.args.agent c.args.message)) c.self.view_is, found.1)) c.reply_to_delivery.ensures
+
+pub returns-clause-memory : goal.returns-clause-memory
+returns-clause-memory c =
+    each-err c.reply_to_delivery.result _ _ _ (λ lack none h stands.
+    let inside = subst (λ r. StandsAt r h) (sym c.self.view_is) stands in
+    let within : c.args.agent < length c.self.inside.agents.items = (let less = c.requires.there in let same = ap (λ r. length r.agents) c.self.view_is in omega (arith, less, same)) in
+    let a = c.index_mut.result.now in
+    let there = slice_get-get_or c.self.inside.agents.items c.args.agent a within ∙ ap (λ x. Some x) (sym c.index_mut.ensures.value) in
+    let message : Message = record { sender = c.told-sender.result.0; entries = c.told-sender.result.1.now } in
+    let version : c.self.inside.said.version ≡ Two = ap (λ r. r.version) c.self.view_is ∙ c.requires.version in
+    let given = told-gives _ h inside c.args.agent within c.args.message a there message c.told-sender.ensures c.messages_of_runs.ensures c.hear_entries.new.self c.hear_entries.result version
+    c.entries_of_agents.ensures.rising (λ es rising. (c.whole_messages.ensures.rising es).0 rising) c.hear_entries.ensures in
+    subst (λ r. TakesMemory r.version r.timetable h (Deliver c.args.agent c.args.message)) c.self.view_is
+    (wants-on _ h inside c.args.agent within c.args.message a there message c.told-sender.ensures c.hear_entries.new.self c.hear_entries.result given none)) c.reply_to_delivery.ensures

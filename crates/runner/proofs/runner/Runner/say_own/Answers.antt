@@ -7,8 +7,8 @@ use Rattle.model.specs.History.{refused, said}
 use Rattle.model.specs.Messages.{own_message, message_bytes}
 use Rattle.model.specs.Rules.{answer}
 use Rattle.agent.specs.Replies.{why_of}
-use Rattle.runner.specs.Standing.{StandsAt}
-use Rattle.runner.proofs.SayLemmas.{say-refused-on, own-on}
+use Rattle.runner.specs.Standing.{StandsAt, TakesMemory}
+use Rattle.runner.proofs.SayLemmas.{say-refused-on, say-takes, own-on, err-so}
 use Rattle.runner.proofs.runner.Runner.say_own.Goals as goal
 
 pub returns-in-Err-clause-said : goal.returns-in-Err-clause-said
@@ -37,3 +37,17 @@ returns-clause-said c h stands =
     (subst (λ x. (x ≡ answer c.args.self.now.version c.args.self.now.timetable h (Say c.args.agent))
     × StandsAt (record { timetable = c.self.inside.graph.now; version = c.self.inside.said.version; agents = c.self.inside.agents.items; messages = c.self.inside.said.messages ++ own_message c.args.agent c.done-done.result ∷ [] }) (record { event = Say c.args.agent; answer = x } ∷ h))
     (sym answered) (found.0 ∙ ap (λ r. answer r.version r.timetable h (Say c.args.agent)) c.self.view_is, found.1))
+
+pub returns-in_err-bytes-in-Ok-clause-memory : goal.returns-in_err-bytes-in-Ok-clause-memory
+returns-in_err-bytes-in-Ok-clause-memory c = err-so c.from_residual.result _ (λ h stands.
+    let inside = subst (λ r. StandsAt r h) (sym c.self.view_is) stands in
+    let within : c.args.agent < length c.self.inside.agents.items = (let less = c.requires.there in let same = ap (λ r. length r.agents) c.self.view_is in omega (arith, less, same)) in
+    let there = slice_get-get_or c.self.inside.agents.items c.args.agent c.index-sender.result.now within ∙ ap (λ a. Some a) (sym c.index-sender.ensures) in
+    subst (λ r. TakesMemory r.version r.timetable h (Say c.args.agent)) c.self.view_is (say-takes _ h inside c.args.agent c.index-sender.result.now there c.in-Ok.ensures.0))
+
+pub returns-in_err-keep_own-clause-memory : goal.returns-in_err-keep_own-clause-memory
+returns-in_err-keep_own-clause-memory c = err-so c.from_residual-in_err-keep_own.result _ (λ h stands.
+    let inside = subst (λ r. StandsAt r h) (sym c.self.view_is) stands in
+    let within : c.args.agent < length c.self.inside.agents.items = (let less = c.requires.there in let same = ap (λ r. length r.agents) c.self.view_is in omega (arith, less, same)) in
+    let there = slice_get-get_or c.self.inside.agents.items c.args.agent c.index-sender.result.now within ∙ ap (λ a. Some a) (sym c.index-sender.ensures) in
+    subst (λ r. TakesMemory r.version r.timetable h (Say c.args.agent)) c.self.view_is (say-takes _ h inside c.args.agent c.index-sender.result.now there c.in-Ok.ensures.0))

@@ -8,9 +8,9 @@ use Rattle.model.specs.Rules.{answer}
 use Rattle.agent.specs.Agents.{state_of}
 use Rattle.agent.specs.States.{IsToldBy}
 use Rattle.runner.specs.SimTape.{sim_state}
-use Rattle.runner.specs.Standing.{StandsAt}
+use Rattle.runner.specs.Standing.{StandsAt, TakesMemory}
 use Rattle.runner.specs.Code.Telling.{message_told}
-use Rattle.runner.proofs.SayLemmas.{say-refused-on, told-on}
+use Rattle.runner.proofs.SayLemmas.{say-refused-on, say-takes, told-on, err-so}
 use Rattle.runner.proofs.runner.Runner.tell.Goals as goal
 
 pub returns-in-Err-Broken-clause-said : goal.returns-in-Err-Broken-clause-said
@@ -37,3 +37,18 @@ returns-clause-said c h stands =
     (subst (λ x. (x ≡ answer c.args.self.now.version c.args.self.now.timetable h (Say c.args.agent))
     × StandsAt (record { timetable = c.self.inside.graph.now; version = c.self.inside.said.version; agents = c.self.inside.agents.items; messages = c.self.inside.said.messages ++ message_told c.index-sender.result.now ∷ [] }) (record { event = Say c.args.agent; answer = x } ∷ h))
     (sym answered) (found.0 ∙ ap (λ r. answer r.version r.timetable h (Say c.args.agent)) c.self.view_is, found.1))
+
+pub returns-in_err-keep_told-clause-memory : goal.returns-in_err-keep_told-clause-memory
+returns-in_err-keep_told-clause-memory c = err-so c.from_residual.result _ (λ h stands.
+    let inside = subst (λ r. StandsAt r h) (sym c.self.view_is) stands in
+    let within : c.args.agent < length c.self.inside.agents.items = (let less = c.requires.there in let same = ap (λ r. length r.agents) c.self.view_is in omega (arith, less, same)) in
+    let there = slice_get-get_or c.self.inside.agents.items c.args.agent c.index-sender.result.now within ∙ ap (λ a. Some a) (sym c.index-sender.ensures) in
+    subst (λ r. TakesMemory r.version r.timetable h (Say c.args.agent)) c.self.view_is (say-takes _ h inside c.args.agent c.index-sender.result.now there c.in-Ok.ensures.0))
+
+pub returns-in-Err-OutOfMemory-clause-memory : goal.returns-in-Err-OutOfMemory-clause-memory
+returns-in-Err-OutOfMemory-clause-memory c h stands =
+    let inside = subst (λ r. StandsAt r h) (sym c.self.view_is) stands in
+    let within : c.args.agent < length c.self.inside.agents.items = (let less = c.requires.there in let same = ap (λ r. length r.agents) c.self.view_is in omega (arith, less, same)) in
+    let there = slice_get-get_or c.self.inside.agents.items c.args.agent c.index-sender.result.now within ∙ ap (λ a. Some a) (sym c.index-sender.ensures) in
+    let whole = subst (λ f. IsToldBy c.index-sender.result.now.timetable c.index-sender.result.now.id (state_of sim_state c.index-sender.result.now) (Err f)) c.in-Err-OutOfMemory.field-0-is c.in-Err-OutOfMemory.ensures in
+    subst (λ r. TakesMemory r.version r.timetable h (Say c.args.agent)) c.self.view_is (say-takes _ h inside c.args.agent c.index-sender.result.now there whole)
