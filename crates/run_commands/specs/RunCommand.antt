@@ -1,12 +1,12 @@
 -- What `mapf run` does and answers.
-use Rattle.std.specs.Prelude.{◌≡◌, ℕ, Bool, true, false, List, Option, Some, Result, Ok, Err}
+use Rattle.std.specs.Prelude.{◌≡◌, ℕ, Bool, true, false, List, MatchBool, Option, Some, Result, Ok, Err}
 use Rattle.grid.specs.declared.counted.Counted.{Counted}
 use Rattle.replay.specs.declared.completion.Completion.{Completion}
 use Rattle.replay.specs.declared.completion.Completion.TheVariants.{Ends, Blocked}
 use Rattle.replay.specs.declared.run_fault.RunFault.{RunFault}
-use Rattle.replay.specs.declared.run_fault.RunFault.TheVariants.{WriteFailed}
+use Rattle.replay.specs.declared.run_fault.RunFault.TheVariants.{Map, PlanText, Plan, WriteFailed}
 use Rattle.replay.specs.Completing.{CompletesText}
-use Rattle.replay.specs.Replaying.{RunsText, was_written}
+use Rattle.replay.specs.Replaying.{RunsText}
 use Rattle.text_commands.specs.declared.status.Status.{Status}
 use Rattle.text_commands.specs.Finishing.{Finishes}
 use Rattle.text_commands.specs.Status.{code_of}
@@ -25,8 +25,23 @@ RunsOrCompletes map_left plan_left events_left contents old_map new_map old_plan
 RunsOrCompletes map_left plan_left events_left contents old_map new_map old_plan new_plan old_events new_events false old_out new_out (Err fault) =
     RunsText map_left plan_left events_left contents old_map new_map old_plan new_plan old_events new_events old_out new_out (Err fault)
 
--- The texts were read, the events were answered, and the ending was said where it was asked for, and then the output was flushed, unless it
--- had failed: the status and the fault that was told are what the texts came to, or those of a failure where the flush failed.
+-- whether the map and the plan were good, so that events were answered, and no write failed
+abbrev pub needs_flush : Result Completion RunFault → Bool
+needs_flush (Err (Map f)) = false
+needs_flush (Err (PlanText f)) = false
+needs_flush (Err (Plan f)) = false
+needs_flush (Err WriteFailed) = false
+needs_flush _ = true
+
+-- How a run ends that came to an answer: where events were answered the output is flushed, unless it had failed, and else it is left
+-- alone. Where nothing failed, the status is that of the answer, and `Passed` is what was said on the error output; where the flush
+-- failed, `Failed` is.
+abbrev pub EndsRun : {W : Type 0} → (W → Option (List ℕ)) → (Passed Failed : Type 0) → Result Completion RunFault → Counted W → Counted W → Status → Type 0
+EndsRun contents Passed Failed answer old new status =
+    MatchBool (needs_flush answer) (Finishes contents Passed Failed true (run_status answer) old new status)
+    ((status ≡ run_status answer) × (new ≡ old) × Passed)
+
+-- The texts were read, the events were answered, and the ending was said where it was asked for, and the run ended by what they came to.
 pub record AnswersRun
     {M P V W : Type 0} (map_left : M → Option (List ℕ)) (plan_left : P → Option (List ℕ)) (events_left : V → Option (List ℕ))
     (contents : W → Option (List ℕ)) (Told : Option (List (List ℕ)) → Type 0) (old_map new_map : Counted M) (old_plan new_plan : Counted P)
@@ -36,6 +51,5 @@ pub record AnswersRun
   pub runs : RunsOrCompletes map_left plan_left events_left contents old_map new_map old_plan new_plan old_events new_events complete old_out written
       answer
   pub status : Status
-  pub finishes : Finishes contents (Told (told_of_run answer)) (Told (Some (run_fault_words WriteFailed))) (was_written answer) (run_status answer)
-      written new_out status
+  pub ends : EndsRun contents (Told (told_of_run answer)) (Told (Some (run_fault_words WriteFailed))) answer written new_out status
   pub is_code : code ≡ code_of status

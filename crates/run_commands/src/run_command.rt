@@ -2,7 +2,7 @@
 ghost use Rattle.std.specs.Prelude.{◌≡◌};
 ghost use Rattle.grid.specs.FaultWords.{words_of};
 ghost use Rattle.run_commands.specs.FaultWords.{run_fault_words, told_of_run};
-ghost use Rattle.run_commands.specs.RunCommand.{RunsOrCompletes, AnswersRun};
+ghost use Rattle.run_commands.specs.RunCommand.{RunsOrCompletes, needs_flush, AnswersRun};
 ghost use Rattle.run_commands.specs.RunStatus.{run_status};
 ghost use Rattle.run_commands.specs.Code.Concluding.{IsFlushed};
 ghost use Rattle.text_commands.specs.Telling.{Tells};
@@ -10,14 +10,15 @@ ghost use Rattle.text_commands.specs.Telling.{Tells};
 use crate::run_status::run_fault_status;
 use grid::{Counted, FaultWords, WriteFault};
 use plan_commands::Rejection;
-use replay::{Completion, RunFault, complete_text, run_text, was_written};
+use replay::{Completion, RunFault, complete_text, run_text};
 use std::alloc::Global;
 use std::io::{Read, Write};
 use text_commands::{Status, report};
 
 /// Reads a map from `map` and a plan from `plan`, checks the plan on the map, and answers one event of `events` after another on
 /// `out`; where `complete` is set it then says there how the run ends. A fault's line goes to `err` after all that was written before
-/// it; that a rotation blocks the run is told by the status alone. The answer is the exit status, which stays where `err` fails.
+/// it; that a rotation blocks the run is told by the status alone. `out` is left alone where the map or the plan has a fault. The answer
+/// is the exit status, which stays where `err` fails.
 pub fn run_cmd<M: Read, P: Read, V: Read, W: Write, E: Write>(
     alloc: Global,
     map: &mut Counted<M>,
@@ -52,17 +53,27 @@ fn answer_run<M: Read, P: Read, V: Read, W: Write>(
     Ok(Completion::Ends)
 }
 
-/// Flushes what was written, unless a write failed.
+/// Flushes what was written of events that were answered, unless a write failed.
 fn flush<W: Write>(
     answer: Result<Completion, RunFault>,
     out: &mut Counted<W>,
 ) -> Result<Completion, RunFault>
     ensures { IsFlushed W.contents answer out.old out.new result }
 {
-    if was_written(&answer) && out.flush().is_err() {
+    if needs_flush(&answer) && out.flush().is_err() {
         return Err(RunFault::WriteFailed);
     }
     answer
+}
+
+/// Whether the map and the plan were good, so that events were answered, and no write failed.
+fn needs_flush(answer: &Result<Completion, RunFault>) -> bool
+    ensures { result ≡ needs_flush answer.now }
+{
+    !matches!(
+        answer,
+        Err(RunFault::Map(_) | RunFault::PlanText(_) | RunFault::Plan(_) | RunFault::WriteFailed)
+    )
 }
 
 /// Says why the run was not replayed to its end, if it wasn't.

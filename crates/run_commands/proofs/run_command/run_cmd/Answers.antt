@@ -5,7 +5,7 @@ use Rattle.text_commands.specs.Status.{code_of}
 use Rattle.text_commands.specs.Telling.{Tells}
 use Rattle.run_commands.specs.FaultWords.{told_of_run}
 use Rattle.run_commands.specs.RunStatus.{run_status}
-use Rattle.run_commands.proofs.FinishLemmas.{finishes_so}
+use Rattle.run_commands.proofs.FinishLemmas.{ends_so}
 use Rattle.run_commands.proofs.run_command.run_cmd.Goals as goal
 
 pub returns : goal.returns
@@ -16,6 +16,6 @@ returns g c =
       written = c.answer_run-answer.new.out;
       runs = c.answer_run-answer.ensures;
       status = run_status c.flush-answer.result;
-      finishes = finishes_so g.W.Write.contents _ _ _ _ _ c.flush-answer.ensures (λ same. subst Told same c.conclude.ensures.told) (λ failed. subst Told failed c.conclude.ensures.told);
+      ends = ends_so g.W.Write.contents _ _ _ _ c.flush-answer.ensures (λ same. subst Told same c.conclude.ensures.told) (λ failed. subst Told failed c.conclude.ensures.told);
       is_code = c.code.ensures ∙ ap code_of c.conclude.ensures.status;
     }
