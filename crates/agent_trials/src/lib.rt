@@ -10,6 +10,8 @@ mod messages;
 #[cfg(test)]
 mod openings;
 #[cfg(test)]
+mod refused_memory;
+#[cfg(test)]
 mod tears;
 #[cfg(test)]
 mod tellings;

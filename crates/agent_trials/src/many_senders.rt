@@ -204,8 +204,7 @@ fn hear_more(
     Ok(())
 }
 
-/// What one agent of a hundred hears while any one allocation may fail, as the one with the number N does under
-/// `rt try --test --fail-alloc N`.
+/// What one agent of a hundred hears while memory may be refused, as `./test --prove` refuses each allocation in turn.
 fn attempt(rt: &impl Abort, alloc: Global, hears_each: bool) -> Result<(), OutOfMemory> {
     let graph = wide_graph(alloc, 1)?;
     let tape = MemTape::new(alloc, 20).map_err(|_| OutOfMemory)?;

@@ -1,4 +1,4 @@
-//! Dialogues for which memory may be refused.
+//! Dialogues while memory may be refused, as `./test --prove` refuses each allocation of these tests in turn: at the most one in a run.
 use crate::dialogues::{TWO, graph_of, new_agent};
 use depgraph::Graph;
 use dialogue::{TalkFault, talk};
@@ -54,10 +54,9 @@ fn talks_or_lacks_memory(
     Ok(())
 }
 
-/// An agent is told of another, and tells of it, while any one allocation may fail, as the one with the number N does under
-/// `rt try --test --fail-alloc N`.
+/// An agent is told of another, and tells of it.
 #[test]
-fn memory_that_is_refused(rt: HostRuntime) -> Result<(), Fail> {
+fn memory_refused_to_a_dialogue(rt: HostRuntime) -> Result<(), Fail> {
     let graph = graph_of(rt.alloc(), 7, TWO)?;
     for &(asked, answers) in &DIALOGUES {
         talks_or_lacks_memory(&rt, rt.alloc(), &graph, asked, answers)?;

@@ -8,6 +8,8 @@ mod event_texts;
 #[cfg(test)]
 mod event_trouble;
 #[cfg(test)]
+mod refused_memory;
+#[cfg(test)]
 mod reply_texts;
 #[cfg(test)]
 mod versions;

@@ -2,4 +2,6 @@
 #![tactic(auto)]
 
 #[cfg(test)]
+mod refused_memory;
+#[cfg(test)]
 mod tape_files;

@@ -10,4 +10,6 @@ mod map_texts;
 #[cfg(test)]
 mod map_trouble;
 #[cfg(test)]
+mod refused_memory;
+#[cfg(test)]
 mod steps;

@@ -14,4 +14,6 @@ mod plan_texts;
 #[cfg(test)]
 mod plan_trouble;
 #[cfg(test)]
+mod refused_memory;
+#[cfg(test)]
 mod texts;

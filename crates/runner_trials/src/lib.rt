@@ -17,6 +17,8 @@ mod random_runs;
 #[cfg(test)]
 mod refused_memory;
 #[cfg(test)]
+mod refused_replays;
+#[cfg(test)]
 mod small_runs;
 #[cfg(test)]
 mod stops;

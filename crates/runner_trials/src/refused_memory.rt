@@ -1,4 +1,4 @@
-//! Runs in which any one allocation may fail, as the one with the number N does under `rt try --test --fail-alloc N`.
+//! Runs while memory may be refused, as `./test --prove` refuses each allocation of these tests in turn: at the most one in a run.
 use crate::lines::{expect_list, line};
 use crate::plain_run::PlainRun;
 use crate::texts::{ONE_BEHIND, ROW, SQUARE, TURNING, plan_text};

@@ -6,6 +6,8 @@ mod answers;
 #[cfg(test)]
 mod lengths;
 #[cfg(test)]
+mod refused_memory;
+#[cfg(test)]
 mod scen_texts;
 #[cfg(test)]
 mod scen_trouble;

@@ -4,6 +4,8 @@
 #[cfg(test)]
 mod certificates;
 #[cfg(test)]
+mod refused_memory;
+#[cfg(test)]
 mod searches;
 #[cfg(test)]
 mod wide_searches;

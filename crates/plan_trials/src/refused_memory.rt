@@ -1,0 +1,99 @@
+//! Plans that are read, put together and checked while memory may be refused, as `./test --prove` refuses each allocation of these tests in turn: at the most one in a run.
+use crate::texts::{FOLLOWING, ROW, map_of, plan_of};
+use fakes::Keeper;
+use grid::{Cell, Counted, MapFault};
+use plan::{Act, Plan, PlanFault, PlanTextFault, PushFault, check, write_plan};
+use std::alloc::Global;
+use std::process::Abort;
+use std::test::Fail;
+
+const EMPTY: &str = "mapf-plan 1\nnumber 7\nagents 0\n";
+
+const ONE: &str = "mapf-plan 1\nnumber 7\nagents 1\nagent 1 0 e-\n";
+
+/// Whether a plan is written so.
+fn is_written(plan: &Plan, text: &str) -> bool {
+    let mut keeper = Keeper::of_size(1024);
+    write_plan(plan, &mut Counted::new(&mut keeper)).is_ok() && keeper.kept() == text.as_bytes()
+}
+
+/// Reads a plan; nothing but memory is lacking.
+fn read(rt: &impl Abort, alloc: Global) -> Result<Plan, PlanTextFault> {
+    let read = plan_of(alloc, FOLLOWING);
+    match &read {
+        Ok(plan) => assert!(rt; is_written(plan, FOLLOWING)),
+        Err(fault) => assert_eq!(rt; *fault, PlanTextFault::OutOfMemory),
+    }
+    read
+}
+
+#[test]
+fn memory_refused_to_a_plan(rt: HostRuntime) -> Result<(), Fail> {
+    if read(&rt, rt.alloc()).is_err() {
+        read(&rt, rt.alloc())?;
+    }
+    Ok(())
+}
+
+/// Puts an agent behind those of a plan; where memory is refused the plan is as it was.
+fn push(
+    rt: &impl Abort,
+    alloc: Global,
+    plan: &mut Plan,
+    (x, acts): (u16, &[Act]),
+    (before, after): (&str, &str),
+) -> Result<(), PushFault> {
+    let acts = Vec::from_slice(alloc, acts).map_err(|_| PushFault::OutOfMemory)?;
+    let pushed = plan.push(Cell { x, y: 0 }, acts);
+    match &pushed {
+        Ok(()) => assert!(rt; is_written(plan, after)),
+        Err(fault) => assert!(rt; *fault == PushFault::OutOfMemory && is_written(plan, before)),
+    }
+    pushed
+}
+
+#[test]
+fn memory_refused_to_an_agent_of_a_plan(rt: HostRuntime) -> Result<(), Fail> {
+    let mut plan = Plan::new(rt.alloc(), 7);
+    for (agent, texts) in [
+        ((1, [Act::E, Act::Wait].as_slice()), (EMPTY, ONE)),
+        ((0, [Act::E].as_slice()), (ONE, FOLLOWING)),
+    ] {
+        if push(&rt, rt.alloc(), &mut plan, agent, texts).is_err() {
+            push(&rt, rt.alloc(), &mut plan, agent, texts)?;
+        }
+    }
+    Ok(())
+}
+
+/// Checks a plan; where memory is refused for that, the plan is handed back.
+fn check_it(rt: &impl Abort, alloc: Global) -> Result<(), PlanFault> {
+    let Ok(map) = map_of(alloc, ROW) else {
+        return Err(PlanFault::OutOfMemory);
+    };
+    let Ok(plan) = read(rt, alloc) else {
+        return Err(PlanFault::OutOfMemory);
+    };
+    match check(alloc, &map, plan) {
+        Ok(plan) => {
+            assert_eq!(rt;
+                (plan.agents(), plan.sum_of_costs(), plan.makespan()),
+                (2, 2, 1)
+            );
+            Ok(())
+        }
+        Err(rejected) => {
+            assert_eq!(rt; rejected.fault, PlanFault::OutOfMemory);
+            assert!(rt; is_written(&rejected.plan, FOLLOWING));
+            Err(rejected.fault)
+        }
+    }
+}
+
+#[test]
+fn memory_refused_to_a_check(rt: HostRuntime) -> Result<(), Fail> {
+    if check_it(&rt, rt.alloc()).is_err() {
+        check_it(&rt, rt.alloc())?;
+    }
+    Ok(())
+}

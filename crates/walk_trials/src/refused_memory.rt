@@ -1,0 +1,43 @@
+//! A walk that is searched for while memory may be refused, as `./test --prove` refuses each allocation of these tests in turn: at the most one in a run.
+use grid::{Cell, Counted, Map, MapFault, read_map};
+use scen::{Length, SearchFault, certify, search};
+use std::alloc::Global;
+use std::process::Abort;
+use std::test::Fail;
+
+const SQUARE: &str = "type octile\nheight 2\nwidth 2\nmap\n..\n..\n";
+
+/// Searches from corner to corner, one diagonal step; nothing but memory is lacking.
+fn attempt(rt: &impl Abort, alloc: Global, map: &Map) -> Result<(), SearchFault> {
+    let (start, goal) = (Cell { x: 0, y: 0 }, Cell { x: 1, y: 1 });
+    match search(alloc, map, start, goal) {
+        Ok(proposal) => {
+            let shortest = certify(map, start, goal, &proposal);
+            assert!(rt; shortest == Ok(Length::new(0, 1)));
+            Ok(())
+        }
+        Err(fault) => {
+            assert_eq!(rt; fault, SearchFault::OutOfMemory);
+            Err(fault)
+        }
+    }
+}
+
+/// The map; nothing but memory is lacking.
+fn square(rt: &impl Abort, alloc: Global) -> Result<Map, MapFault> {
+    let read = read_map(alloc, &mut Counted::new(SQUARE.as_bytes()));
+    if let Err(fault) = &read {
+        assert_eq!(rt; *fault, MapFault::OutOfMemory);
+        return read_map(alloc, &mut Counted::new(SQUARE.as_bytes()));
+    }
+    read
+}
+
+#[test]
+fn memory_refused_to_a_search(rt: HostRuntime) -> Result<(), Fail> {
+    let map = square(&rt, rt.alloc())?;
+    if attempt(&rt, rt.alloc(), &map).is_err() {
+        attempt(&rt, rt.alloc(), &map)?;
+    }
+    Ok(())
+}
