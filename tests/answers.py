@@ -38,7 +38,6 @@ MAPS = [
     ("type octile\nheight 65535\nwidth 65\n", 1, "TooLarge 3"),
     ("type octile\nheight 2049\nwidth 2048\n", 1, "TooLarge 3"),
     (f"type octile\nheight {'9' * 1000}\n", 1, "TooLarge 2"),
-    (f"type octile\nheight {'0' * 1_000_000}2\nwidth 1\nmap\n.\n.\n", 0, "type octile\nheight 2\nwidth 1\nmap\n.\n.\n"),
     ("type octile\nheight 1\nwidth 2\nmap\n...\n", 1, "LongRow 5"),
     ("type octile\nheight 2\nwidth 2\nmap\n..\n", 1, "MissingRows 6"),
     ("type octile\nheight 1\nwidth 2\nmap\n..\n  \nx", 1, "TextAfter 7"),
@@ -125,6 +124,9 @@ TEXT_FAULTS = [
     ("", SWAP, "BadHeader 1"),
 ]
 
+# The commands that run a valid plan.
+RUNNING = ("run M P E", "agent M P 0 T", "agent M P 65535 T")
+
 # Plans that are not valid on the map LANE: a verdict of `check` alone, and a fault of the other commands.
 PLAN_FAULTS = [(SWAP, "Swap 0 1 0"), (VERTEX, "Vertex 0 1 2 0 0"), (plan("0 1 ="), "BadStart 0"), (plan("0 0 -n"), "BadMove 0 1")]
 
@@ -179,6 +181,25 @@ DEPS = [
     (LANE, plan("1 0 -e", "0 0 --e"), "agents 2 moves 2 needs 1 rotations 0\nneed 1 0 0 1\n"),
     (LANE, plan("0 0 ="), "agents 1 moves 0 needs 0 rotations 0\n"),
     (LANE, NOBODY, "agents 0 moves 0 needs 0 rotations 0\n"),
+]
+
+# Who comes into each cell of these plans, on the map and off it, and when.
+VISITS = [
+    (
+        HALL,
+        plan("1 0 e-----w", "1 1 -ns", "0 0 ---ew"),
+        {
+            "1 0": "visit 0 0 0\nvisit 1 1 2\nvisit 2 1 4\nvisit 0 2 7\n",
+            "2 0": "visit 0 1 1\n",
+            "1 1": "visit 1 0 0\nvisit 1 2 3\n",
+            "0 0": "visit 2 0 0\nvisit 2 2 5\n",
+            **dict.fromkeys(("0 1", "2 1", "3 0", "3 1", "4 0", "0 2", "65535 0", "0 65535", "65535 65535"), ""),
+        },
+    ),
+    (SQUARE, TURN, {"1 0": "visit 1 0 0\nvisit 0 1 1\n", "0 0": "visit 0 0 0\nvisit 3 1 1\n", "1 2": ""}),
+    # A blocked cell, an agent that waits, and nobody at all.
+    (CORNER, plan("0 0 -e"), {"0 0": "visit 0 0 0\n", "1 0": "visit 0 1 2\n", "1 1": ""}),
+    (LANE, NOBODY, {"0 0": "", "3 0": ""}),
 ]
 
 ASKING = ["start 1", "start 0", "finish 0", "start 1"]
@@ -531,15 +552,18 @@ def of_checks(harness: Harness) -> Iterator[Outcome]:
         files = {"M": LANE, "P": BEHIND, "S": text}
         yield asked(harness, "check M P --scen S", files, answer(status, due))
     for map_text, text, fault in TEXT_FAULTS:
-        for words in ("check M P", "check M P --json", "check M P --scen S", "deps M P", "run M P E", "agent M P 0 T", "agent M P 65535 T"):
+        for words in ("check M P", "check M P --json", "check M P --scen S", "deps M P", "deps M P --cell 0 0", *RUNNING):
             yield asked(harness, words, {"M": map_text, "P": text, "S": TASKS, "E": "no events"}, answer(1, fault))
 
 
 def of_graphs_and_runs(harness: Harness) -> Iterator[Outcome]:
     for map_text, text, due in DEPS:
         yield asked(harness, "deps M P", {"M": map_text, "P": text}, answer(0, due))
+    for map_text, text, cells in VISITS:
+        for cell, due in cells.items():
+            yield asked(harness, f"deps M P --cell {cell}", {"M": map_text, "P": text}, answer(0, due))
     for text, fault in PLAN_FAULTS:
-        for words in ("deps M P", "run M P E", "agent M P 0 T", "agent M P 65535 T"):
+        for words in ("deps M P", "deps M P --cell 0 0", *RUNNING):
             yield asked(harness, words, {"M": LANE, "P": text, "E": "no events"}, answer(1, fault))
     for map_text, text, lines, replies in RUNS:
         files = {"M": map_text, "P": text, "E": events(*lines)}

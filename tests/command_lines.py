@@ -1,6 +1,7 @@
 """Command lines: which words are a command and of which files, what is said of those that are none, and help."""
-from typing import Iterator
+from typing import Iterator, Mapping, Sequence
 
+import help_texts
 from harness import Ended, Harness, Outcome, compared, ended_as, shown
 
 # A map, a plan, a scenario and events that are told apart by what each command answers.
@@ -19,6 +20,7 @@ ACCEPTED = "accepted agents 2 cost 2 makespan 1\n"
 JSON = '{"accepted":true,"agents":2,"cost":2,"makespan":1}\n'
 COMPLETE = "refused NoSuchAgent\ncomplete 0\n"
 NEEDS = "agents 2 moves 2 needs 1 rotations 0\nneed 1 0 0 1\n"
+VISITS = "visit 0 0 0\nvisit 1 1 1\n"
 
 # Words that are a command, and what it writes. After `--` each word is a word, and none an option.
 COMMANDS = [
@@ -55,6 +57,14 @@ COMMANDS = [
     ("deps M P", NEEDS),
     ("deps M -- --json", NEEDS),
     ("deps -- -h P", NEEDS),
+    ("deps M P --cell 1 0", VISITS),
+    ("deps M --cell 1 0 P", VISITS),
+    ("deps --cell 1 0 M P", VISITS),
+    ("deps --cell 1 0 -- M P", VISITS),
+    ("deps M P --cell 000000000000000001 00", VISITS),
+    ("deps M P --cell 2 0", "visit 0 1 1\n"),
+    ("deps M P --cell 0 2", ""),
+    ("deps M P --cell 65535 65535", ""),
     ("run M P E", "moving 2 0\n"),
     ("run M P -", "moving 2 0\n"),
     ("run -- -h --json -", "moving 2 0\n"),
@@ -78,12 +88,17 @@ OTHER_FILES = [
     ("row S M 0", 1, "BadHeader 1"),
     ("row M M 0", 1, "NoVersion"),
     ("row M S 3", 1, "NoSuchRow"),
+    ("row M S 9999", 1, "NoSuchRow"),
+    ("row M S 10000", 1, "NoSuchRow"),
+    ("row M S 65535", 1, "NoSuchRow"),
+    ("row M S 65536", 1, "NoSuchRow"),
     ("row M S 4294967295", 1, "NoSuchRow"),
     ("row M S 000000004294967295", 1, "NoSuchRow"),
     ("check P M", 1, "BadHeader 1"),
     ("check M M", 1, "BadHeader 1"),
     ("check M P --scen M", 1, "NoVersion"),
     ("deps P M", 1, "BadHeader 1"),
+    ("deps P M --cell 1 0", 1, "BadHeader 1"),
     ("run P M E", 1, "BadHeader 1"),
     ("run M E P", 1, "BadHeader 1"),
     ("run M P P", 1, "NoHeader"),
@@ -91,6 +106,8 @@ OTHER_FILES = [
     ("run M P P --complete", 1, "NoHeader"),
     ("agent P M 0 T", 1, "BadHeader 1"),
     ("agent M P 2 T", 1, "NoSuchAgent"),
+    ("agent M P 9999 T", 1, "NoSuchAgent"),
+    ("agent M P 10000 T", 1, "NoSuchAgent"),
     ("agent M P 65535 T", 1, "NoSuchAgent"),
     ("agent M P 00065535 T", 1, "NoSuchAgent"),
     ("agent M P 0 P", 1, "TooLong"),
@@ -104,6 +121,8 @@ OTHER_FILES = [
     ("check S N", 3, "OpenFailed"),
     ("deps N P", 3, "OpenFailed"),
     ("deps M N", 3, "OpenFailed"),
+    ("deps N P --cell 1 0", 3, "OpenFailed"),
+    ("deps M N --cell 1 0", 3, "OpenFailed"),
     ("run N P E", 3, "OpenFailed"),
     ("run M N E", 3, "OpenFailed"),
     ("run S S N", 3, "OpenFailed"),
@@ -165,9 +184,24 @@ BAD = [
     ("check M P --version", "--version", "Usage: mapf check"),
     ("deps", "<map>", "Usage: mapf deps <map> <plan>"),
     ("deps M", "<plan>", "Usage: mapf deps <map> <plan>"),
-    ("deps M P X", "'X'", "Usage: mapf deps <map> <plan>"),
+    ("deps M P X", "'X'", "Usage: mapf deps [OPTIONS] <map> <plan>"),
     ("deps M P --json", "'--json'", "Usage: mapf deps"),
     ("deps M P --scen S", "'--scen'", "Usage: mapf deps"),
+    ("deps M P --cell", "'--cell <X> <Y>'", "--help"),
+    ("deps M P --cell 1", "'--cell <X> <Y>'", "--help"),
+    ("deps M P --cell=1 0", "'--cell <X> <Y>'", "--help"),
+    ("deps M P --cell 1 0 2", "'2'", "Usage: mapf deps"),
+    ("deps --cell M P", "<map>", "Usage: mapf deps"),
+    ("deps M P --cell 1 0 --cell 1 0", "--cell", "Usage: mapf deps"),
+    ("deps M P --cell -1 0", "'-1'", "--help"),
+    ("deps M P --cell 65536 0", "--cell", "two numbers from 0 to 65535"),
+    ("deps M P --cell 0 65536", "--cell", "two numbers from 0 to 65535"),
+    ("deps M P --cell 4294967296 0", "--cell", "two numbers from 0 to 65535"),
+    ("deps M P --cell +1 0", "--cell", "two numbers from 0 to 65535"),
+    ("deps M P --cell 1 0x", "--cell", "two numbers from 0 to 65535"),
+    ("deps M P --cell 1,0 0", "--cell", "two numbers from 0 to 65535"),
+    ("deps M P --cell 1 \u0661", "--cell", "two numbers from 0 to 65535"),
+    ("check M P --cell 1 0", "'--cell'", "Usage: mapf check"),
     ("run", "<map>", "Usage: mapf run"),
     ("run M", "<plan>", "Usage: mapf run"),
     ("run M P", "<events>", "Usage: mapf run"),
@@ -194,51 +228,72 @@ BAD = [
     ("agent M P 1x T", "'1x'", "from 0 to 65535"),
 ]
 
-# Words that are no text, or that divide at other places than blanks.
-ODD = [
-    ([b"map", b"\xff"], b"error: "),
-    ([b"row", b"M", b"S", b""], b"error: "),
-    ([b"row", b"M", b"S", b" 1"], b"error: "),
-    ([b"row", b"M", b"S", b"1 "], b"error: "),
-    ([b"agent", b"M", b"P", b"", b"T"], b"error: "),
-    ([b"map", *[b"word"] * 5000], b"error: "),
-]
+
+def refusal(why: str, usage: str = "") -> bytes:
+    """What is told of words that are no command."""
+    used = f"Usage: mapf {usage}\n\n" if usage else ""
+    return f"error: {why}\n\n{used}For more information, try '--help'.\n".encode()
+
 
 # What is told in full.
 WHOLE = {
-    "row M S 1x": """error: invalid value '1x' for '<row>': a number from 0 to 4294967295 is wanted, in digits alone
-
-Usage: mapf row <map> <scen> <row>
-
-For more information, try '--help'.
-""",
-    "agent M P 65536 T": """error: invalid value '65536' for '<id>': the number of an agent, from 0 to 65535, is wanted, in digits alone
-
-Usage: mapf agent <map> <plan> <id> <tape>
-
-For more information, try '--help'.
-""",
+    "": refusal("'mapf' requires a subcommand but one was not provided\n  [subcommands: map, scen, row, check, deps, run, agent, help]", "<COMMAND>"),
+    "nope": refusal("unrecognized subcommand 'nope'", "<COMMAND>"),
+    "chek": refusal("unrecognized subcommand 'chek'\n\n  tip: a similar subcommand exists: 'check'", "<COMMAND>"),
+    "help chek": refusal("unrecognized subcommand 'chek'", "<COMMAND>"),
+    "map": refusal("the following required arguments were not provided:\n  <file>", "map <file>"),
+    "map M M": refusal("unexpected argument 'M' found", "map <file>"),
+    "run M P": refusal("the following required arguments were not provided:\n  <events>", "run <map> <plan> <events>"),
+    "check M P --scen": refusal("a value is required for '--scen <scen>' but none was supplied"),
+    "check M P --json --json": refusal("the argument '--json' cannot be used multiple times", "check [OPTIONS] <map> <plan>"),
+    "row M S 1x": refusal("invalid value '1x' for '<row>': a number from 0 to 4294967295 is wanted, in digits alone", "row <map> <scen> <row>"),
+    "deps M P --cell 1": refusal("2 values required for '--cell <X> <Y>' but 1 was provided", "deps [OPTIONS] <map> <plan>"),
+    "deps M P --cell 1 x": refusal(
+        "invalid value for '--cell <X> <Y>': two numbers from 0 to 65535 are wanted, in digits alone", "deps [OPTIONS] <map> <plan>"
+    ),
+    "agent M P 65536 T": refusal(
+        "invalid value '65536' for '<id>': the number of an agent, from 0 to 65535, is wanted, in digits alone", "agent <map> <plan> <id> <tape>"
+    ),
 }
 
-# How the help of each command begins, what it says of its use, and the call that it shows at its end.
-HELP = {
-    "map": ("Usage: mapf map <file>", "mapf map examples/corner.map\n"),
-    "scen": ("Usage: mapf scen <file>", "mapf scen examples/corner.scen\n"),
-    "row": ("Usage: mapf row <map> <scen> <row>", "mapf row examples/corner.map examples/corner.scen 0\n"),
-    "check": ("Usage: mapf check [OPTIONS] <map> <plan>", "mapf check examples/corner.map examples/corner.plan --scen examples/corner.scen\n"),
-    "deps": ("Usage: mapf deps <map> <plan>", "mapf deps examples/turn.map examples/turn.plan\n"),
-    "run": ("Usage: mapf run [OPTIONS] <map> <plan> <events>", "mapf run examples/plain.map examples/behind.plan examples/behind.events\n"),
-    "agent": ("Usage: mapf agent <map> <plan> <id> <tape>", "mapf agent examples/plain.map examples/behind.plan 0 robot0.tape\n"),
-}
-FIRST_LINES = {
-    "map": "Reads a map and writes it in canonical form",
-    "scen": "Reads a scenario and writes it in canonical form",
-    "row": "Judges the length that a scenario lists for one of its rows",
-    "check": "Checks a plan on a map, and perhaps that it solves a scenario",
-    "deps": "Checks a plan on a map, and says which move waits for which",
-    "run": "Checks a plan on a map, and answers the events of a run of it",
-    "agent": "Checks a plan on a map, and answers for one of its agents",
-}
+# Words that hold blanks or nothing where that is no command, and more words than any command has.
+ODD = [
+    ["row", "M", "S", ""],
+    ["row", "M", "S", " 1"],
+    ["row", "M", "S", "1 "],
+    ["row", "M", "S", "1\n"],
+    ["deps", "M", "P", "--cell", "", "0"],
+    ["deps", "M", "P", "--cell", "1", " 0"],
+    ["deps", "M", "P", "--cell", "1 0"],
+    ["agent", "M", "P", "", "T"],
+    ["agent", "M", "P", "0 ", "T"],
+    [" map", "M"],
+    ["map ", "M"],
+    ["map", "M", ""],
+    ["check", "M", "P", "--json "],
+    ["map", *["word"] * 5000],
+]
+
+# Words that are no text: a byte that begins nothing, one that goes on from nothing, characters that are cut off, too long, beyond the last
+# one or half of a pair.
+NO_TEXT = [
+    *(b"\xff", b"\x80", b"M\xc3", b"\xe6\x97", b"\xf0\x9d\x84", b"\xc0\x80", b"\xe0\x80\x80", b"\xf4\x90\x80\x80", b"\xed\xa0\x80"),
+    b"n" * 4096 + b"\xff",
+]
+# Where such a word stands.
+PLACES = [
+    *([], [b"map"], [b"map", b"--"], [b"row", b"M", b"S"], [b"check", b"M", b"P", b"--scen"], [b"agent", b"M", b"P"], [b"agent", b"M", b"P", b"0"]),
+    *([b"help"], [b"map", b"M"], [b"map", b"no"]),
+]
+
+# Names of files: blanks and line ends at both ends, characters beyond ASCII, and some that mean something elsewhere.
+NAMES = [
+    *(" M", "M ", " M ", "\tM", "M\t", "M\n", "\nM", "M\r\n", "M\r", "M\v", "M\u00a0", "\u2003M", "M\u200b", "\ufeffM", " ", "\t", "\n", "\u00a0"),
+    *("\u00e9", "e\u0301", "\u5730\u56f3", "\U0001d11e", "\u0130", "\u00df", "\x01", "\x7f"),
+    *("'M'", '"M"', "$M", "~", "\\M", "M*", "%4d", "%s", "{}", "{M}", "=", "M=", "@M"),
+]
+# The longest name in a folder, path and word that the system takes.
+LONGEST_NAME, LONGEST_PATH, LONGEST_WORD = 255, 4_095, 131_071
 
 
 def commands(harness: Harness) -> Iterator[Outcome]:
@@ -249,9 +304,6 @@ def commands(harness: Harness) -> Iterator[Outcome]:
         folder = harness.folder(FILES)
         ended = harness.mapf(line.split(), folder=folder)
         yield ended_as(line, f"mapf {line}", ended, Ended(status, b"", f"mapf: {fault}\n".encode()))
-    name = "n" * 200
-    ended = harness.mapf(["map", name], folder=harness.folder({name: FILES["M"]}))
-    yield ended_as("a long name", shown(["mapf", "map", name]), ended, Ended(0, FILES["M"], b""))
 
 
 def bad_lines(harness: Harness) -> Iterator[Outcome]:
@@ -263,34 +315,90 @@ def bad_lines(harness: Harness) -> Iterator[Outcome]:
         wrote = (ended.status, ended.out, told)
         due = wrote if well else f"status 2, and on standard error `error: ` with {named!r}, {usage!r} and '--help'"
         yield compared(line, f"mapf {line}", wrote, due)
-    for words, begins in ODD:
-        ended = harness.run([bytes(harness.program), *words], folder=folder)
-        yield compared(str(words[:4]), f"mapf {words[:4]}", (ended.status, ended.out, ended.err[: len(begins)]), (2, b"", begins))
     for line, told in WHOLE.items():
-        yield ended_as(line, f"mapf {line}", harness.mapf(line.split(), folder=folder), Ended(2, b"", told.encode()))
+        yield ended_as(line, f"mapf {line}", harness.mapf(line.split(), folder=folder), Ended(2, b"", told))
+    for words in ODD:
+        ended = harness.mapf(words, folder=folder)
+        yield compared(str(words[:4]), shown(["mapf", *words[:4]]), (ended.status, ended.out, ended.err[:7]), (2, b"", b"error: "))
+    # No text, wherever it stands, is told before anything else.
+    no_text = Ended(2, b"", refusal("a word of the command line is not UTF-8"))
+    for words in [*([*place, NO_TEXT[0]] for place in PLACES), *([b"map", word] for word in NO_TEXT), [b"chek", b"\xff", b"more"]]:
+        ended = harness.run([bytes(harness.program), *words], folder=folder)
+        yield ended_as(f"no text: {words}"[:80], f"mapf {words}"[:400], ended, no_text)
+
+
+def names(harness: Harness) -> Iterator[Outcome]:
+    """A file's name is its word, to the last byte. A file of the name without its blanks is another one."""
+
+    def called(words: Sequence[str], files: Mapping[str, bytes], due: str) -> Outcome:
+        folder = harness.folder({**{name.strip(): b"another file" for name in files if name.strip()}, **files})
+        return ended_as(str(words), shown(["mapf", *words]), harness.mapf(words, folder=folder), Ended(0, due.encode(), b""))
+
+    for name in NAMES:
+        yield called(["map", name], {name: FILES["M"]}, MAP)
+        yield called(["check", name, "P", f"--scen=S{name}"], {name: FILES["M"], "P": FILES["P"], f"S{name}": FILES["S"]}, ACCEPTED)
+    files = {"map ": FILES["M"], "plan\n": FILES["P"], "\tscen ": FILES["S"], " events": FILES["E"]}
+    for words, due in (
+        (["scen", "\tscen "], SCEN),
+        (["row", "map ", "\tscen ", "2"], "shortest 2 0 listed 2 agrees\n"),
+        (["check", "map ", "plan\n", "--scen", "\tscen "], ACCEPTED),
+        (["deps", "map ", "plan\n"], NEEDS),
+        (["run", "map ", "plan\n", " events"], "moving 2 0\n"),
+    ):
+        yield called(words, files, due)
+    folder = harness.folder(files)
+    for tape in (" T ", "T\n", "\u00e9\t"):
+        words = ["agent", "map ", "plan\n", "0", tape]
+        yield ended_as(f"a tape {tape!r}", shown(["mapf", *words]), harness.mapf(words, folder=folder), Ended(0, b"at 1 0 done 0\n", b""))
+        yield compared(f"a tape {tape!r} is made", shown(["mapf", *words]), (folder / tape).exists(), True)
+    yield compared("nothing else is made", "mapf agent", len(list(folder.iterdir())), len(files) + 3)
+
+
+def long_names(harness: Harness) -> Iterator[Outcome]:
+    """Names and paths up to the longest that the system takes, and words of any length beyond."""
+    greatest = {"n" * LONGEST_NAME: FILES["M"], "\u00e9" * (LONGEST_NAME // 2): FILES["M"]}
+    folder = harness.folder({**FILES, **greatest})
+    refused = Ended(3, b"", b"mapf: OpenFailed\n")
+
+    def path(size: int, name: str) -> str:
+        return "." + "/" * (size - 1 - len(name)) + name
+
+    def ended(name: str, words: Sequence[str], due: Ended) -> Outcome:
+        return ended_as(name, shown(["mapf", *words]), harness.mapf(words, folder=folder), due)
+
+    for name in greatest:
+        yield ended(f"a name of {len(name.encode())} bytes", ["map", name], Ended(0, FILES["M"], b""))
+    yield ended("a name of a byte more", ["map", "n" * (LONGEST_NAME + 1)], refused)
+    for size in (LONGEST_PATH - 1, LONGEST_PATH):
+        long = {name: path(size, name) for name in "MPSET"}
+        for words, due in (
+            (["map", long["M"]], MAP),
+            (["check", long["M"], long["P"], f"--scen={long['S']}"], ACCEPTED),
+            (["run", long["M"], long["P"], long["E"]], "moving 2 0\n"),
+            (["agent", long["M"], long["P"], "0", long["T"]], "at 1 0 done 0\n"),
+        ):
+            yield ended(f"{words[0]}, paths of {size} bytes", words, Ended(0, due.encode(), b""))
+    for size in (LONGEST_PATH + 1, LONGEST_PATH + 2, 2 * LONGEST_PATH, LONGEST_WORD):
+        for words in (
+            *(["map", path(size, "M")], ["scen", path(size, "S")], ["row", "M", path(size, "S"), "0"], ["check", "M", "P", "--scen", path(size, "S")]),
+            *(["deps", "M", path(size, "P")], ["run", "M", "P", path(size, "E")], ["agent", "M", "P", "0", path(size, "T")], ["map", "n" * size]),
+        ):
+            yield ended(f"{words[0]}, a path of {size} bytes", words, refused)
 
 
 def helps(harness: Harness) -> Iterator[Outcome]:
-    for line in ("--version", "-V"):
-        yield ended_as(line, f"mapf {line}", harness.mapf([line]), Ended(0, b"mapf 0.1.0\n", b""))
-    whole = harness.mapf(["help"])
-    listed = [f"\n  {command} " for command in [*HELP, "help"]]
-    well = (whole.status, whole.err) == (0, b"") and all(it in whole.out.decode() for it in ["Usage: mapf <COMMAND>", *listed])
-    yield compared("help", "mapf help", whole, whole if well else f"status 0, how it is used, and the commands {list(HELP)}")
-    for line in ("-h", "--help"):
-        yield ended_as(line, f"mapf {line}", harness.mapf([line]), whole)
-    for command, (usage, example) in HELP.items():
-        told = harness.mapf(["help", command])
-        text = told.out.decode()
-        well = (told.status, told.err) == (0, b"") and text.endswith(example) and all(it in text for it in (usage, "Status:", "Example:"))
-        due = told if well else f"status 0, and a text with {usage!r} that ends with {example!r}"
-        yield compared(f"help {command}", f"mapf help {command}", told, due)
-        yield compared(f"first line of help {command}", f"mapf help {command}", text.partition("\n")[0], FIRST_LINES[command])
-        for line in (f"{command} -h", f"{command} --help", f"{command} M --help"):
-            yield ended_as(line, f"mapf {line}", harness.mapf(line.split()), told)
+    folder = harness.folder(FILES)
+    texts = [(f"help {command}", text) for command, text in help_texts.COMMANDS.items()]
+    texts += [(f"{command} {word}", text) for command, text in help_texts.COMMANDS.items() if command != "help" for word in ("-h", "--help", "M --help")]
+    texts += [(line, help_texts.PROGRAM) for line in ("help", "-h", "--help", "-h map", "--help map M", "-h --version")]
+    texts += [(line, "mapf 0.1.0\n") for line in ("--version", "-V", "--version map M")]
+    for line, text in texts:
+        yield ended_as(line, f"mapf {line}", harness.mapf(line.split(), folder=folder), Ended(0, text.encode(), b""))
 
 
 def outcomes(harness: Harness) -> Iterator[Outcome]:
     yield from commands(harness)
     yield from bad_lines(harness)
+    yield from names(harness)
+    yield from long_names(harness)
     yield from helps(harness)

@@ -1,4 +1,5 @@
 """Files, outputs and inputs that fail, and what is out before what: on real files, pipes and terminals."""
+import functools
 import os
 import pathlib
 import pty
@@ -10,7 +11,9 @@ import time
 import tty
 from typing import Iterator, Optional, Sequence
 
-from harness import LONGEST, Ended, Harness, Outcome, compared, ended_as
+import command_lines
+import help_texts
+from harness import LONGEST, Ended, Harness, Outcome, compared, ended_as, side_by_side
 from texts import BEHIND, CORNER, CORNER_WRITTEN, LANE, NOBODY, ROW, ROW_WRITTEN, SHORT, SQUARE, SWAP, TASKS, TURN, events
 
 FILES = {
@@ -39,6 +42,7 @@ WRITING = [
     ("check M X", "rejected Swap 0 1 0\n"),
     ("check M P --scen F", "accepted agents 2 cost 2 makespan 1\n"),
     ("deps M P", "agents 2 moves 2 needs 1 rotations 0\nneed 1 0 0 1\n"),
+    ("deps M P --cell 1 0", "visit 0 0 0\nvisit 1 1 1\n"),
     ("run M P E", REPLIES),
     ("run M P J", "moving 2 0\n"),
     ("run M O E --complete", "refused NoSuchAgent\n" * 4 + "complete 0\n"),
@@ -54,15 +58,40 @@ FAULTY = [
     ("row C S 1", "mapf: NoSuchRow\n"),
     ("check M M", "mapf: BadHeader 1\n"),
     ("deps M X", "mapf: Swap 0 1 0\n"),
+    ("deps M X --cell 1 0", "mapf: Swap 0 1 0\n"),
     ("run M X E", "mapf: Swap 0 1 0\n"),
     ("run M X E --complete", "mapf: Swap 0 1 0\n"),
     ("agent M P 2 T", "mapf: NoSuchAgent\n"),
 ]
 
+# What such commands end with, where it is another status than 0 or a fault too.
+STATUSES = {
+    "check M X": (1, ""),
+    "run M P J": (1, "mapf: BadEvent 3\n"),
+    "run Q R J --complete": (1, "mapf: BadEvent 3\n"),
+    "run Q R E --complete": (1, ""),
+}
+# How a shell closes streams.
+CLOSED = ["<&-", ">&-", "2>&-", "<&- >&-", "<&- 2>&-", ">&- 2>&-", "<&- >&- 2>&-"]
+
+# Streams of other kinds, and what an agent and a map over them end with.
+ODD_STREAMS = [
+    ("agent M P 0 T < /dev/null", Ended(0, b"at 1 0 done 0\n", b"")),
+    ("agent M P 0 T < empty", Ended(0, b"at 1 0 done 0\n", b"")),
+    ("agent M P 0 T < .", Ended(3, b"at 1 0 done 0\n", b"mapf: ReadFailed\n")),
+    ("agent M P 0 T 0> empty", Ended(3, b"at 1 0 done 0\n", b"mapf: ReadFailed\n")),
+    ("agent M P 0 T 1< M", Ended(3, b"", b"mapf: WriteFailed\n")),
+    ("map C 1< M", Ended(3, b"", b"mapf: WriteFailed\n")),
+    ("map B 2< M", Ended(1, b"", b"")),
+    ("map C < .", Ended(0, CORNER_WRITTEN.encode(), b"")),
+    ("map /dev/stdin < empty", Ended(1, b"", b"mapf: BadHeader 1\n")),
+    ("map /dev/stdin < C", Ended(0, CORNER_WRITTEN.encode(), b"")),
+]
+
 # Commands that read a folder.
 UNREADABLE = [
     *("map D", "scen D", "row D S 0", "row C D 0", "check D P", "check M D", "check M P --scen D"),
-    *("deps D P", "deps M D", "run D P E", "run M D E", "run M P D", "run M P D --complete", "agent D P 0 T", "agent M D 0 T"),
+    *("deps D P", "deps M D", "deps M D --cell 1 0", "run D P E", "run M D E", "run M P D", "run M P D --complete", "agent D P 0 T", "agent M D 0 T"),
 ]
 # Commands with a file that is not there, and one in front of it, which is opened all the same, or behind it, which is not.
 OPENED = [
@@ -131,16 +160,59 @@ def outputs_that_are_full(harness: Harness) -> Iterator[Outcome]:
         yield ended_as(full, f"mapf {full}", by_shell(harness, full, folder), Ended(1, b"", b""))
 
 
-def to_nobody(harness: Harness, words: str, folder: pathlib.Path) -> Ended:
-    """Runs a command whose output is a pipe that has no reader any more, and that doesn't die of it."""
+def to_nobody(harness: Harness, words: str, folder: pathlib.Path, are_both: bool = False) -> Ended:
+    """Runs a command whose output, or both, is a pipe that has no reader any more."""
     reading, writing = os.pipe()
     os.close(reading)
     try:
-        how = {"cwd": folder, "stdin": subprocess.DEVNULL, "stdout": writing, "stderr": subprocess.PIPE, "restore_signals": False}
+        how = {"cwd": folder, "stdin": subprocess.DEVNULL, "stdout": writing, "stderr": writing if are_both else subprocess.PIPE}
         ran = subprocess.run([str(harness.program), *words.split()], timeout=LONGEST, **how)
     finally:
         os.close(writing)
-    return Ended(ran.returncode, b"", ran.stderr)
+    return Ended(ran.returncode, b"", ran.stderr or b"")
+
+
+def calls() -> Iterator[tuple[str, Ended]]:
+    """Commands, and all that each does where nothing fails."""
+    for words, text in WRITING:
+        status, fault = STATUSES.get(words, (0, ""))
+        yield words, Ended(status, text.encode(), fault.encode())
+    for words, line in FAULTY:
+        yield words, Ended(1, b"", line.encode())
+    yield "help", Ended(0, help_texts.PROGRAM.encode(), b"")
+    yield "help check", Ended(0, help_texts.COMMANDS["check"].encode(), b"")
+    for words, told in command_lines.WHOLE.items():
+        yield words, Ended(2, b"", told)
+
+
+def streams_that_are_not_there(harness: Harness, words: str, whole: Ended) -> list[Outcome]:
+    """Any of the three streams closed, both outputs full, and both a pipe that nobody reads: the status says whether an output failed. A file that
+    is opened then has the place of a stream, and still no more is written to it."""
+    outcomes = []
+    for closed in CLOSED:
+        is_closed = ">&-" in closed.split()
+        status = 3 if is_closed and whole.out else whole.status
+        err = b"" if "2>&-" in closed else b"mapf: WriteFailed\n" if status == 3 else whole.err
+        due = Ended(status, b"" if is_closed else whole.out, err)
+        folder = harness.folder(FILES)
+        outcomes.append(ended_as(f"{words} {closed}", f"mapf {words} {closed}", by_shell(harness, f"{words} {closed}", folder), due))
+        left = {path.name: path.read_bytes() for path in folder.iterdir()}
+        outcomes.append(compared(f"{words} {closed}, the files", f"mapf {words} {closed}", {"T": b"", **left}, {"T": b"", **FILES}))
+    folder = harness.folder(FILES)
+    due = Ended(3 if whole.out else whole.status, b"", b"")
+    ended = to_nobody(harness, words, folder, are_both=True)
+    outcomes.append(ended_as(f"{words}, both outputs to nobody", f"mapf {words} 2>&1 | (no reader)", ended, due))
+    if os.path.exists("/dev/full"):
+        full = f"{words} > /dev/full 2>&1"
+        outcomes.append(ended_as(full, f"mapf {full}", by_shell(harness, full, folder), due))
+    return outcomes
+
+
+def odd_streams(harness: Harness) -> Iterator[Outcome]:
+    """Streams that are a folder, an empty file, or open for the other direction alone."""
+    for line, due in ODD_STREAMS:
+        folder = harness.folder({**FILES, "empty": b""})
+        yield ended_as(line, f"mapf {line}", by_shell(harness, line, folder), due)
 
 
 def inputs_that_fail(harness: Harness) -> Iterator[Outcome]:
@@ -243,6 +315,8 @@ def stores_that_fail(harness: Harness) -> Iterator[Outcome]:
 def outcomes(harness: Harness) -> Iterator[Outcome]:
     yield from outputs_that_end(harness)
     yield from outputs_that_are_full(harness)
+    yield from side_by_side(functools.partial(streams_that_are_not_there, harness, *call) for call in calls())
+    yield from odd_streams(harness)
     yield from inputs_that_fail(harness)
     yield from order_of_files(harness)
     yield from order_of_outputs(harness)

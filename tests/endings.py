@@ -1,4 +1,5 @@
 """How runs end: what `mapf run --complete` answers with is run, and has to come to what it says."""
+import functools
 import json
 import random
 import shutil
@@ -6,7 +7,7 @@ from typing import Iterator, Mapping, Sequence
 
 from answers import ASKING, answer, asked
 from completing import ends_of, judged, needs_and_rotations
-from harness import Ended, Harness, Outcome, compared
+from harness import Ended, Harness, Outcome, compared, side_by_side
 from random_runs import random_events, random_map, random_plan
 from texts import BACK, BEHIND, LANE, NOBODY, RELAY, SHORT, SQUARE, SWAP, TURN, events, plan
 from vectors import VECTORS
@@ -132,25 +133,23 @@ def torn_runs(command: str, are_all: bool) -> Iterator[tuple[str, dict, list[str
                 yield f"line {number} of vectors/{command}.jsonl", files, files["E"].splitlines(keepends=True)[: len(answers) + 1]
 
 
-def of_beginnings(harness: Harness) -> Iterator[Outcome]:
-    """Runs of an independent implementation that are cut off after each of their events: at many places somebody is broken, or about to be."""
-    for command in ("run", "run2"):
-        for name, files, lines in torn_runs(command, harness.is_long):
-            runs = Runs(harness, files["M"], files["P"])
-            for length in range(1, len(lines) + 1) if runs.needs or harness.is_long else ():
-                yield runs.judge(f"{name}, its first {length - 1} events", "".join(lines[:length]))
-            runs.done()
+def of_beginnings(harness: Harness, name: str, files: Mapping[str, str], lines: Sequence[str]) -> list[Outcome]:
+    """A run of an independent implementation that is cut off after each of its events: at many places somebody is broken, or about to be."""
+    runs = Runs(harness, files["M"], files["P"])
+    lengths = range(1, len(lines) + 1) if runs.needs or harness.is_long else ()
+    outcomes = [runs.judge(f"{name}, its first {length - 1} events", "".join(lines[:length])) for length in lengths]
+    runs.done()
+    return outcomes
 
 
-def of_random_runs(harness: Harness) -> Iterator[Outcome]:
-    for seed in LONG_SEEDS if harness.is_long else SHORT_SEEDS:
-        rng = random.Random(f"endings {seed}")
-        map_text, free = random_map(rng)
-        plan_text = random_plan(rng, free, may_turn=seed % 4 == 0)
-        runs = Runs(harness, map_text, plan_text)
-        for version in VERSIONS:
-            yield runs.judge(f"seed {seed}, version {version}", random_events(rng, len(runs.ends), version))
-        runs.done()
+def of_random_runs(harness: Harness, seed: int) -> list[Outcome]:
+    rng = random.Random(f"endings {seed}")
+    map_text, free = random_map(rng)
+    plan_text = random_plan(rng, free, may_turn=seed % 4 == 0)
+    runs = Runs(harness, map_text, plan_text)
+    outcomes = [runs.judge(f"seed {seed}, version {version}", random_events(rng, len(runs.ends), version)) for version in VERSIONS]
+    runs.done()
+    return outcomes
 
 
 def row(width: int, height: int = 1) -> str:
@@ -183,6 +182,7 @@ def of_great_runs(harness: Harness) -> Iterator[Outcome]:
 
 def outcomes(harness: Harness) -> Iterator[Outcome]:
     yield from of_runs(harness)
-    yield from of_beginnings(harness)
-    yield from of_random_runs(harness)
+    torn = [run for command in ("run", "run2") for run in torn_runs(command, harness.is_long)]
+    yield from side_by_side(functools.partial(of_beginnings, harness, *run) for run in torn)
+    yield from side_by_side(functools.partial(of_random_runs, harness, seed) for seed in (LONG_SEEDS if harness.is_long else SHORT_SEEDS))
     yield from of_great_runs(harness)

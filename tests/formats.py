@@ -1,4 +1,4 @@
-"""The texts of maps, scenarios, plans and events: what is read, what is written, and the first fault of each, up to the limits."""
+"""The texts of maps, scenarios, plans and events: what is read, what is written, and the first fault of each."""
 from typing import Iterator
 
 from answers import answer, asked
@@ -264,8 +264,6 @@ EVENT_LINES = [
 
 ONE_ROW = "type octile\nheight 1\nwidth 2\nmap\n"
 TWO_ROWS = "type octile\nheight 2\nwidth 2\nmap\n"
-# Sizes of maps with as many cells as there may be, or nearly.
-GREATEST_MAPS = [(2_048, 2_048), (65_535, 64), (64, 65_535), (65_535, 1), (1, 65_535)]
 
 
 def written(header: str, text: str) -> str:
@@ -307,9 +305,6 @@ def of_maps(harness: Harness) -> Iterator[Outcome]:
             yield read(harness, "map", header + text, written(header, due))
     for length in range(len(CORNER) + 1):
         yield read(harness, "map", CORNER[:length], first_of_corner(length))
-    for width, height in GREATEST_MAPS:
-        text = f"type octile\nheight {height}\nwidth {width}\nmap\n" + f"{'.' * width}\n" * height
-        yield read(harness, "map", text, text, f"a map of {width} x {height}")
 
 
 def of_scenarios(harness: Harness) -> Iterator[Outcome]:
@@ -329,8 +324,6 @@ def of_scenarios(harness: Harness) -> Iterator[Outcome]:
             line = f"0\t{'n' * length}\t3\t2\t0\t1\t1\t0\t2"
             due = f"version 1\n{line}\n" if length == 4_080 else "LineTooLong 2"
             yield read(harness, "scen", f"version 1\n{line}{end}", due, f"scen: a line of {len(line)} bytes")
-    many = "version 1\n" + "4294967295\tmaps/arena.map\t65535\t65535\t65534\t0\t0\t65534\t9999999.999999999999\n" * 100_000
-    yield read(harness, "scen", many, many, "scen: 100,000 rows")
 
 
 def of_plans(harness: Harness) -> Iterator[Outcome]:
@@ -348,15 +341,6 @@ def of_plans(harness: Harness) -> Iterator[Outcome]:
     # The greatest numbers that are read, and a start that is off the map by them.
     yield checked(plan("65535 0 ="), "rejected BadStart 0\n")
     yield checked(plan("0 65535 nesw-"), "rejected BadStart 0\n")
-    yield checked(plan(f"0 0 {'-' * 65_535}"), "accepted agents 1 cost 0 makespan 0\n", "check: 65,535 acts")
-    yield checked(plan(f"0 0 {'ew' * 32_767}e"), "accepted agents 1 cost 65535 makespan 65535\n", "check: 65,535 acts, none a wait")
-    for count in (65_536, 1_000_000):
-        yield checked(plan(f"0 0 {'-' * count}"), "TooMany 4", f"check: {count} acts")
-    for last, due in ((256, "rejected Vertex 0 1 0 0 0\n"), (257, "TooMany 260")):
-        agents = [f"0 0 {'-' * 65_535}"] * 256
-        yield checked(plan(*agents, f"0 0 {'-' * last}"), due, f"check: 256 agents of 65,535 acts and one of {last}")
-    yield checked(plan(*["0 0 ="] * 10_000), "rejected Vertex 0 1 0 0 0\n", "check: 10,000 agents")
-    yield checked(plan(*["0 0 ="] * 10_001), "TooMany 3", "check: 10,001 agents")
     # However many steps come before, a fault is that of its own.
     for step in range(70):
         waits = "-" * step

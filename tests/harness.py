@@ -1,12 +1,14 @@
 """What the parts of ./test share: how commands are run, and how it is told whether they did what was due."""
+import concurrent.futures
 import contextlib
 import dataclasses
+import itertools
 import os
 import pathlib
 import signal
 import subprocess
 import sys
-from typing import Iterator, Mapping, Optional, Sequence
+from typing import Callable, Iterable, Iterator, Mapping, Optional, Sequence
 
 ROOT = pathlib.Path(__file__).resolve().parent.parent
 # Where the program lies in a checkout.
@@ -15,6 +17,8 @@ SHIPPED = pathlib.Path("dist") / "x86_64-linux" / "mapf"
 LONGEST = 120
 # The status of a command that could not be started, as a shell has it.
 CANNOT_START = 126
+# How many tests run at once where they may: most of their time they wait for a process.
+AT_ONCE = 2
 
 
 @dataclasses.dataclass(frozen=True)
@@ -29,7 +33,7 @@ class Ended:
 @dataclasses.dataclass(frozen=True)
 class Outcome:
     """A test that was run. The fault says which command was run, what it wrote and what was due; it is empty where all is well. A test that
-    this machine has no device for says what it lacks, and is not counted."""
+    this machine has no device or no tool for says what it lacks, and is counted as skipped."""
 
     name: str
     fault: str = ""
@@ -44,12 +48,11 @@ class Harness:
         self.room = room
         self.is_long = is_long
         self.is_proved = is_proved
-        self._folders = 0
+        self._folders = itertools.count(1)
 
     def folder(self, files: Mapping[str, bytes] = {}) -> pathlib.Path:
         """A new folder with these files."""
-        self._folders += 1
-        folder = self.room / str(self._folders)
+        folder = self.room / str(next(self._folders))
         folder.mkdir()
         for name, content in files.items():
             (folder / name).write_bytes(content)
@@ -86,6 +89,18 @@ class Harness:
             return Ended(process.returncode, out, err)
 
 
+def side_by_side(tests: Iterable[Callable[[], Sequence[Outcome]]]) -> Iterator[Outcome]:
+    """Runs tests that don't need one another, a few at once, and gives their outcomes in order."""
+    with concurrent.futures.ThreadPoolExecutor(AT_ONCE) as pool:
+        running = [pool.submit(test) for test in tests]
+        try:
+            for test in running:
+                yield from test.result()
+        finally:
+            for test in running:
+                test.cancel()
+
+
 def shown(command: Sequence[str], given: bytes = b"") -> str:
     """A command as one would type it, shortened, and its input."""
     words = " ".join(word if word and word.isprintable() and " " not in word else repr(word) for word in map(cut, command))
@@ -112,25 +127,31 @@ class Report:
     """Counts outcomes, tells the faults, and shows on a terminal how far it is."""
 
     def __init__(self) -> None:
-        self.passed = self.failed = 0
+        self.passed = self.failed = self.skipped = 0
         self.is_terminal = sys.stdout.isatty()
 
     def take(self, part: str, outcomes: Iterator[Outcome]) -> None:
         """Runs the tests of a part to their end."""
-        passed, failed = self.passed, self.failed
+        before = (self.passed, self.failed, self.skipped)
+
+        def counted() -> str:
+            passed, failed, skipped = (now - then for now, then in zip((self.passed, self.failed, self.skipped), before))
+            return f"{part}: {passed} passed, {failed} failed" + (f", {skipped} skipped" if skipped else "")
+
         try:
             for outcome in outcomes:
                 if outcome.lacks:
+                    self.skipped += 1
                     self.say(f"skipped {part}: {outcome.name}: there is no {outcome.lacks} here")
                 elif outcome.fault:
                     self.fail(f"{part}: {outcome.name}\n    {outcome.fault}")
                 else:
                     self.passed += 1
-                self.show(f"{part}: {self.passed - passed} passed, {self.failed - failed} failed")
+                self.show(counted())
         except (OSError, ValueError, subprocess.SubprocessError) as error:
             # The other parts still have something to say.
             self.fail(f"{part}: not run to its end: {error!r}")
-        self.say(f"{part}: {self.passed - passed} passed, {self.failed - failed} failed")
+        self.say(counted())
 
     def show(self, text: str) -> None:
         if self.is_terminal:
@@ -152,4 +173,4 @@ class Report:
     def end(self) -> int:
         """Writes the last line, and answers the status."""
         self.say(f"{self.passed} passed, {self.failed} failed")
-        return 1 if self.failed or not self.passed else 0
+        return 1 if self.failed or not (self.passed or self.skipped) else 0

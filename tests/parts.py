@@ -14,22 +14,30 @@ import command_lines
 import devices
 import documents
 import endings
+import faults
 import fleet
 import formats
 import launcher
+import limits
+import refusals
 import shipping
+import sources
 import vectors
 from harness import ROOT, SHIPPED, Harness, Outcome, Report
 
 # Each part with what it tests, in the order in which they run: what is soonest done and tells most first.
 PARTS: dict[str, tuple[str, Callable[[Harness], Iterator[Outcome]]]] = {
     "dist": ("that dist/ holds against the sources, and what is said where it does not", shipping.outcomes),
+    "sources": ("that few functions of the sources say that memory is wanting", sources.outcomes),
     "launcher": ("./mapf, also where the program of dist/ does not start", launcher.outcomes),
     "documents": ("the commands that README and docs/ show, with their answers", documents.outcomes),
     "lines": ("command lines, statuses and help", command_lines.outcomes),
-    "formats": ("the texts of maps, scenarios, plans and events, up to their limits", formats.outcomes),
+    "formats": ("the texts of maps, scenarios, plans and events", formats.outcomes),
+    "limits": ("sizes up to the limits, with answers that are known by how they are made", limits.outcomes),
     "answers": ("whole commands on texts, files and tapes", answers.outcomes),
     "devices": ("files, inputs and outputs that fail", devices.outcomes),
+    "faults": ("calls of the system that fail, one after another", faults.outcomes),
+    "memory": ("calls of the libraries to which memory is refused", refusals.outcomes),
     "endings": ("how runs end: the events that complete them, or the rotation in the way", endings.outcomes),
     "vectors": ("the answers of an independent implementation", vectors.outcomes),
     "fleet": ("robots as processes that are killed at random", fleet.outcomes),

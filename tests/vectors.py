@@ -4,6 +4,7 @@
 Usage: vectors.py PROGRAM [COMMAND ..]      (COMMAND: a file of vectors/ without its ending, as map; none: all)
 The last line is 'N passed, M failed'.
 """
+import functools
 import json
 import pathlib
 import shutil
@@ -12,7 +13,7 @@ import tempfile
 from typing import Iterator, Optional
 
 sys.dont_write_bytecode = True
-from harness import ROOT, Ended, Harness, Outcome, Report, compared, ended_as, shown  # noqa: E402
+from harness import ROOT, Ended, Harness, Outcome, Report, compared, ended_as, shown, side_by_side  # noqa: E402
 
 VECTORS = ROOT / "vectors"
 
@@ -26,8 +27,9 @@ def text_of(path: pathlib.Path) -> Optional[str]:
     return path.read_bytes().decode("latin-1") if path.exists() else None
 
 
-def outcome_of(harness: Harness, name: str, vector: dict) -> Outcome:
+def outcomes_of_line(harness: Harness, name: str, line: str) -> list[Outcome]:
     """Runs one vector in a folder of its own, which is gone afterwards."""
+    vector = json.loads(line)
     folder = harness.folder({name: text.encode("latin-1") for name, text in vector["files"].items()})
     try:
         given = vector.get("stdin", "").encode("latin-1")
@@ -35,17 +37,17 @@ def outcome_of(harness: Harness, name: str, vector: dict) -> Outcome:
         ended = harness.mapf(vector["words"], given, folder)
         due = Ended(vector["status"], vector["stdout"].encode("latin-1"), vector["stderr"].encode("latin-1"))
         if ended != due:
-            return ended_as(name, ran, ended, due)
+            return [ended_as(name, ran, ended, due)]
         after = vector.get("after", {})
-        return compared(name, f"{ran}, and looked into the files afterwards", {it: text_of(folder / it) for it in after}, after)
+        return [compared(name, f"{ran}, and looked into the files afterwards", {it: text_of(folder / it) for it in after}, after)]
     finally:
         shutil.rmtree(folder)
 
 
 def outcomes_of(harness: Harness, command: str) -> Iterator[Outcome]:
     with open(VECTORS / f"{command}.jsonl", encoding="utf-8") as lines:
-        for number, line in enumerate(lines, 1):
-            yield outcome_of(harness, f"line {number} of vectors/{command}.jsonl", json.loads(line))
+        named = [(f"line {number} of vectors/{command}.jsonl", line) for number, line in enumerate(lines, 1)]
+    yield from side_by_side(functools.partial(outcomes_of_line, harness, *it) for it in named)
 
 
 def outcomes(harness: Harness) -> Iterator[Outcome]:

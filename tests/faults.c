@@ -1,0 +1,126 @@
+// Makes calls of the C library fail, for faults.py, in a program that is started with LD_PRELOAD.
+//
+// FAULT_CALL is which kind of call: alloc, open, read, write, sync, seek or truncate. FAULT_AT is which of them fails, counted from 1, or 0 for
+// each. FAULT_KIND is how: `error`, `on` (and so does each that follows), `none` (a write takes nothing) or `short` (one byte passes, without an error). The
+// file FAULT_MET is made when a call is met, and has the name of the call's file, or of the stream.
+#define _GNU_SOURCE
+#include <errno.h>
+#include <fcntl.h>
+#include <stdarg.h>
+#include <stdio.h>
+#include <stdlib.h>
+#include <string.h>
+#include <sys/syscall.h>
+#include <sys/types.h>
+#include <unistd.h>
+
+// The system's calls are made directly, and memory is taken as the C library takes it: to look up the functions that stand behind these
+// here would take memory itself.
+extern void *__libc_malloc(size_t);
+extern void *__libc_calloc(size_t, size_t);
+extern void *__libc_realloc(void *, size_t);
+extern void *__libc_memalign(size_t, size_t);
+
+static const char *call, *kind, *met;
+static long at, seen;
+
+__attribute__((constructor)) static void begin(void) {
+    const char *which = getenv("FAULT_AT");
+    call = getenv("FAULT_CALL");
+    kind = getenv("FAULT_KIND");
+    met = getenv("FAULT_MET");
+    at = which ? atol(which) : 0;
+}
+
+static void leave(const char *name) {
+    int fd = met ? (int)syscall(SYS_openat, AT_FDCWD, met, O_WRONLY | O_CREAT | O_TRUNC, 0644) : -1;
+    if (fd < 0) return;
+    syscall(SYS_write, fd, name, strlen(name));
+    syscall(SYS_close, fd);
+}
+
+// Whether this call fails.
+static int fails(const char *name, const char *file) {
+    if (!call || strcmp(call, name)) return 0;
+    seen++;
+    if (at && seen != at && !(seen > at && !strcmp(kind, "on"))) return 0;
+    if (seen == at || !at) leave(file);
+    return 1;
+}
+
+static int fails_on(const char *name, int fd) {
+    static const char *streams[] = {"input", "output", "error output"};
+    char link[64], file[4097] = "";
+    if (!call || strcmp(call, name)) return 0;
+    if (0 <= fd && fd <= 2) return fails(name, streams[fd]);
+    snprintf(link, sizeof link, "/proc/self/fd/%d", fd);
+    readlink(link, file, sizeof file - 1);
+    return fails(name, strrchr(file, '/') ? strrchr(file, '/') + 1 : file);
+}
+
+static long failed(int why) {
+    errno = why;
+    return -1;
+}
+
+// How many bytes of so many pass.
+static size_t passing(size_t count) { return count && !strcmp(kind, "short") ? 1 : 0; }
+
+void *malloc(size_t size) { return fails("alloc", "memory") ? (errno = ENOMEM, NULL) : __libc_malloc(size); }
+void *calloc(size_t count, size_t size) { return fails("alloc", "memory") ? (errno = ENOMEM, NULL) : __libc_calloc(count, size); }
+void *realloc(void *old, size_t size) { return fails("alloc", "memory") ? (errno = ENOMEM, NULL) : __libc_realloc(old, size); }
+void *aligned_alloc(size_t align, size_t size) { return fails("alloc", "memory") ? (errno = ENOMEM, NULL) : __libc_memalign(align, size); }
+int posix_memalign(void **to, size_t align, size_t size) {
+    *to = aligned_alloc(align, size);
+    return *to ? 0 : ENOMEM;
+}
+
+ssize_t read(int fd, void *to, size_t count) {
+    if (!fails_on("read", fd)) return syscall(SYS_read, fd, to, count);
+    return passing(count) ? syscall(SYS_read, fd, to, (size_t)1) : failed(EIO);
+}
+ssize_t pread(int fd, void *to, size_t count, off_t where) {
+    if (!fails_on("read", fd)) return syscall(SYS_pread64, fd, to, count, where);
+    return passing(count) ? syscall(SYS_pread64, fd, to, (size_t)1, where) : failed(EIO);
+}
+
+ssize_t write(int fd, const void *from, size_t count) {
+    if (!fails_on("write", fd)) return syscall(SYS_write, fd, from, count);
+    if (!strcmp(kind, "none")) return 0;
+    return passing(count) ? syscall(SYS_write, fd, from, (size_t)1) : failed(ENOSPC);
+}
+ssize_t pwrite(int fd, const void *from, size_t count, off_t where) {
+    if (!fails_on("write", fd)) return syscall(SYS_pwrite64, fd, from, count, where);
+    if (!strcmp(kind, "none")) return 0;
+    return passing(count) ? syscall(SYS_pwrite64, fd, from, (size_t)1, where) : failed(ENOSPC);
+}
+
+int openat(int folder, const char *name, int flags, ...) {
+    va_list more;
+    va_start(more, flags);
+    int mode = flags & (O_CREAT | O_TMPFILE) ? va_arg(more, int) : 0;
+    va_end(more);
+    if (fails("open", strrchr(name, '/') ? strrchr(name, '/') + 1 : name)) return (int)failed(EMFILE);
+    return (int)syscall(SYS_openat, folder, name, flags, mode);
+}
+int open(const char *name, int flags, ...) {
+    va_list more;
+    va_start(more, flags);
+    int mode = flags & (O_CREAT | O_TMPFILE) ? va_arg(more, int) : 0;
+    va_end(more);
+    return openat(AT_FDCWD, name, flags, mode);
+}
+
+int fsync(int fd) { return (int)(fails_on("sync", fd) ? failed(EIO) : syscall(SYS_fsync, fd)); }
+int fdatasync(int fd) { return (int)(fails_on("sync", fd) ? failed(EIO) : syscall(SYS_fdatasync, fd)); }
+off_t lseek(int fd, off_t where, int from) { return fails_on("seek", fd) ? failed(EIO) : syscall(SYS_lseek, fd, where, from); }
+int ftruncate(int fd, off_t size) { return (int)(fails_on("truncate", fd) ? failed(EIO) : syscall(SYS_ftruncate, fd, size)); }
+
+// The same by the names that the C library has for them too.
+ssize_t __write(int, const void *, size_t) __attribute__((alias("write")));
+ssize_t pread64(int, void *, size_t, off_t) __attribute__((alias("pread")));
+ssize_t pwrite64(int, const void *, size_t, off_t) __attribute__((alias("pwrite")));
+int open64(const char *, int, ...) __attribute__((alias("open")));
+int openat64(int, const char *, int, ...) __attribute__((alias("openat")));
+off_t lseek64(int, off_t, int) __attribute__((alias("lseek")));
+int ftruncate64(int, off_t) __attribute__((alias("ftruncate")));

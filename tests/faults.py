@@ -1,0 +1,339 @@
+"""Calls of the system that fail: each allocation, open, read, write, sync, seek and truncation that a command makes fails in turn, until a run
+meets none. What failed is told, nothing else is blamed, and a tape goes on from what it has.
+
+A small library in C that is loaded before the C library makes the calls fail: it is built here, and without `cc` this part is skipped."""
+import dataclasses
+import functools
+import pathlib
+import re
+import shutil
+from typing import Iterator, Optional
+
+import command_lines
+import help_texts
+from answers import ARRIVED_AS_OTHER, MOVING, NOISE, OTHER_AGENT, STANDING, answer, lines
+from completing import ends_of, judged
+from harness import ROOT, Ended, Harness, Outcome, compared, shown, side_by_side
+from texts import (
+    BEHIND,
+    CORNER,
+    CORNER_WRITTEN,
+    LANE,
+    NOBODY,
+    ROW,
+    ROW_WRITTEN,
+    SHORT,
+    SQUARE,
+    SWAP,
+    TASKS,
+    TURN,
+    WALL,
+    events,
+    plan,
+    scen,
+)
+
+FILES = {
+    "M": LANE,
+    "C": CORNER,
+    "B": SHORT,
+    "W": WALL,
+    "Q": SQUARE,
+    "P": BEHIND,
+    "X": SWAP,
+    "A": plan("1 0 ex", "0 0 e"),
+    "O": NOBODY,
+    "R": TURN,
+    "S": ROW,
+    "F": TASKS,
+    "G": scen("m.map 3 1 1 0 2 0 1", "m.map 3 1 0 0 2 0 2"),
+    "U": scen("w.map 3 1 0 0 2 0 2"),
+    "D": scen("q.map 2 2 0 0 1 1 3"),
+    "N": scen("m.map 3 2 x 1 1 0 2"),
+    "E": events("start 1", "start 0", "finish 0", "say 0", "deliver 1 0", "start 1", "finish 1"),
+    "E2": events("start 0", "finish 0", "say 0", "deliver 1 0", "say 1", version=2),
+    "J": events("start 0", "jump"),
+    "L": events("start 0", "tear 1 3"),
+    "V": "mapf-events 3\n",
+}
+# The tape is no file of the table: it is put there before each run.
+TAPE = "T"
+REPLIES = "refused Waits 0 1\nmoving 2 0\narrived 2 0\nsaid 0 460100000000000700000001\nheard 0 1\nmoving 1 0\narrived 1 0\n"
+TELLING = "moving 2 0\narrived 2 0\nsaid 0 46020000000000070001000000000001\nheard 0 1\nsaid 1 46020001000000070001000000000001\n"
+
+
+@dataclasses.dataclass(frozen=True)
+class Case:
+    """A command, all that it does where nothing fails, its input, and what its tape has before."""
+
+    words: str
+    due: Ended
+    given: bytes = b""
+    tape: Optional[bytes] = None
+
+    @property
+    def early(self) -> bytes:
+        """What may be out before all that the command needs is read and taken: replies and answers, but not how a run ends."""
+        if not self.words.startswith(("run ", "agent ")):
+            return b""
+        return re.split(rb"^(?:complete|blocked) ", self.due.out, maxsplit=1, flags=re.MULTILINE)[0]
+
+    @property
+    def files(self) -> set[str]:
+        return {word for word in self.words.split() if word in FILES or word == TAPE}
+
+
+TURN_DEPS = "agents 4 moves 4 needs 4 rotations 1\nneed 0 0 1 1\nneed 1 0 2 1\nneed 2 0 3 1\nneed 3 0 0 1\nrotation 0 0 1 2 3\n"
+CASES = [
+    Case("map C", answer(0, CORNER_WRITTEN)),
+    Case("map B", answer(1, "ShortRow 6")),
+    Case("scen S", answer(0, ROW_WRITTEN)),
+    Case("scen N", answer(1, "BadNumber 2 5")),
+    Case("row C S 0", answer(0, "shortest 2 0 listed 2.00000000 agrees\n")),
+    Case("row Q D 0", answer(1, "shortest 0 1 listed 3 differs\n")),
+    Case("row W U 0", answer(1, "unreachable\n")),
+    Case("row C S 1", answer(1, "NoSuchRow")),
+    Case("row M S 0", answer(1, "SizeDiffers 0")),
+    Case("check M P", answer(0, "accepted agents 2 cost 2 makespan 1\n")),
+    Case("check M X", answer(1, "rejected Swap 0 1 0\n")),
+    Case("check M A", answer(1, "BadAct 4 12")),
+    Case("check M P --json", answer(0, '{"accepted":true,"agents":2,"cost":2,"makespan":1}\n')),
+    Case("check M X --json", answer(1, '{"accepted":false,"fault":"Swap 0 1 0"}\n')),
+    Case("check M P --scen F", answer(0, "accepted agents 2 cost 2 makespan 1\n")),
+    Case("check M P --scen G", answer(1, "rejected GoalDiffers 1\n")),
+    Case("check M P --scen N", answer(1, "BadNumber 2 5")),
+    Case("check M P --scen F --json", answer(0, '{"accepted":true,"agents":2,"cost":2,"makespan":1}\n')),
+    Case("deps M P", answer(0, "agents 2 moves 2 needs 1 rotations 0\nneed 1 0 0 1\n")),
+    Case("deps Q R", answer(0, TURN_DEPS)),
+    Case("deps M X", answer(1, "Swap 0 1 0")),
+    Case("deps M P --cell 1 0", answer(0, "visit 0 0 0\nvisit 1 1 1\n")),
+    Case("run M P E", answer(0, REPLIES)),
+    Case("run M P E2", answer(0, TELLING)),
+    Case("run M P J", Ended(1, b"moving 2 0\n", b"mapf: BadEvent 3\n")),
+    Case("run M P V", answer(1, "NoHeader")),
+    Case("run M X E", answer(1, "Swap 0 1 0")),
+    Case("run M P E --complete", answer(0, f"{REPLIES}complete 0\n")),
+    Case("run M P J --complete", Ended(1, b"moving 2 0\n", b"mapf: BadEvent 3\n")),
+    Case("run M O L --complete", answer(0, "refused NoSuchAgent\nrefused NoSuchAgent\ncomplete 0\n")),
+    Case("run Q R L --complete", answer(1, "refused Waits 1 1\narmed\nblocked 0\n")),
+    Case("agent M P 2 T", answer(1, "NoSuchAgent"), tape=b""),
+    Case("agent M X 0 T", answer(1, "Swap 0 1 0"), tape=b""),
+    Case(
+        "agent M P 0 T",
+        Ended(
+            0,
+            lines("at 1 0 done 0", "moving 2 0", "said 460100000000000700000000", "arrived 2 0", "said 46020000000000070001000000000001", "at 2 0 done 1"),
+            b"",
+        ),
+        lines("start", "say", "finish", "tell", "held"),
+        b"",
+    ),
+    # A message that is refused for want of memory changes nothing, and comes once more.
+    Case(
+        "agent M P 1 T",
+        Ended(
+            0,
+            lines(
+                *("at 0 0 done 0", "heard 0 1", "heard 0 1", "said 46020001000000070001000000000001", "moving 1 0", "arrived 1 0"),
+                *("said 460100010000000700000001", "said 46020001000000070002000000000001000100000001"),
+            ),
+            b"",
+        ),
+        lines(*["hear 46020000000000070001000000000001"] * 2, "tell", "start", "finish", "say", "tell"),
+        NOISE[:9],
+    ),
+    Case("agent M P 0 T", Ended(0, lines("between 1 0 2 0 done 0", "arrived 2 0", "refused AtEnd"), b""), b"finish\nstart", MOVING + STANDING[:9]),
+    Case("agent M P 0 T", Ended(0, lines("at 2 0 done 1", "said 460100000000000700000001"), b""), b"say\n", MOVING + STANDING),
+    Case("agent M P 0 T", answer(1, "WrongAgent 0"), b"start\n", OTHER_AGENT),
+    Case("agent M P 0 T", answer(1, "Damaged 1"), b"start\n", MOVING + NOISE),
+    Case("agent M P 0 T", answer(1, "TooLong"), b"start\n", MOVING + STANDING + NOISE),
+    Case("--version", answer(0, "mapf 0.1.0\n")),
+    Case("help", answer(0, help_texts.PROGRAM)),
+    Case("check --help", answer(0, help_texts.COMMANDS["check"])),
+]
+# Bad command lines; in a short test one that `clap` refuses, and those that are refused behind it.
+BAD_LINES = [Case(words, Ended(2, b"", told)) for words, told in command_lines.WHOLE.items()]
+FEW_BAD_LINES = [case for case in BAD_LINES if case.words in ("nope", "row M S 1x", "agent M P 65536 T")]
+# A run of which only its end is free: what completes it is judged, and then the same whenever nothing fails.
+COMPLETED = "run M P L --complete"
+
+# How each call fails; in a long test there are more ways.
+KINDS = {
+    "alloc": ["error"],
+    "open": ["error"],
+    "read": ["error", "short"],
+    "write": ["error", "on", "none", "short"],
+    "sync": ["error"],
+    "seek": ["error"],
+    "truncate": ["error"],
+}
+LONG_KINDS = {**KINDS, "alloc": ["error", "on"], "read": ["error", "on", "short"], "open": ["error", "on"]}
+# No command makes nearly so many calls of one kind on these texts.
+MOST = 2_000
+
+# The records that the tape of each agent comes to have, and where the agent is with as many of them.
+RECORDS = {"0": (MOVING, STANDING), "1": (OTHER_AGENT, ARRIVED_AS_OTHER)}
+STATES = {
+    "0": ("at 1 0 done 0", "between 1 0 2 0 done 0", "at 2 0 done 1"),
+    "1": ("at 0 0 done 0", "between 0 0 1 0 done 0", "at 1 0 done 1"),
+}
+
+
+class Library:
+    """The library that makes calls fail, built, and the program over it."""
+
+    def __init__(self, harness: Harness):
+        self.harness = harness
+        self.path = harness.folder() / "faults.so"
+        command = ["cc", "-shared", "-fPIC", "-O1", "-w", "-o", str(self.path), str(ROOT / "tests" / "faults.c")]
+        self.built = compared("the library is built", shown(command), harness.run(command), Ended(0, b"", b""))
+
+    def run(self, case: Case, folder: pathlib.Path, call: str, kind: str, at: int) -> tuple[Ended, str]:
+        """Runs a command in which this call fails, or each one where `at` is 0. Answers what it did, and the file or the stream of the
+        call; empty where the call was not met."""
+        met = folder / "met"
+        met.unlink(missing_ok=True)
+        if case.tape is not None:
+            (folder / TAPE).write_bytes(case.tape)
+        more = {"LD_PRELOAD": str(self.path), "FAULT_CALL": call, "FAULT_KIND": kind, "FAULT_AT": str(at), "FAULT_MET": str(met)}
+        ended = self.harness.run([str(self.harness.program), *case.words.split()], case.given, folder, more)
+        return ended, met.read_text() if met.exists() else ""
+
+
+def begins(whole: bytes, text: bytes) -> bool:
+    """Whether a text is the first lines of another one."""
+    return whole.startswith(text) and text[-1:] in (b"", b"\n")
+
+
+def is_fault(ended: Ended, name: str) -> bool:
+    """Whether a command ended with this fault."""
+    return (ended.status, ended.err) == (3, f"mapf: {name}\n".encode())
+
+
+def is_read_failed(case: Case, met: str, ended: Ended) -> bool:
+    """Whether a command said that a read failed, and before that answered the lines that had come. All of them come at once, and before the first
+    answer of a run; an agent says where it is first, and does not answer a line that may go on."""
+    given = case.early.splitlines(keepends=True)
+    if met == "input":
+        answered = (given[:1], given[: 1 + case.given.count(b"\n")])
+    else:
+        answered = ([], given if case.words.startswith("run ") and met == case.words.split()[3] else [])
+    return is_fault(ended, "ReadFailed") and ended.out in [b"".join(it) for it in answered]
+
+
+def is_store_failed(case: Case, ended: Ended) -> bool:
+    """Whether an agent said of a move that it was not stored, and ended."""
+    before = ended.out[: -len(b"refused StoreFailed\n")]
+    is_told = ended.out.endswith(b"\nrefused StoreFailed\n") and begins(case.due.out, before)
+    return (ended.status, ended.err) == (3, b"") and is_told and case.due.out[len(before) :].startswith((b"moving ", b"arrived "))
+
+
+def is_refused_once(case: Case, ended: Ended) -> bool:
+    """Whether an agent had no memory for one message, and else did what was due."""
+    asked, due, wrote = case.given.splitlines(), case.due.out.splitlines(), ended.out.splitlines()
+    if (ended.status, ended.err, len(wrote)) != (0, b"", len(due)) or len(asked) + 1 != len(due):
+        return False
+    differ = [line for line, one, other in zip([b"", *asked], wrote, due) if one != other]
+    return len(differ) == 1 and differ[0].startswith((b"hear ", b"tell")) and wrote.count(b"refused OutOfMemory") == 1
+
+
+def is_allowed(case: Case, call: str, kind: str, met: str, ended: Ended) -> bool:
+    """Whether a command did what it may do where this call failed, of the file or stream that was met."""
+    due = case.due
+    if kind == "short" or not met:
+        return ended == due
+    if call == "alloc":
+        return ended == due or (is_fault(ended, "OutOfMemory") and begins(case.early, ended.out)) or is_refused_once(case, ended)
+    if call == "open":
+        return is_fault(ended, "OpenFailed") and not ended.out
+    if kind == "on" and call == "write":
+        # What would tell of the failure fails too.
+        status = due.status if met == "error output" else 3
+        return (ended.status, ended.err) == (status, b"") and due.out.startswith(ended.out)
+    if met == TAPE:
+        return (is_fault(ended, "TapeFailed") and not ended.out) or is_store_failed(case, ended)
+    if call == "read":
+        # A text that is known to be faulty is not read on.
+        return is_read_failed(case, met, ended) or (bool(due.err) and ended == due)
+    if met == "error output":
+        return (ended.status, ended.out) == (due.status, due.out) and due.err.startswith(ended.err)
+    return (ended.status, ended.err) == (3, b"mapf: WriteFailed\n") and due.out.startswith(ended.out)
+
+
+def judged_tape(library: Library, case: Case, folder: pathlib.Path, out: bytes, seen: dict[bytes, Ended]) -> str:
+    """What is wrong with a tape, behind what was told; empty where nothing is. It is opened again once for all runs that leave the same."""
+    left = (folder / TAPE).read_bytes()
+    agent = case.words.split()[3]
+    if case.due.status:
+        return "" if left == case.tape else f"the tape was to stay as it was, and has {left.hex()}"
+    records, before = left[: len(left) // 10 * 10], len(case.tape or b"") // 10
+    told = before + len(re.findall(rb"^(?:moving|arrived) ", out, re.MULTILINE))
+    if not b"".join(RECORDS[agent]).startswith(records) or len(records) // 10 not in (told, told + 1):
+        return f"the tape was to have {told} records, or perhaps one more, and has {left.hex()}"
+    if left not in seen:
+        seen[left] = library.harness.mapf(case.words.split(), folder=folder)
+    due = Ended(0, f"{STATES[agent][len(records) // 10]}\n".encode(), b"")
+    return "" if seen[left] == due else f"opened again it says {seen[left]}, and due was {due}"
+
+
+def calls_of(library: Library, case: Case, call: str, kind: str) -> list[Outcome]:
+    """Lets each call of a kind fail in turn, until none is met."""
+    folder = library.harness.folder({name: text.encode() for name, text in FILES.items() if name in case.files})
+    outcomes: list[Outcome] = []
+    names: set[str] = set()
+    seen: dict[bytes, Ended] = {}
+    # That single bytes pass is also asked of all calls at once.
+    for at in range(0 if kind == "short" else 1, MOST):
+        ended, met = library.run(case, folder, call, kind, at)
+        fault = "" if is_allowed(case, call, kind, met, ended) else f"{ended}, which is not what it may do where it does {case.due} else"
+        if case.tape is not None and not fault:
+            fault = judged_tape(library, case, folder, ended.out, seen)
+        ran = f"{shown(['mapf', *case.words.split()], case.given)}  where {call} {at} meets {kind}, of {met or 'nothing'}"
+        outcomes.append(Outcome(f"{case.words}, {call} {at} with {kind}", fault and f"ran    {ran}\n    found  {fault}"))
+        names.add(met)
+        if at and not met:
+            break
+    else:
+        outcomes.append(Outcome(f"{case.words}, {call} with {kind}", f"{MOST} calls, and no end"))
+    outcomes.append(compared(f"{case.words}, what {call} meets not", case.words, names_due(case, call) - names, set()))
+    return outcomes
+
+
+def names_due(case: Case, call: str) -> set[str]:
+    """Files and streams that a command at least has to do with by such a call."""
+    if call == "alloc":
+        return {"memory"}
+    if call == "open" and case.due.status != 2:
+        return case.files - ({TAPE} if case.due.err in (b"mapf: NoSuchAgent\n", b"mapf: Swap 0 1 0\n") else set())
+    if call == "read" and not case.due.err:
+        return case.files | ({"input"} if case.given else set())
+    if call == "write":
+        stores = {TAPE} if b"start\n" in case.given and not case.due.err else set()
+        return stores | ({"output"} if case.due.out else set()) | ({"error output"} if case.due.err else set())
+    return {TAPE} if call == "sync" and len(case.tape or b"") >= 10 and not case.due.err else set()
+
+
+def completed(harness: Harness) -> tuple[Case, Outcome]:
+    """The run whose end is free, and the outcome of its judgement."""
+    folder = harness.folder({name: FILES[name].encode() for name in "MP"})
+    _, fault = judged(harness, folder, FILES["L"], ends_of(FILES["P"]), False)
+    (folder / "L").write_text(FILES["L"])
+    return Case(COMPLETED, harness.mapf(COMPLETED.split(), folder=folder)), Outcome(COMPLETED, fault)
+
+
+def outcomes(harness: Harness) -> Iterator[Outcome]:
+    if not shutil.which("cc"):
+        yield Outcome("calls of the system that fail", lacks="cc")
+        return
+    library = Library(harness)
+    yield library.built
+    case, outcome = completed(harness)
+    yield outcome
+    if library.built.fault or outcome.fault:
+        return
+    kinds = LONG_KINDS if harness.is_long else KINDS
+    for call, kind in ((call, kind) for call, each in kinds.items() for kind in each):
+        # Where memory stays wanting, an agent that can't hear answers other things from there on.
+        bad_lines = BAD_LINES if harness.is_long else FEW_BAD_LINES
+        cases = [it for it in [*CASES, case, *bad_lines] if (call, kind) != ("alloc", "on") or b"hear " not in it.given]
+        yield from side_by_side(functools.partial(calls_of, library, it, call, kind) for it in cases)

@@ -1,0 +1,409 @@
+"""Sizes up to the limits: maps, walks, scenarios, plans, runs and tapes as great as they may be, whose answers are known by how they are made.
+
+Nothing gives up below its limit: the answer is there in full, and what is wrong at the last place alone is found there."""
+import functools
+import os
+import struct
+from typing import Callable, Iterator, Mapping, Sequence
+
+from answers import answer
+from harness import Ended, Harness, Outcome, shown, side_by_side
+from texts import LANE, SQUARE, plan, scen
+
+MOST_ACTS, MOST_AGENTS, MOST_ACTS_OF_ALL = 65_535, 10_000, 16_777_216
+# Map sizes at the limit of 4,194,304 cells, or at that of a side.
+GREATEST_MAPS = [(2_048, 2_048), (65_535, 64), (64, 65_535), (65_535, 1), (1, 65_535)]
+
+Test = Callable[[Harness], list[Outcome]]
+
+
+def asked(harness: Harness, name: str, words: str, files: Mapping[str, bytes], due: Ended, given: bytes = b"") -> Outcome:
+    """Runs a command on files, which are gone afterwards, and compares all that it did; what is told of a difference is short."""
+    folder = harness.folder(files)
+    ended = harness.mapf(words.split(), given, folder)
+    for file in files:
+        os.remove(folder / file)
+    if ended == due:
+        return Outcome(name)
+    where = {out: differing(getattr(ended, out), getattr(due, out)) for out in ("out", "err") if getattr(ended, out) != getattr(due, out)}
+    return Outcome(name, f"ran    {shown(['mapf', *words.split()], given)}\n    wrote  status {ended.status}, due was {due.status}; {where}")
+
+
+def differing(wrote: bytes, due: bytes) -> str:
+    """Where two outputs begin to differ, and what stands there."""
+    at = next((i for i, (one, other) in enumerate(zip(wrote, due)) if one != other), min(len(wrote), len(due)))
+    begin = max(at - 60, 0)
+    return f"{len(wrote)} bytes, {len(due)} due, other ones from byte {at}: {wrote[begin : at + 60]!r}, due {due[begin : at + 60]!r}"
+
+
+def map_text(rows: Sequence[str], end: str = "\n") -> bytes:
+    return end.join(["type octile", f"height {len(rows)}", f"width {len(rows[0])}", "map", *rows, ""]).encode()
+
+
+def mixed_rows(width: int, height: int) -> list[str]:
+    """Rows of all terrain, each a character further on than the one above."""
+    terrain = ".GSW@OT"
+    return [(terrain * (width // len(terrain) + 2))[y % len(terrain) :][:width] for y in range(height)]
+
+
+def of_maps(harness: Harness) -> list[Outcome]:
+    """The greatest maps, read and written, and one fault at their last places."""
+    outcomes = []
+    for width, height in GREATEST_MAPS:
+        rows = mixed_rows(width, height)
+        text, name = map_text(rows), f"a map of {width} x {height}"
+        last, line = len(text) - 2, height + 4
+        outcomes.append(asked(harness, name, "map M", {"M": map_text(rows, "\r\n")}, Ended(0, text, b"")))
+        for spoiled, fault in (
+            (text[:last] + b"x\n", f"BadTerrain {line} {width}"),
+            (text[:last] + b"\n", f"ShortRow {line}" if width > 1 else ""),
+            (text[: last + 1] + b"..\n", f"LongRow {line}"),
+            (text[: last + 1 - width], f"MissingRows {line}"),
+            (text + b"\n" * 100_000 + b".", f"TextAfter {line + 100_001}"),
+        ):
+            if fault:
+                outcomes.append(asked(harness, f"{name}, {fault}", "map M", {"M": spoiled}, answer(1, fault)))
+    zeros = "0" * 1_000_000
+    for text, due in (
+        (f"type octile\nheight {zeros}2\nwidth {zeros}1\nmap\n.\n.\n", answer(0, "type octile\nheight 2\nwidth 1\nmap\n.\n.\n")),
+        (f"type octile\nheight {zeros}\nwidth 1\nmap\n", answer(1, "BadNumber 2")),
+        (f"type octile\nheight 1\nwidth {zeros}65536\nmap\n", answer(1, "TooLarge 3")),
+        (f"type octile\nheight {'9' * 1_000_000}\n", answer(1, "TooLarge 2")),
+        (f"type octile\nheight 2\nwidth 1\nmap{' ' * 1_000_000}\n.\n.\n", answer(0, "type octile\nheight 2\nwidth 1\nmap\n.\n.\n")),
+    ):
+        outcomes.append(asked(harness, f"a long line: {text[:40]}", "map M", {"M": text.encode()}, due))
+    return outcomes
+
+
+def winding_rows(width: int, height: int, is_open: bool = True) -> list[str]:
+    """A map whose rows are ways to and fro: between two of them only one end is free, now the right one, now the left one. The last of these
+    ends may be closed."""
+    rows = ["." * width if y % 2 == 0 else "@" * (width - 1) + "." if y % 4 == 1 else "." + "@" * (width - 1) for y in range(height)]
+    if not is_open:
+        rows[-2] = "@" * width
+    return rows
+
+
+def of_walks(harness: Harness, width: int, height: int) -> list[Outcome]:
+    """Walks as long as a map lets them be: from the first cell to the last along all ways to and fro, and across an open map."""
+    ways = (height + 1) // 2
+    height = 2 * ways - 1
+    steps = ways * (width - 1) + 2 * (ways - 1)
+    end = (width - 1 if ways % 2 else 0, height - 1)
+    straight, diagonal = abs(width - height), min(width, height) - 1
+    outcomes = []
+    for name, rows, goal, line in (
+        ("to and fro", winding_rows(width, height), end, f"shortest {steps} 0 listed {steps} agrees\n"),
+        ("a way that is closed", winding_rows(width, height, False), end, "unreachable\n"),
+        ("across", ["." * width] * height, (width - 1, height - 1), f"shortest {straight} {diagonal} listed {steps} differs\n"),
+    ):
+        files = {"M": map_text(rows), "S": scen(f"m.map {width} {height} 0 0 {goal[0]} {goal[1]} {steps}").encode()}
+        due = answer(0 if line.endswith("agrees\n") else 1, line)
+        outcomes.append(asked(harness, f"{name}, {width} x {height}", "row M S 0", files, due))
+    return outcomes
+
+
+def of_scenarios(harness: Harness) -> list[Outcome]:
+    """A hundred thousand rows, written, and single ones of them judged on an open map."""
+    width, height, count = 400, 250, 100_000
+    rows = [f"{n}\tmaps/{n}.map\t{width}\t{height}\t{n % width}\t{n // width}\t0\t0\t{n + 1_000}.25" for n in range(count)]
+    text = "\n".join(["version 1", *rows, ""]).encode()
+    outcomes = [
+        asked(harness, "100,000 rows", "scen S", {"S": text}, Ended(0, text, b"")),
+        asked(harness, "100,000 rows, the last one is bad", "scen S", {"S": text[:-3] + b"\n"}, answer(1, f"BadLength {count + 1}")),
+        asked(harness, "a million lines without a row", "scen S", {"S": b"version 1\n" + b" \n" * 1_000_000 + b"x"}, answer(1, "FieldCount 1000002")),
+    ]
+    greatest = "version 1\n" + "4294967295\tmaps/arena.map\t65535\t65535\t65534\t0\t0\t65534\t9999999.999999999999\n" * count
+    outcomes.append(asked(harness, "100,000 rows of the greatest numbers", "scen S", {"S": greatest.encode()}, answer(0, greatest)))
+    files = {"M": map_text(["." * width] * height), "S": text}
+    for n in (0, 9_999, 10_000, 65_535, 65_536, 99_999):
+        x, y = n % width, n // width
+        # No walk of this map is as long as a listed length.
+        line = f"shortest {abs(x - y)} {min(x, y)} listed {n + 1_000}.25 differs\n"
+        outcomes.append(asked(harness, f"row {n} of 100,000", f"row M S {n}", files, answer(1, line)))
+    outcomes.append(asked(harness, "row 100,000 of 100,000", "row M S 100000", files, answer(1, "NoSuchRow")))
+    return outcomes
+
+
+def checked(harness: Harness, name: str, files: Mapping[str, bytes], verdict: str, words: str = "check M P") -> Outcome:
+    return asked(harness, name, words, files, Ended(0 if verdict.startswith("accepted") else 1, f"{verdict}\n".encode(), b""))
+
+
+def of_long_plans(harness: Harness) -> list[Outcome]:
+    """Agents with as many acts as there may be, and what is wrong in the last step."""
+    most = MOST_ACTS
+    to_and_fro = "ew" * (most // 2)
+    outcomes = []
+    for agents, verdict in (
+        ([f"0 0 {'-' * most}"], "accepted agents 1 cost 0 makespan 0"),
+        ([f"0 0 {to_and_fro}e"], f"accepted agents 1 cost {most} makespan {most}"),
+        ([f"0 0 {to_and_fro}w"], f"rejected BadMove 0 {most - 1}"),
+        (["1 0 =", f"0 0 {'-' * (most - 1)}e"], f"rejected Vertex 0 1 {most} 1 0"),
+        ([f"0 0 {'-' * (most - 1)}e", f"1 0 {'-' * (most - 1)}w"], f"rejected Swap 0 1 {most - 1}"),
+        ([f"0 0 {'-' * most}", "3 0 ="], "rejected BadStart 1"),
+        ([f"2 0 {'-' * most}", f"0 0 {to_and_fro}e"], f"accepted agents 2 cost {most} makespan {most}"),
+    ):
+        outcomes.append(checked(harness, verdict, {"M": LANE.encode(), "P": plan(*agents).encode()}, verdict))
+    width = MOST_ACTS
+    files = {"M": map_text(["." * width]), "P": plan(f"0 0 {'e' * (width - 1)}").encode()}
+    outcomes.append(checked(harness, "65,535 cells on one way", files, f"accepted agents 1 cost {width - 1} makespan {width - 1}"))
+    outcomes.append(asked(harness, "deps of one way", "deps M P", files, answer(0, f"agents 1 moves {width - 1} needs 0 rotations 0\n")))
+    for count in (most + 1, 1_000_000):
+        files = {"M": LANE.encode(), "P": plan(f"0 0 {'-' * count}").encode()}
+        outcomes.append(asked(harness, f"{count} acts", "check M P", files, answer(1, "TooMany 4")))
+    return outcomes
+
+
+def of_most_acts(harness: Harness) -> list[Outcome]:
+    """Plans with as many acts in all as there may be: agents to and fro, each in a row of its own, and in the last steps the last ones alone do
+    what is wrong. Nobody has more acts than the last one, so nothing comes later."""
+    full, rest = divmod(MOST_ACTS_OF_ALL, MOST_ACTS)
+    steps, other = MOST_ACTS, full - 1
+    last = other - 1
+    walk = "ew" * (steps // 2)
+    map_bytes = map_text(["...."] * full + ["....", "..@."])
+
+    def text(*last_two: str) -> bytes:
+        agents = [f"0 {y + 2} {walk}e" for y in range(full - 2)]
+        return plan(*agents, *last_two, f"0 1 {'-' * rest}").encode()
+
+    moved = steps * full
+    wait, to_middle = "-" * (steps - 1), "-" * (steps - 2) + "w"
+    outcomes = []
+    for last_two, verdict in (
+        ((f"0 0 {walk}e", f"2 0 {walk}e"), f"accepted agents {full + 1} cost {moved} makespan {steps}"),
+        ((f"0 0 {wait}e", f"2 0 {walk}w"), f"rejected Vertex {last} {other} {steps} 1 0"),
+        ((f"0 0 {wait}e", f"2 0 {to_middle}w"), f"rejected Swap {last} {other} {steps - 1}"),
+        ((f"0 0 {walk}e", f"2 0 {walk}n"), f"rejected BadMove {other} {steps - 1}"),
+        ((f"0 0 {walk}e", f"2 {full + 1} {walk}e"), f"rejected BadStart {other}"),
+    ):
+        outcomes.append(checked(harness, f"{MOST_ACTS_OF_ALL} acts, {verdict}", {"M": map_bytes, "P": text(*last_two)}, verdict))
+    if harness.is_long:
+        files = {"M": map_bytes, "P": text(f"0 0 {walk}e", f"2 0 {walk}e"), "E": lines("mapf-events 1", f"start {other}", "start 0", f"start {full}")}
+        counts = f"agents {full + 1} moves {moved} needs 0 rotations 0"
+        outcomes.append(asked(harness, f"deps of {MOST_ACTS_OF_ALL} acts", "deps M P", files, Ended(0, lines(counts), b"")))
+        replies = lines("moving 3 0", "moving 1 2", "refused AtEnd")
+        outcomes.append(asked(harness, f"a run of {MOST_ACTS_OF_ALL} acts", "run M P E", files, Ended(0, replies, b"")))
+        state = lines("at 2 0 done 0", "moving 3 0")
+        outcomes.append(asked(harness, "an agent of them", f"agent M P {other} T", {**files, "T": b""}, Ended(0, state, b""), b"start\n"))
+    together = plan(*[f"0 0 {'-' * MOST_ACTS}"] * full, f"0 0 {'-' * rest}").encode()
+    outcomes.append(checked(harness, "all in one cell", {"M": map_bytes, "P": together}, "rejected Vertex 0 1 0 0 0"))
+    too_many = text(f"0 0 {walk}e", f"2 0 {walk}e")[:-1] + b"-\n"
+    outcomes.append(asked(harness, "an act more", "check M P", {"M": map_bytes, "P": too_many}, answer(1, f"TooMany {full + 4}")))
+    return outcomes
+
+
+def of_most_agents(harness: Harness) -> list[Outcome]:
+    """As many agents as there may be, in pairs of cells of their own, and what is wrong with the last ones alone."""
+    count, in_row = MOST_AGENTS, 100
+    rows = ["." * (2 * in_row)] * (count // in_row)
+    map_bytes = map_text([*rows, "@" * (2 * in_row)])
+    starts = [(2 * (i % in_row), i // in_row) for i in range(count)]
+    last, row = count - 1, count // in_row - 1
+    right = 2 * in_row - 2
+
+    def agents(*changed: str) -> list[str]:
+        whole = [f"{x} {y} ewe" for x, y in starts]
+        return [*whole[: count - len(changed)], *changed]
+
+    def tasks(*changed: str, rows_in_all: int = count) -> bytes:
+        whole = [f"m.map {2 * in_row} {len(rows) + 1} {x} {y} {x + 1} {y} 1" for x, y in starts]
+        return scen(*[*whole[: count - len(changed)], *changed][:rows_in_all]).encode()
+
+    accepted = f"accepted agents {count} cost {3 * count} makespan 3"
+    outcomes = []
+    for changed, verdict in (
+        ((), accepted),
+        ((f"{right} {row} --w",), f"rejected Vertex {last - 1} {last} 3 {right - 1} {row}"),
+        ((f"{right - 2} {row} --e", f"{right} {row} -ww"), f"rejected Swap {last - 1} {last} 2"),
+        ((f"{right} {row} --s",), f"rejected BadMove {last} 2"),
+        ((f"{right} {row + 1} ---",), f"rejected BadStart {last}"),
+    ):
+        outcomes.append(checked(harness, f"{count} agents, {verdict}", {"M": map_bytes, "P": plan(*agents(*changed)).encode()}, verdict))
+    plan_bytes = plan(*agents()).encode()
+    as_json = f'{{"accepted":true,"agents":{count},"cost":{3 * count},"makespan":3}}\n'
+    outcomes.append(asked(harness, f"{count} agents as JSON", "check M P --json", {"M": map_bytes, "P": plan_bytes}, answer(0, as_json)))
+    size = f"m.map {2 * in_row} {len(rows) + 1}"
+    for text, verdict in (
+        (tasks(), accepted),
+        (tasks(f"m.map {2 * in_row} {len(rows) + 2} {right} {row} {right + 1} {row} 1"), f"rejected SizeDiffers {last}"),
+        (tasks(f"{size} {right + 1} {row} {right + 1} {row} 1"), f"rejected StartDiffers {last}"),
+        (tasks(f"{size} {right} {row} {right} {row} 1"), f"rejected GoalDiffers {last}"),
+        (tasks(rows_in_all=last), "rejected TooFewRows"),
+    ):
+        files = {"M": map_bytes, "P": plan_bytes, "S": text}
+        outcomes.append(checked(harness, f"{count} agents and rows, {verdict}", files, verdict, "check M P --scen S"))
+    files = {"M": LANE.encode(), "P": plan(*["0 0 ="] * (count + 1)).encode()}
+    return [*outcomes, asked(harness, "an agent more", "check M P", files, answer(1, "TooMany 3"))]
+
+
+def message(sender: int, *entries: tuple[int, int]) -> str:
+    """A message of version 2 of the plan 7, in digits."""
+    return (struct.pack(">BBHIH", 0x46, 2, sender, 7, len(entries)) + b"".join(struct.pack(">HI", *entry) for entry in entries)).hex()
+
+
+def said(sender: int, done: int) -> str:
+    """A message of version 1 of the plan 7, in digits."""
+    return struct.pack(">BBHII", 0x46, 1, sender, 7, done).hex()
+
+
+def lines(*texts: str) -> bytes:
+    return "\n".join([*texts, ""]).encode()
+
+
+def of_a_line(harness: Harness) -> list[Outcome]:
+    """As many agents as there may be, one behind the other, all of which go east at once: who waits for whom, and what the last ones say."""
+    count = MOST_AGENTS
+    last = count - 1
+    files = {"M": map_text(["." * (count + 1)]), "P": plan(*(f"{x} 0 e" for x in range(count))).encode()}
+    needs = lines(f"agents {count} moves {count} needs {last} rotations 0", *(f"need {i} 0 {i + 1} 1" for i in range(last)))
+    outcomes = [asked(harness, f"deps of {count} agents", "deps M P", files, Ended(0, needs, b""))]
+    turns = [
+        ("start 0", "refused Waits 1 1"),
+        (f"start {last - 1}", f"refused Waits {last} 1"),
+        (f"start {last}", f"moving {last + 1} 0"),
+        (f"finish {last}", f"arrived {last + 1} 0"),
+        (f"say {last}", f"said 0 {said(last, 1)}"),
+        (f"deliver {last - 1} 0", f"heard {last} 1"),
+        (f"start {last - 1}", f"moving {last} 0"),
+        (f"restart {last}", f"at {last + 1} 0 done 1"),
+        *((f"start {agent}", "refused NoSuchAgent") for agent in (count, 65_535, 65_536)),
+    ]
+    events, replies = zip(*turns)
+    files["E"] = lines("mapf-events 1", *events)
+    outcomes.append(asked(harness, f"a run of {count} agents", "run M P E", files, Ended(0, lines(*replies), b"")))
+    # The first agent hears of all others in one message, and tells of all.
+    others = [(agent, 1) for agent in range(1, count)]
+    given = lines(f"hear {message(last, *others)}", "tell", "start", "finish", "tell")
+    due = lines("at 0 0 done 0", f"heard {last} 1", f"said {message(0, *others)}", "moving 1 0", "arrived 1 0", f"said {message(0, (0, 1), *others)}")
+    outcomes.append(asked(harness, f"agent 0 hears of {count - 1} others", "agent M P 0 T", {**files, "T": b""}, Ended(0, due, b""), given))
+    due = lines(f"at {last} 0 done 0", f"moving {last + 1} 0", f"said {said(last, 0)}")
+    outcomes.append(asked(harness, f"agent {last}", f"agent M P {last} T", {**files, "T": b""}, Ended(0, due, b""), lines("start", "say")))
+    outcomes.append(asked(harness, f"agent {count}", f"agent M P {count} T", {**files, "T": b""}, answer(1, "NoSuchAgent")))
+    return outcomes
+
+
+def of_many_cells(harness: Harness) -> list[Outcome]:
+    """Pairs of agents, one behind the other, through more than 65,535 cells in all; and one cell that is come into 65,535 times."""
+    rows, width = 250, 600
+    moves = width - 2
+    agents = [f"{x} {y} {'e' * moves}" for y in range(rows) for x in (1, 0)]
+    needs = [f"need {2 * y + 1} {k} {2 * y} {k + 1}" for y in range(rows) for k in range(moves)]
+    head = f"agents {2 * rows} moves {2 * rows * moves} needs {rows * moves} rotations 0"
+    files = {"M": map_text(["." * width] * rows), "P": plan(*agents).encode()}
+    outcomes = [asked(harness, "deps over 150,000 cells", "deps M P", files, Ended(0, lines(head, *needs), b""))]
+    for cell, visits in (
+        ("0 0", ["visit 1 0 0"]),
+        ("300 249", ["visit 498 299 299", "visit 499 300 300"]),
+        ("599 249", ["visit 498 598 598"]),
+        ("600 249", []),
+    ):
+        due = Ended(0, lines(*visits) if visits else b"", b"")
+        outcomes.append(asked(harness, f"who comes into {cell} of them", f"deps M P --cell {cell}", files, due))
+    turns = MOST_ACTS
+    agents = [f"{x} {y} {(acts * (turns // 4 + 1))[:turns]}" for x, y, acts in ((0, 0, "eswn"), (1, 0, "swne"), (1, 1, "wnes"), (0, 1, "nesw"))]
+    needs = [f"need {i} {k} {(i + 1) % 4} {k + 1}" for i in range(4) for k in range(turns)]
+    rotations = [f"rotation {step} 0 1 2 3" for step in range(turns)]
+    head = f"agents 4 moves {4 * turns} needs {4 * turns} rotations {turns}"
+    files = {"M": SQUARE.encode(), "P": plan(*agents).encode(), "E": b"mapf-events 1\n"}
+    outcomes.append(asked(harness, "65,535 rotations", "deps M P", files, Ended(0, lines(head, *needs, *rotations), b"")))
+    outcomes.append(asked(harness, "65,535 rotations block", "run M P E --complete", files, answer(1, "blocked 0\n")))
+    visits = lines(*(f"visit {(1 - time) % 4} {time} {time}" for time in range(turns + 1)))
+    outcomes.append(asked(harness, "who comes into a cell of theirs", "deps M P --cell 1 0", files, Ended(0, visits, b"")))
+    waits = "-" * (turns - 1)
+    agents = [f"{x} {y} {waits}{act}" for x, y, act in ((0, 0, "e"), (1, 0, "s"), (1, 1, "w"), (0, 1, "n"))]
+    text = lines("agents 4 moves 4 needs 4 rotations 1", *(f"need {i} 0 {(i + 1) % 4} 1" for i in range(4)), f"rotation {turns - 1} 0 1 2 3")
+    files["P"] = plan(*agents).encode()
+    outcomes.append(asked(harness, "a rotation in the last step", "deps M P", files, Ended(0, text, b"")))
+    return outcomes
+
+
+def turns_of_a_long_run(version: int) -> Iterator[tuple[str, str]]:
+    """The events of a run and their replies. Agent 0 goes to and fro, and says twice a move how far it is. Agent 1 stays; it hears the second message, and says
+    what it knows. Now and then both writes of a move are torn: a restart reads the whole tape, so more of them would take long."""
+    cells = ("0 0", "1 0")
+    count = 0
+    for k in range(MOST_ACTS):
+        here, there = cells[k % 2], cells[(k + 1) % 2]
+        is_torn, stored = k % 101 == 0, k // 101 % 11
+        if is_torn:
+            yield from ((f"tear 0 {stored}", "armed"), ("start 0", "refused StoreFailed"), ("start 0", "refused Broken"))
+            yield "restart 0", f"between {here} {there} done {k}" if stored == 10 else f"at {here} done {k}"
+        if not is_torn or stored < 10:
+            yield "start 0", f"moving {there}"
+        if is_torn:
+            yield from ((f"tear 0 {10 - stored}", "armed"), ("finish 0", "refused StoreFailed"), ("say 0", "refused Broken"))
+            yield "restart 0", f"at {there} done {k + 1}" if stored == 0 else f"between {here} {there} done {k}"
+        if not is_torn or stored > 0:
+            yield "finish 0", f"arrived {there}"
+        own, other = (said(0, k + 1), said(1, 0)) if version == 1 else (message(0, (0, k + 1)), message(1, (0, k + 1)))
+        yield from (("say 0", f"said {count} {own}"), ("say 0", f"said {count + 1} {own}"), (f"deliver 1 {count + 1}", f"heard 0 {k + 1}"))
+        yield from (("say 1", f"said {count + 2} {other}"), (f"deliver 0 {count + 2}", "heard 1 0"), ("start 1", "refused AtEnd"))
+        count += 3
+    yield "start 0", "refused AtEnd"
+    yield f"deliver 1 {count}", "refused NoSuchMessage"
+    for number in (0, 65_535, 65_536, 100_000, 100_002, count - 2):
+        # Of the three messages of move `k` the first two are agent 0's, and say that `k + 1` moves are finished.
+        yield "restart 1", "at 2 0 done 0"
+        yield f"deliver 1 {number}", f"heard 0 {number // 3 + 1}" if number % 3 < 2 or version == 1 else "heard 1 0"
+
+
+def of_long_runs(harness: Harness, version: int) -> list[Outcome]:
+    events, replies = zip(*turns_of_a_long_run(version))
+    plan_bytes = plan(f"0 0 {'ew' * (MOST_ACTS // 2)}e", "2 0 =").encode()
+    files = {"M": LANE.encode(), "P": plan_bytes, "E": lines(f"mapf-events {version}", *events)}
+    name = f"{len(events)} events at version {version}"
+    # All agents are at their ends, so nothing is left to be said.
+    outcomes = [asked(harness, name, "run M P E --complete", files, Ended(0, lines(*replies, "complete 0"), b""))]
+    if harness.is_long:
+        outcomes.append(asked(harness, f"{name}, without an ending", "run M P E", files, Ended(0, lines(*replies), b"")))
+        files["E"] += b"jump\n"
+        due = Ended(1, lines(*replies), f"mapf: BadEvent {len(events) + 2}\n".encode())
+        outcomes.append(asked(harness, f"{name}, and a fault behind them", "run M P E", files, due))
+    return outcomes
+
+
+def of_long_tapes(harness: Harness) -> list[Outcome]:
+    """The tape of an agent that makes as many moves as there may be, whole and cut off at each tenth of them, with and without a torn tail."""
+    count, cells = MOST_ACTS, ("0 0", "1 0")
+    files = {"M": LANE.encode(), "P": plan(f"0 0 {'ew' * (count // 2)}e").encode()}
+    tape = b"".join(struct.pack(">BBIHH", 0x50, 1 + r % 2, 7, 0, (r + 1) // 2) for r in range(2 * count))
+    outcomes = []
+    for tenth in range(11):
+        for records in {2 * (count * tenth // 10), max(2 * (count * tenth // 10) - 1, 0)}:
+            k, is_moving = divmod(records, 2)
+            here, there = cells[k % 2], cells[(k + 1) % 2]
+            first = f"between {here} {there} done {k}" if is_moving else f"at {here} done {k}"
+            rest = [f"arrived {there}", f"said {said(0, k + 1)}"] if is_moving else ["refused NotMoving", f"said {said(0, k)}"]
+            for tail in (b"", b"\xff" * 9):
+                due = Ended(0, lines(first, *rest), b"")
+                name = f"a tape of {records} records and {len(tail)} bytes"
+                outcomes.append(asked(harness, name, "agent M P 0 T", {**files, "T": tape[: 10 * records] + tail}, due, lines("finish", "say")))
+    last = 2 * count - 1
+    for spoiled, fault in (
+        (tape + b"\xff" * 10, "TooLong"),
+        (tape[:-10] + b"\xff" * 10, f"Damaged {last}"),
+        (tape[:-1] + b"\xfe", f"Damaged {last}"),
+        (tape[:-5] + b"\x08" + tape[-4:], f"WrongPlan {last}"),
+        (tape[:-3] + b"\x01" + tape[-2:], f"WrongAgent {last}"),
+    ):
+        outcomes.append(asked(harness, f"a tape of {last + 1} records, {fault}", "agent M P 0 T", {**files, "T": spoiled}, answer(1, fault)))
+    return outcomes
+
+
+TESTS: Sequence[Test] = (
+    of_maps,
+    *(functools.partial(of_walks, width=width, height=height) for width, height in ((2_048, 2_047), (65_535, 63), (64, 65_535))),
+    of_scenarios,
+    of_long_plans,
+    of_most_acts,
+    of_most_agents,
+    of_a_line,
+    of_many_cells,
+    *(functools.partial(of_long_runs, version=version) for version in (1, 2)),
+    of_long_tapes,
+)
+
+
+def outcomes(harness: Harness) -> Iterator[Outcome]:
+    yield from side_by_side(functools.partial(test, harness) for test in TESTS)
