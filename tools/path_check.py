@@ -1,0 +1,140 @@
+"""Holds a plan that was written against the cells that were read, by what the proved program says of the plan: `mapf path`."""
+import dataclasses
+import itertools
+import pathlib
+import re
+import subprocess
+import tempfile
+from array import array
+from typing import IO, Iterator, Optional, Sequence
+
+from plan_formats.walks import Cell, Task, Walk, last_time, size_of
+
+# How many numbers of the cells that are due are held at once.
+AT_ONCE = 500_000
+NUMERALS = [str(number) for number in range(65_536)]
+# What the program says of an agent alone. Then no cells are written.
+AN_AGENTS_FAULT = re.compile(rb"mapf: (Bad(?:Start|Move) [0-9 ]+)\n")
+FAULT = 1
+
+
+class Failed(Exception):
+    """A file or a tool failed, this one too."""
+
+
+class Refused(Exception):
+    """A map or a scenario has a fault, or doesn't fit."""
+
+
+@dataclasses.dataclass(frozen=True)
+class Program:
+    """The program mapf."""
+
+    path: pathlib.Path
+
+    def start(self, words: Sequence[str], err: IO[bytes]) -> subprocess.Popen:
+        try:
+            return subprocess.Popen([str(self.path), *words], stdin=subprocess.DEVNULL, stdout=subprocess.PIPE, stderr=err)
+        except OSError as error:
+            raise Failed(f"{self.path} can't be started: {error.strerror}") from None
+
+    def text(self, command: str, file: str) -> bytes:
+        """The text of a map or of a scenario in canonical form."""
+        with tempfile.TemporaryFile() as err, self.start([command, "--", file], err) as process:
+            text = process.stdout.read()
+            status = process.wait()
+            told = told_in(err)
+        if status == FAULT:
+            raise Refused(f"{file}: `mapf {command}` says {told}")
+        if status:
+            raise Failed(f"{file}: `mapf {command}` ended with status {status}: {told}")
+        return text
+
+    def map_size(self, file: str) -> tuple[int, int]:
+        """The width and the height of a map."""
+        _, height, width = self.text("map", file).split(b"\n", 3)[:3]
+        return int(width.split()[1]), int(height.split()[1])
+
+    def tasks(self, file: str) -> list[Task]:
+        """The starts and goals of a scenario's rows."""
+        rows = [list(map(int, line.split(b"\t")[4:8])) for line in self.text("scen", file).split(b"\n")[1:-1]]
+        return [Task((row[0], row[1]), (row[2], row[3])) for row in rows]
+
+
+def told_in(err: IO[bytes]) -> str:
+    """The first line of standard error."""
+    err.seek(0)
+    return err.read(400).decode(errors="replace").partition("\n")[0].removeprefix("mapf: ") or "nothing"
+
+
+def due_lines(walks: Sequence[Walk]) -> Iterator[bytes]:
+    """The lines of the cells that were read, time by time. An agent that has ended stays."""
+    count = last_time(walks) + 1
+    width = 2 * len(walks)
+    block = max(1, AT_ONCE // width)
+    lists = [numbers for walk in walks for numbers in (walk.xs, walk.ys)]
+    for begin in range(0, count, block):
+        size = min(block, count - begin)
+        cells = array("H", bytes(2 * width * size))
+        for place, numbers in enumerate(lists):
+            part = numbers[begin : begin + size]
+            cells[place::width] = part + array("H", [numbers[-1]]) * (size - len(part))
+        for time in range(size):
+            row = map(NUMERALS.__getitem__, cells[time * width : (time + 1) * width])
+            yield f"{begin + time} {' '.join(row)}\n".encode()
+
+
+def first_difference(lines: Iterator[bytes], walks: Sequence[Walk]) -> Optional[str]:
+    """Where the lines of `mapf path` differ from the cells."""
+    for time, (line, due) in enumerate(itertools.zip_longest(lines, due_lines(walks), fillvalue=b"")):
+        if line != due:
+            fields = enumerate(itertools.zip_longest(line.split(), due.split()))
+            field = next((field for field, (it, other) in fields if it != other), 0)
+            return f"agent {max(field - 1, 0) // 2} at time {time}"
+    return None
+
+
+def said_of_the_path(program: Program, map_file: str, plan_file: str, walks: Sequence[Walk]) -> Optional[str]:
+    """Compares each cell and time. Where the program has nothing to say, since a start or a step is bad on the map, the answer is that fault."""
+    with tempfile.TemporaryFile() as err, program.start(["path", "--", map_file, plan_file], err) as process:
+        try:
+            found = first_difference(process.stdout, walks)
+            # Whatever differs, the program comes to its end, and says why.
+            for _ in process.stdout:
+                pass
+        except BaseException:
+            process.kill()
+            raise
+        status = process.wait()
+        told = told_in(err)
+        err.seek(0)
+        fault = AN_AGENTS_FAULT.fullmatch(err.read(400))
+    if status == FAULT and fault:
+        return fault[1].decode()
+    if status:
+        raise Failed(f"`mapf path` ended with status {status}: {told}")
+    if found:
+        raise Failed(f"the plan differs from what was read: {found}; nothing is written, and this is a fault of the converter")
+    return None
+
+
+def write_open_map(walks: Sequence[Walk], path: pathlib.Path) -> None:
+    """A map without walls that has all these cells."""
+    width, height = size_of(walks)
+    path.write_text(f"type octile\nheight {height}\nwidth {width}\nmap\n" + f"{'.' * width}\n" * height, encoding="ascii")
+
+
+def task_difference(walks: Sequence[Walk], tasks: Sequence[Task], scen: str) -> Optional[tuple[int, str]]:
+    """The line in which the first agent's start or end stands that isn't that of its row, and what is wrong with it."""
+
+    def other(agent: int, verb: str, cell: Cell, due: Cell) -> str:
+        return f"agent {agent} {verb} in column {cell[0]}, row {cell[1]}, column {due[0]}, row {due[1]} was due by row {agent} of {scen}"
+
+    for agent, walk in enumerate(walks):
+        if agent >= len(tasks):
+            return walk.first_line, f"agent {agent} has no row in {scen}, at most {len(tasks)} agents were due"
+        if walk.start != tasks[agent].start:
+            return walk.first_line, other(agent, "starts", walk.start, tasks[agent].start)
+        if walk.end != tasks[agent].goal:
+            return walk.last_line, other(agent, "ends", walk.end, tasks[agent].goal)
+    return None

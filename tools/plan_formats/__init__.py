@@ -1,0 +1,44 @@
+"""The formats of plans that convert.py reads and writes, a module each.
+
+A module of this package with a value `FORMAT` is a format. Its name, how a text of it begins, its reader and its writer stand there, and
+nothing of it stands anywhere else. A reader takes the text, and answers the walk of each agent or raises a `Fault`; it never guesses. A
+writer gives the pieces of the text of walks.
+"""
+import dataclasses
+import importlib
+import pkgutil
+from typing import Callable, Iterator, Optional, Sequence
+
+from plan_formats.walks import Given, Walk
+
+Reader = Callable[[bytes, Given], list[Walk]]
+Writer = Callable[[Sequence[Walk]], Iterator[str]]
+
+
+@dataclasses.dataclass(frozen=True)
+class Format:
+    """A format of plans."""
+
+    name: str
+    # Whether a text that begins with these bytes looks like one of this format.
+    begins: Callable[[bytes], bool]
+    read: Reader
+    # None where a plan doesn't say all that the format has to say; then the reason.
+    write: Optional[Writer] = None
+    # Reads what the writer wrote, where a reader of other texts has to find out more.
+    read_back: Optional[Reader] = None
+    no_way_back: str = ""
+    # What whoever reads such a text, or writes one, has to know: it is said on standard error.
+    word_on_reading: str = ""
+    word_on_writing: str = ""
+    # Whether a text gives each agent a cell at each time, up to the last time of all.
+    is_padded: bool = False
+    # Whether a text leaves out the starts, so that a reader needs the rows of a scenario.
+    needs_tasks: bool = False
+
+
+def formats() -> dict[str, Format]:
+    """All formats, by name."""
+    modules = [importlib.import_module(f"{__name__}.{found.name}") for found in pkgutil.iter_modules(__path__)]
+    found = [module.FORMAT for module in modules if hasattr(module, "FORMAT")]
+    return {it.name: it for it in sorted(found, key=lambda it: it.name)}

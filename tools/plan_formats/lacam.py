@@ -1,0 +1,128 @@
+"""Lines `key=value`, then `solution=` and a line for each time, `0:(x,y),(x,y),`, as LaCAM, PIBT and their kin write them."""
+import re
+from array import array
+from typing import Iterator, Sequence
+
+from plan_formats import Format
+from plan_formats.texts import lines_of, pairs
+from plan_formats.walks import (
+    MOST_ACTS,
+    MOST_ACTS_IN_ALL,
+    MOST_AGENTS,
+    Cell,
+    Fault,
+    Gathering,
+    Given,
+    Walk,
+    last_time,
+    padded,
+    read_number,
+    refuse_another_makespan,
+    shown,
+)
+
+KEY = re.compile(rb"([A-Za-z_][\w.-]*)=(.*)", re.DOTALL)
+TIME = re.compile(rb"(\d+):")
+# The keys that tell of the paths, with their lines and their values.
+Facts = dict[bytes, tuple[int, bytes]]
+Lines = Iterator[tuple[int, bytes]]
+
+
+def cells_of(text: bytes, line: int) -> array:
+    """The cells of a line, a column and a row in turn."""
+    xs, ys = pairs(text[:-1] if text.endswith(b",") else text, b",", line, MOST_AGENTS)
+    cells = array("H", bytes(4 * len(xs)))
+    cells[::2], cells[1::2] = xs, ys
+    return cells
+
+
+def read_facts(lines: Lines) -> tuple[int, Facts]:
+    """The lines up to `solution=`, and the number of that line."""
+    facts: Facts = {}
+    number = 0
+    for number, line in lines:
+        fact = KEY.fullmatch(line)
+        if not fact:
+            raise Fault(number, f"{shown(line)} stands where 'key=value' was due, or 'solution='")
+        if fact[1] in facts:
+            raise Fault(number, f"the key {shown(fact[1])} comes a second time, each key once was due")
+        facts[fact[1]] = number, fact[2]
+        if fact[1] == b"solution":
+            if fact[2]:
+                raise Fault(number, f"{shown(fact[2])} stands behind 'solution=', the end of the line was due")
+            return number, facts
+    raise Fault(number, "the text ends before its paths, 'solution=' was due")
+
+
+def read_times(lines: Lines, first: int) -> tuple[array, int]:
+    """The cells of all times, one time behind the other, and how many agents each time has. The first time has this line."""
+    cells, width = array("H"), 0
+    for number, line in lines:
+        time = TIME.match(line)
+        if not time:
+            raise Fault(number, f"{shown(line)} stands where the cells of a time were due, as '0:(1,2),(1,3),'")
+        stated, due = read_number(time[1]), number - first
+        if stated != due:
+            raise Fault(number, f"the line is of time {stated}, time {due} was due")
+        row = cells_of(line[time.end() :], number)
+        if len(row) != (width or len(row)):
+            raise Fault(number, f"time {due} has {len(row) // 2} cells, {width // 2} were due as at time 0")
+        if due > MOST_ACTS or len(cells) // 2 > MOST_ACTS_IN_ALL + MOST_AGENTS:
+            raise Fault(number, f"there are more acts than a plan may have, {MOST_ACTS} an agent and {MOST_ACTS_IN_ALL} in all were due")
+        width = len(row)
+        cells.extend(row)
+    return cells, width // 2
+
+
+def refuse_other_cells(facts: Facts, key: bytes, cells: Sequence[Cell]) -> None:
+    """Refuses starts or goals that are stated and differ from the paths."""
+    number, stated = facts.get(key, (0, b""))
+    if not stated:
+        return
+    found = cells_of(stated, number)
+    if len(found) != 2 * len(cells):
+        raise Fault(number, f"'{key.decode()}=' has {len(found) // 2} cells, {len(cells)} were due, one for each agent")
+    for agent, (x, y) in enumerate(cells):
+        if (found[2 * agent], found[2 * agent + 1]) != (x, y):
+            is_at = f"({found[2 * agent]},{found[2 * agent + 1]})"
+            raise Fault(number, f"'{key.decode()}=' has {is_at} for agent {agent}, ({x},{y}) was due by its path")
+
+
+def read(data: bytes, given: Given) -> list[Walk]:
+    lines = lines_of(data)
+    solution, facts = read_facts(lines)
+    cells, count = read_times(lines, solution + 1)
+    number, agents = facts.get(b"agents", (0, b""))
+    if number and (not agents.isdigit() or read_number(agents) != count):
+        raise Fault(number, f"'agents=' says {shown(agents)}, '{count}' was due by the cells of each time")
+    gathering = Gathering(given)
+    for agent in range(count):
+        xs, ys = cells[2 * agent :: 2 * count], cells[2 * agent + 1 :: 2 * count]
+        gathering.add(agent, xs, ys, solution + 1, lambda time: solution + 1 + time)
+    walks = gathering.whole(solution)
+    refuse_other_cells(facts, b"starts", [walk.start for walk in walks])
+    refuse_other_cells(facts, b"goals", [walk.end for walk in walks])
+    number, stated = facts.get(b"makespan", (0, None))
+    refuse_another_makespan(stated, number, walks)
+    return walks
+
+
+def write(walks: Sequence[Walk]) -> Iterator[str]:
+    yield f"agents={len(walks)}\nmakespan={last_time(walks)}\n"
+    for key, cells in (("starts", [walk.start for walk in walks]), ("goals", [walk.end for walk in walks])):
+        yield f"{key}={''.join(f'({x},{y}),' for x, y in cells)}\n"
+    yield "solution=\n"
+    lists = [list for walk in padded(walks) for list in (walk.xs, walk.ys)]
+    line = ",".join(["(%d,%d)"] * len(walks))
+    for time, row in enumerate(zip(*lists)):
+        yield f"{time}:{line % row},\n"
+
+
+FORMAT = Format(
+    "lacam",
+    lambda head: KEY.match(head.partition(b"\n")[0]) is not None,
+    read,
+    write,
+    word_on_writing="an agent that ends before the others is written as waiting up to the last time",
+    is_padded=True,
+)

@@ -1,0 +1,187 @@
+"""The JSON of the League of Robot Runners: `start` with a row, a column and a heading for each agent, and `actualPaths` with its actions."""
+import json
+import re
+from typing import Any, Callable, Iterator
+
+from plan_formats import Format
+from plan_formats.walks import MOST_ACTS, MOST_ACTS_IN_ALL, MOST_SIDE, Fault, Gathering, Given, Walk, shown, walked
+
+HEADINGS = "ESWN"
+# By heading, the acts that a step ahead and a wait are.
+AHEAD = [str.maketrans("FW", f"{act}-") for act in "eswn"]
+TURNS = {"R": 1, "C": -1}
+ACTIONS = re.compile("[FRCW]*")
+RUNS = re.compile("[FW]+|[RC]")
+BLANKS = re.compile(r"[ \t\n\r]*")
+# How deep values that aren't needed are taken apart, so that no more than one part is in memory.
+DEPTH = 3
+
+Item = tuple[int, Any]
+
+
+def no_constant(name: str) -> None:
+    raise ValueError(f"{name} is no value")
+
+
+DECODER = json.JSONDecoder(parse_constant=no_constant)
+
+
+class Document:
+    """A JSON text, read value by value."""
+
+    def __init__(self, data: bytes):
+        self.text = data.decode()
+        self.place = 0
+        # Line ends are counted once, from one place to the next.
+        self.counted, self.ends = 0, 0
+
+    def line(self, place: int) -> int:
+        if place < self.counted:
+            self.counted, self.ends = 0, 0
+        self.ends += self.text.count("\n", self.counted, place)
+        self.counted = place
+        return self.ends + 1
+
+    def fault(self, what: str) -> Fault:
+        return Fault(self.line(self.place), f"the text is no JSON: {what}")
+
+    def skip_blanks(self) -> str:
+        """The next character that is no blank, empty at the end."""
+        self.place = BLANKS.match(self.text, self.place).end()
+        return self.text[self.place : self.place + 1]
+
+    def take(self, signs: str) -> str:
+        """Takes one of these signs."""
+        found = self.skip_blanks()
+        if not found or found not in signs:
+            due = " or ".join(map(repr, signs))
+            raise self.fault(f"{shown(found.encode()) if found else 'the end'} stands where {due} was due")
+        self.place += 1
+        return found
+
+    def value(self) -> Item:
+        """Takes a value, and its line."""
+        self.skip_blanks()
+        line, begin = self.line(self.place), self.place
+        try:
+            value, self.place = DECODER.raw_decode(self.text, self.place)
+        except (ValueError, RecursionError) as error:
+            self.place = getattr(error, "pos", begin)
+            raise self.fault(f"{getattr(error, 'msg', error)}, a value was due") from None
+        return line, value
+
+    def parts(self, opening: str, closing: str, part: Callable[[], Any]) -> Iterator[Any]:
+        """The parts of an array or of an object, each taken by a call."""
+        self.take(opening)
+        if self.skip_blanks() == closing:
+            self.place += 1
+            return
+        while True:
+            yield part()
+            if self.take(f",{closing}") == closing:
+                return
+
+    def items(self) -> list[Item]:
+        """The items of an array, each with its line."""
+        return list(self.parts("[", "]", self.value))
+
+    def skip(self, depth: int = DEPTH) -> None:
+        """Takes a value, and keeps nothing of it."""
+        if depth and self.skip_blanks() == "[":
+            for _ in self.parts("[", "]", lambda: self.skip(depth - 1)):
+                pass
+        else:
+            self.value()
+
+
+def read_members(document: Document) -> dict[str, Any]:
+    """The members of the text that tell of paths: two arrays, and the number of agents."""
+    found: dict[str, Any] = {}
+
+    def member() -> None:
+        line, key = document.value()
+        if not isinstance(key, str):
+            raise Fault(line, "the text is no JSON: a key is no string, a string was due")
+        document.take(":")
+        if key in found:
+            raise Fault(line, f"{shown(key.encode(errors='replace'))} comes a second time, each key once was due")
+        found[key] = None
+        if key in ("start", "actualPaths"):
+            found[key] = document.items()
+        elif key == "teamSize":
+            found[key] = document.value()
+        else:
+            document.skip()
+
+    for _ in document.parts("{", "}", member):
+        pass
+    if document.skip_blanks():
+        raise document.fault("more stands behind the closing brace, the end was due")
+    return found
+
+
+def is_number(value: Any) -> bool:
+    return isinstance(value, int) and not isinstance(value, bool)
+
+
+def read_start(agent: int, item: Item) -> tuple[tuple[int, int], int]:
+    """The cell and the number of the heading in which an agent starts."""
+    line, start = item
+    if not isinstance(start, list) or len(start) != 3 or not is_number(start[0]) or not is_number(start[1]) or start[2] not in list(HEADINGS):
+        raise Fault(line, f"the start of agent {agent} is none, a row, a column and a heading were due, as [1,2,\"E\"]")
+    row, column, heading = start
+    if not 0 <= row < MOST_SIDE or not 0 <= column < MOST_SIDE:
+        raise Fault(line, f"agent {agent} starts off any map, a row and a column from 0 to {MOST_SIDE - 1} were due")
+    return (column, row), HEADINGS.index(heading)
+
+
+def read_actions(agent: int, item: Item, heading: int) -> bytes:
+    """The acts of an agent: a turn is a wait."""
+    line, actions = item
+    if not isinstance(actions, str):
+        raise Fault(line, f"the path of agent {agent} is no string, actions were due, as \"F,R,W\"")
+    letters = actions[::2]
+    is_whole = len(actions) == max(0, 2 * len(letters) - 1) and actions[1::2] == "," * (len(letters) - 1)
+    if not is_whole or not ACTIONS.fullmatch(letters):
+        bad = next((it for it in actions.split(",") if it not in ("F", "R", "C", "W")), actions)
+        raise Fault(line, f"{shown(bad.encode(errors='replace'))} stands in the path of agent {agent}, F, R, C or W was due, with commas between")
+    if len(letters) > MOST_ACTS:
+        raise Fault(line, f"agent {agent} has more than {MOST_ACTS} acts, no more were due")
+    acts = []
+    for run in RUNS.findall(letters):
+        turn = TURNS.get(run)
+        acts.append("-" if turn else run.translate(AHEAD[heading]))
+        heading = (heading + (turn or 0)) % len(HEADINGS)
+    return "".join(acts).encode()
+
+
+def read(data: bytes, given: Given) -> list[Walk]:
+    document = Document(data)
+    members = read_members(document)
+    last = document.line(len(document.text.rstrip()))
+    for key in ("start", "actualPaths"):
+        if members.get(key) is None:
+            raise Fault(last, f"the text has no \"{key}\", an array of one item for each agent was due")
+    starts, paths = members["start"], members["actualPaths"]
+    if len(starts) != len(paths):
+        raise Fault(last, f"there are {len(starts)} starts and {len(paths)} paths, as many were due")
+    line, size = members.get("teamSize") or (last, len(starts))
+    if size != len(starts):
+        raise Fault(line, f"\"teamSize\" is {size!r}, {len(starts)} was due, as there are starts and paths")
+    gathering = Gathering(given)
+    for agent, (start, path) in enumerate(zip(starts, paths)):
+        cell, heading = read_start(agent, start)
+        acts = read_actions(agent, path, heading)
+        if gathering.acts + len(acts) > MOST_ACTS_IN_ALL:
+            raise Fault(path[0], f"there are more than {MOST_ACTS_IN_ALL} acts in all, no more were due")
+        gathering.add(agent, *walked(agent, path[0], cell, acts), path[0])
+    return gathering.whole(last)
+
+
+FORMAT = Format(
+    "lorr",
+    lambda head: head.lstrip(b" \t\r\n").startswith(b"{"),
+    read,
+    no_way_back="a plan has no headings, so there is no way back into lorr",
+    word_on_reading="turns are read as waits; headings are no part of the plan, nor of a verdict on it",
+)

@@ -1,0 +1,103 @@
+"""What readers of all formats share: the bytes of a text, its lines, and pairs of numbers in it, each read by calls that take many at once."""
+import re
+from array import array
+from typing import Iterator
+
+from plan_formats.walks import MOST_ACTS, MOST_SIDE, Fault, Numbers, shown
+
+DIGITS = b"0123456789"
+# Bytes that stand in no text: all below the space but tabs and line ends, and DEL.
+CONTROLS = bytes(set(range(32)) - set(b"\t\n\r")) + b"\x7f"
+A_CONTROL = re.compile(b"[" + re.escape(CONTROLS) + b"]")
+A_PAIR = re.compile(rb"\((\d+),(\d+)\)")
+
+
+def line_at(data: bytes, place: int) -> int:
+    """The line in which a place of the text stands, from 1."""
+    return data.count(b"\n", 0, place) + 1
+
+
+def text_of(data: bytes) -> bytes:
+    """The text with line feeds alone at its line ends. Refuses what is no text, and none."""
+    if not data:
+        raise Fault(1, "the file is empty, the paths of agents were due")
+    if not data.isascii():
+        try:
+            data.decode()
+        except UnicodeDecodeError as error:
+            raise Fault(line_at(data, error.start), f"the byte {data[error.start]:#04x} is no text, UTF-8 was due") from None
+    if len(data.translate(None, CONTROLS)) != len(data):
+        place = A_CONTROL.search(data).start()
+        raise Fault(line_at(data, place), f"the byte {data[place]:#04x} is no text, letters, digits and signs were due")
+    return data.replace(b"\r\n", b"\n") if b"\r" in data else data
+
+
+def refuse_a_cut(data: bytes) -> None:
+    """A last line that isn't ended may be the beginning of a longer one."""
+    if not data.endswith(b"\n"):
+        last = data[data.rfind(b"\n") + 1 :]
+        raise Fault(line_at(data, len(data)), f"the text ends inside a line, {shown(last[-40:])}, a line end was due")
+
+
+def line_from(data: bytes, place: int) -> str:
+    """What stands from a place of the text to the end of the line, as it stands in the line of a refusal."""
+    return shown(data[place:].partition(b"\n")[0]) if place < len(data) else "the end"
+
+
+def lines_of(data: bytes) -> Iterator[tuple[int, bytes]]:
+    """Each line of a text that ends with one, with its number."""
+    refuse_a_cut(data)
+    place, number = 0, 1
+    while place < len(data):
+        end = data.index(b"\n", place)
+        yield number, data[place:end]
+        place, number = end + 1, number + 1
+
+
+def numbers_of(digits: list[bytes]) -> Numbers:
+    """Numbers of digits. A ValueError or an OverflowError says that one is too large."""
+    return array("H", map(int, digits))
+
+
+def pairs(text: bytes, between: bytes, line: int, most: int = MOST_ACTS + 1) -> tuple[Numbers, Numbers]:
+    """The numbers of a text `(a,b)` or of more of them, divided by what stands between them: the first of each, and the second."""
+    joined = text[1:-1].replace(b")" + between + b"(", b";")
+    signs = joined.translate(None, DIGITS)
+    count = len(signs) // 2 + 1
+    if count > most:
+        raise Fault(line, f"there are more than {most} cells in one line, no more were due")
+    digits = joined.replace(b";", b",").split(b",")
+    is_whole = text[:1] == b"(" and text[-1:] == b")" and b";" not in text
+    if not is_whole or signs != b",;" * (count - 1) + b"," or b"" in digits:
+        raise no_pair(text, between, line)
+    try:
+        numbers = numbers_of(digits)
+    except (OverflowError, ValueError):
+        raise no_pair(text, between, line) from None
+    return numbers[::2], numbers[1::2]
+
+
+def no_pair(text: bytes, between: bytes, line: int) -> Fault:
+    """What is wrong with the first pair that is none, or is too large."""
+    place = 0
+    while True:
+        pair = A_PAIR.match(text, place)
+        if not pair:
+            return Fault(line, f"{shown(text[place:])} stands where a cell was due, as '(1,2)' of two numbers that are not negative")
+        if any(len(digits.lstrip(b"0")) > 5 or int(digits) > MOST_SIDE for digits in pair.groups()):
+            return Fault(line, f"the cell {shown(pair[0])} is larger than any map, numbers below {MOST_SIDE} were due")
+        place = pair.end()
+        if not text.startswith(between, place):
+            return Fault(line, f"{shown(text[place:])} stands behind a cell, {shown(between)} and the next was due, or the end of the line")
+        place += len(between)
+
+
+def times_fault(agent: int, times: Numbers) -> tuple[int, str]:
+    """The first of an agent's times that isn't one more than the one before, by its place, and what is wrong with it."""
+    place = next(place for place, time in enumerate(times) if time != place)
+    time = times[place]
+    if place == 0:
+        return place, f"the path of agent {agent} begins at time {time}, time 0 was due"
+    if time == times[place - 1]:
+        return place, f"agent {agent} has two cells at time {time}, time {place} was due"
+    return place, f"agent {agent} has time {time} behind time {place - 1}, time {place} was due"
