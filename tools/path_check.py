@@ -132,9 +132,9 @@ def task_difference(walks: Sequence[Walk], tasks: Sequence[Task], scen: str) -> 
 
     for agent, walk in enumerate(walks):
         if agent >= len(tasks):
-            return walk.first_line, f"agent {agent} has no row in {scen}, at most {len(tasks)} agents were due"
+            return walk.line_at(0), f"agent {agent} has no row in {scen}, at most {len(tasks)} agents were due"
         if walk.start != tasks[agent].start:
-            return walk.first_line, other(agent, "starts", walk.start, tasks[agent].start)
+            return walk.line_at(0), other(agent, "starts", walk.start, tasks[agent].start)
         if walk.end != tasks[agent].goal:
-            return walk.last_line, other(agent, "ends", walk.end, tasks[agent].goal)
+            return walk.line_at(len(walk.acts)), other(agent, "ends", walk.end, tasks[agent].goal)
     return None

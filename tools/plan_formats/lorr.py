@@ -1,21 +1,20 @@
 """The JSON of the League of Robot Runners: `start` with a row, a column and a heading for each agent, and `actualPaths` with its actions."""
 import json
 import re
+from itertools import accumulate, repeat
+from operator import and_, or_
 from typing import Any, Callable, Iterator
 
 from plan_formats import Format
 from plan_formats.walks import MOST_ACTS, MOST_ACTS_IN_ALL, MOST_SIDE, Fault, Gathering, Given, Walk, shown, walked
 
 HEADINGS = "ESWN"
-# By heading, the acts that a step ahead and a wait are.
-AHEAD = [str.maketrans("FW", f"{act}-") for act in "eswn"]
-TURNS = {"R": 1, "C": -1}
 ACTIONS = re.compile("[FRCW]*")
-RUNS = re.compile("[FW]+|[RC]")
+# What an action adds to the number of the heading, of which the last two bits count, and a bit that says that it is no step ahead.
+TURNS, STAYS = bytes.maketrans(b"FRCW", b"\0\1\3\0"), bytes.maketrans(b"FRCW", b"\0\4\4\4")
+# The acts, by the number of the heading and that bit.
+ACTS = bytes.maketrans(bytes(range(8)), b"eswn----")
 BLANKS = re.compile(r"[ \t\n\r]*")
-# How deep values that aren't needed are taken apart, so that no more than one part is in memory.
-DEPTH = 3
-
 Item = tuple[int, Any]
 
 
@@ -85,10 +84,10 @@ class Document:
         """The items of an array, each with its line."""
         return list(self.parts("[", "]", self.value))
 
-    def skip(self, depth: int = DEPTH) -> None:
-        """Takes a value, and keeps nothing of it."""
-        if depth and self.skip_blanks() == "[":
-            for _ in self.parts("[", "]", lambda: self.skip(depth - 1)):
+    def skip(self) -> None:
+        """Takes a value, and keeps nothing of it: of an array no more than one item is in memory at once."""
+        if self.skip_blanks() == "[":
+            for _ in self.parts("[", "]", self.value):
                 pass
         else:
             self.value()
@@ -137,22 +136,19 @@ def read_start(agent: int, item: Item) -> tuple[tuple[int, int], int]:
 
 def read_actions(agent: int, item: Item, heading: int) -> bytes:
     """The acts of an agent: a turn is a wait."""
-    line, actions = item
-    if not isinstance(actions, str):
+    line, text = item
+    if not isinstance(text, str):
         raise Fault(line, f"the path of agent {agent} is no string, actions were due, as \"F,R,W\"")
-    letters = actions[::2]
-    is_whole = len(actions) == max(0, 2 * len(letters) - 1) and actions[1::2] == "," * (len(letters) - 1)
+    letters = text[::2]
+    is_whole = len(text) == max(0, 2 * len(letters) - 1) and text[1::2] == "," * (len(letters) - 1)
     if not is_whole or not ACTIONS.fullmatch(letters):
-        bad = next((it for it in actions.split(",") if it not in ("F", "R", "C", "W")), actions)
+        bad = next((it for it in text.split(",") if it not in ("F", "R", "C", "W")), text)
         raise Fault(line, f"{shown(bad.encode(errors='replace'))} stands in the path of agent {agent}, F, R, C or W was due, with commas between")
     if len(letters) > MOST_ACTS:
         raise Fault(line, f"agent {agent} has more than {MOST_ACTS} acts, no more were due")
-    acts = []
-    for run in RUNS.findall(letters):
-        turn = TURNS.get(run)
-        acts.append("-" if turn else run.translate(AHEAD[heading]))
-        heading = (heading + (turn or 0)) % len(HEADINGS)
-    return "".join(acts).encode()
+    actions = letters.encode()
+    headings = map(and_, accumulate(actions.translate(TURNS), initial=heading), repeat(3))
+    return bytes(map(or_, headings, actions.translate(STAYS))).translate(ACTS)
 
 
 def read(data: bytes, given: Given) -> list[Walk]:

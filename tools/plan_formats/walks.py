@@ -23,8 +23,8 @@ Numbers = array
 
 STEPS = {"n": (0, -1), "e": (1, 0), "s": (0, 1), "w": (-1, 0), "-": (0, 0)}
 ACT_OF = {step: act for act, step in STEPS.items()}
-# By the byte of an act, what it adds to the column and to the row.
-EAST_OF, SOUTH_OF = ([STEPS.get(chr(byte), (0, 0))[axis] for byte in range(256)] for axis in (0, 1))
+# By the byte of an act, the signed byte that it adds to the column, and the one that it adds to the row.
+EAST_OF, SOUTH_OF = (bytes(STEPS.get(chr(byte), (0, 0))[axis] % 256 for byte in range(256)) for axis in (0, 1))
 
 
 class Fault(Exception):
@@ -55,13 +55,12 @@ class Given:
 
 @dataclasses.dataclass
 class Walk:
-    """An agent's cells by time, the acts that lead from each to the next, and the lines in which the first and the last cell stand."""
+    """An agent's cells by time, the acts that lead from each to the next, and where the cell of a time stands: in which line."""
 
     xs: Numbers
     ys: Numbers
     acts: str
-    first_line: int
-    last_line: int
+    line_at: Callable[[int], int]
 
     @property
     def start(self) -> Cell:
@@ -93,10 +92,11 @@ def walked(agent: int, line: int, start: Cell, acts: bytes) -> tuple[Numbers, Nu
     """The cells to which acts lead."""
     lists = []
     for number, table, names in zip(start, (EAST_OF, SOUTH_OF), ("column", "row")):
+        steps = array("b", acts.translate(table))
         try:
-            lists.append(array("H", accumulate(map(table.__getitem__, acts), initial=number)))
+            lists.append(array("H", accumulate(steps, initial=number)))
         except OverflowError:
-            places = accumulate(map(table.__getitem__, acts), initial=number)
+            places = accumulate(steps, initial=number)
             time, place = next((time, place) for time, place in enumerate(places) if not 0 <= place <= MOST_SIDE)
             raise Fault(line, f"agent {agent} comes to {names} {place} at time {time}, one from 0 to {MOST_SIDE - 1} was due") from None
     return lists[0], lists[1]
@@ -126,13 +126,13 @@ class Gathering:
         if count > MOST_ACTS:
             raise Fault(line_at(MOST_ACTS + 1), f"agent {agent} has more than {MOST_ACTS} acts, no more were due")
         if self.acts > MOST_ACTS_IN_ALL:
-            raise Fault(line, f"with agent {agent} there are {self.acts} acts in all, at most {MOST_ACTS_IN_ALL} were due")
+            raise Fault(line_at(0), f"with agent {agent} there are {self.acts} acts in all, at most {MOST_ACTS_IN_ALL} were due")
         self.refuse_cells_off_the_map(agent, xs, ys, line_at)
         try:
             acts = acts_of(xs, ys)
         except KeyError:
             raise jump(agent, xs, ys, line_at) from None
-        self.walks[agent] = Walk(xs, ys, acts, line_at(0), line_at(count))
+        self.walks[agent] = Walk(xs, ys, acts, line_at)
 
     def refuse_cells_off_the_map(self, agent: int, xs: Numbers, ys: Numbers, line_at: Callable[[int], int]) -> None:
         width, height = self.given.width, self.given.height
@@ -159,7 +159,7 @@ class Gathering:
         width, height = size_of(walks)
         if width * height > MOST_CELLS:
             last = next(walk for walk in walks if max(walk.xs) == width - 1 or max(walk.ys) == height - 1)
-            raise Fault(last.first_line, f"the cells need a map of {width} columns and {height} rows, at most {MOST_CELLS} cells were due")
+            raise Fault(last.line_at(0), f"the cells need a map of {width} columns and {height} rows, at most {MOST_CELLS} cells were due")
 
 
 def jump(agent: int, xs: Numbers, ys: Numbers, line_at: Callable[[int], int]) -> Fault:
