@@ -11,6 +11,7 @@ from typing import Callable, Iterator
 
 import answers
 import command_lines
+import converting
 import devices
 import documents
 import endings
@@ -39,6 +40,7 @@ PARTS: dict[str, tuple[str, Callable[[Harness], Iterator[Outcome]]]] = {
     "faults": ("calls of the system that fail, one after another", faults.outcomes),
     "memory": ("calls of the libraries to which memory is refused", refusals.outcomes),
     "endings": ("how runs end: the events that complete them, or the rotation in the way", endings.outcomes),
+    "convert": ("plans of other formats, converted and back", converting.outcomes),
     "vectors": ("the answers of an independent implementation", vectors.outcomes),
     "fleet": ("robots as processes that are killed at random", fleet.outcomes),
 }

@@ -34,7 +34,7 @@ class Program:
 
     def start(self, words: Sequence[str], err: IO[bytes]) -> subprocess.Popen:
         try:
-            return subprocess.Popen([str(self.path), *words], stdin=subprocess.DEVNULL, stdout=subprocess.PIPE, stderr=err)
+            return subprocess.Popen([str(self.path.absolute()), *words], stdin=subprocess.DEVNULL, stdout=subprocess.PIPE, stderr=err)
         except OSError as error:
             raise Failed(f"{self.path} can't be started: {error.strerror}") from None
 
@@ -94,6 +94,15 @@ def first_difference(lines: Iterator[bytes], walks: Sequence[Walk]) -> Optional[
     return None
 
 
+def other_length(plan_file: str, walks: Sequence[Walk]) -> Optional[str]:
+    """The first agent whose acts are not one less than its cells: waits at an end are not seen in where agents stand."""
+    with open(plan_file, "rb") as lines:
+        texts = [line.split()[-1] for line in lines][3:]
+    lengths = [0 if acts == b"=" else len(acts) for acts in texts]
+    pairs = enumerate(itertools.zip_longest(lengths, (len(walk.xs) - 1 for walk in walks)))
+    return next((f"agent {agent} has {acts} acts in place of {due}" for agent, (acts, due) in pairs if acts != due), None)
+
+
 def said_of_the_path(program: Program, map_file: str, plan_file: str, walks: Sequence[Walk]) -> Optional[str]:
     """Compares each cell and time. Where the program has nothing to say, since a start or a step is bad on the map, the answer is that fault."""
     with tempfile.TemporaryFile() as err, program.start(["path", "--", map_file, plan_file], err) as process:
@@ -113,6 +122,7 @@ def said_of_the_path(program: Program, map_file: str, plan_file: str, walks: Seq
         return fault[1].decode()
     if status:
         raise Failed(f"`mapf path` ended with status {status}: {told}")
+    found = found or other_length(plan_file, walks)
     if found:
         raise Failed(f"the plan differs from what was read: {found}; nothing is written, and this is a fault of the converter")
     return None

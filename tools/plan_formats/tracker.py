@@ -73,7 +73,8 @@ def write(walks: Sequence[Walk]) -> Iterator[str]:
 
 
 def begins(head: bytes) -> bool:
-    line = head.partition(b"\n")[0].rstrip(b"\r")
+    # An agent without acts has an empty line.
+    line = head.lstrip(b"\n").partition(b"\n")[0]
     return bool(line) and not line.translate(None, LETTERS)
 
 

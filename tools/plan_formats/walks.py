@@ -178,8 +178,8 @@ def size_of(walks: Sequence[Walk]) -> tuple[int, int]:
 
 
 def last_time(walks: Sequence[Walk]) -> int:
-    """The most acts that any agent has."""
-    return max(len(walk.acts) for walk in walks)
+    """The last time of which any agent has a cell."""
+    return max(len(walk.xs) for walk in walks) - 1
 
 
 def makespan(walks: Sequence[Walk]) -> int:

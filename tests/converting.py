@@ -1,0 +1,441 @@
+"""tools/convert.py: what planners write becomes the plan that it says, and back; nothing else is written, whatever stands in the text."""
+import collections
+import dataclasses
+import functools
+import json
+import os
+import pathlib
+import random
+import shutil
+import subprocess
+import sys
+import zlib
+from typing import Callable, Iterator, Optional, Sequence
+
+import path_model
+import plain_formats
+import planner
+import refused_texts
+from harness import ROOT, Ended, Harness, Outcome, compared, shown, side_by_side
+from plain_formats import WRITERS, Paths, plan_text, reading, scen_text
+
+TOOL = ROOT / "tools" / "convert.py"
+MANY = ROOT / "tests" / "many_conversions.py"
+# A map for agents of a planner, how many there are, and a seed that soon leads to a plan.
+SAMPLES = (("fleet/warehouse.map", 12, 12), ("planners/hall.map", 60, 7))
+NUMBER = "7"
+# Random plans a format, and how many of them one process converts.
+SHORT_ROUNDS, LONG_ROUNDS, ROUND = 60, 200, 20
+SHORT_PLACES, LONG_PLACES = 200, 2_000
+
+
+@dataclasses.dataclass(frozen=True)
+class Conversion:
+    """A call of the tool: its words, what it ended with, and the text that is there afterwards."""
+
+    words: list[str]
+    status: int
+    told: str
+    written: Optional[bytes]
+
+    @property
+    def shown(self) -> str:
+        return shown(["tools/convert.py", *self.words])
+
+
+class Room:
+    """A folder of texts, and conversions of them, many in a process."""
+
+    def __init__(self, harness: Harness):
+        self.harness = harness
+        self.folder = harness.folder()
+        self.calls: list[tuple[list[str], pathlib.Path]] = []
+
+    def file(self, name: str, text: bytes) -> str:
+        path = self.folder / name
+        path.write_bytes(text)
+        return str(path)
+
+    def convert(self, words: Sequence[str]) -> None:
+        """Plans a call. What it writes goes to a file of its own."""
+        output = self.folder / f"{len(self.calls)}.out"
+        self.calls.append(([*words, "-o", str(output), "--program", str(self.harness.program)], output))
+
+    def done(self) -> list[Conversion]:
+        """Runs the calls that were planned."""
+        lines = "".join(f"{json.dumps(words)}\n" for words, _ in self.calls)
+        ended = self.harness.run([sys.executable, str(MANY)], lines.encode())
+        answers = [json.loads(line) for line in ended.out.splitlines()]
+        if len(answers) != len(self.calls):
+            raise ValueError(f"of {len(self.calls)} conversions {len(answers)} ended: {ended.err[-2000:]!r}")
+        found = [
+            Conversion(words, status, told, output.read_bytes() if output.exists() else None)
+            for (words, output), (status, told) in zip(self.calls, answers)
+        ]
+        for _, output in self.calls:
+            output.unlink(missing_ok=True)
+        self.calls.clear()
+        return found
+
+    def gone(self) -> None:
+        shutil.rmtree(self.folder)
+
+
+def tool(harness: Harness, words: Sequence[str], folder: Optional[pathlib.Path] = None) -> Ended:
+    """The tool as one would call it."""
+    return harness.run([sys.executable, str(TOOL), *words, "--program", str(harness.program)], folder=folder)
+
+
+def paths_of(text: bytes) -> Paths:
+    return [agent.cells() for agent in path_model.read_plan(text.decode())]
+
+
+# Samples of a planner
+
+
+def with_a_vertex(paths: Paths, _: str) -> Paths:
+    """One agent more, that stays in a goal of another."""
+    moving = next(path for path in paths if len(path) > 1)
+    return [*paths, [moving[-1]]]
+
+
+def with_a_swap(paths: Paths, _: str) -> Paths:
+    """One agent more, that exchanges its cell with another in the first step, where nobody else comes."""
+    begins = collections.Counter(cell for path in paths for cell in set(path[:2]))
+    one, other = next(path[:2] for path in paths if len(path) > 1 and begins[path[0]] == begins[path[1]] == 1)
+    return [*paths, [other, one]]
+
+
+def with_a_wall(paths: Paths, map_text: str) -> Paths:
+    """An agent goes on from its goal into a wall."""
+    terrain = path_model.read_map(map_text)
+    for number, path in enumerate(paths):
+        for dx, dy in path_model.STEPS.values():
+            cell = path[-1][0] + dx, path[-1][1] + dy
+            if terrain.get(cell) == "@":
+                return [*paths[:number], [*path, cell], *paths[number + 1 :]]
+    raise ValueError("no goal is beside a wall")
+
+
+KINDS: list[tuple[str, Callable[[Paths, str], Paths], str]] = [
+    ("a valid plan", lambda paths, _: paths, "accepted "),
+    ("a vertex conflict", with_a_vertex, "rejected Vertex "),
+    ("a swap", with_a_swap, "rejected Swap "),
+    ("a step into a wall", with_a_wall, "rejected BadMove "),
+]
+
+
+def sampled(map_text: str, agents: int, seed: int) -> Paths:
+    rng = random.Random(f"hall {seed}")
+    free = planner.free_cells(map_text)
+    return planner.plan(free, planner.random_tasks(free, agents, rng), rng)
+
+
+def of_sample(harness: Harness, name: str, map_name: str, paths: Paths, kind: str, verdict: str) -> list[Outcome]:
+    """A text of a planner, with its map and its scenario, in a process of its own."""
+    due = plain_formats.due_paths(name, paths)
+    map_file, text = str(ROOT / "examples" / map_name), plain_formats.WRITERS[name](paths)
+    folder = harness.folder({"text": text.encode(), "scen": scen_text(paths).encode()})
+    words = ["text", "-o", "plan", "--map", map_file, "--scen", "scen", "--number", NUMBER]
+    ended = tool(harness, words, folder)
+    written = (folder / "plan").read_text() if (folder / "plan").exists() else ended.err.decode()
+    ran = f"{shown(['tools/convert.py', *words])}  of {kind} of {map_name} as {name}"
+    outcomes = [compared(f"{kind} of {map_name} as {name}", ran, (ended.status, written), (0, plan_text(due, int(NUMBER))))]
+    said = b"is to say what is wrong with it" in ended.err
+    outcomes.append(compared(f"what is told of {kind} as {name}", ran, said, verdict.startswith("rejected BadMove")))
+    if name != "lorr":
+        judged = harness.mapf(["check", map_file, "plan"], folder=folder).out.decode()
+        outcomes.append(compared(f"the verdict on {kind} as {name}", f"{ran}, and `mapf check`", judged[: len(verdict)], verdict))
+    shutil.rmtree(folder)
+    return outcomes
+
+
+def of_samples(harness: Harness) -> Iterator[Outcome]:
+    tests = []
+    for map_name, agents, seed in SAMPLES:
+        map_text = (ROOT / "examples" / map_name).read_text()
+        paths = sampled(map_text, agents, seed)
+        for name in WRITERS:
+            tests += [functools.partial(of_sample, harness, name, map_name, spoil(paths, map_text), kind, verdict) for kind, spoil, verdict in KINDS]
+    yield from side_by_side(tests)
+
+
+# There and back
+
+
+def random_paths(rng: random.Random) -> Paths:
+    """Agents that walk as they like on open ground."""
+    width, height = rng.randint(1, 12), rng.randint(1, 12)
+    paths = []
+    for _ in range(rng.randint(1, 8)):
+        path = [(rng.randrange(width), rng.randrange(height))]
+        for _ in range(rng.choice([0, 1, 3, 8, 20])):
+            dx, dy = rng.choice(list(path_model.STEPS.values()))
+            x, y = path[-1][0] + dx, path[-1][1] + dy
+            path.append((x, y) if 0 <= x < width and 0 <= y < height else path[-1])
+        paths.append(path)
+    # The tracker's texts need a goal that settles which way is up.
+    return [*paths, [(0, 0), (0, 1)]]
+
+
+def of_rounds(harness: Harness, name: str, first: int, count: int) -> list[Outcome]:
+    """Random plans to a format and back, and what a plain writer writes to plans."""
+    room, cases = Room(harness), []
+    for seed in range(first, first + count):
+        paths = random_paths(random.Random(f"round {name} {seed}"))
+        scen = ["--scen", room.file(f"{seed}.scen", scen_text(paths).encode())]
+        room.convert([room.file(f"{seed}.text", WRITERS[name](paths).encode()), "--number", NUMBER, *scen])
+        cases.append((f"a plain text, seed {seed} as {name}", plan_text(plain_formats.due_paths(name, paths), int(NUMBER)).encode()))
+    read = room.done()
+    outcomes = [same(*case, done) for case, done in zip(cases, read)]
+    if name != "lorr":
+        outcomes += there_and_back(room, name, first, [done.written or b"" for done in read])
+    room.gone()
+    return outcomes
+
+
+def there_and_back(room: Room, name: str, first: int, plans: Sequence[bytes]) -> list[Outcome]:
+    for seed, text in enumerate(plans, first):
+        room.convert([room.file(f"{seed}.plan", text), "--to", name])
+    there = room.done()
+    for seed, done in enumerate(there, first):
+        # Of the tracker's texts up leads to the row above here, and the scenario is the same.
+        room.convert([room.file(f"{seed}.there", done.written or b""), "--number", NUMBER, "--scen", str(room.folder / f"{seed}.scen")])
+    return [same(f"there and back, seed {seed} as {name}", text, done) for seed, (text, done) in enumerate(zip(plans, room.done()), first)]
+
+
+def same(name: str, due: bytes, done: Conversion) -> Outcome:
+    return compared(name, done.shown, (done.status, done.written, "" if done.status == 0 else done.told), (0, due, ""))
+
+
+# Texts that are cut, or have another byte
+
+
+def spoiled_texts(text: bytes, rng: random.Random, places: int) -> Iterator[tuple[str, bytes]]:
+    """The text cut at every line and at many places, and with a byte changed."""
+    line_ends = [place + 1 for place, byte in enumerate(text) if byte == 10]
+    for place in sorted({*line_ends[:-1], *(rng.randrange(len(text)) for _ in range(places))}):
+        yield f"cut behind {place} bytes", text[:place]
+    for _ in range(places):
+        place = rng.randrange(len(text))
+        # Bytes that the text has are more telling than others.
+        byte = rng.choice([text[rng.randrange(len(text))], text[rng.randrange(len(text))], rng.randrange(256)])
+        yield f"byte {place} changed to {byte}", text[:place] + bytes([byte]) + text[place + 1 :]
+
+
+def judged(name: str, what: str, text: bytes, solved: Paths, done: Conversion) -> Outcome:
+    """A spoiled text is refused in one line that names a line of it, or is the plan that a plain reader reads in it."""
+    if done.status == 1:
+        head, _, rest = done.told.splitlines()[-1].partition(".text:")
+        line = rest.partition(":")[0]
+        well = line.isdigit() and 1 <= int(line) <= text.count(b"\n") + 1 and done.written is None and " due" in rest
+        return compared(f"{name}, {what}", done.shown, done.told if not well else "", "")
+    plain = reading(name, text, solved)
+    wrote = (done.status, done.written and paths_of(done.written), done.told if done.status else "")
+    return compared(f"{name}, {what}", f"{done.shown}  of {text[:300]!r}", wrote, (0, plain, ""))
+
+
+def of_spoiled(harness: Harness, name: str, places: int) -> list[Outcome]:
+    rng = random.Random(f"spoiled {name}")
+    paths = [path[:25] for path in sampled((ROOT / "examples" / SAMPLES[0][0]).read_text(), *SAMPLES[0][1:])[:6]]
+    room = Room(harness)
+    scen = room.file("scen", scen_text(paths).encode())
+    # The scenario is given where the format needs it: elsewhere it would refuse what a reader lets pass.
+    more = ["--scen", scen] if name == "tracker" else []
+    texts = list(spoiled_texts(WRITERS[name](paths).encode(), rng, places))
+    for number, (_, text) in enumerate(texts):
+        room.convert([room.file(f"{number}.text", text), "--from", name, *more])
+    outcomes = [judged(name, what, text, paths, done) for (what, text), done in zip(texts, room.done())]
+    room.gone()
+    return outcomes
+
+
+# Texts and command lines that are refused
+
+
+def refused(name: str, line: int, told: str, done: Conversion) -> Outcome:
+    """A refusal is one line that names the line of the text, says what is wrong, and what was due; and nothing is written."""
+    place, _, said = done.told.partition(": ")
+    wrote = (done.status, place.rpartition(":")[2], told in said and " due" in said, done.told.count("\n"), done.written)
+    return compared(f"{name}: {told}", f"{done.shown}, which told {done.told!r}", wrote, (1, str(line), True, 1, None))
+
+
+def of_refusals(harness: Harness) -> list[Outcome]:
+    room, cases = Room(harness), []
+    rows = ["--scen", room.file("scen", refused_texts.SCEN.encode())]
+    for number, (name, text, line, told) in enumerate(refused_texts.TEXTS):
+        room.convert([room.file(f"{number}.text", text.encode("latin-1")), "--from", name, *(rows if name == "tracker" else [])])
+        cases.append((name, line, told))
+    for number, (text, line, told) in enumerate(refused_texts.UNKNOWN):
+        room.convert([room.file(f"{number}.unknown", text.encode())])
+        cases.append(("a format that is not named", line, told))
+    for number, (text, scen, told) in enumerate(refused_texts.UNSETTLED):
+        room.convert([room.file(f"{number}.unsettled", text.encode()), "--from", "tracker", "--scen", room.file(f"{number}.scen", scen.encode())])
+        cases.append(("which way is up", 1, told))
+    for number, (text, line, told) in enumerate(refused_texts.PLANS):
+        room.convert([room.file(f"{number}.plan", text.encode()), "--to", "csv"])
+        cases.append(("a plan", line, told))
+    outcomes = [refused(*case, done) for case, done in zip(cases, room.done())]
+    room.gone()
+    return outcomes
+
+
+# A map of a lane of three cells, two agents on it, and the plan that they say.
+LANE = b"type octile\nheight 1\nwidth 3\nmap\n..@\n"
+TEXT = b"Agent 0: (0,1)->(0,0)\nAgent 1:(0,0)->(0,1)->\n"
+PLAN = b"mapf-plan 1\nnumber 7\nagents 2\nagent 1 0 w\nagent 0 0 e\n"
+FILES = {
+    "T": TEXT,
+    "M": LANE,
+    "P": PLAN,
+    "S": b"version 1\n0\tm\t3\t1\t1\t0\t0\t0\t1\n0\tm\t3\t1\t0\t0\t1\t0\t1\n0\tm\t3\t1\t0\t0\t1\t0\t1\n",
+    "D": b"version 1\n0\tm\t3\t1\t1\t0\t0\t0\t1\n0\tm\t3\t1\t0\t0\t0\t0\t1\n",
+    "E": b"version 1\n0\tm\t3\t1\t1\t0\t0\t0\t1\n",
+    "U": b"u\n",
+    "W": b"Agent 0: (0,1)->(0,2)\n",
+    "F": b"Agent 0: (0,1)->(1,1)\n",
+    "B": b"type octile\nheight 1\nwidth 3\nmap\n..\n",
+}
+# Words, the status, what is written to standard output, and a piece of what is told.
+CALLS = [
+    ("T --number 7", 0, PLAN, "T is read as paths\nconvert: 2 agents, 2 acts\n"),
+    ("T --number 7 --from paths", 0, PLAN, "convert: 2 agents, 2 acts\n"),
+    ("T --number 7 --map M --scen S", 0, PLAN, ""),
+    ("T", 0, PLAN.replace(b"number 7", b"number %d" % zlib.crc32(PLAN.replace(b"number 7", b"number 0"))), ""),
+    ("P --to paths", 0, b"Agent 0: (0,1)->(0,0)->\nAgent 1: (0,0)->(0,1)->\n", ""),
+    ("P --to tracker --map M --scen S", 0, b"l\nr\n", "u is written for north"),
+    ("W --number 7 --map M", 0, b"mapf-plan 1\nnumber 7\nagents 1\nagent 1 0 e\n", "M allows no such plan: BadMove 0 0."),
+    ("F --map M", 1, b"", "F:1: agent 0 stands in column 1, row 1 at time 1, below 3 and 1, the size of the map, was due\n"),
+    ("T --scen D", 1, b"", "T:2: agent 1 ends in column 1, row 0, column 0, row 0 was due by row 1 of D\n"),
+    ("T --scen E", 1, b"", "T:2: agent 1 has no row in E"),
+    ("P --to csv --scen D", 1, b"", "P:5: agent 1 ends in column 1, row 0, column 0, row 0 was due by row 1 of D\n"),
+    ("T --from lacam", 1, b"", "T:1: 'Agent 0: (0,1)->(0,0)' stands where 'key=value' was due"),
+    ("T --map B", 1, b"", "convert: B: `mapf map` says ShortRow 5\n"),
+    ("T --map T", 1, b"", "convert: T: `mapf map` says BadHeader 1\n"),
+    ("T --scen M", 1, b"", "convert: M: `mapf scen` says NoVersion\n"),
+    ("U", 2, b"", "convert: the format tracker leaves out where agents start: --scen is wanted\n"),
+    ("P --to lorr", 2, b"", "a plan has no headings, so there is no way back into lorr\n"),
+    ("P --to paths --number 3", 2, b"", "--number goes with a conversion to a plan"),
+    ("P --to paths --from csv", 2, b"", "--from goes with a conversion to a plan"),
+    ("P --to yaml", 2, b"", "invalid choice: 'yaml'"),
+    ("T --number 4294967296", 2, b"", "a number from 0 to 4294967295 is wanted"),
+    ("T --number -1", 2, b"", "--number"),
+    ("", 2, b"", "FILE"),
+    ("N", 3, b"", "convert: N: No such file or directory\n"),
+    ("T --map N", 3, b"", "convert: N: `mapf map` ended with status 3: OpenFailed\n"),
+    ("T --program N", 3, b"", "convert: N can't be started: No such file or directory\n"),
+    ("T -o N/out", 3, b"", "No such file or directory\n"),
+    ("T -o .", 3, b"", "is no regular file\n"),
+    ("T -o /dev/null", 3, b"", "convert: /dev/null: is no regular file\n"),
+]
+
+
+def of_calls(harness: Harness) -> Iterator[Outcome]:
+    folder = harness.folder(FILES)
+    for line, status, out, told in CALLS:
+        ended = harness.run([sys.executable, str(TOOL), "--program", str(harness.program), *line.split()], folder=folder)
+        wrote = (ended.status, ended.out, told in ended.err.decode())
+        yield compared(f"convert.py {line}", f"convert.py {line}, which told {ended.err[-400:]!r}", wrote, (status, out, True))
+    left = sorted(path.name for path in folder.iterdir())
+    yield compared("no file is left behind", "the calls above", left, sorted(FILES))
+
+
+# Outputs, programs and converters that fail
+
+# Programs in place of mapf: none answers what a plan says.
+LIARS = [
+    ("a program without the command", 'echo "error: unrecognized subcommand" >&2\nexit 2', "ended with status 2: error: unrecognized subcommand"),
+    ("a program that fails", "echo 'mapf: OutOfMemory' >&2\nexit 3", "ended with status 3: OutOfMemory"),
+    ("a program that finds the text faulty", "echo 'mapf: Unfinished 3' >&2\nexit 1", "ended with status 1: Unfinished 3"),
+    ("a program that is killed", "kill -9 $$", "ended with status -9"),
+    ("another cell", r"printf '0 1 0 0 0\n1 0 0 1 1\n'", "agent 1 at time 1"),
+    ("another time", r"printf '0 1 0 0 0\n2 0 0 1 0\n'", "at time 1"),
+    ("a time less", r"printf '0 1 0 0 0\n'", "at time 1"),
+    ("a time more", r"printf '0 1 0 0 0\n1 0 0 1 0\n2 0 0 1 0\n'", "at time 2"),
+    ("an agent more", r"printf '0 1 0 0 0 0 0\n1 0 0 1 0 0 0\n'", "at time 0"),
+    ("a line that isn't ended", r"printf '0 1 0 0 0\n1 0 0 1 0'", "at time 1"),
+    ("no line", ":", "at time 0"),
+    ("a fault on an open map", "echo 'mapf: BadMove 0 0' >&2\nexit 1", "BadMove 0 0 of a plan on an open map"),
+]
+
+
+def of_liars(harness: Harness) -> Iterator[Outcome]:
+    """Whatever the program says but the cells that were read, nothing is written, and what was there stays."""
+    for name, body, told in LIARS:
+        for words in (["T"], ["P", "--to", "csv"]):
+            folder = harness.folder({**FILES, "out": b"as before"})
+            (folder / "liar").write_text(f"#!/bin/sh\n{body}\n")
+            (folder / "liar").chmod(0o755)
+            ended = harness.run([sys.executable, str(TOOL), *words, "-o", "out", "--program", "./liar"], folder=folder)
+            wrote = (ended.status, ended.out, (folder / "out").read_bytes(), told in ended.err.decode(), len(list(folder.iterdir())))
+            due = (3, b"", b"as before", True, len(FILES) + 2)
+            yield compared(f"{name}, {' '.join(words)}", f"convert.py {' '.join(words)}, which told {ended.err!r}", wrote, due)
+
+
+# Mistakes that are put into the converter, each of which is to refuse a plan: none passes off another one.
+MISTAKES = [
+    ("north for south", ["T"], "walks.ACT_OF[0, 1] = 'n'"),
+    ("west for east", ["T"], "walks.ACT_OF[1, 0] = 'w'"),
+    ("a step for a wait", ["T"], "walks.ACT_OF[0, 0] = 'e'"),
+    ("a start beside the first cell", ["T"], "walks.Walk.start = property(lambda walk: (walk.xs[0] + 1, walk.ys[0]))"),
+    ("agents backwards", ["T"], "pieces = mapf_plan.pieces; mapf_plan.pieces = lambda walks, number: pieces(walks[::-1], number)"),
+    ("an agent left out", ["T"], "pieces = mapf_plan.pieces; mapf_plan.pieces = lambda walks, number: pieces(walks[1:], number)"),
+    ("waits dropped", ["T"], "acts_of = walks.acts_of; walks.acts_of = lambda xs, ys: acts_of(xs, ys).rstrip('-')"),
+    ("a wait more", ["T"], "acts_of = walks.acts_of; walks.acts_of = lambda xs, ys: acts_of(xs, ys) + '-'"),
+    ("waits of all", ["T"], "mapf_plan.pieces = functools.partial(lambda pieces, them, number: pieces(walks.padded(them), number), mapf_plan.pieces)"),
+    ("a plan misread", ["P", "--to", "paths"], "mapf_plan.walked = lambda a, line, start, acts: walks.walked(a, line, start, acts[::-1])"),
+    ("rows before columns", ["P", "--to", "csv"], "csv_table.FORMAT = dataclasses.replace(csv_table.FORMAT, write=lambda walks: written(walks))"),
+]
+# Each agent goes back and forth, to the south too, and waits at its end.
+WINDING = b"Agent 0: (3,3)->(3,4)->(4,4)->(4,3)->(4,3)->\nAgent 1: (6,1)->(6,2)->(7,2)->(7,2)->\n"
+WINDING_PLAN = b"mapf-plan 1\nnumber 7\nagents 2\nagent 3 3 esw-\nagent 1 6 es-\n"
+SPOILING = """
+import dataclasses, functools, sys
+sys.path.insert(0, {folder!r})
+import convert
+from plan_formats import csv_table, mapf_plan, walks
+def written(walks):
+    yield csv_table.HEADING.decode()
+    for agent, walk in enumerate(walks):
+        yield from (f"{{agent}},{{time}},{{y}},{{x}}\\n" for time, (x, y) in enumerate(zip(walk.xs, walk.ys)))
+{mistake}
+sys.exit(convert.main(sys.argv[1:]))
+"""
+
+
+def of_mistakes(harness: Harness) -> Iterator[Outcome]:
+    for name, words, mistake in MISTAKES:
+        folder = harness.folder({"T": WINDING, "P": WINDING_PLAN})
+        code = SPOILING.format(folder=str(TOOL.parent), mistake=mistake)
+        ended = harness.run([sys.executable, "-c", code, *words, "-o", "out", "--program", str(harness.program)], folder=folder)
+        wrote = (ended.status, (folder / "out").exists(), b"differs from" in ended.err or b"of a plan on an open map" in ended.err)
+        yield compared(f"a mistake put in: {name}", f"convert.py {' '.join(words)}, which told {ended.err!r}", wrote, (3, False, True))
+
+
+def of_outputs(harness: Harness) -> Iterator[Outcome]:
+    """A file is replaced as a whole, with its rights, also by a link; a refusal leaves it alone."""
+    folder = harness.folder({**FILES, "out": b"as before"})
+    (folder / "out").chmod(0o640)
+    os.symlink("out", folder / "link")
+    tool(harness, ["W", "-o", "link", "--scen", "S"], folder)
+    yield compared("a refusal leaves the file alone", "convert.py W -o link --scen S", (folder / "out").read_bytes(), b"as before")
+    tool(harness, ["T", "-o", "link", "--number", NUMBER], folder)
+    wrote = ((folder / "out").read_bytes(), oct((folder / "out").stat().st_mode & 0o777), os.readlink(folder / "link"))
+    yield compared("a link's file is replaced, with its rights", "convert.py T -o link", wrote, (PLAN, "0o640", "out"))
+    with open("/dev/full", "wb") as full:
+        words = [sys.executable, str(TOOL), "T", "--program", str(harness.program)]
+        ended = subprocess.run(words, cwd=folder, stdin=subprocess.DEVNULL, stdout=full, stderr=subprocess.PIPE)
+    yield compared("a full device", "convert.py T >/dev/full", (ended.returncode, b"No space left" in ended.stderr), (3, True))
+
+
+def outcomes(harness: Harness) -> Iterator[Outcome]:
+    yield from of_calls(harness)
+    yield from of_liars(harness)
+    yield from of_mistakes(harness)
+    yield from of_outputs(harness)
+    yield from of_refusals(harness)
+    yield from of_samples(harness)
+    rounds = LONG_ROUNDS if harness.is_long else SHORT_ROUNDS
+    places = LONG_PLACES if harness.is_long else SHORT_PLACES
+    yield from side_by_side(functools.partial(of_rounds, harness, name, first, ROUND) for first in range(0, rounds, ROUND) for name in WRITERS)
+    yield from side_by_side(functools.partial(of_spoiled, harness, name, places) for name in WRITERS)
