@@ -25,7 +25,7 @@ MANY = ROOT / "tests" / "many_conversions.py"
 SAMPLES = (("fleet/warehouse.map", 12, 12), ("planners/hall.map", 60, 7))
 NUMBER = "7"
 # Random plans a format, and how many of them one process converts.
-SHORT_ROUNDS, LONG_ROUNDS, ROUND = 60, 200, 20
+SHORT_ROUNDS, LONG_ROUNDS, ROUND = 40, 200, 40
 SHORT_PLACES, LONG_PLACES = 200, 2_000
 
 
@@ -56,10 +56,10 @@ class Room:
         path.write_bytes(text)
         return str(path)
 
-    def convert(self, words: Sequence[str]) -> None:
+    def convert(self, words: Sequence[str], program: str = "") -> None:
         """Plans a call. What it writes goes to a file of its own."""
         output = self.folder / f"{len(self.calls)}.out"
-        self.calls.append(([*words, "-o", str(output), "--program", str(self.harness.program)], output))
+        self.calls.append(([*words, "-o", str(output), "--program", program or str(self.harness.program)], output))
 
     def done(self) -> list[Conversion]:
         """Runs the calls that were planned."""
@@ -150,14 +150,13 @@ def of_sample(harness: Harness, name: str, map_name: str, paths: Paths, kind: st
     return outcomes
 
 
-def of_samples(harness: Harness) -> Iterator[Outcome]:
-    tests = []
+def of_samples(harness: Harness) -> Iterator[Callable[[], list[Outcome]]]:
     for map_name, agents, seed in SAMPLES:
         map_text = (ROOT / "examples" / map_name).read_text()
         paths = sampled(map_text, agents, seed)
         for name in WRITERS:
-            tests += [functools.partial(of_sample, harness, name, map_name, spoil(paths, map_text), kind, verdict) for kind, spoil, verdict in KINDS]
-    yield from side_by_side(tests)
+            for kind, spoil, verdict in KINDS:
+                yield functools.partial(of_sample, harness, name, map_name, spoil(paths, map_text), kind, verdict)
 
 
 # There and back
@@ -330,14 +329,11 @@ CALLS = [
 ]
 
 
-def of_calls(harness: Harness) -> Iterator[Outcome]:
+def of_call(harness: Harness, line: str, status: int, out: bytes, told: str) -> list[Outcome]:
     folder = harness.folder(FILES)
-    for line, status, out, told in CALLS:
-        ended = harness.run([sys.executable, str(TOOL), "--program", str(harness.program), *line.split()], folder=folder)
-        wrote = (ended.status, ended.out, told in ended.err.decode())
-        yield compared(f"convert.py {line}", f"convert.py {line}, which told {ended.err[-400:]!r}", wrote, (status, out, True))
-    left = sorted(path.name for path in folder.iterdir())
-    yield compared("no file is left behind", "the calls above", left, sorted(FILES))
+    ended = harness.run([sys.executable, str(TOOL), "--program", str(harness.program), *line.split()], folder=folder)
+    wrote = (ended.status, ended.out, told in ended.err.decode(), sorted(path.name for path in folder.iterdir()))
+    return [compared(f"convert.py {line}", f"convert.py {line}, which told {ended.err[-400:]!r}", wrote, (status, out, True, sorted(FILES)))]
 
 
 # Outputs, programs and converters that fail
@@ -359,17 +355,22 @@ LIARS = [
 ]
 
 
-def of_liars(harness: Harness) -> Iterator[Outcome]:
-    """Whatever the program says but the cells that were read, nothing is written, and what was there stays."""
-    for name, body, told in LIARS:
-        for words in (["T"], ["P", "--to", "csv"]):
-            folder = harness.folder({**FILES, "out": b"as before"})
-            (folder / "liar").write_text(f"#!/bin/sh\n{body}\n")
-            (folder / "liar").chmod(0o755)
-            ended = harness.run([sys.executable, str(TOOL), *words, "-o", "out", "--program", "./liar"], folder=folder)
-            wrote = (ended.status, ended.out, (folder / "out").read_bytes(), told in ended.err.decode(), len(list(folder.iterdir())))
-            due = (3, b"", b"as before", True, len(FILES) + 2)
-            yield compared(f"{name}, {' '.join(words)}", f"convert.py {' '.join(words)}, which told {ended.err!r}", wrote, due)
+def of_liars(harness: Harness) -> list[Outcome]:
+    """Whatever the program says but the cells that were read, nothing is written."""
+    room, cases = Room(harness), []
+    text, plan = room.file("T", TEXT), room.file("P", PLAN)
+    for number, (name, body, told) in enumerate(LIARS):
+        liar = room.file(f"{number}.sh", f"#!/bin/sh\n{body}\n".encode())
+        os.chmod(liar, 0o755)
+        for words in ([text], [plan, "--to", "csv"]):
+            room.convert(words, program=liar)
+            cases.append((f"{name}, {words[1:]}", told))
+    outcomes = []
+    for (name, told), done in zip(cases, room.done()):
+        wrote = (done.status, done.written, told in done.told)
+        outcomes.append(compared(name, f"{done.shown}, which told {done.told!r}", wrote, (3, None, True)))
+    room.gone()
+    return outcomes
 
 
 # Mistakes that are put into the converter, each of which is to refuse a plan: none passes off another one.
@@ -403,22 +404,24 @@ sys.exit(convert.main(sys.argv[1:]))
 """
 
 
-def of_mistakes(harness: Harness) -> Iterator[Outcome]:
-    for name, words, mistake in MISTAKES:
-        folder = harness.folder({"T": WINDING, "P": WINDING_PLAN})
-        code = SPOILING.format(folder=str(TOOL.parent), mistake=mistake)
-        ended = harness.run([sys.executable, "-c", code, *words, "-o", "out", "--program", str(harness.program)], folder=folder)
-        wrote = (ended.status, (folder / "out").exists(), b"differs from" in ended.err or b"of a plan on an open map" in ended.err)
-        yield compared(f"a mistake put in: {name}", f"convert.py {' '.join(words)}, which told {ended.err!r}", wrote, (3, False, True))
+def of_mistake(harness: Harness, name: str, words: Sequence[str], mistake: str) -> list[Outcome]:
+    folder = harness.folder({"T": WINDING, "P": WINDING_PLAN})
+    code = SPOILING.format(folder=str(TOOL.parent), mistake=mistake)
+    ended = harness.run([sys.executable, "-c", code, *words, "-o", "out", "--program", str(harness.program)], folder=folder)
+    wrote = (ended.status, (folder / "out").exists(), b"differs from" in ended.err or b"of a plan on an open map" in ended.err)
+    return [compared(f"a mistake put in: {name}", f"convert.py {' '.join(words)}, which told {ended.err!r}", wrote, (3, False, True))]
 
 
 def of_outputs(harness: Harness) -> Iterator[Outcome]:
-    """A file is replaced as a whole, with its rights, also by a link; a refusal leaves it alone."""
+    """A file is replaced as a whole, with its rights, also by a link; a refusal leaves it alone, and so does a program that failed."""
     folder = harness.folder({**FILES, "out": b"as before"})
     (folder / "out").chmod(0o640)
     os.symlink("out", folder / "link")
     tool(harness, ["W", "-o", "link", "--scen", "S"], folder)
     yield compared("a refusal leaves the file alone", "convert.py W -o link --scen S", (folder / "out").read_bytes(), b"as before")
+    failed = harness.run([sys.executable, str(TOOL), "T", "-o", "out", "--program", "/bin/false"], folder=folder)
+    wrote = (failed.status, (folder / "out").read_bytes(), len(list(folder.iterdir())))
+    yield compared("so does a program that fails", "convert.py T -o out --program /bin/false", wrote, (3, b"as before", len(FILES) + 2))
     tool(harness, ["T", "-o", "link", "--number", NUMBER], folder)
     wrote = ((folder / "out").read_bytes(), oct((folder / "out").stat().st_mode & 0o777), os.readlink(folder / "link"))
     yield compared("a link's file is replaced, with its rights", "convert.py T -o link", wrote, (PLAN, "0o640", "out"))
@@ -429,13 +432,17 @@ def of_outputs(harness: Harness) -> Iterator[Outcome]:
 
 
 def outcomes(harness: Harness) -> Iterator[Outcome]:
-    yield from of_calls(harness)
-    yield from of_liars(harness)
-    yield from of_mistakes(harness)
-    yield from of_outputs(harness)
-    yield from of_refusals(harness)
-    yield from of_samples(harness)
     rounds = LONG_ROUNDS if harness.is_long else SHORT_ROUNDS
     places = LONG_PLACES if harness.is_long else SHORT_PLACES
-    yield from side_by_side(functools.partial(of_rounds, harness, name, first, ROUND) for first in range(0, rounds, ROUND) for name in WRITERS)
-    yield from side_by_side(functools.partial(of_spoiled, harness, name, places) for name in WRITERS)
+    yield from of_outputs(harness)
+    yield from side_by_side(
+        [
+            *(functools.partial(of_call, harness, *call) for call in CALLS),
+            *(functools.partial(of_mistake, harness, *mistake) for mistake in MISTAKES),
+            functools.partial(of_liars, harness),
+            functools.partial(of_refusals, harness),
+            *of_samples(harness),
+            *(functools.partial(of_rounds, harness, name, first, ROUND) for first in range(0, rounds, ROUND) for name in WRITERS),
+            *(functools.partial(of_spoiled, harness, name, places) for name in WRITERS),
+        ]
+    )

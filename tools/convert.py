@@ -86,10 +86,10 @@ def map_for(given: argparse.Namespace, walks: Sequence[Walk]) -> Iterator[str]:
     if given.map is not None:
         yield given.map
         return
-    with tempfile.TemporaryDirectory(prefix="mapf-convert-") as room:
-        file = pathlib.Path(room) / "open.map"
-        path_check.write_open_map(walks, file)
-        yield str(file)
+    with tempfile.NamedTemporaryFile(prefix="mapf-open-", suffix=".map") as file:
+        file.writelines(path_check.open_map(walks))
+        file.flush()
+        yield file.name
 
 
 def hold_plan(given: argparse.Namespace, plan: str, walks: Sequence[Walk]) -> None:

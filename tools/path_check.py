@@ -12,7 +12,6 @@ from plan_formats.walks import Cell, Task, Walk, last_time, size_of
 
 # How many numbers of the cells that are due are held at once.
 AT_ONCE = 500_000
-NUMERALS = [str(number) for number in range(65_536)]
 # What the program says of an agent alone. Then no cells are written.
 AN_AGENTS_FAULT = re.compile(rb"mapf: (Bad(?:Start|Move) [0-9 ]+)\n")
 FAULT = 1
@@ -71,6 +70,8 @@ def due_lines(walks: Sequence[Walk]) -> Iterator[bytes]:
     """The lines of the cells that were read, time by time. An agent that has ended stays."""
     count = last_time(walks) + 1
     width = 2 * len(walks)
+    most = max(size_of(walks))
+    numerals = [str(number) for number in range(most)]
     block = max(1, AT_ONCE // width)
     lists = [numbers for walk in walks for numbers in (walk.xs, walk.ys)]
     for begin in range(0, count, block):
@@ -80,7 +81,7 @@ def due_lines(walks: Sequence[Walk]) -> Iterator[bytes]:
             part = numbers[begin : begin + size]
             cells[place::width] = part + array("H", [numbers[-1]]) * (size - len(part))
         for time in range(size):
-            row = map(NUMERALS.__getitem__, cells[time * width : (time + 1) * width])
+            row = map(numerals.__getitem__, cells[time * width : (time + 1) * width])
             yield f"{begin + time} {' '.join(row)}\n".encode()
 
 
@@ -128,10 +129,11 @@ def said_of_the_path(program: Program, map_file: str, plan_file: str, walks: Seq
     return None
 
 
-def write_open_map(walks: Sequence[Walk], path: pathlib.Path) -> None:
-    """A map without walls that has all these cells."""
+def open_map(walks: Sequence[Walk]) -> Iterator[bytes]:
+    """The text of a map without walls that has all these cells."""
     width, height = size_of(walks)
-    path.write_text(f"type octile\nheight {height}\nwidth {width}\nmap\n" + f"{'.' * width}\n" * height, encoding="ascii")
+    yield f"type octile\nheight {height}\nwidth {width}\nmap\n".encode()
+    yield from itertools.repeat(b"." * width + b"\n", height)
 
 
 def task_difference(walks: Sequence[Walk], tasks: Sequence[Task], scen: str) -> Optional[tuple[int, str]]:

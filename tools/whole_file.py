@@ -36,7 +36,8 @@ class Draft:
             try:
                 file.writelines(pieces)
                 file.flush()
-                os.fsync(file.fileno())
+                if self.target:
+                    os.fsync(file.fileno())
             except BaseException:
                 self.drop()
                 raise
