@@ -12,6 +12,7 @@ import sys
 import zlib
 from typing import Callable, Iterator, Optional, Sequence
 
+import example_texts
 import path_model
 import plain_formats
 import planner
@@ -431,6 +432,18 @@ def of_outputs(harness: Harness) -> Iterator[Outcome]:
     yield compared("a full device", "convert.py T >/dev/full", (ended.returncode, b"No space left" in ended.stderr), (3, True))
 
 
+def of_examples(_: Harness) -> list[Outcome]:
+    """The texts of examples/planners are those that the planner of the tests writes."""
+    found = {name: (example_texts.FOLDER / name).read_text(encoding="ascii") for name in example_texts.texts()}
+    return [compared(f"examples/planners/{name}", "tests/example_texts.py", found[name], text) for name, text in example_texts.texts().items()]
+
+
+def of_vectors(_: Harness) -> list[Outcome]:
+    """The vectors of `mapf path` are those that the model makes."""
+    text = "".join(f"{line}\n" for line in path_model.vector_lines())
+    return [compared("vectors/path.jsonl", "tests/path_model.py", (ROOT / "vectors" / "path.jsonl").read_text() == text, True)]
+
+
 def outcomes(harness: Harness) -> Iterator[Outcome]:
     rounds = LONG_ROUNDS if harness.is_long else SHORT_ROUNDS
     places = LONG_PLACES if harness.is_long else SHORT_PLACES
@@ -439,6 +452,8 @@ def outcomes(harness: Harness) -> Iterator[Outcome]:
         [
             *(functools.partial(of_call, harness, *call) for call in CALLS),
             *(functools.partial(of_mistake, harness, *mistake) for mistake in MISTAKES),
+            functools.partial(of_examples, harness),
+            functools.partial(of_vectors, harness),
             functools.partial(of_liars, harness),
             functools.partial(of_refusals, harness),
             *of_samples(harness),

@@ -32,7 +32,9 @@ def checkout(harness: Harness) -> pathlib.Path:
     os.symlink(harness.program, folder / "mapf")
     for name in ("tests", "vectors"):
         os.symlink(ROOT / name, folder / name)
-    shutil.copytree(ROOT / "examples", folder / "examples")
+    # A copy, so that the tools call the program under test.
+    for name in ("examples", "tools"):
+        shutil.copytree(ROOT / name, folder / name)
     return folder
 
 

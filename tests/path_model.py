@@ -221,12 +221,11 @@ def at(rows: Sequence[str], x: int, y: int) -> str:
     return rows[y][x] if 0 <= y < len(rows) and 0 <= x < len(rows[0]) else "@"
 
 
-def main() -> int:
+def vector_lines() -> list[str]:
+    """All vectors, a line each."""
     making = Making("path")
-    for _ in range(300):
-        print(json.dumps(making.vector()))
-    return 0
+    return [json.dumps(making.vector()) for _ in range(300)]
 
 
 if __name__ == "__main__":
-    sys.exit(main())
+    print(*vector_lines(), sep="\n")

@@ -31,10 +31,10 @@ def padded(paths: Paths) -> Paths:
     return [path + [path[-1]] * (longest - len(path)) for path in paths]
 
 
-def scen_text(paths: Paths, width: int = 999, height: int = 999) -> str:
-    """The rows that these paths solve."""
+def scen_text(paths: Paths) -> str:
+    """The rows that these paths solve, of a map of some size and with some length."""
     ends = [(*path[0], *path[-1]) for path in paths]
-    return "version 1\n" + "".join(f"0\tm.map\t{width}\t{height}\t{a}\t{b}\t{c}\t{d}\t1\n" for a, b, c, d in ends)
+    return "version 1\n" + "".join(f"0\tm.map\t999\t999\t{a}\t{b}\t{c}\t{d}\t1\n" for a, b, c, d in ends)
 
 
 def paths_text(paths: Paths) -> str:
@@ -47,7 +47,7 @@ def paths_text_without_blanks(paths: Paths) -> str:
 
 def lacam_text(paths: Paths) -> str:
     paths = padded(paths)
-    facts = {"agents": len(paths), "map_file": "hall.map", "solver": "planner", "solved": 1, "soc": 12, "makespan": len(paths[0]) - 1}
+    facts = {"agents": len(paths), "map_file": "hall.map", "solver": "planner", "solved": 1, "makespan": len(paths[0]) - 1}
     lines = [f"{key}={value}" for key, value in facts.items()]
     for key, cells in (("starts", [path[0] for path in paths]), ("goals", [path[-1] for path in paths])):
         lines.append(f"{key}={''.join(f'({x},{y}),' for x, y in cells)}")
@@ -57,7 +57,7 @@ def lacam_text(paths: Paths) -> str:
 
 
 def schedule_text(paths: Paths) -> str:
-    lines = ["statistics:", f"  cost: {sum(map(len, paths))}", f"  makespan: {max(map(len, paths)) - 1}", "  runtime: 0.0125", "schedule:"]
+    lines = ["statistics:", f"  cost: {sum(map(len, paths)) - len(paths)}", f"  makespan: {max(map(len, paths)) - 1}", "  runtime: 0.0125", "schedule:"]
     for number, path in enumerate(paths):
         lines.append(f"  agent{number}:")
         for time, (x, y) in enumerate(path):
@@ -99,7 +99,8 @@ def lorr_text(paths: Paths) -> str:
     actions = [",".join(with_turns(path)[0]) for path in paths]
     document = {"actionModel": "MAPF_T", "AllValid": "Yes", "teamSize": len(paths), "start": [[path[0][1], path[0][0], "E"] for path in paths]}
     document.update(numTaskFinished=0, actualPaths=actions, plannerPaths=actions, errors=[], events=[[[0, 3, "assigned"]] for _ in paths])
-    return json.dumps(document, indent=1) + "\n"
+    members = ",\n".join(f" {json.dumps(key)}: {json.dumps(value)}" for key, value in document.items())
+    return f"{{\n{members}\n}}\n"
 
 
 WRITERS: dict[str, Callable[[Paths], str]] = {

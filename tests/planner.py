@@ -1,5 +1,6 @@
 """A small plain planner: agent after agent takes a shortest path in time that keeps clear of all those before it."""
 import collections
+import heapq
 import random
 from typing import Optional, Sequence
 
@@ -35,6 +36,14 @@ class Reservations:
         return self.is_free(other, time + 1) and (other, one, time) not in self.steps
 
 
+class Forgetful(Reservations):
+    """A mistake that planners make: who has arrived is forgotten."""
+
+    def take(self, path: Path) -> None:
+        super().take(path)
+        self.ended.clear()
+
+
 def search(free: set[Cell], start: Cell, goal: Cell, taken: Reservations, longest: int) -> Optional[Path]:
     """A shortest path in time, after whose end nobody comes into the goal."""
     came: dict[tuple[Cell, int], Optional[Cell]] = {(start, 0): None}
@@ -66,9 +75,9 @@ def random_tasks(free: Sequence[Cell], count: int, rng: random.Random) -> list[T
     return list(zip(rng.sample(list(free), count), rng.sample(list(free), count)))
 
 
-def plan_in_order(free: set[Cell], tasks: Sequence[Task], order: Sequence[int]) -> Optional[list[Path]]:
+def plan_in_order(free: set[Cell], tasks: Sequence[Task], order: Sequence[int], taken: Reservations) -> Optional[list[Path]]:
     """Paths that never meet, of the agents in this order, where each finds one."""
-    taken, paths = Reservations(), {}
+    paths = {}
     for agent in order:
         path = search(free, *tasks[agent], taken, LONGEST)
         if not path:
@@ -78,15 +87,33 @@ def plan_in_order(free: set[Cell], tasks: Sequence[Task], order: Sequence[int]) 
     return [paths[agent] for agent in range(len(tasks))]
 
 
-def plan(free: Sequence[Cell], tasks: Sequence[Task], rng: random.Random) -> list[Path]:
+def plan(free: Sequence[Cell], tasks: Sequence[Task], rng: random.Random, kind: type[Reservations] = Reservations) -> list[Path]:
     """Paths that never meet, in one of many orders of the agents."""
     order = list(range(len(tasks)))
     for _ in range(TRIES):
         rng.shuffle(order)
-        paths = plan_in_order(set(free), tasks, order)
+        paths = plan_in_order(set(free), tasks, order, kind())
         if paths:
             return paths
     raise ValueError(f"no order of {len(tasks)} agents leads to a plan")
+
+
+def octile_length(free: set[Cell], start: Cell, goal: Cell) -> float:
+    """The length of a shortest walk with diagonal steps that cut no corner, as scenarios list it."""
+    heap, lengths = [(0.0, start)], {}
+    while heap:
+        length, cell = heapq.heappop(heap)
+        if cell == goal:
+            return length
+        if cell in lengths:
+            continue
+        lengths[cell] = length
+        for dx in (-1, 0, 1):
+            for dy in (-1, 0, 1):
+                block = {(cell[0] + x, cell[1] + y) for x in (0, dx) for y in (0, dy)}
+                if block <= free:
+                    heapq.heappush(heap, (length + (dx * dx + dy * dy) ** 0.5, (cell[0] + dx, cell[1] + dy)))
+    raise ValueError(f"no walk leads from {start} to {goal}")
 
 
 def free_cells(map_text: str) -> list[Cell]:
