@@ -184,7 +184,9 @@ def of_rounds(harness: Harness, name: str, first: int, count: int) -> list[Outco
     for seed in range(first, first + count):
         paths = random_paths(random.Random(f"round {name} {seed}"))
         scen = ["--scen", room.file(f"{seed}.scen", scen_text(paths).encode())]
-        room.convert([room.file(f"{seed}.text", WRITERS[name](paths).encode()), "--number", NUMBER, *scen])
+        # Some with the line ends of other systems.
+        text = WRITERS[name](paths).replace("\n", "\r\n" if seed % 4 == 1 else "\n")
+        room.convert([room.file(f"{seed}.text", text.encode()), "--number", NUMBER, *scen])
         cases.append((f"a plain text, seed {seed} as {name}", plan_text(plain_formats.due_paths(name, paths), int(NUMBER)).encode()))
     read = room.done()
     outcomes = [same(*case, done) for case, done in zip(cases, read)]
@@ -352,7 +354,7 @@ LIARS = [
     ("an agent more", r"printf '0 1 0 0 0 0 0\n1 0 0 1 0 0 0\n'", "at time 0"),
     ("a line that isn't ended", r"printf '0 1 0 0 0\n1 0 0 1 0'", "at time 1"),
     ("no line", ":", "at time 0"),
-    ("a fault on an open map", "echo 'mapf: BadMove 0 0' >&2\nexit 1", "BadMove 0 0 of a plan on an open map"),
+    ("a fault on an open map", "echo 'mapf: BadMove 0 0' >&2\nexit 1", "`mapf path` says BadMove 0 0 on an open map"),
 ]
 
 
@@ -377,6 +379,7 @@ def of_liars(harness: Harness) -> list[Outcome]:
 # Mistakes that are put into the converter, each of which is to refuse a plan: none passes off another one.
 MISTAKES = [
     ("north for south", ["T"], "walks.ACT_OF[0, 1] = 'n'"),
+    ("north for south, into a wall", ["T", "--map", "M"], "walks.ACT_OF[0, 1] = 'n'"),
     ("west for east", ["T"], "walks.ACT_OF[1, 0] = 'w'"),
     ("a step for a wait", ["T"], "walks.ACT_OF[0, 0] = 'e'"),
     ("a start beside the first cell", ["T"], "walks.Walk.start = property(lambda walk: (walk.xs[0] + 1, walk.ys[0]))"),
@@ -391,6 +394,7 @@ MISTAKES = [
 # Each agent goes back and forth, to the south too, and waits at its end.
 WINDING = b"Agent 0: (3,3)->(3,4)->(4,4)->(4,3)->(4,3)->\nAgent 1: (6,1)->(6,2)->(7,2)->(7,2)->\n"
 WINDING_PLAN = b"mapf-plan 1\nnumber 7\nagents 2\nagent 3 3 esw-\nagent 1 6 es-\n"
+WINDING_MAP = b"type octile\nheight 8\nwidth 6\nmap\n" + b"......\n" * 2 + b"@@@@@@\n" + b"......\n" * 2 + b"@@@@@@\n" + b"......\n" * 2
 SPOILING = """
 import dataclasses, functools, sys
 sys.path.insert(0, {folder!r})
@@ -406,10 +410,10 @@ sys.exit(convert.main(sys.argv[1:]))
 
 
 def of_mistake(harness: Harness, name: str, words: Sequence[str], mistake: str) -> list[Outcome]:
-    folder = harness.folder({"T": WINDING, "P": WINDING_PLAN})
+    folder = harness.folder({"T": WINDING, "P": WINDING_PLAN, "M": WINDING_MAP})
     code = SPOILING.format(folder=str(TOOL.parent), mistake=mistake)
     ended = harness.run([sys.executable, "-c", code, *words, "-o", "out", "--program", str(harness.program)], folder=folder)
-    wrote = (ended.status, (folder / "out").exists(), b"differs from" in ended.err or b"of a plan on an open map" in ended.err)
+    wrote = (ended.status, (folder / "out").exists(), b"differs from" in ended.err)
     return [compared(f"a mistake put in: {name}", f"convert.py {' '.join(words)}, which told {ended.err!r}", wrote, (3, False, True))]
 
 

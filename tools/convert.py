@@ -1,5 +1,5 @@
 #!/usr/bin/env python3
-"""Converts what planners write to a plan, `mapf-plan 1`, and back.
+"""Converts what planners write to a plan, `mapf-plan 1`, and back. docs/CONVERTING.md has the formats.
 
 Usage: convert.py FILE [-o PLAN] [--from FORMAT] [--map MAP] [--scen SCEN] [--number N]
        convert.py PLAN --to FORMAT [-o FILE] [--map MAP] [--scen SCEN]
@@ -12,13 +12,12 @@ Status 0: done. 1: a text has a fault, told in one line as `FILE:LINE: what is w
 failed. Unless it is 0, nothing is written.
 """
 import argparse
-import contextlib
 import pathlib
 import shutil
 import signal
 import sys
 import tempfile
-from typing import Iterator, Optional, Sequence
+from typing import Optional, Sequence
 
 sys.dont_write_bytecode = True
 import path_check  # noqa: E402
@@ -80,30 +79,24 @@ def guess(data: bytes) -> Format:
     return found[0]
 
 
-@contextlib.contextmanager
-def map_for(given: argparse.Namespace, walks: Sequence[Walk]) -> Iterator[str]:
-    """The file of the map, or of an open one that is as large as the plan needs."""
-    if given.map is not None:
-        yield given.map
-        return
+def hold_on_open_map(program: Program, plan: str, walks: Sequence[Walk]) -> None:
+    """Compares a plan with the cells that were read, on a map without walls that is as large as it needs."""
     with tempfile.NamedTemporaryFile(prefix="mapf-open-", suffix=".map") as file:
         file.writelines(path_check.open_map(walks))
         file.flush()
-        yield file.name
+        fault = path_check.said_of_the_path(program, file.name, plan, walks)
+    if fault:
+        raise Failed(f"the plan differs from what was read: `mapf path` says {fault} on an open map; this is a fault of the converter")
 
 
 def hold_plan(given: argparse.Namespace, plan: str, walks: Sequence[Walk]) -> None:
-    """Compares a plan with the cells that were read, by what the program says of it."""
-    with map_for(given, walks) as map_file:
-        fault = path_check.said_of_the_path(Program(given.program), map_file, plan, walks)
-    if fault is None:
-        return
-    if given.map is None:
-        raise Failed(f"`mapf path` says {fault} of a plan on an open map")
-    found = difference(walks, mapf_plan.read(pathlib.Path(plan).read_bytes(), Given()))
-    if found:
-        raise Failed(f"the plan differs from what was read: {found}; nothing is written, and this is a fault of the converter")
-    say(f"{given.map} allows no such plan: {fault}. `mapf check` is to say what is wrong with it")
+    """Compares a plan with the cells that were read, by what the program says of it: on its map, or on an open one where that doesn't allow it."""
+    program = Program(given.program)
+    fault = given.map is not None and path_check.said_of_the_path(program, given.map, plan, walks)
+    if given.map is None or fault:
+        hold_on_open_map(program, plan, walks)
+    if fault:
+        say(f"{given.map} allows no such plan: {fault}. `mapf check` is to say what is wrong with it")
 
 
 def hold_tasks(walks: Sequence[Walk], tasks: Optional[Sequence[Task]], scen: str) -> None:
