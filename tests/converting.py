@@ -6,6 +6,7 @@ import json
 import os
 import pathlib
 import random
+import shlex
 import shutil
 import subprocess
 import sys
@@ -295,6 +296,7 @@ FILES = {
     "E": b"version 1\n0\tm\t3\t1\t1\t0\t0\t0\t1\n",
     "U": b"u\n",
     "W": b"Agent 0: (0,1)->(0,2)\n",
+    "Q": b"mapf-plan 1\nnumber 7\nagents 1\nagent 1 0 e\n",
     "F": b"Agent 0: (0,1)->(1,1)\n",
     "B": b"type octile\nheight 1\nwidth 3\nmap\n..\n",
 }
@@ -307,6 +309,8 @@ CALLS = [
     ("P --to paths", 0, b"Agent 0: (0,1)->(0,0)->\nAgent 1: (0,0)->(0,1)->\n", ""),
     ("P --to tracker --map M --scen S", 0, b"l\nr\n", "u is written for north"),
     ("W --number 7 --map M", 0, b"mapf-plan 1\nnumber 7\nagents 1\nagent 1 0 e\n", "M allows no such plan: BadMove 0 0."),
+    ("Q --to paths --map M", 0, b"Agent 0: (0,1)->(0,2)->\n", "M allows no such plan: BadMove 0 0."),
+    ("Q --to paths", 0, b"Agent 0: (0,1)->(0,2)->\n", ""),
     ("F --map M", 1, b"", "F:1: agent 0 stands in column 1, row 1 at time 1, below 3 and 1, the size of the map, was due\n"),
     ("T --scen D", 1, b"", "T:2: agent 1 ends in column 1, row 0, column 0, row 0 was due by row 1 of D\n"),
     ("T --scen E", 1, b"", "T:2: agent 1 has no row in E"),
@@ -433,7 +437,12 @@ def of_outputs(harness: Harness) -> Iterator[Outcome]:
     with open("/dev/full", "wb") as full:
         words = [sys.executable, str(TOOL), "T", "--program", str(harness.program)]
         ended = subprocess.run(words, cwd=folder, stdin=subprocess.DEVNULL, stdout=full, stderr=subprocess.PIPE)
-    yield compared("a full device", "convert.py T >/dev/full", (ended.returncode, b"No space left" in ended.stderr), (3, True))
+    wrote = (ended.returncode, b"No space left" in ended.stderr, ended.stderr.count(b"\n"))
+    yield compared("a full device", "convert.py T >/dev/full", wrote, (3, True, 2))
+    script = f"{shlex.quote(sys.executable)} {shlex.quote(str(TOOL))} T --number 7 --program {shlex.quote(str(harness.program))}"
+    for name, redirected, due in (("closed", "2>&-", (0, PLAN)), ("full", "2>/dev/full", (0, PLAN)), ("closed output", ">&-", (3, b""))):
+        ended = harness.run(["sh", "-c", f"{script} {redirected}"], folder=folder)
+        yield compared(f"standard error {name}", f"convert.py T {redirected}", (ended.status, ended.out), due)
 
 
 def of_examples(_: Harness) -> list[Outcome]:

@@ -12,6 +12,7 @@ Status 0: done. 1: a text has a fault, told in one line as `FILE:LINE: what is w
 failed. Unless it is 0, nothing is written.
 """
 import argparse
+import contextlib
 import pathlib
 import shutil
 import signal
@@ -25,7 +26,7 @@ from path_check import Failed, Program, Refused  # noqa: E402
 from plan_formats import Format, formats, mapf_plan  # noqa: E402
 from plan_formats.texts import text_of  # noqa: E402
 from plan_formats.walks import MOST_NUMBER, Fault, Given, Task, Walk, difference, padded  # noqa: E402
-from whole_file import draft  # noqa: E402
+from whole_file import Draft, draft  # noqa: E402
 
 ROOT = pathlib.Path(__file__).resolve().parent.parent
 # A format is guessed from so many bytes.
@@ -37,9 +38,16 @@ class BadLine(Exception):
     """The words of the command line don't fit together."""
 
 
+def tell(line: str) -> None:
+    """Writes a line on standard error. Where nobody can read it, the work goes on."""
+    # A closed standard error is None, and would be taken for standard output.
+    with contextlib.suppress(OSError):
+        if sys.stderr:
+            print(line, file=sys.stderr, flush=True)
+
+
 def say(text: str) -> None:
-    """Writes a line on standard error."""
-    print(f"convert: {text}", file=sys.stderr)
+    tell(f"convert: {text}")
 
 
 def number(word: str) -> int:
@@ -118,14 +126,13 @@ def hold_back(chosen: Format, file: pathlib.Path, walks: Sequence[Walk]) -> None
         raise Failed(f"what was written differs from the plan: {found}; this is a fault of the converter")
 
 
-def give(made, target: Optional[pathlib.Path]) -> None:
+def give(made: Draft, target: Optional[pathlib.Path]) -> None:
     """Puts the draft in its place, or copies it to standard output."""
     if target:
         made.put()
         return
-    with open(made.path, "rb") as file:
-        shutil.copyfileobj(file, sys.stdout.buffer)
-    sys.stdout.buffer.flush()
+    with open(made.path, "rb") as file, open(1, "wb", closefd=False) as out:
+        shutil.copyfileobj(file, out)
 
 
 def to_plan(given: argparse.Namespace, data: bytes, context: Given) -> None:
@@ -186,7 +193,7 @@ def main(words: Sequence[str]) -> int:
     try:
         convert(given)
     except Fault as fault:
-        print(f"{given.file}:{fault.line}: {fault.what}", file=sys.stderr)
+        tell(f"{given.file}:{fault.line}: {fault.what}")
         return REFUSED
     except Refused as fault:
         say(str(fault))
