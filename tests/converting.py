@@ -29,6 +29,8 @@ NUMBER = "7"
 # Random plans a format, and how many of them one process converts.
 SHORT_ROUNDS, LONG_ROUNDS, ROUND = 40, 200, 40
 SHORT_PLACES, LONG_PLACES = 200, 2_000
+# Formats whose greatest texts are soon converted.
+SOON_AT_LIMITS = ("csv", "paths", "tracker")
 
 
 @dataclasses.dataclass(frozen=True)
@@ -283,6 +285,40 @@ def of_refusals(harness: Harness) -> list[Outcome]:
     return outcomes
 
 
+def of_limits(harness: Harness, name: str) -> list[Outcome]:
+    """The most acts and the most agents that a plan may have, and one more of each."""
+    room, cases = Room(harness), []
+    still, crowd = [(1, 2)], [[(agent % 100, agent // 100)] for agent in range(path_model.MOST_AGENTS + 1)]
+    for what, most in (("acts", [still * (path_model.MOST_ACTS + 1)]), ("agents", crowd[:-1])):
+        for more, paths in ((0, most), (1, crowd if what == "agents" else [most[0] + still])):
+            text = room.file(f"{what}{more}.text", WRITERS[name](paths).encode())
+            scen = room.file(f"{what}{more}.scen", scen_text(paths).encode())
+            room.convert([text, "--from", name, "--number", NUMBER, "--scen", scen])
+            cases.append((f"{name}: the most {what} and {more}", (1, None) if more else (0, plan_text(paths, int(NUMBER)).encode())))
+    outcomes = []
+    for (case, due), done in zip(cases, room.done()):
+        told = done.told if done.status != due[0] else ""
+        outcomes.append(compared(case, done.shown, (done.status, done.written == due[1], told), (due[0], True, "")))
+    room.gone()
+    return outcomes
+
+
+def of_the_most_acts_in_all(harness: Harness) -> list[Outcome]:
+    """Acts of all agents that are one too many together."""
+    agents, rest = divmod(path_model.MOST_ACTS_IN_ALL + 1, path_model.MOST_ACTS)
+    paths = [[(0, 0)] * (path_model.MOST_ACTS + 1)] * agents + [[(0, 0)] * (rest + 1)]
+    room = Room(harness)
+    scen = room.file("scen", scen_text(paths).encode())
+    room.convert([room.file("text", tracker_text_of_waits(paths)), "--from", "tracker", "--scen", scen])
+    done = room.done()[0]
+    room.gone()
+    return [refused("tracker", len(paths), f"there are {path_model.MOST_ACTS_IN_ALL + 1} acts in all", done)]
+
+
+def tracker_text_of_waits(paths: Paths) -> bytes:
+    return b"".join(b"w" * (len(path) - 1) + b"\n" for path in paths)
+
+
 # A map of a lane of three cells, two agents on it, and the plan that they say.
 LANE = b"type octile\nheight 1\nwidth 3\nmap\n..@\n"
 TEXT = b"Agent 0: (0,1)->(0,0)\nAgent 1:(0,0)->(0,1)->\n"
@@ -469,6 +505,8 @@ def outcomes(harness: Harness) -> Iterator[Outcome]:
             functools.partial(of_vectors, harness),
             functools.partial(of_liars, harness),
             functools.partial(of_refusals, harness),
+            *(functools.partial(of_limits, harness, name) for name in (WRITERS if harness.is_long else SOON_AT_LIMITS)),
+            *([functools.partial(of_the_most_acts_in_all, harness)] if harness.is_long else []),
             *of_samples(harness),
             *(functools.partial(of_rounds, harness, name, first, ROUND) for first in range(0, rounds, ROUND) for name in WRITERS),
             *(functools.partial(of_spoiled, harness, name, places) for name in WRITERS),
