@@ -1,62 +1,12 @@
 //! `mapf agent` over a disk that fails at each of its calls, and after power cuts.
-use agent_commands::agent_cmd;
-use fakes::{Call, DiskFiles, FakeDisk, Keeper};
-use grid::Counted;
+use crate::calls::{BEHIND, LANE, MOVING, NOISE, STANDING, answer, bytes_of, expect};
+use fakes::{Call, FakeDisk, Keeper};
 use std::alloc::{AllocError, Global};
-use std::io::Write;
 use std::process::Abort;
 use std::test::Fail;
 
-/// A map of a row of three free cells.
-const LANE: &str = "type octile\nheight 1\nwidth 3\nmap\n...\n";
-
-/// Two agents that go one cell east, behind one another.
-const FILE: &str = "mapf-plan 1\nnumber 7\nagents 2\nagent 1 0 e-\nagent 0 0 e\n";
-
-/// The name of the tape file.
-const TAPE: &str = "robot.tape";
-
 /// Where agent 0 is by a tape without a record.
 const FIRST_LINE: &str = "at 1 0 done 0\n";
-
-/// The records of the move of agent 0.
-const MOVING: [u8; 10] = [0x50, 1, 0, 0, 0, 7, 0, 0, 0, 0];
-
-const STANDING: [u8; 10] = [0x50, 2, 0, 0, 0, 7, 0, 0, 0, 1];
-
-/// Bytes of no record.
-const NOISE: [u8; 10] = [0xff; 10];
-
-/// The bytes of a tape file: records, and a tail.
-fn bytes_of(alloc: Global, records: &[[u8; 10]], tail: &[u8]) -> Result<Vec<u8>, AllocError> {
-    let mut bytes = records.concat(alloc)?;
-    bytes.extend_from_slice(tail)?;
-    Ok(bytes)
-}
-
-/// Answers for agent 0, and says with which status.
-fn answer<W: Write, E: Write>(files: &DiskFiles<'_>, input: &[u8], out: &mut W, err: &mut E) -> u8 {
-    agent_cmd(
-        files,
-        &mut Counted::new(LANE.as_bytes()),
-        &mut Counted::new(FILE.as_bytes()),
-        0,
-        TAPE,
-        &mut Counted::new(input),
-        &mut Counted::new(out),
-        &mut Counted::new(err),
-    )
-}
-
-/// Answers for agent 0 over the file of a disk, to the end of the input, and compares what it wrote.
-fn expect(rt: &impl Abort, alloc: Global, disk: &FakeDisk, input: &[u8], answers: &str) {
-    let files = DiskFiles::new(alloc, disk);
-    let (mut out, mut err) = (Keeper::of_size(512), Keeper::of_size(512));
-    let status = answer(&files, input, &mut out, &mut err);
-    assert_eq!(rt; status, 0, "at {answers:?}");
-    assert!(rt; out.kept() == answers.as_bytes(), "at {answers:?}");
-    assert!(rt; err.kept() == b"".as_slice(), "at {answers:?}");
-}
 
 /// The records and the tail of tape files, and where the agent is by them.
 static OPENED: [(&[[u8; 10]], &[u8], &str); 9] = [
@@ -82,7 +32,7 @@ fn tape_files_that_are_opened(rt: HostRuntime) -> Result<(), Fail> {
         let bytes = bytes_of(rt.alloc(), records, tail)?;
         let disk = FakeDisk::new(rt.alloc(), &bytes)?;
         expect(&rt, rt.alloc(), &disk, b"", state);
-        assert!(rt; disk.has(&bytes), "at {state:?}");
+        assert!(rt; disk.has(&bytes) && disk.is_untouched(), "at {state:?}");
         let after = disk.after_power_cut(rt.alloc())?;
         expect(&rt, rt.alloc(), &after, b"", state);
     }
@@ -147,9 +97,8 @@ fn end_of(
 /// How many records an agent finds on a disk that doesn't fail, by its first line.
 fn found(rt: &impl Abort, alloc: Global, disk: &FakeDisk) -> Option<usize> {
     disk.fail(Call::Read, u32::MAX);
-    let files = DiskFiles::new(alloc, disk);
     let (mut out, mut err) = (Keeper::of_size(256), Keeper::of_size(256));
-    let status = answer(&files, b"", &mut out, &mut err);
+    let status = answer(alloc, disk, (LANE, BEHIND), 0, b"", &mut out, &mut err);
     assert!(rt; status == 0 && err.kept() == b"".as_slice());
     STATES
         .iter()
@@ -158,9 +107,8 @@ fn found(rt: &impl Abort, alloc: Global, disk: &FakeDisk) -> Option<usize> {
 
 /// Leads a dialogue over a disk with so many records, and says how it ended.
 fn end_on(alloc: Global, disk: &FakeDisk, records: usize) -> Result<End, Fail> {
-    let files = DiskFiles::new(alloc, disk);
     let (mut out, mut err) = (Keeper::of_size(256), Keeper::of_size(256));
-    let status = answer(&files, ASKED, &mut out, &mut err);
+    let status = answer(alloc, disk, (LANE, BEHIND), 0, ASKED, &mut out, &mut err);
     match end_of(alloc, records, status, out.kept(), err.kept())? {
         Some(end) => Ok(end),
         None => Err("the dialogue may not end so")?,
@@ -181,6 +129,15 @@ fn is_now_or_next(found: Option<usize>, now: usize) -> bool {
     found == Some(now) || found == Some(now.saturating_add(1))
 }
 
+/// Whether an agent that ended so was told of a failure as often as the disk let a call fail, and left the tape alone where it was not opened.
+fn is_told(end: End, disk: &FakeDisk) -> bool {
+    match end {
+        End::Refused => disk.failures() == 1 && disk.is_untouched(),
+        End::StoreFailed(_) => disk.failures() == 1,
+        End::Answered(_) => disk.failures() == 0,
+    }
+}
+
 /// Leads a dialogue over a disk with so many records of which a call fails, and says how it ended.
 fn disk_fails(
     rt: &impl Abort,
@@ -192,6 +149,7 @@ fn disk_fails(
     let disk = FakeDisk::new(alloc, bytes)?;
     disk.fail(failing.0, failing.1);
     let end = end_on(alloc, &disk, records)?;
+    assert!(rt; is_told(end, &disk), "at {failing:?}");
     let kept = found(rt, alloc, &disk.after_power_cut(alloc)?);
     let here = found(rt, alloc, &disk);
     assert!(rt; may_leave(end, records, here, kept), "at {failing:?}");

@@ -2,4 +2,10 @@
 #![tactic(auto)]
 
 #[cfg(test)]
+mod calls;
+#[cfg(test)]
 mod failing_disks;
+#[cfg(test)]
+mod long_walks;
+#[cfg(test)]
+mod refused_tapes;

@@ -1,26 +1,61 @@
-//! The file of a disk, in place of the files of the system.
-use crate::fake_disk::{DiskFile, FakeDisk, unsupported};
+//! The files of disks by their names, in place of the files of the system.
+use crate::disk_file::DiskFile;
+use crate::fake_disk::{FakeDisk, only_reads, unsupported};
 use std::alloc::{Allocator, Global};
-use std::fs::{Metadata, OpenOptions};
+use std::fs::{Metadata, OpenOptions, Permissions};
 use std::io;
-use std::io::ErrorKind;
 use std::rt::Files;
 
-/// The file of a disk under each name.
+/// The file of each disk under its name. What is not expected is noted by the disk that is named, or else by the first one.
 pub struct DiskFiles<'a> {
     alloc: Global,
-    disk: &'a FakeDisk,
+    disks: &'a [(&'a str, &'a FakeDisk)],
 }
 
 impl<'a> DiskFiles<'a> {
-    pub fn new(alloc: Global, disk: &'a FakeDisk) -> DiskFiles<'a> {
-        DiskFiles { alloc, disk }
+    pub fn new(alloc: Global, disks: &'a [(&'a str, &'a FakeDisk)]) -> DiskFiles<'a> {
+        DiskFiles { alloc, disks }
+    }
+
+    /// The disk of a file.
+    fn disk(&self, path: &str) -> Option<&'a FakeDisk> {
+        let named = self.disks.iter().find(|(name, _)| *name == path);
+        named.map(|(_, disk)| *disk)
+    }
+
+    /// Opens the folder of a file.
+    fn open_folder(&self, path: &str) -> io::Result<DiskFile<'a>> {
+        for (name, disk) in self.disks {
+            if disk.is_tape() && is_folder_of(path, name) {
+                return disk.open_folder();
+            }
+        }
+        Err(self.unexpected(path))
+    }
+
+    fn unexpected(&self, path: &str) -> io::Error {
+        match self
+            .disk(path)
+            .or(self.disks.first().map(|(_, disk)| *disk))
+        {
+            Some(disk) => disk.unexpected(),
+            None => unsupported(),
+        }
+    }
+}
+
+/// Whether a path is that of the folder of a file.
+fn is_folder_of(path: &str, file: &str) -> bool {
+    let folder = path.strip_suffix('/').unwrap_or(path);
+    match file.rsplit_once('/') {
+        Some((above, _)) => folder == above,
+        None => folder.is_empty() || folder == ".",
     }
 }
 
 impl Drop for DiskFiles<'_> {
     fn drop(self) {
-        let DiskFiles { alloc: _, disk: _ } = self;
+        let DiskFiles { alloc: _, disks: _ } = self;
     }
 }
 
@@ -32,57 +67,64 @@ impl Alloc for DiskFiles<'_> {
     }
 }
 
-/// Whether a file is to be read and written, with what it has, and made where there is none.
-fn goes_on(how: &OpenOptions) -> bool {
-    let asks = how.asks_read() && how.asks_write() && how.asks_create();
-    asks && !how.asks_append() && !how.asks_truncate() && !how.asks_create_new()
-}
-
 impl<'a> Files for DiskFiles<'a> {
     type File = DiskFile<'a>;
 
     type Dir = DiskFile<'a>;
 
-    fn open_file(&self, how: &OpenOptions, _path: &str) -> io::Result<DiskFile<'a>> {
-        if !goes_on(how) {
-            return Err(io::Error::from(ErrorKind::InvalidInput));
+    fn open_file(&self, how: &OpenOptions, path: &str) -> io::Result<DiskFile<'a>> {
+        match self.disk(path) {
+            Some(disk) => disk.open(how),
+            None if only_reads(how) => self.open_folder(path),
+            None => Err(self.unexpected(path)),
         }
-        Ok(self.disk.file())
     }
 
-    fn open_dir(&self, _path: &str) -> io::Result<DiskFile<'a>> {
-        Err(unsupported())
+    fn open_dir(&self, path: &str) -> io::Result<DiskFile<'a>> {
+        self.open_folder(path)
     }
 
-    fn metadata(&self, _path: &str) -> io::Result<Metadata> {
-        Err(unsupported())
+    fn metadata(&self, path: &str) -> io::Result<Metadata> {
+        Err(self.unexpected(path))
     }
 
-    fn symlink_metadata(&self, _path: &str) -> io::Result<Metadata> {
-        Err(unsupported())
+    fn symlink_metadata(&self, path: &str) -> io::Result<Metadata> {
+        Err(self.unexpected(path))
     }
 
-    fn copy(&self, _from: &str, _to: &str) -> io::Result<u64> {
-        Err(unsupported())
+    fn copy(&self, from: &str, _to: &str) -> io::Result<u64> {
+        Err(self.unexpected(from))
     }
 
-    fn rename(&self, _from: &str, _to: &str) -> io::Result<()> {
-        Err(unsupported())
+    fn rename(&self, from: &str, _to: &str) -> io::Result<()> {
+        Err(self.unexpected(from))
     }
 
-    fn remove_file(&self, _path: &str) -> io::Result<()> {
-        Err(unsupported())
+    fn remove_file(&self, path: &str) -> io::Result<()> {
+        Err(self.unexpected(path))
     }
 
-    fn create_dir(&self, _path: &str) -> io::Result<()> {
-        Err(unsupported())
+    fn create_dir(&self, path: &str) -> io::Result<()> {
+        Err(self.unexpected(path))
     }
 
-    fn remove_dir(&self, _path: &str) -> io::Result<()> {
-        Err(unsupported())
+    fn remove_dir(&self, path: &str) -> io::Result<()> {
+        Err(self.unexpected(path))
     }
 
-    fn remove_dir_all<B: Allocator>(&self, _alloc: B, _path: &str) -> io::Result<()> {
-        Err(unsupported())
+    fn remove_dir_all<B: Allocator>(&self, _alloc: B, path: &str) -> io::Result<()> {
+        Err(self.unexpected(path))
+    }
+
+    fn hard_link(&self, original: &str, _link: &str) -> io::Result<()> {
+        Err(self.unexpected(original))
+    }
+
+    fn symlink(&self, original: &str, _link: &str) -> io::Result<()> {
+        Err(self.unexpected(original))
+    }
+
+    fn set_permissions(&self, path: &str, _perm: Permissions) -> io::Result<()> {
+        Err(self.unexpected(path))
     }
 }

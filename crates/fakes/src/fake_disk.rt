@@ -1,61 +1,94 @@
 //! A disk of a test's own, with one file.
+ghost use Rattle.std.specs.Prelude.{◌≤◌, length, IfOk};
+
+use crate::disk_file::DiskFile;
 use std::alloc::{AllocError, Global};
 use std::cell::{Cell, RefCell};
-use std::fs::{Metadata, OpenFile};
+use std::fs::OpenOptions;
 use std::io;
-use std::io::{ErrorKind, Read, Seek, SeekFrom, Write};
+use std::io::ErrorKind;
 
-/// How many bytes a read or a write takes at the most.
-const PIECE: usize = 4;
+/// How many bytes a file can have before more memory is taken.
+const ROOM: usize = 256;
 
-/// Of a call that no test makes.
-pub(crate) fn unsupported() -> io::Error {
-    io::Error::from(ErrorKind::Unsupported)
-}
-
-/// A call of a file.
+/// A call that a disk may be told to let fail.
 #[derive(Clone, Copy, Debug, PartialEq, Eq)]
 pub enum Call {
+    Open,
     Read,
     Seek,
     Write,
     Flush,
+    /// A sync of a file, with its length or without.
     Sync,
+    SetLen,
+    OpenFolder,
+    SyncFolder,
 }
 
-/// What a file has, what of it stays where the power fails, and which of its calls fails.
+/// Whether the file of a disk is to be read alone, or may be written.
+#[derive(Clone, Copy, Debug, PartialEq, Eq)]
+enum Kind {
+    Text,
+    Tape,
+}
+
+/// A file with what it has, what of it stays where the power fails, and which of its calls fails. The disk counts what was done with it,
+/// and what no program that keeps a tape has to do.
+#[derive(Drop)]
 pub struct FakeDisk {
+    kind: Kind,
     bytes: RefCell<Vec<u8>>,
+    /// The file as it was synced last: so many bytes as it had when it was synced with its length.
     synced: RefCell<Vec<u8>>,
+    /// Whether the folder was synced since the file was made.
+    is_named: Cell<bool>,
     fails: Cell<Option<(Call, u32)>>,
-}
-
-impl Drop for FakeDisk {
-    fn drop(self) {
-        let FakeDisk {
-            bytes: _,
-            synced: _,
-            fails: _,
-        } = self;
-    }
+    failures: Cell<u64>,
+    changes: Cell<u32>,
+    folder_syncs: Cell<u32>,
+    unexpected: Cell<u32>,
 }
 
 impl FakeDisk {
-    /// A file with these bytes, of which none is synced.
+    /// A file with these bytes, of which none is synced. Memory for small files is taken here, so that none is wanting where the program
+    /// under test is at work.
     pub fn new(alloc: Global, bytes: &[u8]) -> Result<FakeDisk, AllocError> {
+        FakeDisk::of_kind(alloc, Kind::Tape, bytes, true)
+    }
+
+    /// No file, until one is made.
+    pub fn without_file(alloc: Global) -> Result<FakeDisk, AllocError> {
+        FakeDisk::of_kind(alloc, Kind::Tape, &[], false)
+    }
+
+    /// A file that is only to be read.
+    pub fn of_text(alloc: Global, text: &str) -> Result<FakeDisk, AllocError> {
+        FakeDisk::of_kind(alloc, Kind::Text, text.as_bytes(), true)
+    }
+
+    fn of_kind(
+        alloc: Global,
+        kind: Kind,
+        bytes: &[u8],
+        is_named: bool,
+    ) -> Result<FakeDisk, AllocError> {
         Ok(FakeDisk {
-            bytes: RefCell::new(bytes.to_vec(alloc)?),
-            synced: RefCell::new(Vec::new(alloc)),
+            kind,
+            bytes: RefCell::new(with_room(alloc, bytes)?),
+            synced: RefCell::new(with_room(alloc, &[])?),
+            is_named: Cell::new(is_named),
             fails: Cell::new(None),
+            failures: Cell::new(0),
+            changes: Cell::new(0),
+            folder_syncs: Cell::new(0),
+            unexpected: Cell::new(0),
         })
     }
 
-    /// The file, at its beginning.
+    /// The file, at its beginning, as it is opened to be read, and a tape to be written too.
     pub fn file(&self) -> DiskFile<'_> {
-        DiskFile {
-            disk: self,
-            place: 0,
-        }
+        DiskFile::new(self)
     }
 
     /// So many calls of this kind succeed from now on, and the next one fails.
@@ -65,26 +98,98 @@ impl FakeDisk {
 
     /// Whether the file has these bytes.
     pub fn has(&self, bytes: &[u8]) -> bool {
-        holds(&self.bytes, bytes)
+        match self.bytes.try_borrow() {
+            Ok(held) => held.as_slice() == bytes,
+            Err(_) => false,
+        }
     }
 
     /// Whether these bytes stay where the power fails.
     pub fn keeps(&self, bytes: &[u8]) -> bool {
-        holds(&self.synced, bytes)
+        match self.synced.try_borrow() {
+            Ok(synced) => self.is_named.get() && synced.as_slice() == bytes,
+            Err(_) => false,
+        }
     }
 
-    /// The disk after a power cut: its file has what was synced.
+    /// Whether a record stays at a place where the power fails.
+    pub fn keeps_record(&self, place: usize, record: &[u8; 10]) -> bool {
+        match self.synced.try_borrow() {
+            Ok(synced) => {
+                let kept = synced.get(place..place.saturating_add(10));
+                self.is_named.get() && kept == Some(record.as_slice())
+            }
+            Err(_) => false,
+        }
+    }
+
+    /// The disk after a power cut: its file has what was synced, if its name was.
     pub fn after_power_cut(&self, alloc: Global) -> io::Result<FakeDisk> {
+        if !self.is_named.get() {
+            return Ok(FakeDisk::without_file(alloc)?);
+        }
         match self.synced.try_borrow() {
             Ok(synced) => Ok(FakeDisk::new(alloc, synced.as_slice())?),
             Err(_) => Err(unsupported()),
         }
     }
 
-    fn answer(&self, call: Call) -> io::Result<()> {
+    /// How many calls the disk let fail.
+    pub fn failures(&self) -> u64 {
+        self.failures.get()
+    }
+
+    /// Whether nothing was written or cut, or tried to be.
+    pub fn is_untouched(&self) -> bool {
+        self.changes.get() == 0
+    }
+
+    /// How often the folder of the file was synced.
+    pub fn folder_syncs(&self) -> u32 {
+        self.folder_syncs.get()
+    }
+
+    /// Whether all that was asked of the disk is what a program has to ask that keeps a tape.
+    pub fn was_used_as_expected(&self) -> bool {
+        self.unexpected.get() == 0
+    }
+
+    /// Notes a call that no program that keeps a tape has to make.
+    pub(crate) fn unexpected(&self) -> io::Error {
+        raise(&self.unexpected);
+        unsupported()
+    }
+
+    /// Opens the file by a path. A tape is read and written, with what it has, and made where there is none; a text is read.
+    pub(crate) fn open(&self, how: &OpenOptions) -> io::Result<DiskFile<'_>> {
+        let is_expected = match self.kind {
+            Kind::Tape => goes_on(how),
+            Kind::Text => only_reads(how),
+        };
+        if !is_expected {
+            return Err(self.unexpected());
+        }
+        self.answer(Call::Open)?;
+        Ok(self.file())
+    }
+
+    /// Opens the folder of the file.
+    pub(crate) fn open_folder(&self) -> io::Result<DiskFile<'_>> {
+        self.answer(Call::OpenFolder)?;
+        Ok(DiskFile::of_folder(self))
+    }
+
+    /// Whether the file may be written.
+    pub(crate) fn is_tape(&self) -> bool {
+        self.kind == Kind::Tape
+    }
+
+    /// What is answered to a call, unless it succeeds.
+    pub(crate) fn answer(&self, call: Call) -> io::Result<()> {
         match self.fails.get() {
             Some((failing, 0)) if failing == call => {
                 self.fails.set(None);
+                self.failures.set(self.failures.get().saturating_add(1));
                 Err(io::Error::from(ErrorKind::Other))
             }
             Some((failing, calls)) if failing == call => {
@@ -95,8 +200,29 @@ impl FakeDisk {
         }
     }
 
+    /// Counts a change that is asked for.
+    pub(crate) fn change(&self) {
+        raise(&self.changes);
+    }
+
+    /// Hands out bytes from a place on, so many at the most, and says how many.
+    pub(crate) fn copy(&self, place: usize, most: usize, buf: &mut [u8]) -> io::Result<usize>
+        ensures { IfOk result (λ count. count ≤ length buf.new) }
+    {
+        match self.bytes.try_borrow() {
+            Ok(bytes) => {
+                let bytes = bytes.as_slice();
+                let start = place.min(bytes.len());
+                let count = most.min(buf.len()).min(bytes.len() - start);
+                buf[..count].copy_from_slice(&bytes[start..start + count]);
+                Ok(count)
+            }
+            Err(_) => Err(unsupported()),
+        }
+    }
+
     /// Puts a byte at a place, at the end at the most.
-    fn put(&self, place: usize, byte: u8) -> io::Result<()> {
+    pub(crate) fn put(&self, place: usize, byte: u8) -> io::Result<()> {
         match self.bytes.try_borrow_mut() {
             Ok(mut bytes) => {
                 if place < bytes.len() {
@@ -110,7 +236,22 @@ impl FakeDisk {
         }
     }
 
-    fn sync(&self) -> io::Result<()> {
+    /// Cuts the file, or has zeros behind what it has.
+    pub(crate) fn set_len(&self, len: usize) -> io::Result<()> {
+        match self.bytes.try_borrow_mut() {
+            Ok(mut bytes) => {
+                bytes.truncate(len);
+                for _ in bytes.len()..len {
+                    bytes.push(0)?;
+                }
+                Ok(())
+            }
+            Err(_) => Err(unsupported()),
+        }
+    }
+
+    /// Syncs the bytes and the length.
+    pub(crate) fn sync_all(&self) -> io::Result<()> {
         match (self.bytes.try_borrow(), self.synced.try_borrow_mut()) {
             (Ok(bytes), Ok(mut synced)) => {
                 synced.clear();
@@ -120,83 +261,51 @@ impl FakeDisk {
             _ => Err(unsupported()),
         }
     }
-}
 
-fn holds(held: &RefCell<Vec<u8>>, bytes: &[u8]) -> bool {
-    match held.try_borrow() {
-        Ok(held) => held.as_slice() == bytes,
-        Err(_) => false,
-    }
-}
-
-/// The file of a disk, and where it stands.
-#[derive(Clone, Copy)]
-pub struct DiskFile<'a> {
-    disk: &'a FakeDisk,
-    place: usize,
-}
-
-impl Read for DiskFile<'_> {
-    fn read(&mut self, buf: &mut [u8]) -> io::Result<usize> {
-        self.disk.answer(Call::Read)?;
-        match self.disk.bytes.try_borrow() {
-            Ok(bytes) => {
-                let bytes = bytes.as_slice();
-                let start = self.place.min(bytes.len());
-                let count = PIECE.min(buf.len()).min(bytes.len() - start);
-                buf[..count].copy_from_slice(&bytes[start..start + count]);
-                self.place = start + count;
-                Ok(count)
-            }
-            Err(_) => Err(unsupported()),
-        }
-    }
-}
-
-impl Write for DiskFile<'_> {
-    fn write(&mut self, buf: &[u8]) -> io::Result<usize> {
-        self.disk.answer(Call::Write)?;
-        let count = PIECE.min(buf.len());
-        for byte in &buf[..count] {
-            self.disk.put(self.place, *byte)?;
-            self.place = self.place.saturating_add(1);
-        }
-        Ok(count)
-    }
-
-    fn flush(&mut self) -> io::Result<()> {
-        self.disk.answer(Call::Flush)
-    }
-}
-
-impl Seek for DiskFile<'_> {
-    fn seek(&mut self, to: SeekFrom) -> io::Result<u64> {
-        self.disk.answer(Call::Seek)?;
-        match to {
-            SeekFrom::Start(place) => {
-                self.place = place as usize;
-                Ok(place)
+    /// Syncs the bytes, but not the length.
+    pub(crate) fn sync_data(&self) -> io::Result<()> {
+        match (self.bytes.try_borrow(), self.synced.try_borrow_mut()) {
+            (Ok(bytes), Ok(mut synced)) => {
+                for (kept, byte) in synced.iter_mut().zip(bytes.iter()) {
+                    *kept = *byte;
+                }
+                Ok(())
             }
             _ => Err(unsupported()),
         }
     }
+
+    /// Syncs the folder, with the name of the file.
+    pub(crate) fn sync_folder(&self) {
+        self.is_named.set(true);
+        raise(&self.folder_syncs);
+    }
 }
 
-impl OpenFile for DiskFile<'_> {
-    fn metadata(&self) -> io::Result<Metadata> {
-        Err(unsupported())
-    }
+/// These bytes, with room for more.
+fn with_room(alloc: Global, bytes: &[u8]) -> Result<Vec<u8>, AllocError> {
+    let mut all = Vec::with_capacity(alloc, ROOM)?;
+    all.extend_from_slice(bytes)?;
+    Ok(all)
+}
 
-    fn set_len(&self, _size: u64) -> io::Result<()> {
-        Err(unsupported())
-    }
+fn raise(count: &Cell<u32>) {
+    count.set(count.get().saturating_add(1));
+}
 
-    fn sync_all(&self) -> io::Result<()> {
-        self.disk.answer(Call::Sync)?;
-        self.disk.sync()
-    }
+/// Whether a file is to be read and written, with what it has, and made where there is none.
+fn goes_on(how: &OpenOptions) -> bool {
+    let asks = how.asks_read() && how.asks_write() && how.asks_create();
+    asks && !how.asks_append() && !how.asks_truncate() && !how.asks_create_new()
+}
 
-    fn sync_data(&self) -> io::Result<()> {
-        self.sync_all()
-    }
+/// Whether a file is to be read, and left as it is.
+pub(crate) fn only_reads(how: &OpenOptions) -> bool {
+    let changes = how.asks_write() || how.asks_append() || how.asks_truncate();
+    how.asks_read() && !changes && !how.asks_create() && !how.asks_create_new()
+}
+
+/// Of a call that a disk does not make.
+pub(crate) fn unsupported() -> io::Error {
+    io::Error::from(ErrorKind::Unsupported)
 }

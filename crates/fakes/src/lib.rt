@@ -1,6 +1,7 @@
 //! A disk, its files, readers and writers that tests put in place of the system's, and the texts that they share.
 #![tactic(auto)]
 
+mod disk_file;
 mod disk_files;
 mod fake_disk;
 mod fake_readers;
@@ -8,8 +9,9 @@ mod fake_writers;
 mod record;
 mod texts;
 
+pub use disk_file::DiskFile;
 pub use disk_files::DiskFiles;
-pub use fake_disk::{Call, DiskFile, FakeDisk};
+pub use fake_disk::{Call, FakeDisk};
 pub use fake_readers::Pieces;
 pub use fake_writers::{Keeper, Trouble};
 pub use record::{NotingReader, NotingWriter, Record};

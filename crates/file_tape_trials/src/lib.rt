@@ -1,6 +1,8 @@
-//! Tests of the crate file_tape: tapes in files that are read and written, fail, or are cut off.
+//! Tests of the crate file_tape: tapes in files that are read and written, fail, or are cut off; and of the disk that stands in for the system's.
 #![tactic(auto)]
 
+#[cfg(test)]
+mod disks;
 #[cfg(test)]
 mod refused_memory;
 #[cfg(test)]

@@ -40,9 +40,15 @@ pub fn opened<'d>(alloc: Global, disk: &'d FakeDisk) -> Result<FileTape<DiskFile
     Ok(FileTape::open(alloc, disk.file(), 20)?)
 }
 
-/// Whether the tape has so many bytes, and so many of its calls have failed.
-fn is_at(tape: &impl Tape, len: u32, failures: u64) -> bool {
-    tape.len() == len && tape.failures() == failures
+/// Whether the tape has so many bytes, and so many of its calls have failed, each for a call that the disk let fail.
+fn is_at(disk: &FakeDisk, tape: &impl Tape, len: u32, failures: u64) -> bool {
+    let is_counted = tape.failures() == failures && disk.failures() == failures;
+    tape.len() == len && is_counted && disk.was_used_as_expected()
+}
+
+/// Whether a disk has these bytes, and nobody tried to change them.
+pub fn is_left(disk: &FakeDisk, bytes: &[u8]) -> bool {
+    disk.has(bytes) && disk.is_untouched() && disk.was_used_as_expected()
 }
 
 #[test]
@@ -52,7 +58,7 @@ fn records_are_read_back(rt: HostRuntime) -> Result<(), Fail> {
     let mut tape = FileTape::open(rt.alloc(), disk.file(), 40)?;
     assert_eq!(rt; (tape.room(), tape.len(), tape.failures()), (40, 20, 0));
     assert!(rt; read(&mut tape, 0) == Ok(MOVING) && read(&mut tape, 10) == Ok(STANDING));
-    assert!(rt; disk.has(&bytes) && disk.keeps(&bytes));
+    assert!(rt; is_left(&disk, &bytes) && disk.keeps(&bytes));
     Ok(())
 }
 
@@ -76,7 +82,7 @@ fn tails_and_rooms(rt: HostRuntime) -> Result<(), Fail> {
         let len = FileTape::open(rt.alloc(), disk.file(), room).map(|tape| tape.len());
         assert_eq!(rt; len, opened);
         let has_record = opened.is_ok_and(|len| len >= 10);
-        assert!(rt; disk.has(&bytes) && (!has_record || disk.keeps(&bytes)));
+        assert!(rt; is_left(&disk, &bytes) && (!has_record || disk.keeps(&bytes)));
     }
     Ok(())
 }
@@ -87,7 +93,7 @@ fn file_without_a_record_is_not_synced(rt: HostRuntime) -> Result<(), Fail> {
     let disk = FakeDisk::new(rt.alloc(), &bytes)?;
     disk.fail(Call::Sync, 0);
     assert_eq!(rt; opened(rt.alloc(), &disk)?.len(), 9);
-    assert!(rt; disk.has(&bytes) && !disk.keeps(&bytes));
+    assert!(rt; is_left(&disk, &bytes) && !disk.keeps(&bytes));
     Ok(())
 }
 
@@ -104,7 +110,7 @@ fn files_that_fail_to_open(rt: HostRuntime) -> Result<(), Fail> {
         disk.fail(call, calls);
         let opened = FileTape::open(rt.alloc(), disk.file(), 20).map(|tape| tape.len());
         assert_eq!(rt; opened, Err(FileTapeFault::TapeFailed), "{call:?}");
-        assert!(rt; disk.has(&bytes));
+        assert!(rt; is_left(&disk, &bytes) && disk.failures() == 1);
     }
     Ok(())
 }
@@ -117,7 +123,7 @@ fn writes_second(
     failures: u64,
 ) -> Result<bool, Fail> {
     add(tape, &STANDING)?;
-    let is_read = is_at(tape, 20, failures) && read(tape, 10) == Ok(STANDING);
+    let is_read = is_at(disk, tape, 20, failures) && read(tape, 10) == Ok(STANDING);
     let written = bytes_of(rt, &[MOVING, STANDING], &[])?;
     Ok(is_read && disk.has(&written) && disk.keeps(&written))
 }
@@ -133,27 +139,46 @@ fn records_are_written_over_tails(rt: HostRuntime) -> Result<(), Fail> {
     Ok(())
 }
 
+/// Calls of a store that fail, each after so many of its kind.
+static FAILING: [(Call, u32); 6] = [
+    (Call::Seek, 0),
+    (Call::Write, 0),
+    (Call::Write, 1),
+    (Call::Write, 2),
+    (Call::Flush, 0),
+    (Call::Sync, 0),
+];
+
 /// Where a write fails the tape is as before, and the next one may succeed.
 #[test]
 fn writes_that_fail(rt: HostRuntime) -> Result<(), Fail> {
-    for (call, calls) in [
-        (Call::Seek, 0),
-        (Call::Write, 0),
-        (Call::Write, 1),
-        (Call::Write, 2),
-        (Call::Flush, 0),
-        (Call::Sync, 0),
-    ] {
+    for &(call, calls) in &FAILING {
         let disk = FakeDisk::new(rt.alloc(), &MOVING)?;
         let mut tape = opened(rt.alloc(), &disk)?;
         disk.fail(call, calls);
         assert_eq!(rt; add(&mut tape, &STANDING), Err(TapeError), "{call:?}");
         assert!(rt;
-            is_at(&tape, 10, 1) && read(&mut tape, 0) == Ok(MOVING),
+            is_at(&disk, &tape, 10, 1) && read(&mut tape, 0) == Ok(MOVING),
             "{call:?}"
         );
         assert!(rt; disk.keeps(&MOVING), "{call:?}");
         assert!(rt; writes_second(&rt, &disk, &mut tape, 1)?, "{call:?}");
     }
+    Ok(())
+}
+
+/// However many stores of a tape fail, it counts each.
+#[test]
+fn failed_writes_are_counted(rt: HostRuntime) -> Result<(), Fail> {
+    let disk = FakeDisk::new(rt.alloc(), &MOVING)?;
+    let mut tape = opened(rt.alloc(), &disk)?;
+    let mut failures = 0_u64;
+    for &(call, calls) in FAILING.iter().cycle().take(20) {
+        disk.fail(call, calls);
+        assert!(rt; add(&mut tape, &STANDING).is_err());
+        failures = failures.saturating_add(1);
+        assert!(rt; is_at(&disk, &tape, 10, failures), "{call:?}");
+    }
+    assert!(rt; writes_second(&rt, &disk, &mut tape, 20)?);
     Ok(())
 }

@@ -2,4 +2,12 @@
 #![tactic(auto)]
 
 #[cfg(test)]
+mod lengths;
+#[cfg(test)]
+mod many_hearings;
+#[cfg(test)]
+mod maps;
+#[cfg(test)]
 mod no_memory;
+#[cfg(test)]
+mod runners;
