@@ -1,8 +1,9 @@
 // Makes calls of the C library fail, for faults.py, in a program that is started with LD_PRELOAD.
 //
 // FAULT_CALL is which kind of call: alloc, open, read, write, sync, seek or truncate. FAULT_AT is which of them fails, counted from 1, or 0 for
-// each. FAULT_KIND is how: `error`, `on` (and so does each that follows), `none` (a write takes nothing) or `short` (one byte passes, without an error). The
-// file FAULT_MET is made when a call is met, and has the name of the call's file, or of the stream.
+// each. FAULT_KIND is how: `error`, `on` (and so does each that follows), `none` (a write takes nothing), `short` (one byte passes, without an error), or
+// `count` (none fails). The file FAULT_MET is made when a call is met, and has the name of the call's file, or of the stream; of calls that are counted it is
+// made at the program's end, and has their number.
 #define _GNU_SOURCE
 #include <errno.h>
 #include <fcntl.h>
@@ -39,10 +40,18 @@ static void leave(const char *name) {
     syscall(SYS_close, fd);
 }
 
+__attribute__((destructor)) static void end(void) {
+    char number[24];
+    if (!kind || strcmp(kind, "count")) return;
+    snprintf(number, sizeof number, "%ld", seen);
+    leave(number);
+}
+
 // Whether this call fails.
 static int fails(const char *name, const char *file) {
     if (!call || strcmp(call, name)) return 0;
     seen++;
+    if (!strcmp(kind, "count")) return 0;
     if (at && seen != at && !(seen > at && !strcmp(kind, "on"))) return 0;
     if (seen == at || !at) leave(file);
     return 1;

@@ -170,6 +170,8 @@ KINDS = {
 LONG_KINDS = {**KINDS, "alloc": ["error", "on"], "read": ["error", "on", "short"], "open": ["error", "on"]}
 # No command makes nearly so many calls of one kind on these texts.
 MOST = 2_000
+# Events of a run that is to take no memory for any of them.
+MANY_LINES = 10_000
 
 # The records that the tape of each agent comes to have, and where the agent is with as many of them.
 RECORDS = {"0": (MOVING, STANDING), "1": (OTHER_AGENT, ARRIVED_AS_OTHER)}
@@ -198,6 +200,15 @@ class Library:
         more = {"LD_PRELOAD": str(self.path), "FAULT_CALL": call, "FAULT_KIND": kind, "FAULT_AT": str(at), "FAULT_MET": str(met)}
         ended = self.harness.run([str(self.harness.program), *case.words.split()], case.given, folder, more)
         return ended, met.read_text() if met.exists() else ""
+
+
+    def count(self, words: str, folder: pathlib.Path, call: str, to: str) -> tuple[Ended, str]:
+        """Runs a command whose output goes to a file, counts its calls of a kind, and answers what it did, and how many they are."""
+        met = folder / "met"
+        met.unlink(missing_ok=True)
+        more = {"LD_PRELOAD": str(self.path), "FAULT_CALL": call, "FAULT_KIND": "count", "FAULT_AT": "0", "FAULT_MET": str(met)}
+        command = ["sh", "-c", f'exec "$0" "$@" >{to}', str(self.harness.program), *words.split()]
+        return self.harness.run(command, b"", folder, more), met.read_text() if met.exists() else ""
 
 
 def begins(whole: bytes, text: bytes) -> bool:
@@ -321,6 +332,24 @@ def completed(harness: Harness) -> tuple[Case, Outcome]:
     return Case(COMPLETED, harness.mapf(COMPLETED.split(), folder=folder)), Outcome(COMPLETED, fault)
 
 
+def growths(library: Library) -> Iterator[Outcome]:
+    """However many events a run answers that have nothing to keep, it takes memory as often as for one, wherever its output goes."""
+    harness = library.harness
+    line, reply = "start 9", b"refused NoSuchAgent\n"
+    for words in ("run M P E", "run M P E --complete"):
+        counts = set()
+        for lines_count in (1, MANY_LINES):
+            folder = harness.folder({"M": LANE.encode(), "P": BEHIND.encode(), "E": events(*[line] * lines_count).encode()})
+            for to in ("out", "/dev/null"):
+                ended, count = library.count(words, folder, "alloc", to)
+                name = f"{words}, {lines_count} events, to {to}"
+                yield compared(name, shown(["mapf", *words.split()]), (ended, count.isdigit()), (Ended(0, b"", b""), True))
+                counts.add(count)
+            written = (folder / "out").read_bytes()
+            yield compared(f"{words}, the replies to {lines_count} events", words, written[: len(reply) * lines_count] == reply * lines_count, True)
+        yield compared(f"{words}, how often memory is taken", f"{words} with one event, and with {MANY_LINES}", len(counts), 1)
+
+
 def outcomes(harness: Harness) -> Iterator[Outcome]:
     if not shutil.which("cc"):
         yield Outcome("calls of the system that fail", lacks="cc")
@@ -331,6 +360,7 @@ def outcomes(harness: Harness) -> Iterator[Outcome]:
     yield outcome
     if library.built.fault or outcome.fault:
         return
+    yield from growths(library)
     kinds = LONG_KINDS if harness.is_long else KINDS
     for call, kind in ((call, kind) for call, each in kinds.items() for kind in each):
         # Where memory stays wanting, an agent that can't hear answers other things from there on.

@@ -10,6 +10,7 @@ import tempfile
 from typing import Callable, Iterator
 
 import answers
+import beginnings
 import command_lines
 import converting
 import devices
@@ -34,6 +35,7 @@ PARTS: dict[str, tuple[str, Callable[[Harness], Iterator[Outcome]]]] = {
     "documents": ("the commands that README and docs/ show, with their answers", documents.outcomes),
     "lines": ("command lines, statuses and help", command_lines.outcomes),
     "formats": ("the texts of maps, scenarios, plans and events", formats.outcomes),
+    "beginnings": ("every beginning of texts and of messages", beginnings.outcomes),
     "limits": ("sizes up to the limits, with answers that are known by how they are made", limits.outcomes),
     "answers": ("whole commands on texts, files and tapes", answers.outcomes),
     "devices": ("files, inputs and outputs that fail", devices.outcomes),

@@ -1,0 +1,43 @@
+//! Maps, plans and events that the tests share, and what is answered.
+
+/// A row of three free cells.
+pub const LANE: &str = "type octile\nheight 1\nwidth 3\nmap\n...\n";
+
+/// Two agents that go one cell east, behind one another.
+pub const BEHIND: &str = "mapf-plan 1\nnumber 7\nagents 2\nagent 1 0 e-\nagent 0 0 e\n";
+
+/// Two agents that exchange their cells.
+pub const SWAP: &str = "mapf-plan 1\nnumber 7\nagents 2\nagent 0 0 e\nagent 1 0 w\n";
+
+/// The rows that the first plan solves.
+pub const TASKS: &str = "version 1\n0 m.map 3 1 1 0 2 0 1\n0 m.map 3 1 0 0 1 0 1\n";
+
+pub const EVENTS: &str = "mapf-events 1\nstart 0\nfinish 0\nsay 0\ndeliver 1 0\nstart 1\n";
+
+/// What the events are answered.
+pub const REPLIES: &str =
+    "moving 2 0\narrived 2 0\nsaid 0 460100000000000700000001\nheard 0 1\nmoving 1 0\n";
+
+/// The same, and how the run ends.
+pub const COMPLETED: &str =
+    "moving 2 0\narrived 2 0\nsaid 0 460100000000000700000001\nheard 0 1\nmoving 1 0\ncomplete 1\nfinish 1\n";
+
+/// What agent 0 is asked.
+pub const ASKED: &str = "start\nfinish\nsay\n";
+
+pub const ANSWERED: &str =
+    "at 1 0 done 0\nmoving 2 0\narrived 2 0\nsaid 460100000000000700000001\n";
+
+pub const AGREES: &str = "shortest 2 0 listed 2.00000000 agrees\n";
+
+pub const ACCEPTED: &str = "accepted agents 2 cost 2 makespan 1\n";
+
+pub const REJECTED: &str = "rejected Swap 0 1 0\n";
+
+pub const ACCEPTED_JSON: &str = "{\"accepted\":true,\"agents\":2,\"cost\":2,\"makespan\":1}\n";
+
+pub const REJECTED_JSON: &str = "{\"accepted\":false,\"fault\":\"Swap 0 1 0\"}\n";
+
+pub const NEEDS: &str = "agents 2 moves 2 needs 1 rotations 0\nneed 1 0 0 1\n";
+
+pub const VISITS: &str = "visit 0 0 0\nvisit 1 1 1\n";
