@@ -11,3 +11,5 @@ mod maps;
 mod no_memory;
 #[cfg(test)]
 mod runners;
+#[cfg(test)]
+mod texts;

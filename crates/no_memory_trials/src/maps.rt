@@ -1,6 +1,6 @@
 //! What maps, plans and scenarios answer by calls that take no memory, as `./test --prove` refuses each allocation of these tests in turn: at the
 //! most one in a run.
-use crate::no_memory::plan_behind;
+use crate::texts::plan_behind;
 use grid::{Cell, Counted, Map, Terrain, read_map, step4, step8};
 use plan::{CheckedPlan, FitFault, Plan, fits};
 use scen::{Scenario, read_scen};

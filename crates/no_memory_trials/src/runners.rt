@@ -1,5 +1,5 @@
 //! What a run answers by calls that take no memory, as `./test --prove` refuses each allocation of these tests in turn: at the most one in a run.
-use crate::no_memory::plan_behind;
+use crate::texts::plan_behind;
 use agent::Held;
 use depgraph::{Graph, OutOfMemory};
 use grid::Cell;
