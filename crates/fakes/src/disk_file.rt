@@ -82,6 +82,9 @@ impl Write for DiskFile<'_> {
     }
 
     fn flush(&mut self) -> io::Result<()> {
+        if !self.is_tape() {
+            return Err(self.disk.unexpected());
+        }
         self.disk.answer(Call::Flush)
     }
 }
@@ -117,12 +120,15 @@ impl OpenFile for DiskFile<'_> {
             self.disk.sync_folder();
             return Ok(());
         }
+        if !self.is_tape() {
+            return Err(self.disk.unexpected());
+        }
         self.disk.answer(Call::Sync)?;
         self.disk.sync_all()
     }
 
     fn sync_data(&self) -> io::Result<()> {
-        if self.state == State::Folder {
+        if !self.is_tape() {
             return Err(self.disk.unexpected());
         }
         self.disk.answer(Call::Sync)?;
