@@ -49,6 +49,14 @@ fn disks_of(alloc: Global) -> Result<Vec<FakeDisk>, AllocError> {
     Ok(disks)
 }
 
+/// The name of the file of a disk.
+fn name_of(number: usize) -> &'static str {
+    match TEXTS.get(number) {
+        Some((name, _)) => name,
+        None => "T",
+    }
+}
+
 /// The disks with the names of their files.
 fn named<'a>(
     alloc: Global,
@@ -56,8 +64,7 @@ fn named<'a>(
 ) -> Result<Vec<(&'a str, &'a FakeDisk)>, AllocError> {
     let mut all = Vec::new(alloc);
     for (number, disk) in disks.iter().enumerate() {
-        let name = TEXTS.get(number).map_or("T", |(name, _)| *name);
-        all.push((name, disk))?;
+        all.push((name_of(number), disk))?;
     }
     Ok(all)
 }
