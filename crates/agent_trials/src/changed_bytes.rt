@@ -154,12 +154,26 @@ fn hears(
     agent: &mut Agent<'_, MemTape>,
     bytes: &[u8],
 ) -> Result<(), Fail> {
+    let (answer, known) = expected(alloc, [0, 1, 0], bytes)?;
     agent.restart()?;
     agent.hear(&[0x46, 1, 0, 1, 0, 0, 0, 7, 0, 0, 0, 1])?;
-    let (answer, known) = expected(alloc, [0, 1, 0], bytes)?;
     assert_eq!(rt; agent.hear(bytes), answer, "at {bytes:?}");
     let found = [agent.known(0), agent.known(1), agent.known(2)];
     assert_eq!(rt; found, known.map(Some), "at {bytes:?}");
+    Ok(())
+}
+
+/// Hears every beginning of each message.
+fn hears_beginnings(
+    rt: &impl Abort,
+    alloc: Global,
+    agent: &mut Agent<'_, MemTape>,
+) -> Result<(), Fail> {
+    for message in &MESSAGES {
+        for length in 0..=message.len() {
+            hears(rt, alloc, agent, &message[..length])?;
+        }
+    }
     Ok(())
 }
 
@@ -167,9 +181,36 @@ fn hears(
 fn messages_cut_anywhere(rt: HostRuntime) -> Result<(), Fail> {
     let graph = apart(rt.alloc())?;
     let mut agent = new_agent(rt.alloc(), &graph, 0, 20)?;
+    hears_beginnings(&rt, rt.alloc(), &mut agent)
+}
+
+/// Hears a message in which the byte at a place is each other one.
+fn hears_changed(
+    rt: &impl Abort,
+    alloc: Global,
+    agent: &mut Agent<'_, MemTape>,
+    message: &[u8],
+    place: usize,
+) -> Result<(), Fail> {
+    let mut changed = message.to_vec(alloc)?;
+    for _ in 1..=u8::MAX {
+        if let Some(byte) = changed.get_mut(place) {
+            *byte = byte.wrapping_add(1);
+        }
+        hears(rt, alloc, agent, &changed)?;
+    }
+    Ok(())
+}
+
+/// Hears each message with each of its bytes changed.
+fn hears_all_changed(
+    rt: &impl Abort,
+    alloc: Global,
+    agent: &mut Agent<'_, MemTape>,
+) -> Result<(), Fail> {
     for message in &MESSAGES {
-        for length in 0..=message.len() {
-            hears(&rt, rt.alloc(), &mut agent, &message[..length])?;
+        for place in 0..message.len() {
+            hears_changed(rt, alloc, agent, message, place)?;
         }
     }
     Ok(())
@@ -179,16 +220,5 @@ fn messages_cut_anywhere(rt: HostRuntime) -> Result<(), Fail> {
 fn messages_with_another_byte(rt: HostRuntime) -> Result<(), Fail> {
     let graph = apart(rt.alloc())?;
     let mut agent = new_agent(rt.alloc(), &graph, 0, 20)?;
-    for message in &MESSAGES {
-        for place in 0..message.len() {
-            let mut changed = message.to_vec(rt.alloc())?;
-            for change in 1..=u8::MAX {
-                if let Some(byte) = changed.get_mut(place) {
-                    *byte = message[place] ^ change;
-                }
-                hears(&rt, rt.alloc(), &mut agent, &changed)?;
-            }
-        }
-    }
-    Ok(())
+    hears_all_changed(&rt, rt.alloc(), &mut agent)
 }

@@ -58,16 +58,21 @@ fn hear_all(rt: &impl Abort, agent: &mut Agent<'_, MemTape>, is_first: bool) {
     }
 }
 
+/// One move is known of each of so many agents, and there are no others.
+fn knows_all(rt: &impl Abort, agent: &Agent<'_, MemTape>) {
+    for id in 0..10_000 {
+        assert_eq!(rt; agent.known(id), Some(1), "at {id}");
+    }
+    assert_eq!(rt; agent.known(10_000), None);
+}
+
 #[test]
 fn ten_thousand_senders(rt: HostRuntime) -> Result<(), Fail> {
     let graph = wide_graph(rt.alloc(), 100)?;
     let mut agent = new_agent(rt.alloc(), &graph, 0, 20)?;
     hear_all(&rt, &mut agent, true);
     hear_all(&rt, &mut agent, false);
-    for id in 0..10_000 {
-        assert_eq!(rt; agent.known(id), Some(1));
-    }
-    assert_eq!(rt; agent.known(10_000), None);
+    knows_all(&rt, &agent);
     Ok(())
 }
 
@@ -86,55 +91,74 @@ fn telling(alloc: Global, from: u16, agents: Range<u16>) -> Result<Vec<u8>, Allo
     Ok(message)
 }
 
-/// An agent that has made its move hears of all others, twice, and tells of all.
+/// An agent makes its move, and hears of all others, twice.
+fn hears_of_all(rt: &impl Abort, agent: &mut Agent<'_, MemTape>, message: &[u8]) {
+    assert!(rt; agent.start().is_ok() && agent.finish().is_ok());
+    for _ in 0..2 {
+        assert_eq!(rt; agent.hear(message), Ok((9_999, 1)));
+    }
+    knows_all(rt, agent);
+}
+
+/// An agent that has made its move hears of all others, and tells of all.
 fn hears_and_tells_of_all(
     rt: &impl Abort,
     alloc: Global,
     graph: &Graph,
     id: u16,
     message: &[u8],
-) -> Result<Vec<u8>, Fail> {
+) -> Result<(), Fail> {
+    let due = telling(alloc, id, 0..10_000)?;
     let mut agent = new_agent(alloc, graph, id, 20)?;
-    agent.start()?;
-    agent.finish()?;
-    for _ in 0..2 {
-        assert_eq!(rt; agent.hear(message), Ok((9_999, 1)));
-    }
-    for id in 0..10_000 {
-        assert_eq!(rt; agent.known(id), Some(1));
-    }
-    let told = agent.tell()?;
-    assert!(rt; told == telling(alloc, id, 0..10_000)?);
-    Ok(told)
+    hears_of_all(rt, &mut agent, message);
+    assert!(rt; matches!(agent.tell(), Ok(told) if told == due));
+    Ok(())
 }
 
+/// What an agent at the end of the list tells of all is heard by the first one.
 #[test]
 fn ten_thousand_entries(rt: HostRuntime) -> Result<(), Fail> {
-    let graph = wide_graph(rt.alloc(), 100)?;
     let message = telling(rt.alloc(), 9_999, 0..10_000)?;
-    let told = hears_and_tells_of_all(&rt, rt.alloc(), &graph, 9_999, &message)?;
-    hears_and_tells_of_all(&rt, rt.alloc(), &graph, 0, &told)?;
+    let graph = wide_graph(rt.alloc(), 100)?;
+    for id in [9_999, 0] {
+        hears_and_tells_of_all(&rt, rt.alloc(), &graph, id, &message)?;
+    }
     Ok(())
+}
+
+/// How many entries a message has, and the last of so many.
+fn last_entry(message: &[u8]) -> Option<(u16, Option<(u16, u32)>)> {
+    match read_message(message) {
+        Ok(Message::Two(told)) => Some((told.count(), told.entry(65_534))),
+        _ => None,
+    }
+}
+
+/// An agent of fewer refuses a message of as many entries as one can have, and knows nothing by it.
+fn refuses_most(rt: &impl Abort, agent: &mut Agent<'_, MemTape>, message: &[u8], fault: HearFault) {
+    assert_eq!(rt; agent.hear(message), Err(fault));
+    assert_eq!(rt; moves_known(agent), 0);
+}
+
+/// The same message with a last byte of 0.
+fn with_last_zero(mut message: Vec<u8>) -> Vec<u8> {
+    if let Some(byte) = message.last_mut() {
+        *byte = 0;
+    }
+    message
 }
 
 /// As many entries as a message can have are read, and refused as a whole.
 #[test]
 fn most_entries(rt: HostRuntime) -> Result<(), Fail> {
+    let message = telling(rt.alloc(), 1, 0..u16::MAX)?;
+    assert_eq!(rt; last_entry(&message), Some((65_535, Some((65_534, 1)))));
     let graph = wide_graph(rt.alloc(), 10)?;
     let mut agent = new_agent(rt.alloc(), &graph, 0, 20)?;
-    let mut message = telling(rt.alloc(), 1, 0..u16::MAX)?;
-    let Message::Two(told) = read_message(&message)? else {
-        return Err("another version was read")?;
-    };
-    assert_eq!(rt; told.count(), 65_535);
-    assert_eq!(rt; told.entry(65_534), Some((65_534, 1)));
-    assert_eq!(rt; agent.hear(&message), Err(HearFault::NoSuchAgent));
-    if let Some(byte) = message.last_mut() {
-        *byte = 0;
-    }
-    let fault = MsgFault::BadEntry(65_534);
-    assert_eq!(rt; agent.hear(&message), Err(HearFault::Message(fault)));
-    assert_eq!(rt; moves_known(&agent), 0);
+    refuses_most(&rt, &mut agent, &message, HearFault::NoSuchAgent);
+    let message = with_last_zero(message);
+    let fault = HearFault::Message(MsgFault::BadEntry(65_534));
+    refuses_most(&rt, &mut agent, &message, fault);
     Ok(())
 }
 
@@ -204,13 +228,16 @@ fn hear_more(
     Ok(())
 }
 
+/// Agent 0 over an empty tape; nothing but memory is lacking.
+fn hearer(alloc: Global, graph: &Graph) -> Result<Agent<'_, MemTape>, OutOfMemory> {
+    let tape = MemTape::new(alloc, 20)?;
+    Agent::open(alloc, graph, 0, tape).map_err(|_| OutOfMemory)
+}
+
 /// What one agent of a hundred hears while memory may be refused, as `./test --prove` refuses each allocation in turn.
 fn attempt(rt: &impl Abort, alloc: Global, hears_each: bool) -> Result<(), OutOfMemory> {
     let graph = wide_graph(alloc, 1)?;
-    let tape = MemTape::new(alloc, 20).map_err(|_| OutOfMemory)?;
-    let Ok(mut agent) = Agent::open(alloc, &graph, 0, tape) else {
-        return Err(OutOfMemory);
-    };
+    let mut agent = hearer(alloc, &graph)?;
     if hears_each {
         hear_each(rt, alloc, &mut agent)
     } else {

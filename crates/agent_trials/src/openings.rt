@@ -1,10 +1,9 @@
 //! Which tapes are opened.
 use crate::texts::one_behind;
-use crate::walks::opened;
+use crate::walks::{MIDDLE, RIGHT, Row, expect, opened};
 use agent::{Agent, Held, MemTape, OpenFault, Refusal, Tape, TapeMakeFault};
 use depgraph::Graph;
 use fake_tapes::FailTape;
-use grid::Cell;
 use std::alloc::Global;
 use std::process::Abort;
 use std::test::Fail;
@@ -52,31 +51,29 @@ fn refusal_where_reads_fail(
     }
 }
 
+const OTHER_PLAN: [u8; 10] = [0x50, 1, 0, 0, 0, 8, 0, 0, 0, 0];
+
+const OTHER_AGENT: [u8; 10] = [0x50, 1, 0, 0, 0, 7, 0, 1, 0, 0];
+
+const OTHER_PLAN_AND_AGENT: [u8; 10] = [0x50, 1, 0, 0, 0, 8, 0, 1, 0, 0];
+
+/// Records, the room of the tape, and how it is refused.
+static REFUSED: [(&[[u8; 10]], u32, Option<OpenFault>); 9] = [
+    (&[STANDING], 20, Some(OpenFault::Damaged(0))),
+    (&[OTHER_PLAN], 20, Some(OpenFault::WrongPlan(0))),
+    (&[OTHER_AGENT], 20, Some(OpenFault::WrongAgent(0))),
+    (&[OTHER_PLAN_AND_AGENT], 20, Some(OpenFault::WrongPlan(0))),
+    (&[MOVING, MOVING], 20, Some(OpenFault::Damaged(1))),
+    (&[MOVING, STANDING, MOVING], 30, Some(OpenFault::TooLong)),
+    (&[MOVING], 19, Some(OpenFault::NoRoom)),
+    (&[MOVING], 20, None),
+    (&[MOVING, STANDING], 20, None),
+];
+
 #[test]
 fn refused_tapes(rt: HostRuntime) -> Result<(), Fail> {
     let graph = one_behind(rt.alloc())?;
-    let other_plan = [0x50, 1, 0, 0, 0, 8, 0, 0, 0, 0];
-    let other_agent = [0x50, 1, 0, 0, 0, 7, 0, 1, 0, 0];
-    let other_plan_and_agent = [0x50, 1, 0, 0, 0, 8, 0, 1, 0, 0];
-    for (records, room, fault) in [
-        ([STANDING].as_slice(), 20, Some(OpenFault::Damaged(0))),
-        ([other_plan].as_slice(), 20, Some(OpenFault::WrongPlan(0))),
-        ([other_agent].as_slice(), 20, Some(OpenFault::WrongAgent(0))),
-        (
-            [other_plan_and_agent].as_slice(),
-            20,
-            Some(OpenFault::WrongPlan(0)),
-        ),
-        ([MOVING, MOVING].as_slice(), 20, Some(OpenFault::Damaged(1))),
-        (
-            [MOVING, STANDING, MOVING].as_slice(),
-            30,
-            Some(OpenFault::TooLong),
-        ),
-        ([MOVING].as_slice(), 19, Some(OpenFault::NoRoom)),
-        ([MOVING].as_slice(), 20, None),
-        ([MOVING, STANDING].as_slice(), 20, None),
-    ] {
+    for &(records, room, fault) in &REFUSED {
         assert_eq!(rt; refusal(&rt, rt.alloc(), &graph, records, room)?, fault);
     }
     Ok(())
@@ -91,16 +88,18 @@ fn no_such_agent(rt: HostRuntime) -> Result<(), Fail> {
     Ok(())
 }
 
+static BEHIND_A_TAIL: [Row; 3] = [
+    Row::Held(Held::At(MIDDLE)),
+    Row::Done(0),
+    Row::Start(Ok(RIGHT)),
+];
+
 #[test]
 fn a_tail_counts_as_nothing(rt: HostRuntime) -> Result<(), Fail> {
     let graph = one_behind(rt.alloc())?;
     let tape = MemTape::from_bytes(rt.alloc(), &MOVING[..9], 20)?;
     let mut agent = opened(rt.alloc(), &graph, 0, tape)?;
-    assert_eq!(rt;
-        (agent.held(), agent.done()),
-        (Held::At(Cell { x: 1, y: 0 }), 0)
-    );
-    assert_eq!(rt; agent.start(), Ok(Cell { x: 2, y: 0 }));
+    expect(&rt, &mut agent, &BEHIND_A_TAIL);
     assert_eq!(rt; agent.into_tape().bytes(), MOVING.as_slice());
     Ok(())
 }
@@ -108,10 +107,9 @@ fn a_tail_counts_as_nothing(rt: HostRuntime) -> Result<(), Fail> {
 #[test]
 fn failing_reads(rt: HostRuntime) -> Result<(), Fail> {
     let graph = one_behind(rt.alloc())?;
-    let other_plan = [0x50, 1, 0, 0, 0, 8, 0, 0, 0, 0];
     for (first, fault) in [
         (MOVING, OpenFault::TapeFailed),
-        (other_plan, OpenFault::WrongPlan(0)),
+        (OTHER_PLAN, OpenFault::WrongPlan(0)),
     ] {
         for failures in [0, u64::MAX] {
             let found = refusal_where_reads_fail(

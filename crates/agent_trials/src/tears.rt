@@ -85,20 +85,19 @@ fn both_move(
     Ok(front == Held::At(Cell { x: 2, y: 0 }) && back == Held::At(Cell { x: 1, y: 0 }))
 }
 
+/// Whether both make their moves where a write of the one or of the other is torn.
+fn both_move_torn(alloc: Global, graph: &Graph, tear: (u32, u8)) -> Result<bool, Fail> {
+    let is_front = both_move(alloc, graph, Some(tear), None)?;
+    Ok(is_front && both_move(alloc, graph, None, Some(tear))?)
+}
+
 #[test]
 fn each_write_is_torn(rt: HostRuntime) -> Result<(), Fail> {
     let graph = one_behind(rt.alloc())?;
     for stored in 0..11 {
         for write in 0..2 {
-            let tear = Some((write, stored));
-            assert!(rt;
-                both_move(rt.alloc(), &graph, tear, None)?,
-                "front: {tear:?}"
-            );
-            assert!(rt;
-                both_move(rt.alloc(), &graph, None, tear)?,
-                "back: {tear:?}"
-            );
+            let are_moved = both_move_torn(rt.alloc(), &graph, (write, stored))?;
+            assert!(rt; are_moved, "write {write} after {stored} bytes");
         }
     }
     Ok(())

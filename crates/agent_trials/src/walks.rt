@@ -61,7 +61,8 @@ fn answers<T: Tape>(agent: &mut Agent<'_, T>, row: Row) -> bool {
     }
 }
 
-fn tells<T: Tape>(agent: &Agent<'_, T>, answer: Result<&[u8], TellFault>) -> bool {
+/// Whether an agent tells so.
+pub fn tells<T: Tape>(agent: &Agent<'_, T>, answer: Result<&[u8], TellFault>) -> bool {
     match agent.tell() {
         Ok(message) => answer == Ok(message.as_slice()),
         Err(fault) => answer == Err(fault),
@@ -76,7 +77,7 @@ pub fn expect<T: Tape>(rt: &impl Abort, agent: &mut Agent<'_, T>, rows: &[Row]) 
 }
 
 /// Asks one agent after another, agent 0 or 1.
-pub fn expect_all<T: Tape>(
+fn expect_all<T: Tape>(
     rt: &impl Abort,
     first: &mut Agent<'_, T>,
     second: &mut Agent<'_, T>,
@@ -120,22 +121,34 @@ static ONE_BEHIND_ANOTHER: [(u16, Row); 15] = [
 ];
 
 /// What was heard is forgotten then, and what is stored is not.
-static OPENED_AGAIN: [(u16, Row); 5] = [
-    (1, Row::Held(Held::Between(LEFT, MIDDLE))),
-    (1, Row::Done(0)),
-    (1, Row::Known(0, Some(0))),
-    (1, Row::Finish(Ok(MIDDLE))),
-    (1, Row::Done(1)),
+static OPENED_AGAIN: [Row; 5] = [
+    Row::Held(Held::Between(LEFT, MIDDLE)),
+    Row::Done(0),
+    Row::Known(0, Some(0)),
+    Row::Finish(Ok(MIDDLE)),
+    Row::Done(1),
 ];
+
+/// Asks agents 0 and 1 over new tapes of these rooms, and hands out the tape of agent 1.
+pub fn tape_of_second(
+    rt: &impl Abort,
+    alloc: Global,
+    graph: &Graph,
+    rooms: (u32, u32),
+    rows: &[(u16, Row)],
+) -> Result<MemTape, Fail> {
+    let mut first = new_agent(alloc, graph, 0, rooms.0)?;
+    let mut second = new_agent(alloc, graph, 1, rooms.1)?;
+    expect_all(rt, &mut first, &mut second, rows);
+    Ok(second.into_tape())
+}
 
 #[test]
 fn one_behind_another(rt: HostRuntime) -> Result<(), Fail> {
     let graph = one_behind(rt.alloc())?;
-    let mut front = new_agent(rt.alloc(), &graph, 0, 20)?;
-    let mut back = new_agent(rt.alloc(), &graph, 1, 20)?;
-    expect_all(&rt, &mut front, &mut back, &ONE_BEHIND_ANOTHER);
-    let mut back = opened(rt.alloc(), &graph, 1, back.into_tape())?;
-    expect_all(&rt, &mut front, &mut back, &OPENED_AGAIN);
+    let tape = tape_of_second(&rt, rt.alloc(), &graph, (20, 20), &ONE_BEHIND_ANOTHER)?;
+    let mut back = opened(rt.alloc(), &graph, 1, tape)?;
+    expect(&rt, &mut back, &OPENED_AGAIN);
     Ok(())
 }
 
@@ -155,9 +168,7 @@ static OUT_OF_ORDER: [(u16, Row); 10] = [
 #[test]
 fn messages_out_of_order(rt: HostRuntime) -> Result<(), Fail> {
     let graph = graph_of(rt.alloc(), ROW, "agents 2\nagent 1 0 ew\nagent 0 0 =\n")?;
-    let mut goer = new_agent(rt.alloc(), &graph, 0, 40)?;
-    let mut stayer = new_agent(rt.alloc(), &graph, 1, 0)?;
-    expect_all(&rt, &mut goer, &mut stayer, &OUT_OF_ORDER);
+    tape_of_second(&rt, rt.alloc(), &graph, (40, 0), &OUT_OF_ORDER)?;
     Ok(())
 }
 
@@ -233,13 +244,26 @@ fn begins_again(
     Ok(agent.into_tape().into_tape())
 }
 
+/// After how many bytes a start is torn, and what the agent holds then.
+static TORN: [(u8, Held); 2] = [(9, Held::At(MIDDLE)), (10, Held::Between(MIDDLE, RIGHT))];
+
+/// The tape after a start that was torn and begun again.
+fn begun_again(
+    rt: &impl Abort,
+    alloc: Global,
+    graph: &Graph,
+    (stored, held): (u8, Held),
+) -> Result<MemTape, Fail> {
+    let tape = torn_start(rt, alloc, graph, stored, held)?;
+    assert_eq!(rt; tape.failures(), 1);
+    begins_again(rt, alloc, graph, tape, held)
+}
+
 #[test]
 fn a_torn_start(rt: HostRuntime) -> Result<(), Fail> {
     let graph = one_behind(rt.alloc())?;
-    for (stored, held) in [(9, Held::At(MIDDLE)), (10, Held::Between(MIDDLE, RIGHT))] {
-        let tape = torn_start(&rt, rt.alloc(), &graph, stored, held)?;
-        assert_eq!(rt; tape.failures(), 1);
-        let tape = begins_again(&rt, rt.alloc(), &graph, tape, held)?;
+    for &torn in &TORN {
+        let tape = begun_again(&rt, rt.alloc(), &graph, torn)?;
         assert_eq!(rt; tape.bytes(), [0x50, 1, 0, 0, 0, 7, 0, 0, 0, 0].as_slice());
     }
     Ok(())
