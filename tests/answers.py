@@ -202,6 +202,45 @@ VISITS = [
     (LANE, NOBODY, {"0 0": "", "3 0": ""}),
 ]
 
+# Where agents are: the map, the plan, the words behind them, and the lines.
+PATHS = [
+    (LANE, BEHIND, "", "0 1 0 0 0\n1 2 0 1 0\n2 2 0 1 0\n"),
+    (LANE, BEHIND, " --agent 0", "0 1 0\n1 2 0\n2 2 0\n"),
+    (LANE, BEHIND, " --agent 1", "0 0 0\n1 1 0\n"),
+    (LANE, NOBODY, "", ""),
+    # Agents that meet, exchange cells, stay, and come back.
+    (LANE, VERTEX, "", "0 0 0 2 0\n1 0 0 1 0\n2 0 0 0 0\n"),
+    (LANE, SWAP, "", "0 0 0 1 0\n1 1 0 0 0\n"),
+    (LANE, plan("1 0 =", "1 0 ="), "", "0 1 0 1 0\n"),
+    (LANE, BACK, "", "0 1 0 0 0\n1 2 0 0 0\n2 1 0 0 0\n"),
+    (SQUARE, TURN, "", "0 0 0 1 0 1 1 0 1\n1 1 0 1 1 0 1 0 0\n"),
+    (SQUARE, plan("0 1 n-es"), "", "0 0 1\n1 0 0\n2 0 0\n3 1 0\n4 1 1\n"),
+    (SQUARE, plan("0 0 =", "1 1 wn-"), " --agent 0", "0 0 0\n"),
+    # Land, grass and swamp join, and water joins water.
+    ("type octile\nheight 2\nwidth 3\nmap\n.GS\nWW@\n", plan("0 0 eew", "0 1 e"), "", "0 0 0 0 1\n1 1 0 1 1\n2 2 0 1 1\n3 1 0 1 1\n"),
+]
+# What is wrong with single agents: the map, the plan, and the least of it.
+PATH_FAULTS = [
+    (LANE, plan("3 0 ="), "BadStart 0"),
+    (LANE, plan("0 1 ="), "BadStart 0"),
+    (LANE, plan("65535 65535 ="), "BadStart 0"),
+    (WALL, plan("0 0 =", "1 0 ="), "BadStart 1"),
+    (LANE, plan("0 0 w", "3 0 e"), "BadStart 1"),
+    (LANE, plan("0 0 w"), "BadMove 0 0"),
+    (LANE, plan("0 0 n"), "BadMove 0 0"),
+    (LANE, plan("0 0 -s"), "BadMove 0 1"),
+    (LANE, plan("0 0 eee"), "BadMove 0 2"),
+    (WALL, plan("0 0 -e"), "BadMove 0 1"),
+    (LANE, plan("0 0 eee", "1 0 ee"), "BadMove 1 1"),
+    (LANE, plan("0 0 -w", "1 0 ee", "2 0 -n"), "BadMove 0 1"),
+    (LANE, plan("1 0 ee", "1 0 ee"), "BadMove 0 1"),
+    # Where agents meet before it, or exchange cells, and where a later one is worse.
+    (LANE, plan("0 0 e-n", "1 0 w-"), "BadMove 0 2"),
+    (LANE, plan("0 0 --n", "0 0 -----"), "BadMove 0 2"),
+    ("type octile\nheight 1\nwidth 3\nmap\n.W.\n", plan("1 0 e"), "BadMove 0 0"),
+    ("type octile\nheight 1\nwidth 3\nmap\n.SW\n", plan("0 0 ee"), "BadMove 0 1"),
+]
+
 ASKING = ["start 1", "start 0", "finish 0", "start 1"]
 ASKED = ["refused Waits 0 1", "moving 2 0", "arrived 2 0", "refused Waits 0 1"]
 HEARD = ["said 0 460100000000000700000001", "heard 0 1"]
@@ -552,7 +591,7 @@ def of_checks(harness: Harness) -> Iterator[Outcome]:
         files = {"M": LANE, "P": BEHIND, "S": text}
         yield asked(harness, "check M P --scen S", files, answer(status, due))
     for map_text, text, fault in TEXT_FAULTS:
-        for words in ("check M P", "check M P --json", "check M P --scen S", "deps M P", "deps M P --cell 0 0", *RUNNING):
+        for words in ("check M P", "check M P --json", "check M P --scen S", "deps M P", "deps M P --cell 0 0", "path M P", "path M P --agent 9", *RUNNING):
             yield asked(harness, words, {"M": map_text, "P": text, "S": TASKS, "E": "no events"}, answer(1, fault))
 
 
@@ -562,6 +601,13 @@ def of_graphs_and_runs(harness: Harness) -> Iterator[Outcome]:
     for map_text, text, cells in VISITS:
         for cell, due in cells.items():
             yield asked(harness, f"deps M P --cell {cell}", {"M": map_text, "P": text}, answer(0, due))
+    for map_text, text, words, due in PATHS:
+        yield asked(harness, f"path M P{words}", {"M": map_text, "P": text}, answer(0, due))
+    for map_text, text, fault in PATH_FAULTS:
+        for words in ("", " --agent 0", " --agent 65535"):
+            yield asked(harness, f"path M P{words}", {"M": map_text, "P": text}, answer(1, fault))
+    for text, count in ((NOBODY, 0), (BEHIND, 2), (SWAP, 2)):
+        yield asked(harness, f"path M P --agent {count}", {"M": LANE, "P": text}, answer(1, "NoSuchAgent"))
     for text, fault in PLAN_FAULTS:
         for words in ("deps M P", "deps M P --cell 0 0", *RUNNING):
             yield asked(harness, words, {"M": LANE, "P": text, "E": "no events"}, answer(1, fault))

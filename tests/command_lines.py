@@ -21,6 +21,8 @@ JSON = '{"accepted":true,"agents":2,"cost":2,"makespan":1}\n'
 COMPLETE = "refused NoSuchAgent\ncomplete 0\n"
 NEEDS = "agents 2 moves 2 needs 1 rotations 0\nneed 1 0 0 1\n"
 VISITS = "visit 0 0 0\nvisit 1 1 1\n"
+ROWS = "0 1 0 0 0\n1 2 0 1 0\n2 2 0 1 0\n"
+ROW_OF_1 = "0 0 0\n1 1 0\n"
 
 # Words that are a command, and what it writes. After `--` each word is a word, and none an option.
 COMMANDS = [
@@ -65,6 +67,17 @@ COMMANDS = [
     ("deps M P --cell 2 0", "visit 0 1 1\n"),
     ("deps M P --cell 0 2", ""),
     ("deps M P --cell 65535 65535", ""),
+    ("path M P", ROWS),
+    ("path M -- --json", ROWS),
+    ("path -- -h P", ROWS),
+    ("path M P --agent 1", ROW_OF_1),
+    ("path M --agent 1 P", ROW_OF_1),
+    ("path --agent 1 M P", ROW_OF_1),
+    ("path --agent=1 M P", ROW_OF_1),
+    ("path --agent 1 -- M P", ROW_OF_1),
+    ("path M P --agent 000000000000000001", ROW_OF_1),
+    ("path M P --agent=0", "0 1 0\n1 2 0\n2 2 0\n"),
+    ("path M O", ""),
     ("run M P E", "moving 2 0\n"),
     ("run M P -", "moving 2 0\n"),
     ("run -- -h --json -", "moving 2 0\n"),
@@ -99,6 +112,13 @@ OTHER_FILES = [
     ("check M P --scen M", 1, "NoVersion"),
     ("deps P M", 1, "BadHeader 1"),
     ("deps P M --cell 1 0", 1, "BadHeader 1"),
+    ("path P M", 1, "BadHeader 1"),
+    ("path M P --agent 2", 1, "NoSuchAgent"),
+    ("path M O --agent 0", 1, "NoSuchAgent"),
+    ("path M P --agent 9999", 1, "NoSuchAgent"),
+    ("path M P --agent 10000", 1, "NoSuchAgent"),
+    ("path M P --agent 65535", 1, "NoSuchAgent"),
+    ("path P M --agent 2", 1, "BadHeader 1"),
     ("run P M E", 1, "BadHeader 1"),
     ("run M E P", 1, "BadHeader 1"),
     ("run M P P", 1, "NoHeader"),
@@ -123,6 +143,9 @@ OTHER_FILES = [
     ("deps M N", 3, "OpenFailed"),
     ("deps N P --cell 1 0", 3, "OpenFailed"),
     ("deps M N --cell 1 0", 3, "OpenFailed"),
+    ("path N P", 3, "OpenFailed"),
+    ("path M N", 3, "OpenFailed"),
+    ("path M N --agent 0", 3, "OpenFailed"),
     ("run N P E", 3, "OpenFailed"),
     ("run M N E", 3, "OpenFailed"),
     ("run S S N", 3, "OpenFailed"),
@@ -202,6 +225,26 @@ BAD = [
     ("deps M P --cell 1,0 0", "--cell", "two numbers from 0 to 65535"),
     ("deps M P --cell 1 \u0661", "--cell", "two numbers from 0 to 65535"),
     ("check M P --cell 1 0", "'--cell'", "Usage: mapf check"),
+    ("path", "<map>", "Usage: mapf path <map> <plan>"),
+    ("path M", "<plan>", "Usage: mapf path <map> <plan>"),
+    ("path M P X", "'X'", "Usage: mapf path [OPTIONS] <map> <plan>"),
+    ("path M P 0", "'0'", "Usage: mapf path [OPTIONS] <map> <plan>"),
+    ("path M P --cell 1 0", "'--cell'", "Usage: mapf path"),
+    ("path M P --agent", "'--agent <agent>'", "--help"),
+    ("path --agent M P", "<plan>", "Usage: mapf path"),
+    ("path M P --agent 0 1", "'1'", "Usage: mapf path"),
+    ("path M P --agent 0 --agent 0", "--agent", "Usage: mapf path"),
+    ("path M P --agent -1", "'-1'", "--help"),
+    ("path M P --agent 65536", "--agent", "from 0 to 65535"),
+    ("path M P --agent 131072", "--agent", "from 0 to 65535"),
+    ("path M P --agent 4294967296", "--agent", "from 0 to 65535"),
+    ("path M P --agent +1", "--agent", "from 0 to 65535"),
+    ("path M P --agent 1x", "--agent", "from 0 to 65535"),
+    ("path M P --agent 1.0", "--agent", "from 0 to 65535"),
+    ("path M P --agent \u0661", "--agent", "from 0 to 65535"),
+    ("path M P -a 0", "-a", "Usage: mapf path"),
+    ("deps M P --agent 0", "'--agent'", "Usage: mapf deps"),
+    ("agent M P 0 T --agent 0", "'--agent'", "Usage: mapf agent"),
     ("run", "<map>", "Usage: mapf run"),
     ("run M", "<plan>", "Usage: mapf run"),
     ("run M P", "<events>", "Usage: mapf run"),
@@ -237,7 +280,7 @@ def refusal(why: str, usage: str = "") -> bytes:
 
 # What is told in full.
 WHOLE = {
-    "": refusal("'mapf' requires a subcommand but one was not provided\n  [subcommands: map, scen, row, check, deps, run, agent, help]", "<COMMAND>"),
+    "": refusal("'mapf' requires a subcommand but one was not provided\n  [subcommands: map, scen, row, check, deps, path, run, agent, help]", "<COMMAND>"),
     "nope": refusal("unrecognized subcommand 'nope'", "<COMMAND>"),
     "chek": refusal("unrecognized subcommand 'chek'\n\n  tip: a similar subcommand exists: 'check'", "<COMMAND>"),
     "help chek": refusal("unrecognized subcommand 'chek'", "<COMMAND>"),
@@ -250,6 +293,9 @@ WHOLE = {
     "deps M P --cell 1": refusal("2 values required for '--cell <X> <Y>' but 1 was provided", "deps [OPTIONS] <map> <plan>"),
     "deps M P --cell 1 x": refusal(
         "invalid value for '--cell <X> <Y>': two numbers from 0 to 65535 are wanted, in digits alone", "deps [OPTIONS] <map> <plan>"
+    ),
+    "path M P --agent 1x": refusal(
+        "invalid value for '--agent <agent>': the number of an agent, from 0 to 65535, is wanted, in digits alone", "path [OPTIONS] <map> <plan>"
     ),
     "agent M P 65536 T": refusal(
         "invalid value '65536' for '<id>': the number of an agent, from 0 to 65535, is wanted, in digits alone", "agent <map> <plan> <id> <tape>"
@@ -265,6 +311,8 @@ ODD = [
     ["deps", "M", "P", "--cell", "", "0"],
     ["deps", "M", "P", "--cell", "1", " 0"],
     ["deps", "M", "P", "--cell", "1 0"],
+    ["path", "M", "P", "--agent", ""],
+    ["path", "M", "P", "--agent", " 0"],
     ["agent", "M", "P", "", "T"],
     ["agent", "M", "P", "0 ", "T"],
     [" map", "M"],
@@ -343,6 +391,7 @@ def names(harness: Harness) -> Iterator[Outcome]:
         (["row", "map ", "\tscen ", "2"], "shortest 2 0 listed 2 agrees\n"),
         (["check", "map ", "plan\n", "--scen", "\tscen "], ACCEPTED),
         (["deps", "map ", "plan\n"], NEEDS),
+        (["path", "map ", "plan\n"], ROWS),
         (["run", "map ", "plan\n", " events"], "moving 2 0\n"),
     ):
         yield called(words, files, due)

@@ -11,6 +11,7 @@ Commands:
   row    Judges the length that a scenario lists for one of its rows
   check  Checks a plan on a map, and perhaps that it solves a scenario
   deps   Checks a plan on a map, and says which move waits for which
+  path   Walks a plan on a map, and says where its agents are at each time
   run    Checks a plan on a map, and answers the events of a run of it
   agent  Checks a plan on a map, and answers for one of its agents
   help   Print this message or the help of the given subcommand(s)
@@ -162,6 +163,35 @@ Status:
 
 Example:
   mapf deps examples/turn.map examples/turn.plan
+""",
+    "path": """\
+Walks a plan on a map, and says where its agents are at each time
+
+Usage: mapf path [OPTIONS] <map> <plan>
+
+Arguments:
+  <map>   The file of the map
+  <plan>  The file of the plan
+
+Options:
+      --agent <agent>  The number of the one agent to write, from 0
+  -h, --help           Print help
+
+Standard output is a line for each time, from 0 to the most acts of an agent:
+  T X Y X Y ..   at time T agent 0 is in the first cell, agent 1 in the second,
+                 and so on; an agent that has no more acts stays where it is
+Agents may meet: `mapf check` says where they do. With --agent it is one agent
+alone, up to its own last act.
+
+Status:
+  0  the lines are written
+  1  a text has a fault, an agent has a bad start or a bad move, or there is no
+     such agent: one line on standard error, as `mapf: BadMove 0 3`
+  2  a bad command line
+  3  a file can't be opened, a device failed, or memory was refused
+
+Example:
+  mapf path examples/plain.map examples/behind.plan
 """,
     "run": """\
 Checks a plan on a map, and answers the events of a run of it

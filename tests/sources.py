@@ -41,6 +41,7 @@ MADE = {
     "grid/map_fault.rt: From<AllocError> for MapFault: from": NAMED_ANEW,
     "mapf/main.rt: fault_of": "tells why the system didn't give the words of the command line",
     "mapf_cmd/program.rt: refuse": "tells that there was no memory for a command line",
+    "path_commands/path_command.rt: show": "was given an answer that there was no room for where agents are",
     "plan/checker.rt: check": "gives the plan back beside the want",
     "plan_commands/check_command.rt: refuse": NO_TEXT,
     "plan_commands/check_command.rt: tell": NO_TEXT,

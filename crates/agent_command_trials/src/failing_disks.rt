@@ -100,6 +100,7 @@ fn found(rt: &impl Abort, alloc: Global, disk: &FakeDisk) -> Option<usize> {
     let (mut out, mut err) = (Keeper::of_size(256), Keeper::of_size(256));
     let status = answer(alloc, disk, (LANE, BEHIND), 0, b"", &mut out, &mut err);
     assert!(rt; status == 0 && err.kept() == b"".as_slice());
+    assert!(rt; disk.was_used_as_expected());
     STATES
         .iter()
         .position(|state| state.as_bytes() == out.kept())

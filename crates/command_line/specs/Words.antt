@@ -9,7 +9,7 @@ use Rattle.clap.specs.declared.builder.action.ArgAction.TheVariants.{SetTrue}
 use Rattle.clap.specs.declared.error.kind.ErrorKind.{ErrorKind}
 use Rattle.clap.specs.declared.error.kind.ErrorKind.TheVariants as kind
 use Rattle.command_line.specs.declared.command_line.Line.{Line}
-use Rattle.command_line.specs.declared.command_line.Line.TheVariants.{Map, Scen, Row as row_line, Check, Deps, Run, Agent}
+use Rattle.command_line.specs.declared.command_line.Line.TheVariants.{Map, Scen, Row as row_line, Check, Deps, Path, Run, Agent}
 use Rattle.command_line.specs.declared.command_line.LineFault.{LineFault}
 use Rattle.command_line.specs.declared.command_line.LineFault.TheVariants.{Help, BadCommand, OutOfMemory}
 
@@ -70,6 +70,15 @@ deps_command = record {
   flags = [];
 }
 
+abbrev pub path_command : Usage
+path_command = record {
+  name = codes "path";
+  required = codes "map" ∷ codes "plan" ∷ [];
+  options = codes "agent" ∷ [];
+  cells = [];
+  flags = [];
+}
+
 abbrev pub run_command : Usage
 run_command = record {
   name = codes "run";
@@ -90,7 +99,7 @@ agent_command = record {
 
 -- all commands
 abbrev pub commands : List Usage
-commands = map_command ∷ scen_command ∷ row_command ∷ check_command ∷ deps_command ∷ run_command ∷ agent_command ∷ []
+commands = map_command ∷ scen_command ∷ row_command ∷ check_command ∷ deps_command ∷ path_command ∷ run_command ∷ agent_command ∷ []
 
 -- one required word
 abbrev pub required_word : Text → Rule
@@ -132,6 +141,16 @@ GivesNumber word rows n = (digits : Text) × (first_of word rows ≡ Some digits
 abbrev pub GivesNumberBelow : ℕ → Text → List Row → Type 0
 GivesNumberBelow limit word rows = (n : ℕ) × (n < limit) × GivesNumber word rows n
 
+-- the rows give this option a number, or it is left out
+abbrev pub MayGiveNumber : Text → List Row → Option ℕ → Type 0
+MayGiveNumber option rows None = first_of option rows ≡ None
+MayGiveNumber option rows (Some n) = GivesNumber option rows n
+
+-- where the rows give this option a value, it spells a number below the limit
+abbrev pub GivesNumbers : ℕ → Text → List Row → Type 0
+GivesNumbers limit option rows =
+    (digits : Text) → first_of option rows ≡ Some digits → (n : ℕ) × (n < limit) × SpellsNumber n digits
+
 -- the values are two, digits alone, and spell the column and the row of the cell
 abbrev pub SpellsCell : Cell → List Text → Type 0
 SpellsCell cell values = (x : Text) × (y : Text) × (values ≡ x ∷ y ∷ []) × SpellsNumber cell.x x × SpellsNumber cell.y y
@@ -147,11 +166,11 @@ GivesCells option rows =
     (values : List Text) → all_of option rows ≡ Some values → (cell : Cell) × (cell.x < 2 ^ 16) × (cell.y < 2 ^ 16) × SpellsCell cell values
 
 -- the numbers that the command with this name wants, if it wants some, are spelled: that of a row below 2^32, that of an agent below 2^16,
--- and those of a cell where one is given
+-- and those of a cell, or of one agent, where one is given
 abbrev pub HasNumbers : Text → List Row → Type 0
 HasNumbers name rows =
     (name ≡ codes "row" → GivesNumberBelow (2 ^ 32) (codes "row") rows) × (name ≡ codes "agent" → GivesNumberBelow (2 ^ 16) (codes "id") rows)
-    × (name ≡ codes "deps" → GivesCells (codes "cell") rows)
+    × (name ≡ codes "deps" → GivesCells (codes "cell") rows) × (name ≡ codes "path" → GivesNumbers (2 ^ 16) (codes "agent") rows)
 
 -- the same of the words of the command line
 abbrev pub GiveNumbers : List Text → Type 0
@@ -175,6 +194,9 @@ IsCommand name rows (Check map_file plan_file scen_file json) =
 IsCommand name rows (Deps map_file plan_file cell) =
     (name ≡ codes "deps") × (first_of (codes "map") rows ≡ Some (string_bytes map_file))
     × (first_of (codes "plan") rows ≡ Some (string_bytes plan_file)) × MayGiveCell (codes "cell") rows cell
+IsCommand name rows (Path map_file plan_file agent) =
+    (name ≡ codes "path") × (first_of (codes "map") rows ≡ Some (string_bytes map_file))
+    × (first_of (codes "plan") rows ≡ Some (string_bytes plan_file)) × MayGiveNumber (codes "agent") rows agent
 IsCommand name rows (Run map_file plan_file events_file complete) =
     (name ≡ codes "run") × (first_of (codes "map") rows ≡ Some (string_bytes map_file))
     × (first_of (codes "plan") rows ≡ Some (string_bytes plan_file)) × (first_of (codes "events") rows ≡ Some (string_bytes events_file))

@@ -39,6 +39,12 @@ pub enum Line {
         plan: String,
         cell: Option<Cell>,
     },
+    /// Writes where the agents of a plan are at each time, or where one of them is.
+    Path {
+        map: String,
+        plan: String,
+        agent: Option<u16>,
+    },
     /// Runs a plan on the events of a text; `complete` asks for how the run ends too.
     Run {
         map: String,

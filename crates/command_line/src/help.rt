@@ -149,6 +149,32 @@ Example:
     ],
 };
 
+pub(crate) const PATH: CommandText<'static> = CommandText {
+    name: "path",
+    about: "Walks a plan on a map, and says where its agents are at each time",
+    after_help: "\
+Standard output is a line for each time, from 0 to the most acts of an agent:
+  T X Y X Y ..   at time T agent 0 is in the first cell, agent 1 in the second,
+                 and so on; an agent that has no more acts stays where it is
+Agents may meet: `mapf check` says where they do. With --agent it is one agent
+alone, up to its own last act.
+
+Status:
+  0  the lines are written
+  1  a text has a fault, an agent has a bad start or a bad move, or there is no
+     such agent: one line on standard error, as `mapf: BadMove 0 3`
+  2  a bad command line
+  3  a file can't be opened, a device failed, or memory was refused
+
+Example:
+  mapf path examples/plain.map examples/behind.plan",
+    words: &[
+        Required("map", "The file of the map"),
+        Required("plan", "The file of the plan"),
+        Named("agent", "The number of the one agent to write, from 0"),
+    ],
+};
+
 pub(crate) const RUN: CommandText<'static> = CommandText {
     name: "run",
     about: "Checks a plan on a map, and answers the events of a run of it",
@@ -231,6 +257,15 @@ pub(crate) const AGENT_ID: NumberText = NumberText {
     wanted: "the number of an agent, from 0 to 65535, is wanted",
     usage: "mapf agent <map> <plan> <id> <tape>",
 };
+
+/// What is said of a word that is no number of an agent.
+pub(crate) const NO_AGENT_NUMBER: &str =
+    "error: invalid value for '--agent <agent>': the number of an agent, from 0 to 65535, is wanted, in digits alone
+
+Usage: mapf path [OPTIONS] <map> <plan>
+
+For more information, try '--help'.
+";
 
 /// What is said of words that are no cell.
 pub(crate) const NO_CELL: &str =

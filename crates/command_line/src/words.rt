@@ -5,7 +5,7 @@ ghost use Rattle.std.specs.List.{list_all};
 ghost use Rattle.clap.specs.Words.{app_of, with_subcommand, first_of, found_of, rows_of, rule_of, takes, fault_of};
 ghost use Rattle.grid.specs.declared.cell.Cell.{Cell};
 ghost use Rattle.grid.specs.Text.{SpellsNumber};
-ghost use Rattle.command_line.specs.Words.{program_app, IsFlagGiven, HasNumbers, GivesNumber, GivesNumberBelow, GiveNumbers, SpellsCell, MayGiveCell, GivesCells, IsCommand, IsLineOf, IsFaultOf};
+ghost use Rattle.command_line.specs.Words.{program_app, IsFlagGiven, HasNumbers, GivesNumber, GivesNumberBelow, GiveNumbers, SpellsCell, MayGiveCell, GivesCells, MayGiveNumber, GivesNumbers, IsCommand, IsLineOf, IsFaultOf};
 ghost use Rattle.command_line.specs.Code.Parts.{HasWords, IsRefusal, rule_of_word, shape_of_text};
 
 use crate::command_line::refused;
@@ -48,6 +48,7 @@ fn program<'a>(alloc: Global) -> Result<Command<'a>, AllocError>
     let program = with_command(alloc, program, &help::ROW)?;
     let program = with_command(alloc, program, &help::CHECK)?;
     let program = with_command(alloc, program, &help::DEPS)?;
+    let program = with_command(alloc, program, &help::PATH)?;
     let program = with_command(alloc, program, &help::RUN)?;
     with_command(alloc, program, &help::AGENT)
 }
@@ -110,6 +111,7 @@ fn read_command(alloc: Global, name: &str, given: &ArgMatches<'_>) -> Result<Lin
         }),
         "check" => read_check(alloc, given),
         "deps" => read_deps(alloc, given),
+        "path" => read_path(alloc, given),
         "run" => read_run(alloc, given),
         "agent" => read_agent(alloc, given),
         _ => Err(no_command(alloc)),
@@ -141,6 +143,20 @@ fn read_deps(alloc: Global, given: &ArgMatches<'_>) -> Result<Line, LineFault>
         map: word(alloc, given, "map")?,
         plan: word(alloc, given, "plan")?,
         cell: optional_cell(alloc, given)?,
+    })
+}
+
+/// Reads `path` by the words that it was given.
+fn read_path(alloc: Global, given: &ArgMatches<'_>) -> Result<Line, LineFault>
+    ensures ok { IfOk result (IsCommand (codes "path") (rows_of (found_of given.now))) }
+    ensures err { IfErr result (λ e. HasWords (codes "path") (rows_of (found_of given.now)) → HasNumbers (codes "path") (rows_of (found_of given.now))
+        → e ≡ LineFault.OutOfMemory) }
+    ensures refusal { IfErr result IsRefusal }
+{
+    Ok(Line::Path {
+        map: word(alloc, given, "map")?,
+        plan: word(alloc, given, "plan")?,
+        agent: optional_agent(alloc, given)?,
     })
 }
 
@@ -194,6 +210,21 @@ fn agent_id(alloc: Global, given: &ArgMatches<'_>) -> Result<u16, LineFault>
     match short_number(given, "id") {
         Some(id) => Ok(id),
         None => Err(no_number(alloc, given, "id", &help::AGENT_ID)),
+    }
+}
+
+/// The number of the agent that was given as an option, if one was.
+fn optional_agent(alloc: Global, given: &ArgMatches<'_>) -> Result<Option<u16>, LineFault>
+    ensures ok { IfOk result (MayGiveNumber (codes "agent") (rows_of (found_of given.now))) }
+    ensures none { OnErr result (GivesNumbers (2 ^ 16) (codes "agent") (rows_of (found_of given.now)) → ⊥) }
+    ensures err { IfErr result IsRefusal }
+{
+    let Some(digits) = given.get_str("agent") else {
+        return Ok(None);
+    };
+    match spelled_short(digits) {
+        Some(agent) => Ok(Some(agent)),
+        None => Err(LineFault::bad_command(alloc, help::NO_AGENT_NUMBER)),
     }
 }
 

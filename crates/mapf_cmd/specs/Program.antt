@@ -5,13 +5,14 @@ use Rattle.grid.specs.Counted.{counted_inner, failures_of}
 use Rattle.grid.specs.Writing.{WritesText}
 use Rattle.clap.specs.Words.{Text}
 use Rattle.command_line.specs.declared.command_line.Line.{Line}
-use Rattle.command_line.specs.declared.command_line.Line.TheVariants.{Map, Scen, Row, Check, Deps, Run, Agent}
+use Rattle.command_line.specs.declared.command_line.Line.TheVariants.{Map, Scen, Row, Check, Deps, Path, Run, Agent}
 use Rattle.command_line.specs.declared.command_line.LineFault.{LineFault}
 use Rattle.command_line.specs.declared.command_line.LineFault.TheVariants.{Help, BadCommand, OutOfMemory}
 use Rattle.text_commands.specs.declared.status.Status.TheVariants as status
 use Rattle.mapf_cmd.specs.declared.program.ProgramFault.{ProgramFault}
 use Rattle.mapf_cmd.specs.declared.program.ProgramFault.TheVariants as program_fault
 use Rattle.agent_commands.specs.AgentCommand.{AnswersAgent}
+use Rattle.path_commands.specs.PathCommand.{AnswersPath}
 use Rattle.plan_commands.specs.CheckCommand.{AnswersCheck, AnswersCheckFit}
 use Rattle.plan_commands.specs.DepsCellCommand.{AnswersDepsCell}
 use Rattle.plan_commands.specs.DepsCommand.{AnswersDeps}
@@ -49,6 +50,8 @@ PerformsOn {F} remaining input_left contents Told (Deps map_file plan_file None)
     (m n : Counted F) × (p q : Counted F) × AnswersDeps remaining remaining contents Told m n p q old new code × (new_in ≡ old_in)
 PerformsOn {F} remaining input_left contents Told (Deps map_file plan_file (Some cell)) old_in new_in old new code =
     (m n : Counted F) × (p q : Counted F) × AnswersDepsCell remaining remaining contents Told cell m n p q old new code × (new_in ≡ old_in)
+PerformsOn {F} remaining input_left contents Told (Path map_file plan_file agent) old_in new_in old new code =
+    (m n : Counted F) × (p q : Counted F) × AnswersPath remaining remaining contents Told agent m n p q old new code × (new_in ≡ old_in)
 PerformsOn {F} remaining input_left contents Told (Run map_file plan_file events_file complete) old_in new_in old new code =
     (m n : Counted F) × (p q : Counted F) × (s t : Counted F)
     × AnswersRun remaining remaining remaining contents Told m n p q s t complete old new code × (new_in ≡ old_in)

@@ -7,6 +7,7 @@ ghost use Rattle.mapf_cmd.specs.Program.{program_fault_words, PerformsOn, Perfor
 use agent_commands::agent_cmd;
 use command_line::{Line, LineFault, line};
 use grid::{Counted, FaultWords};
+use path_commands::path_cmd;
 use plan_commands::{check_cmd, check_fit_cmd, deps_cell_cmd, deps_cmd};
 use run_commands::run_cmd;
 use std::io::{Read, Write};
@@ -126,6 +127,11 @@ fn perform_on_files<R: Files + AllocGlobal, I: Read, W: Write, E: Write>(
                 None => Ok(deps_cmd(rt.alloc(), &mut map, &mut plan, out, err)),
                 Some(cell) => Ok(deps_cell_cmd(rt.alloc(), &mut map, &mut plan, cell, out, err)),
             }
+        }
+        Line::Path { map, plan, agent } => {
+            let mut map = Counted::new(fs::open(rt, &map)?);
+            let mut plan = Counted::new(fs::open(rt, &plan)?);
+            Ok(path_cmd(rt.alloc(), &mut map, &mut plan, agent, out, err))
         }
         Line::Run {
             map,

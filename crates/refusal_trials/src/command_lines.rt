@@ -1,8 +1,8 @@
 //! The program over its words, with fake files.
 use crate::endings::{End, Ended};
 use crate::texts::{
-    ACCEPTED, ACCEPTED_JSON, AGREES, ANSWERED, ASKED, BEHIND, COMPLETED, EVENTS, LANE, NEEDS,
-    REJECTED, REPLIES, SWAP, TASKS, VISITS,
+    ACCEPTED, ACCEPTED_JSON, AGREES, ANSWERED, ASKED, BEHIND, COMPLETED, EVENTS, LANE, NEEDS, PATH,
+    PATHS, REJECTED, REPLIES, SWAP, TASKS, VISITS,
 };
 use fakes::{CORNER, CORNER_WRITTEN, DiskFiles, FakeDisk, Keeper, ROW, ROW_WRITTEN};
 use grid::Counted;
@@ -12,7 +12,7 @@ use std::process::Abort;
 use std::test::Fail;
 
 /// Command lines with their status and what they write.
-static LINES: [(&str, u8, &str); 13] = [
+static LINES: [(&str, u8, &str); 15] = [
     ("map C", 0, CORNER_WRITTEN),
     ("scen S", 0, ROW_WRITTEN),
     ("row C S 0", 0, AGREES),
@@ -22,6 +22,8 @@ static LINES: [(&str, u8, &str); 13] = [
     ("check M P --scen F", 0, ACCEPTED),
     ("deps M P", 0, NEEDS),
     ("deps M P --cell 1 0", 0, VISITS),
+    ("path M P", 0, PATHS),
+    ("path M P --agent 1", 0, PATH),
     ("run M P E", 0, REPLIES),
     ("run M P E --complete", 0, COMPLETED),
     ("agent M P 0 T", 0, ANSWERED),

@@ -1,14 +1,14 @@
 //! Each command of the program, called as the program calls it.
 use crate::endings::{End, Ended};
 use crate::texts::{
-    ACCEPTED, ACCEPTED_JSON, AGREES, ANSWERED, ASKED, BEHIND, COMPLETED, EVENTS, LANE, NEEDS,
-    REJECTED, REJECTED_JSON, REPLIES, SWAP, TASKS, VISITS,
+    ACCEPTED, ACCEPTED_JSON, AGREES, ANSWERED, ASKED, BEHIND, COMPLETED, EVENTS, LANE, NEEDS, PATH,
+    PATHS, REJECTED, REJECTED_JSON, REPLIES, SWAP, TASKS, VISITS,
 };
 use fakes::{CORNER, CORNER_WRITTEN, DiskFiles, FakeDisk, Keeper, ROW, ROW_WRITTEN};
 use grid::{Cell, Counted};
 use mapf_cmd::{
-    agent_cmd, check_cmd, check_fit_cmd, deps_cell_cmd, deps_cmd, map_cmd, row_cmd, run_cmd,
-    scen_cmd,
+    agent_cmd, check_cmd, check_fit_cmd, deps_cell_cmd, deps_cmd, map_cmd, path_cmd, row_cmd,
+    run_cmd, scen_cmd,
 };
 use std::alloc::Global;
 use std::test::Fail;
@@ -24,13 +24,15 @@ enum Command {
     CheckFit(bool),
     Deps,
     DepsOfCell,
+    /// Perhaps of one agent.
+    Path(Option<u16>),
     /// Perhaps says how the run ends.
     Run(bool),
     Agent,
 }
 
 /// Each command with its status and what it writes.
-static COMMANDS: [(Command, u8, &str); 14] = [
+static COMMANDS: [(Command, u8, &str); 16] = [
     (Command::Map, 0, CORNER_WRITTEN),
     (Command::Scen, 0, ROW_WRITTEN),
     (Command::Row, 0, AGREES),
@@ -42,6 +44,8 @@ static COMMANDS: [(Command, u8, &str); 14] = [
     (Command::CheckFit(true), 0, ACCEPTED_JSON),
     (Command::Deps, 0, NEEDS),
     (Command::DepsOfCell, 0, VISITS),
+    (Command::Path(None), 0, PATHS),
+    (Command::Path(Some(1)), 0, PATH),
     (Command::Run(false), 0, REPLIES),
     (Command::Run(true), 0, COMPLETED),
     (Command::Agent, 0, ANSWERED),
@@ -75,6 +79,7 @@ fn perform_on_plan(alloc: Global, command: Command, out: &mut Out<'_>, err: &mut
             check_fit_cmd(alloc, map, plan, &mut reader(TASKS), json, out, err)
         }
         Command::DepsOfCell => deps_cell_cmd(alloc, map, plan, Cell { x: 1, y: 0 }, out, err),
+        Command::Path(agent) => path_cmd(alloc, map, plan, agent, out, err),
         Command::Run(complete) => {
             run_cmd(alloc, map, plan, &mut reader(EVENTS), complete, out, err)
         }

@@ -40,4 +40,9 @@ pub const REJECTED_JSON: &str = "{\"accepted\":false,\"fault\":\"Swap 0 1 0\"}\n
 
 pub const NEEDS: &str = "agents 2 moves 2 needs 1 rotations 0\nneed 1 0 0 1\n";
 
+pub const PATHS: &str = "0 1 0 0 0\n1 2 0 1 0\n2 2 0 1 0\n";
+
+/// The path of agent 1.
+pub const PATH: &str = "0 0 0\n1 1 0\n";
+
 pub const VISITS: &str = "visit 0 0 0\nvisit 1 1 1\n";

@@ -57,6 +57,11 @@ returns-in-Deps g c =
     (subst (λ cell. Ends (Deps c.in-Deps.map c.in-Deps.plan cell)) (sym c.in-Some-cell.is)
     (c.new-map-in-Deps.result, c.deps_cell_cmd.new.map, c.new-plan-in-Deps.result, c.deps_cell_cmd.new.plan, c.deps_cell_cmd.ensures, refl))
 
+pub returns-in-Path : goal.returns-in-Path
+returns-in-Path g c =
+    let Ends : Line → Type 0 = λ line. PerformsOn g.R.File.Read.remaining g.I.Read.remaining g.W.Write.contents (Tells g.E.Write.contents c.args.err.now c.path_cmd.new.err) line c.args.input.now c.args.input.now c.args.out.now c.path_cmd.new.out c.path_cmd.result in
+    subst Ends (sym c.in-Path.is) (c.new-map-in-Path.result, c.path_cmd.new.map, c.new-plan-in-Path.result, c.path_cmd.new.plan, c.path_cmd.ensures, refl)
+
 pub returns-in-Run : goal.returns-in-Run
 returns-in-Run g c =
     let Ends : Line → Type 0 = λ line. PerformsOn g.R.File.Read.remaining g.I.Read.remaining g.W.Write.contents (Tells g.E.Write.contents c.args.err.now c.run_cmd.new.err) line c.args.input.now c.args.input.now c.args.out.now c.run_cmd.new.out c.run_cmd.result in

@@ -1,0 +1,36 @@
+-- A name that is none of the commands' requires no words that could be given.
+use Rattle.std.proofs.Common.{◌≡◌, ◌∙◌, IsTrue, List, [], ◌∷◌, None, MatchOption, inl, inr, refl, subst, sym}
+use Rattle.std.specs.Prelude.{find, is_some}
+use Rattle.std.specs.List.{AllByRecursion}
+use Rattle.std.specs.Str.{bytes_eq}
+use Rattle.std.proofs.lemmas.Bool.{cases_Bool, cond-false}
+use Rattle.std.proofs.lemmas.Slice.Eq.{bytes_eq-Decides}
+use Rattle.clap.specs.Words.{Row, Text, first_of}
+use Rattle.command_line.specs.Words.{Usage, commands}
+use Rattle.command_line.specs.Code.Parts.{HasWords}
+use Rattle.command_line.proofs.words.read_command.Goals as goal
+
+-- the name is that of none of these commands
+abbrev IsOther : Text → List Usage → Type 0
+IsOther name [] = Unit {0}
+IsOther name (u ∷ usages) = (name ≡ u.name → ⊥) × IsOther name usages
+
+none_named : (name : Text) (usages : List Usage) → IsOther name usages → find (λ u. bytes_eq u.name name) usages ≡ None
+none_named name [] other = refl
+none_named name (u ∷ usages) other = elim (cases_Bool (bytes_eq u.name name)) [
+  | inl same ↦ absurd (other.0 (sym ((bytes_eq-Decides u.name name).0 same)))
+  | inr differs ↦ cond-false (bytes_eq u.name name) _ _ differs ∙ none_named name usages other.1
+]
+
+no_words : (name : Text) (rows : List Row) → IsOther name commands → HasWords name rows → ⊥
+no_words name rows other has =
+    subst (λ o. MatchOption o ⊥ (λ (u : Usage). AllByRecursion (λ word. IsTrue (is_some (first_of word rows))) u.required)) (none_named name commands other) has
+
+pub returns-in_default-clause-err : goal.returns-in_default-clause-err
+returns-in_default-clause-err c = λ words numbers. absurd (no_words c.args.name.now _ (
+  c.in_default.not-map,
+  (
+    c.in_default.not-scen,
+    (c.in_default.not-row, (c.in_default.not-check, (c.in_default.not-deps, (c.in_default.not-path, (c.in_default.not-run, (c.in_default.not-agent, tt)))))),
+  ),
+) words)

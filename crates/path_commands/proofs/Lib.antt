@@ -1,0 +1,6 @@
+-- Lemmas on walks and their text.
+mod StrayLemmas
+mod RowLemmas
+mod PathLines
+mod NumeralLemmas
+mod AskedLemmas

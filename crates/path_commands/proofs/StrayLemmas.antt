@@ -1,0 +1,143 @@
+-- Bad moves of single agents, and plans without them.
+use Rattle.std.proofs.Common.{◌≡◌, ℕ, ◌+◌, ◌<◌, ◌≤◌, ◌⊎◌, List, length, Option, None, Some, arith, sym, ap, subst, inl, inr, ◌∙◌}
+use Rattle.std.specs.Prelude.{MatchOption, nat_lt, slice_get}
+use Rattle.std.proofs.lemmas.Bool.{cases_lt, cond_both, ltb-true, ltb-false}
+use Rattle.grid.specs.declared.cell.Cell.{Cell}
+use Rattle.grid.specs.Map.{Grid, IsSize, IsStraightStep}
+use Rattle.model.specs.declared.act.Act.{Act}
+use Rattle.model.specs.declared.act.Act.TheVariants.{Wait}
+use Rattle.model.specs.Plan.{Course, position_of, position_at, moved, IsLegal, IsBadMove}
+use Rattle.model.specs.Timetable.{cell_after}
+use Rattle.model.proofs.PlaceLemmas.{same_place}
+use Rattle.plan_text.specs.Limits.{most_acts}
+use Rattle.plan.specs.Code.Standing.{IsOnGrid}
+use Rattle.plan.specs.Code.Tracks.{cells_along}
+use Rattle.plan.specs.Code.Walking.{HasBadMove, IsFirst, IsMoved, LeadsBeside}
+use Rattle.plan.proofs.CourseLemmas.{Stays, along-places}
+use Rattle.plan.proofs.WalkingLemmas.{bad_at, bad-has_act, course_from, leads-joined, position-stays, step_from_legal}
+use Rattle.path_commands.specs.Code.Straying.{GoesItsWay, IsFirstMove, IsLeastMove, sooner_of}
+use Rattle.path_commands.specs.declared.straying.BadMove.{BadMove}
+
+-- ---- one step
+
+-- where no straight step leads, the act is not legal
+none_legal : (m : Grid) (from to : Cell) (act : Act) → LeadsBeside from act to → (IsStraightStep m from to → ⊥)
+    → IsLegal m (position_of from) (moved act (position_of from)) → ⊥
+none_legal m from to act (inl at) none h = none (step_from_legal m from to (moved act (position_of from)) at h)
+none_legal m from to act (inr apart) none h = apart.0 h.v h.is_to
+
+-- where an act that is no wait leads, if a straight step does
+pub moved_by : (m : Grid) (from to : Cell) (act : Act) (answer : Option Cell) → IsSize m.width m.height → (act ≡ Wait → ⊥) → LeadsBeside from act to
+    → MatchOption answer (IsStraightStep m from to → ⊥) (λ cell. (cell ≡ to) × IsStraightStep m from to) → IsMoved m from act answer
+moved_by m from to act None size acts beside none = (acts, none_legal m from to act beside none)
+moved_by m from to act (Some cell) size acts beside there =
+    subst (λ c. IsMoved m from act (Some c)) (sym there.0) (leads-joined m from to act size beside there.1.joined)
+
+-- ---- one agent
+
+-- at each time up to this the agent is in a cell of the map
+abbrev pub HasBeen : Grid → Course → ℕ → Type 0
+HasBeen m course step = (t : ℕ) → t ≤ step → (d : Cell) × (position_of d ≡ position_at course t) × IsOnGrid m d
+
+pub been_next : (m : Grid) (course : Course) (step : ℕ) (d : Cell) → HasBeen m course step → position_of d ≡ position_at course (step + 1) → IsOnGrid m d
+    → HasBeen m course (step + 1)
+been_next m course step d been at on t most = elim (cases_lt t (step + 1)) [
+  | inl less ↦ been t (omega (arith, less))
+  | inr past ↦ (let same : t ≡ step + 1 = omega (arith, most, past) in (d, at ∙ ap (position_at course) (sym same), on))
+]
+
+-- past its acts it stays there
+been_always : (m : Grid) (course : Course) (step : ℕ) → length course.acts ≤ step → HasBeen m course step → (t : ℕ)
+    → (d : Cell) × (position_of d ≡ position_at course t) × IsOnGrid m d
+been_always m course step over been t = elim (cases_lt t step) [
+  | inl less ↦ been t (omega (arith, less))
+  | inr past ↦ (
+      let last = been step (omega arith) in
+      (last.0, last.1 ∙ sym (position-stays (position_of course.start) course.acts step t over past), last.2)
+      )
+]
+
+pub goes_its_way : (m : Grid) (course : Course) (step : ℕ) → IsSize m.width m.height → length course.acts ≤ most_acts → length course.acts ≤ step
+    → HasBeen m course step → ((s : ℕ) → s < step → IsBadMove m course s → ⊥) → GoesItsWay m course
+goes_its_way m course step size few over been good =
+    let at = been_always m course step over been in
+    let stays : Stays course.start course.acts = λ t. ((at t).0, (at t).1) in
+    let places = along-places course.start course.acts stays in
+    let same : (t : ℕ) → cell_after course.start (cells_along course.start course.acts) t ≡ (at t).0
+    = λ t. same_place (cell_after course.start (cells_along course.start course.acts) t) (at t).0 (places t ∙ sym (at t).1) in
+    let width = size.width_limit in
+    let height = size.height_limit in
+    record {
+      good = λ s bad. (let within = bad-has_act m course s bad in good s (omega (arith, within, over)) bad);
+      walked = record {
+        in_range = λ t. subst (λ c. (c.x < 65536) × (c.y < 65536)) (sym (same t))
+            (let column = (at t).2.column in let row = (at t).2.row in (omega (arith, column, width), omega (arith, row, height)));
+        places = places;
+        few = few;
+      };
+    }
+
+-- ---- all agents
+
+not_sooner : (m : Grid) (course : Course) (s step : ℕ) → IsFirst (IsBadMove m course) s → IsBadMove m course step → s ≤ step
+not_sooner m course s step first bad = elim (cases_lt step s) [
+  | inl less ↦ absurd (first.first step less bad)
+  | inr most ↦ most
+]
+
+-- an agent before, or the last one
+before_or_last : (i agents : ℕ) → i < agents + 1 → (i < agents) ⊎ (i ≡ agents)
+before_or_last i agents less = elim (cases_lt i agents) [ inl before ↦ inl before | inr last ↦ inr (omega (arith, less, last)) ]
+
+-- the bad moves of the agent are those of its course
+module _ (m : Grid) (courses : List Course) (agents : ℕ) (course : Course) (there : slice_get courses agents ≡ Some course) where
+  own : (i step : ℕ) → i ≡ agents → HasBadMove m courses step i → IsBadMove m course step
+  own i step same has =
+      let k = course_from m courses step i has in
+      let is : k.0 ≡ course = (let both : Some k.0 ≡ Some course = sym k.1 ∙ ap (slice_get courses) same ∙ there in cc) in
+      subst (λ c. IsBadMove m c step) is k.2
+
+  -- the first of its bad moves is the first of all, if those before have none or later ones
+  is_new_first : (s : ℕ) → IsFirst (IsBadMove m course) s → ((i step : ℕ) → i < agents → HasBadMove m courses step i → s < step)
+      → IsFirstMove m courses (agents + 1) (record { agent = agents; step = s })
+  is_new_first s first later = record {
+    is_one = bad_at m courses s agents course there first.is_one;
+    before = omega arith;
+    first = λ i step less has. elim (before_or_last i agents less) [
+      | inl before ↦ inl (later i step before has)
+      | inr last ↦ (let most = not_sooner m course s step first (own i step last has) in
+          elim (cases_lt s step) [ inl sooner ↦ inl sooner | inr past ↦ inr (omega (arith, most, past), omega (arith, last)) ])
+    ];
+  }
+
+  keeps_first : (bad : BadMove) → IsFirstMove m courses agents bad → ((step : ℕ) → IsBadMove m course step → bad.step ≤ step)
+      → IsFirstMove m courses (agents + 1) bad
+  keeps_first bad h own_later =
+      let before = h.before in
+      record {
+        is_one = h.is_one;
+        before = omega (arith, before);
+        first = λ i step less has. elim (before_or_last i agents less) [
+          | inl earlier ↦ h.first i step earlier has
+          | inr last ↦ (let most = own_later step (own i step last has) in
+              elim (cases_lt bad.step step) [ inl sooner ↦ inl sooner | inr past ↦ inr (omega (arith, most, past), omega (arith, last, before)) ])
+        ];
+      }
+
+  pub least_more : (first : Option BadMove) (answer : Option ℕ) → IsLeastMove m courses agents first
+      → MatchOption answer (GoesItsWay m course) (IsFirst (IsBadMove m course)) → IsLeastMove m courses (agents + 1) (sooner_of first agents answer)
+  least_more None None h goes = λ i other less is. elim (before_or_last i agents less) [
+    | inl before ↦ h i other before is
+    | inr last ↦ (let same : course ≡ other = (let both : Some course ≡ Some other = sym there ∙ ap (slice_get courses) (sym last) ∙ is in cc) in
+        subst (GoesItsWay m) same goes)
+  ]
+  least_more (Some bad) None h goes = keeps_first bad h (λ step is. absurd (goes.good step is))
+  least_more None (Some s) h first = is_new_first s first (λ i step less has.
+      let k = course_from m courses step i has in absurd ((h i k.0 less k.1).good step k.2))
+  least_more (Some bad) (Some s) h first =
+      cond_both (nat_lt s bad.step) (Some (record { agent = agents; step = s })) (Some bad) (IsLeastMove m courses (agents + 1))
+      (λ e. let less = ltb-true s bad.step e in is_new_first s first (λ i step before has. elim (h.first i step before has) [
+        | inl later ↦ omega (arith, less, later)
+        | inr same ↦ (let at = same.0 in omega (arith, less, at))
+      ]))
+      (λ e. let most = ltb-false s bad.step e in keeps_first bad h (λ step is. let after = not_sooner m course s step first is in omega (arith, most, after)))

@@ -1,0 +1,10 @@
+-- The cells that follow are left.
+use Rattle.std.proofs.Common.{drop}
+use Rattle.grid.specs.Text.{spaced_numbers}
+use Rattle.scen.proofs.PutLemmas.{Leaves}
+use Rattle.path_commands.specs.PathText.{numbers_of}
+use Rattle.path_commands.proofs.path_text.put_cells.Given as goal
+
+abbrev pub invariant-loop-cell : goal.invariant-loop-cell
+invariant-loop-cell g l =
+    Leaves g.W.Write.contents l.fn.sink l.sink (spaced_numbers (numbers_of l.cells)) (spaced_numbers (numbers_of (drop l.cell-index l.cells)))

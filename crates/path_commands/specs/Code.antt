@@ -1,0 +1,8 @@
+-- The code's own words: what bodies and proofs speak of, and no promise.
+
+-- the cells of all agents, time by time, as the code goes through them
+pub mod Rows
+-- the numbers of cells as they are written
+pub mod Numerals
+-- the first bad move of an agent, and of all agents
+pub mod Straying

@@ -1,0 +1,11 @@
+//! The command that writes where the agents of a plan are, time by time.
+#![tactic(auto)]
+
+pub mod laws;
+mod numerals;
+mod path_command;
+mod path_fault;
+mod path_text;
+mod straying;
+
+pub use path_command::path_cmd;

@@ -1,0 +1,123 @@
+//! `mapf path`: writes where the agents of a plan are, time by time.
+ghost use Rattle.std.specs.Prelude.{◌≡◌, IfOk, MatchOption, Some};
+ghost use Rattle.text_commands.specs.Status.{code_of};
+ghost use Rattle.text_commands.specs.Telling.{Tells};
+ghost use Rattle.path_commands.specs.FaultWords.{path_fault_status, path_fault_words};
+ghost use Rattle.path_commands.specs.PathCommand.{AnswersPath, ReadsWalkable};
+ghost use Rattle.path_commands.specs.PathText.{AreAsked};
+ghost use Rattle.plan.specs.Code.Walking.{start_cells};
+ghost use Rattle.path_commands.specs.Code.Numerals.{AreNumerals};
+ghost use Rattle.path_commands.specs.Code.Rows.{AllWalked, EndsByRows, IsNoAgent};
+
+use crate::numerals::{Numeral, numerals};
+use crate::path_fault::PathFault;
+use crate::path_text::{starts, write_rows};
+use crate::straying::fault_of_one_agent;
+use grid::{Cell, Counted, read_map};
+use plan::{Plan, read_plan};
+use plan_commands::{CheckFault, Rejection};
+use plan_text::Course;
+use std::alloc::{AllocError, Global};
+use std::io::{Read, Write};
+use text_commands::{Status, finish, report};
+
+/// Reads a map from `map` and a plan from `plan`, and writes where its agents are at each time to `out`, or where one of them is, with
+/// a fault's line on `err`, also one of a start or a move. Agents may meet. The answer is the exit status, which stays where `err` fails.
+pub fn path_cmd<M: Read, P: Read, W: Write, E: Write>(
+    alloc: Global,
+    map: &mut Counted<M>,
+    plan: &mut Counted<P>,
+    agent: Option<u16>,
+    out: &mut Counted<W>,
+    err: &mut Counted<E>,
+) -> u8
+    ensures { AnswersPath M.remaining P.remaining W.contents (Tells E.contents err.old err.new) agent map.old map.new plan.old plan.new out.old out.new result }
+{
+    match read_walkable(alloc, map, plan) {
+        Ok(plan) => show(alloc, &plan, agent, out, err),
+        Err(fault) => give_up(PathFault::Texts(fault), err),
+    }
+}
+
+/// Reads the map and then the plan, each of whose agents may go its way.
+fn read_walkable<M: Read, P: Read>(
+    alloc: Global,
+    map: &mut Counted<M>,
+    plan: &mut Counted<P>,
+) -> Result<Plan, CheckFault>
+    ensures reads { ReadsWalkable M.remaining P.remaining map.old map.new plan.old plan.new result }
+    ensures walked { IfOk result (λ p. AllWalked p.courses) }
+{
+    let map = read_map(alloc, map)?;
+    let plan = read_plan(alloc, plan)?;
+    match fault_of_one_agent(&map, &plan) {
+        None => Ok(plan),
+        Some(fault) => Err(CheckFault::Rejected(Rejection::Invalid(fault))),
+    }
+}
+
+/// Writes the rows of all agents, or those of one, or says why there are none. The answer is the exit status.
+fn show<W: Write, E: Write>(
+    alloc: Global,
+    plan: &Plan,
+    agent: Option<u16>,
+    out: &mut Counted<W>,
+    err: &mut Counted<E>,
+) -> u8
+    requires { AllWalked plan.now.courses }
+    ensures { EndsByRows W.contents (Tells E.contents err.old err.new) plan.now agent out.old out.new result }
+{
+    let Some(courses) = asked(plan, agent) else {
+        return give_up(PathFault::NoSuchAgent, err);
+    };
+    match prepare(alloc, courses) {
+        Ok(mut prepared) => {
+            let written = write_rows(courses, &mut prepared.cells, &prepared.numerals, out);
+            finish(written, Status::Done, out, err).code()
+        }
+        Err(_) => give_up(PathFault::Texts(CheckFault::OutOfMemory), err),
+    }
+}
+
+/// What is wanted of memory before the first line.
+#[derive(Debug, Drop)]
+struct Prepared {
+    cells: Vec<Cell>,
+    numerals: Vec<Numeral>,
+}
+
+/// The agents' starts, and the numerals of numbers.
+fn prepare(alloc: Global, courses: &[Course]) -> Result<Prepared, AllocError>
+    ensures cells { IfOk result (λ p. p.cells.items ≡ start_cells courses.now) }
+    ensures numerals { IfOk result (λ p. AreNumerals p.numerals.items) }
+{
+    Ok(Prepared {
+        cells: starts(alloc, courses)?,
+        numerals: numerals(alloc)?,
+    })
+}
+
+/// The courses of all agents, or that of one, if there is one with the number.
+fn asked(plan: &Plan, agent: Option<u16>) -> Option<&[Course]>
+    ensures { MatchOption result (IsNoAgent plan.now agent) (λ courses. AreAsked plan.now agent courses.now) }
+{
+    let courses = plan.courses();
+    let Some(agent) = agent else {
+        return Some(courses);
+    };
+    let index = usize::from(agent);
+    if index < courses.len() {
+        Some(&courses[index..index + 1])
+    } else {
+        None
+    }
+}
+
+/// Says why no rows are written. The answer is the exit status.
+fn give_up<E: Write>(fault: PathFault, err: &mut Counted<E>) -> u8
+    ensures code { result ≡ code_of (path_fault_status fault) }
+    ensures told { Tells E.contents err.old err.new (Some (path_fault_words fault)) }
+{
+    report(err, fault.words());
+    fault.status().code()
+}
