@@ -19,6 +19,7 @@ import endings
 import faults
 import fleet
 import formats
+import judging
 import launcher
 import limits
 import refusals
@@ -43,6 +44,7 @@ PARTS: dict[str, tuple[str, Callable[[Harness], Iterator[Outcome]]]] = {
     "memory": ("calls of the libraries to which memory is refused", refusals.outcomes),
     "endings": ("how runs end: the events that complete them, or the rotation in the way", endings.outcomes),
     "convert": ("plans of other formats, converted and back", converting.outcomes),
+    "judge": ("many plans, judged as one table", judging.outcomes),
     "vectors": ("the answers of an independent implementation", vectors.outcomes),
     "fleet": ("robots as processes that are killed at random", fleet.outcomes),
 }

@@ -1,0 +1,305 @@
+"""tools/judge.py: one result a job with the right verdict, whatever the plans are and whoever is stopped."""
+import csv
+import io
+import json
+import os
+import random
+import shlex
+import shutil
+import signal
+import socket
+import subprocess
+import sys
+import time
+from typing import Iterator, Mapping, Optional, Sequence
+
+from harness import ROOT, Ended, Harness, Outcome, compared, shown
+from plain_formats import WRITERS, Paths, plan_text, scen_text
+from texts import BEHIND, LANE, SHORT, SQUARE, SWAP, TURN, VERTEX
+
+TOOL = ROOT / "tools" / "judge.py"
+COLUMNS = ["map", "scenario", "plan", "agents", "verdict", "fault", "cost", "makespan", "seconds"]
+# Two agents that go one cell east behind one another on the map LANE, and what they are to solve.
+PATHS: Paths = [[(1, 0), (2, 0), (2, 0)], [(0, 0), (1, 0)]]
+COST_OF_BOTH, MAKESPAN = 2, 1
+TASKS = scen_text(PATHS).replace("999\t999", "3\t1")
+TEXTS = {
+    "lane.map": LANE,
+    "square.map": SQUARE,
+    "short.map": SHORT,
+    "lane.scen": TASKS,
+    "other.scen": TASKS.replace("\t2\t0\t1\n", "\t0\t0\t1\n", 1),
+    "one.scen": TASKS[: TASKS.index("\n", 12) + 1],
+    "behind.plan": BEHIND,
+    "swap.plan": SWAP,
+    "vertex.plan": VERTEX,
+    "turn.plan": TURN,
+    "wall.plan": plan_text([[(0, 0), (0, 1)]], 7),
+    "bad.plan": BEHIND.replace("e-", "ex"),
+    "jump.paths": "Agent 0: (0,0)->(0,2)->\n",
+    "nothing.plan": "",
+    **{f"behind.{name}": write(PATHS) for name, write in WRITERS.items()},
+}
+# A job, and its verdict, fault, cost and makespan; a fault that ends in `..` is the beginning of it.
+ACCEPTED = ("accepted", "", str(COST_OF_BOTH), str(MAKESPAN))
+JOBS: list[tuple[tuple[str, str, str, str], tuple[str, str, str, str]]] = [
+    (("lane.map", "", "behind.plan", ""), ACCEPTED),
+    (("lane.map", "", "behind.plan", "2"), ACCEPTED),
+    (("lane.map", "lane.scen", "behind.plan", "2"), ACCEPTED),
+    (("lane.map", "", "behind.plan", "3"), ("rejected", "AgentCount", "", "")),
+    (("lane.map", "one.scen", "behind.plan", ""), ("rejected", "TooFewRows", "", "")),
+    (("lane.map", "other.scen", "behind.plan", ""), ("rejected", "GoalDiffers 0", "", "")),
+    (("square.map", "", "turn.plan", ""), ("accepted", "", "4", "1")),
+    (("lane.map", "", "swap.plan", ""), ("rejected", "Swap 0 1 0", "", "")),
+    (("lane.map", "", "vertex.plan", ""), ("rejected", "Vertex 0 1 2 0 0", "", "")),
+    (("lane.map", "", "wall.plan", ""), ("rejected", "BadMove 0 0", "", "")),
+    (("lane.map", "", "bad.plan", ""), ("unreadable", "BadAct 4 12", "", "")),
+    (("short.map", "", "behind.plan", ""), ("unreadable", "ShortRow 6", "", "")),
+    (("lane.map", "lane.map", "behind.plan", ""), ("unreadable", "NoVersion", "", "")),
+    (("lane.map", "", "jump.paths", ""), ("unreadable", "jump.paths:1: ..", "", "")),
+    (("lane.map", "", "nothing.plan", ""), ("unreadable", "nothing.plan:1: ..", "", "")),
+    (("lane.map", "", "behind.tracker", ""), ("unreadable", "behind.tracker:1: ..", "", "")),
+    (("lane.map", "", "no.plan", ""), ("failed", "no.plan: ..", "", "")),
+    (("no.map", "", "behind.plan", ""), ("failed", "OpenFailed", "", "")),
+    (("lane.map", "no.scen", "behind.plan", ""), ("failed", "OpenFailed", "", "")),
+    (("lane.map", "", "folder", ""), ("failed", "folder: ..", "", "")),
+    *((("lane.map", "", f"behind.{name}", ""), ACCEPTED) for name in WRITERS if name not in ("tracker", "lorr")),
+    *((("lane.map", "lane.scen", f"behind.{name}", "2"), ACCEPTED) for name in WRITERS if name != "lorr"),
+    # The first robot looks the way that it goes.
+    (("lane.map", "lane.scen", "behind.lorr", ""), ACCEPTED),
+]
+# Lists of jobs that are none.
+BAD_LISTS = {
+    "empty.csv": b"",
+    "other.csv": b"map,file\nlane.map,behind.plan\n",
+    "twice.csv": b"map,plan,map\nlane.map,behind.plan,lane.map\n",
+    "unknown.csv": b"map,plan,colour\nlane.map,behind.plan,red\n",
+    "short.csv": b"map,plan\nlane.map\n",
+    "long.csv": b"map,plan\nlane.map,behind.plan,2\n",
+    "nameless.csv": b"map,plan\nlane.map,\n",
+    "agents.csv": b"map,plan,agents\nlane.map,behind.plan,two\n",
+    "many.csv": b"map,plan,agents\nlane.map,behind.plan,10001\n",
+    "quote.csv": b'map,plan\n"lane.map,behind.plan\n',
+    "bytes.csv": b"map,plan\n\xff,behind.plan\n",
+    "no.jsonl": b"map\n",
+    "list.jsonl": b'["lane.map"]\n',
+    "deep.jsonl": b'{"map":{},"plan":"p"}\n',
+    "half.jsonl": b'{"map":"lane.map"}\n',
+}
+STOPS = 12
+
+
+class Room:
+    """A folder of plans, and judges of it."""
+
+    def __init__(self, harness: Harness):
+        self.harness = harness
+        self.folder = harness.folder({name: text.encode() for name, text in TEXTS.items()})
+        (self.folder / "folder").mkdir()
+
+    def file(self, name: str, content: bytes) -> str:
+        (self.folder / name).write_bytes(content)
+        return name
+
+    def words(self, *words: str, program: str = "") -> list[str]:
+        return [sys.executable, str(TOOL), "--processes", "2", *words, "--program", program or str(self.harness.program)]
+
+    def judge(self, *words: str, program: str = "") -> Ended:
+        return self.harness.run(self.words(*words, program=program), folder=self.folder)
+
+    def rows(self, name: str) -> list[dict[str, str]]:
+        text = (self.folder / name).read_text(encoding="utf-8") if (self.folder / name).exists() else ""
+        return [json.loads(line) for line in text.splitlines()] if name.endswith("l") else list(csv.DictReader(io.StringIO(text)))
+
+
+def csv_of(jobs: Sequence[tuple[str, str, str, str]]) -> bytes:
+    return "".join(f"{','.join(job)}\n" for job in [("map", "scenario", "plan", "agents"), *jobs]).encode()
+
+
+def json_of(jobs: Sequence[tuple[str, str, str, str]]) -> bytes:
+    names = ("map", "scenario", "plan", "agents")
+    return "".join(json.dumps({name: word for name, word in zip(names, job) if word}) + "\n" for job in jobs).encode()
+
+
+def verdicts(rows: Sequence[Mapping[str, str]]) -> list[tuple[str, ...]]:
+    """What was said of each job, in an order of their own."""
+    return sorted(tuple(row.get(name, "?") for name in COLUMNS[:3] + COLUMNS[4:8]) for row in rows)
+
+
+def due_of(jobs: Sequence[tuple[tuple[str, str, str, str], tuple[str, str, str, str]]]) -> list[tuple[str, ...]]:
+    return sorted((*job[:3], *verdict) for job, verdict in jobs)
+
+
+def is_as_due(row: tuple[str, ...], due: tuple[str, ...]) -> bool:
+    fault = due[4][:-2] if due[4].endswith("..") else due[4]
+    return row[:4] + row[5:] == due[:4] + due[5:] and (row[4].startswith(fault) if due[4].endswith("..") else row[4] == fault)
+
+
+def differing(rows: Sequence[Mapping[str, str]], jobs) -> list[tuple[object, object]]:
+    """The first results that differ from what is due."""
+    pairs = list(zip(verdicts(rows), due_of(jobs)))
+    found = [(row, due) for row, due in pairs if not is_as_due(row, due)]
+    return found[:3] or ([(len(rows), len(jobs))] if len(rows) != len(jobs) else [])
+
+
+def judged(room: Room, name: str, words: Sequence[str], output: str, jobs=JOBS, status: int = 0) -> Outcome:
+    ended = room.judge(*words, "-o", output)
+    ran = shown(["tools/judge.py", *words, "-o", output])
+    if ended.status != status:
+        return Outcome(name, f"ran    {ran}\n    wrote  {ended}\n    due    status {status}")
+    return compared(name, ran, differing(room.rows(output), jobs), [])
+
+
+def of_each_verdict(room: Room) -> Iterator[Outcome]:
+    keys = [job for job, _ in JOBS]
+    yield judged(room, "a list as CSV", [room.file("jobs.csv", csv_of(keys))], "results.csv")
+    yield judged(room, "a list as JSON lines", [room.file("jobs.jsonl", json_of(keys))], "results.jsonl")
+    yield compared("the columns of JSON lines", "looked at results.jsonl", list(room.rows("results.jsonl")[0]), COLUMNS)
+    before = (room.folder / "results.csv").read_bytes()
+    yield judged(room, "a list that is judged already", ["jobs.csv"], "results.csv")
+    yield compared("it stays as it was", "looked at results.csv", (room.folder / "results.csv").read_bytes(), before)
+    # A job that stands twice in a list has two results.
+    yield judged(room, "a job more", [room.file("more.csv", csv_of([*keys, keys[0]]))], "results.csv", [*JOBS, JOBS[0]])
+    for k in range(1, 4):
+        yield judged(room, f"part {k} of 3", ["jobs.csv", "--shard", f"{k}/3"], f"part{k}.csv", JOBS[k - 1 :: 3])
+
+
+def of_names(room: Room) -> Iterator[Outcome]:
+    """Plans that are judged by their names."""
+    for folder, names in (("maps", {"hall-1.map": LANE}), ("scens", {"hall-1-even-3.scen": TASKS}), ("plans", {})):
+        (room.folder / folder).mkdir()
+        for name, text in names.items():
+            room.file(f"{folder}/{name}", text.encode())
+    plans = []
+    for name, text in (("hall-1-even-3-2.plan", BEHIND), ("hall-1-even-3-2-lacam.txt", TEXTS["behind.lacam"]), ("hall-1-even-3-5", BEHIND)):
+        plans.append(room.file(f"plans/{name}", text.encode()))
+    files = ("maps/hall-1.map", "scens/hall-1-even-3.scen")
+    due = [
+        ((*files, plans[0], "2"), ACCEPTED),
+        ((*files, plans[1], "2"), ACCEPTED),
+        ((*files, plans[2], "5"), ("rejected", "AgentCount", "", "")),
+    ]
+    yield judged(room, "plans by their names", ["--maps", "maps", "--scens", "scens", *plans], "names.csv", due)
+    due = [((files[0], "", *job[2:]), verdict) for job, verdict in due]
+    yield judged(room, "plans by their names, without scenarios", ["--maps", "maps", *plans], "free.csv", due)
+    own = room.file("plans/2@hall-1", BEHIND.encode())
+    words = ["--maps", "maps", "--pattern", "{agents}@{map}", own]
+    yield judged(room, "names of another kind", words, "own.csv", [((files[0], "", own, "2"), ACCEPTED)])
+    ended = room.judge("--maps", "maps", "behind.plan", "-o", "none.csv")
+    yield compared("a name of no such kind", "judge.py --maps maps behind.plan", (ended.status, b"behind.plan" in ended.err, ended.out), (1, True, b""))
+
+
+def of_bad_lists(room: Room) -> Iterator[Outcome]:
+    for name, content in BAD_LISTS.items():
+        ended = room.judge(room.file(name, content), "-o", "none.csv")
+        said = ended.err.startswith(f"judge: {name}:".encode()) and ended.err.count(b"\n") == 1
+        yield compared(name, f"judge.py {name}", (ended.status, said, (room.folder / "none.csv").exists()), (1, True, False))
+    for words, status in (
+        (["jobs.csv"], 2),
+        (["-o", "none.csv"], 2),
+        (["jobs.csv", "jobs.csv", "-o", "none.csv"], 2),
+        (["jobs.csv", "--shard", "0/3", "-o", "none.csv"], 2),
+        (["jobs.csv", "--shard", "4/3", "-o", "none.csv"], 2),
+        (["jobs.csv", "--seconds", "0", "-o", "none.csv"], 2),
+        (["jobs.csv", "--processes", "0", "-o", "none.csv"], 2),
+        (["jobs.csv", "--scens", "scens", "-o", "none.csv"], 2),
+        (["no.csv", "-o", "none.csv"], 3),
+        (["jobs.csv", "-o", "no/none.csv"], 3),
+        (["jobs.csv", "-o", room.file("others.csv", b"a,b\n1,2\n")], 3),
+        (["jobs.csv", "-o", room.file("others.jsonl", b'{"a":1}\n')], 3),
+    ):
+        ended = room.judge(*words)
+        yield compared(" ".join(words), shown(["tools/judge.py", *words]), (ended.status, bool(ended.err), ended.out), (status, True, b""))
+    yield compared("a file of something else", "looked at others.csv", (room.folder / "others.csv").read_bytes(), b"a,b\n1,2\n")
+
+
+def of_processes(room: Room) -> Iterator[Outcome]:
+    """Programs that crash, and jobs that take too long."""
+    os.mkfifo(room.folder / "fifo")
+    jobs = [("lane.map", "", "behind.plan", ""), ("lane.map", "", "fifo", "")]
+    room.file("slow.csv", csv_of(jobs))
+    due = [(jobs[0], ACCEPTED), (jobs[1], ("failed", "time limit of 1 seconds", "", ""))]
+    yield judged(room, "a plan that nobody writes", ["slow.csv", "--seconds", "1"], "slow.out.csv", due)
+    room.file("one.csv", csv_of(jobs[:1]))
+    for name, script, fault in (
+        ("killed", "kill -9 $$", "`mapf check` ended by signal 9"),
+        ("aborted", "kill -6 $$", "`mapf check` ended by signal 6"),
+        ("silent", "exit 5", "`mapf check` ended with status 5"),
+        ("lying", "echo accepted", "`mapf check` ended with status 0"),
+        ("group", "kill -9 0", "ended by signal 9"),
+        ("sleepy", "sleep 60", "time limit of 1 seconds"),
+    ):
+        program = room.folder / name
+        program.write_text(f"#!/bin/sh\n{script}\n", encoding="utf-8")
+        program.chmod(0o755)
+        ended = room.judge("one.csv", "-o", f"{name}.csv", "--seconds", "1", program=str(program))
+        yield compared(f"a program that is {name}", script, (ended.status, [row[3:5] for row in verdicts(room.rows(f"{name}.csv"))]), (0, [("failed", fault)]))
+    ended = room.judge("one.csv", "-o", "unstarted.csv", program=str(room.folder / "no"))
+    yield compared("a program that is not there", "judge.py one.csv", (ended.status, [row[3] for row in verdicts(room.rows("unstarted.csv"))]), (0, ["failed"]))
+
+
+def of_stops(room: Room) -> Iterator[Outcome]:
+    """A judge that is killed again and again, its last line torn, has each job once at its end."""
+    rng = random.Random(39)
+    output = room.folder / "stopped.csv"
+    stops = 0
+    for turn in range(STOPS * 10):
+        process = subprocess.Popen(room.words("jobs.csv", "-o", output.name), cwd=room.folder, stderr=subprocess.PIPE, start_new_session=True)
+        kind = rng.choice((signal.SIGKILL, signal.SIGTERM, signal.SIGINT))
+        before = len(room.rows(output.name))
+        # Let it come a few jobs further each time.
+        while process.poll() is None and (len(room.rows(output.name)) < before + 3 or stops >= STOPS):
+            time.sleep(0.002)
+        if process.poll() is None:
+            process.send_signal(kind)
+            stops += 1
+        process.communicate()
+        if process.returncode == 0:
+            break
+        if kind == signal.SIGKILL and rng.random() < 0.5:
+            with open(output, "ab") as file:
+                file.write(b"lane.map,,torn.pl")
+    yield compared("a judge that is killed again and again", f"judge.py jobs.csv, {turn + 1} times", differing(room.rows(output.name), JOBS), [])
+    yield compared("how often it was killed", "judge.py jobs.csv", stops > 1, True)
+
+
+def with_distributed() -> Optional[str]:
+    """A Python that has Dask's cluster."""
+    for python in (sys.executable, "/usr/bin/python3"):
+        if subprocess.run([python, "-c", "import distributed"], stderr=subprocess.DEVNULL, check=False).returncode == 0:
+            return python
+    return None
+
+
+def of_a_cluster(room: Room) -> Iterator[Outcome]:
+    """A scheduler and two workers of a Dask cluster on this machine, started by their own commands."""
+    python = with_distributed()
+    if not python or not shutil.which("dask-scheduler") or not shutil.which("dask-worker"):
+        yield Outcome("a cluster", lacks="python3-distributed")
+        return
+    with socket.socket() as free:
+        free.bind(("127.0.0.1", 0))
+        port = free.getsockname()[1]
+    address = f"tcp://127.0.0.1:{port}"
+    worker = ["dask-worker", address, "--nthreads", "1", "--no-dashboard", "--no-nanny", "--local-directory", str(room.folder)]
+    commands = [["dask-scheduler", "--host", "127.0.0.1", "--port", str(port), "--no-dashboard"], worker, worker]
+    started = [subprocess.Popen(it, cwd=room.folder, stdout=subprocess.DEVNULL, stderr=subprocess.DEVNULL, start_new_session=True) for it in commands]
+    try:
+        words = [python, str(TOOL), "jobs.csv", "-o", "cluster.csv", "--dask", address, "--program", str(room.harness.program)]
+        ended = room.harness.run(words, folder=room.folder)
+        ran = " ".join(map(shlex.quote, ["tools/judge.py", *words[2:]]))
+        yield compared("a cluster of two workers", ran, (ended.status, differing(room.rows("cluster.csv"), JOBS), ended.err[-300:] if ended.status else b""), (0, [], b""))
+    finally:
+        for process in started:
+            os.killpg(process.pid, signal.SIGKILL)
+            process.wait()
+
+
+def outcomes(harness: Harness) -> Iterator[Outcome]:
+    room = Room(harness)
+    yield from of_each_verdict(room)
+    yield from of_names(room)
+    yield from of_bad_lists(room)
+    yield from of_processes(room)
+    yield from of_stops(room)
+    yield from of_a_cluster(room)

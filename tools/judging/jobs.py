@@ -1,0 +1,129 @@
+"""Jobs: a plan that is to be judged on a map, perhaps for the first rows of a scenario."""
+import csv
+import dataclasses
+import json
+import pathlib
+import re
+from typing import Any, Iterator, Optional, Sequence
+
+# The columns of a list of jobs; those behind the first two may be missing or empty.
+COLUMNS = ("map", "plan", "scenario", "agents")
+REQUIRED = ("map", "plan")
+# The most agents that a plan has; no number of a job needs more digits.
+MOST_AGENTS = 10_000
+# What a field of a name may be.
+FIELDS = {"map": r"(?P<map>.+)", "scen": r"(?P<scen>[A-Za-z]+)", "number": r"(?P<number>[0-9]+)", "agents": r"(?P<agents>[0-9]+)"}
+
+
+class BadJobs(Exception):
+    """What is wrong with a list of jobs, or with a name."""
+
+
+@dataclasses.dataclass(frozen=True)
+class Job:
+    """The files as they are named, and how many agents the plan is to have, where that is said."""
+
+    map: str
+    scenario: str
+    plan: str
+    agents: str
+    # Where the names of the files begin.
+    folder: pathlib.Path = dataclasses.field(compare=False, default=pathlib.Path())
+
+    @property
+    def key(self) -> tuple[str, str, str, str]:
+        return self.map, self.scenario, self.plan, self.agents
+
+    def file(self, name: str) -> str:
+        return str(self.folder / name)
+
+
+def job_of(fields: dict[str, Any], folder: pathlib.Path, where: str) -> Job:
+    """The job with these fields."""
+    for name in fields:
+        if name not in COLUMNS:
+            raise BadJobs(f"{where}: '{name}' is no column, one of {', '.join(COLUMNS)} was due")
+    words = {name: "" if fields.get(name) is None else str(fields[name]) for name in COLUMNS}
+    for name in REQUIRED:
+        if not words[name]:
+            raise BadJobs(f"{where}: there is no {name}, the name of a file was due")
+    for name, word in words.items():
+        if any(character in word for character in "\0\r\n"):
+            raise BadJobs(f"{where}: the {name} has a line end or a zero byte, a name without one was due")
+    agents = words["agents"]
+    if agents and not (agents.isascii() and agents.isdigit() and len(agents) < 6 and int(agents) <= MOST_AGENTS):
+        raise BadJobs(f"{where}: '{agents[:40]}' agents, a number from 0 to {MOST_AGENTS} was due")
+    return Job(words["map"], words["scenario"], words["plan"], str(int(agents)) if agents else "", folder)
+
+
+def from_csv(text: str, path: pathlib.Path) -> Iterator[Job]:
+    rows = csv.DictReader(text.splitlines(keepends=True), strict=True)
+    try:
+        heading = rows.fieldnames or []
+        if not set(REQUIRED) <= set(heading) or len(set(heading)) < len(heading):
+            raise BadJobs(f"{path}:1: the heading names no map or no plan, or one column twice; {','.join(COLUMNS)} was due")
+        for row in rows:
+            where = f"{path}:{rows.line_num}"
+            if None in row or None in row.values():
+                raise BadJobs(f"{where}: the row has not one field a column, {len(heading)} were due")
+            yield job_of(row, path.parent, where)
+    except csv.Error as fault:
+        raise BadJobs(f"{path}:{rows.line_num}: {fault}, a row of CSV was due") from None
+
+
+def from_json_lines(text: str, path: pathlib.Path) -> Iterator[Job]:
+    for number, line in enumerate(text.splitlines(), 1):
+        if not line.strip():
+            continue
+        try:
+            fields = json.loads(line)
+        except (ValueError, RecursionError):
+            raise BadJobs(f"{path}:{number}: the line is no JSON, an object was due") from None
+        if not isinstance(fields, dict) or any(isinstance(value, (dict, list, bool, float)) for value in fields.values()):
+            raise BadJobs(f"{path}:{number}: the line is no job, an object of texts and numbers was due")
+        yield job_of(fields, path.parent, f"{path}:{number}")
+
+
+def read_jobs(path: pathlib.Path) -> list[Job]:
+    """The jobs of a list, CSV or JSON lines by its name. Files are named from the list's folder on."""
+    try:
+        text = path.read_bytes().decode("utf-8-sig")
+    except UnicodeDecodeError:
+        raise BadJobs(f"{path}:1: the list is no text, UTF-8 was due") from None
+    return list((from_json_lines if path.suffix in (".json", ".jsonl", ".ndjson") else from_csv)(text, path))
+
+
+def pattern_of(template: str) -> re.Pattern[str]:
+    """What the names of a template look like: `{map}` and the other fields stand for their values, `*` for anything."""
+    pattern, seen = "", set()
+    for part in re.split(r"(\{[^{}]*\}|\*)", template):
+        name = part[1:-1] if part.startswith("{") else ""
+        if part == "*":
+            pattern += ".*"
+        elif not name and not part.startswith("{"):
+            pattern += re.escape(part)
+        elif name not in FIELDS or name in seen:
+            raise BadJobs(f"'{part}' in the pattern '{template}', one of {', '.join(f'{{{it}}}' for it in FIELDS)}, each once, was due")
+        else:
+            seen.add(name)
+            pattern += FIELDS[name]
+    if "map" not in seen:
+        raise BadJobs(f"the pattern '{template}' has no {{map}}")
+    return re.compile(pattern)
+
+
+def by_names(plans: Sequence[str], maps: pathlib.Path, scens: Optional[pathlib.Path], template: str, scen_template: str) -> list[Job]:
+    """A job for each plan, by what its name says."""
+    pattern = pattern_of(template)
+    jobs = []
+    for plan in plans:
+        found = pattern.fullmatch(pathlib.PurePath(plan).name)
+        if not found:
+            raise BadJobs(f"{plan}: the name is not like '{template}'")
+        fields = found.groupdict()
+        try:
+            scenario = str(scens / scen_template.format(**fields)) if scens else ""
+        except (KeyError, IndexError, ValueError):
+            raise BadJobs(f"the name of a scenario can't be made by '{scen_template}' of a plan's that is like '{template}'") from None
+        jobs.append(job_of({"map": str(maps / f"{fields['map']}.map"), "plan": plan, "scenario": scenario, "agents": fields.get("agents")}, pathlib.Path(), plan))
+    return jobs
