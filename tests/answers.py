@@ -655,6 +655,14 @@ def of_agents(harness: Harness) -> Iterator[Outcome]:
         yield talked(harness, 0, tape, b"start\n", Ended(1, b"", lines(f"mapf: {fault}")), tape)
     for agent in (2, 65535):
         yield talked(harness, agent, NOISE, b"start\n", Ended(1, b"", b"mapf: NoSuchAgent\n"), NOISE)
+    for plan_text, agent, fault in ((BEHIND, 2, "NoSuchAgent"), (SWAP, 0, "Swap 0 1 0")):
+        folder, words = harness.folder({"M": LANE.encode(), "P": plan_text.encode()}), ["agent", "M", "P", str(agent), "T"]
+        ended = harness.mapf(words, b"start\n", folder)
+        due = (Ended(1, b"", lines(f"mapf: {fault}")), False)
+        yield compared(f"agent {agent}, {fault}: no tape is made", shown(["mapf", *words]), (ended, (folder / "T").exists()), due)
+    # A record is written over a torn tail, and not behind it.
+    yield talked(harness, 0, NOISE[:9], b"start\n", Ended(0, lines("at 1 0 done 0", "moving 2 0"), b""), MOVING)
+    yield talked(harness, 0, MOVING + NOISE[:1], b"finish\n", Ended(0, lines("between 1 0 2 0 done 0", "arrived 2 0"), b""), MOVING + STANDING)
     asked_lines, answers, _ = zip(*TURNS)
     yield talked(harness, 0, b"", lines(*asked_lines), Ended(0, lines("at 1 0 done 0", *answers), b""), MOVING + STANDING)
     # A last line without its LF is answered too; the drive of a robot that was killed goes on by the tape.

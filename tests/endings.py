@@ -174,8 +174,9 @@ def of_great_runs(harness: Harness) -> Iterator[Outcome]:
         agents = in_lines(1, 1_000, 1)
         yield judge("1,000 agents in a line, against their numbers", row(1_001), agents, version)
         yield judge("1,000 agents in a line, by their numbers", row(1_001), agents[::-1], version)
+        yield judge("one agent, 65,535 moves", LANE, [f"0 0 {'ew' * 32_767}e"], version)
+    yield judge("10,000 agents in a line, against their numbers", row(10_001), in_lines(1, 10_000, 1), 1)
     if harness.is_long:
-        yield judge("10,000 agents in a line, against their numbers", row(10_001), in_lines(1, 10_000, 1), 1)
         yield judge("10,000 agents, 200 moves each", row(300, 100), in_lines(100, 100, 200), 1)
         yield judge("1,000 agents, 200 moves each", row(300, 10), in_lines(10, 100, 200), 2)
 

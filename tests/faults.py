@@ -7,6 +7,7 @@ import functools
 import pathlib
 import re
 import shutil
+import struct
 from typing import Iterator, Optional
 
 import command_lines
@@ -176,6 +177,8 @@ LONG_KINDS = {**KINDS, "alloc": ["error", "on"], "read": ["error", "on", "short"
 MOST = 2_000
 # Events of a run that is to take no memory for any of them.
 MANY_LINES = 10_000
+# No agent makes more moves.
+MOST_MOVES = 65_535
 
 # The records that the tape of each agent comes to have, and where the agent is with as many of them.
 RECORDS = {"0": (MOVING, STANDING), "1": (OTHER_AGENT, ARRIVED_AS_OTHER)}
@@ -205,14 +208,13 @@ class Library:
         ended = self.harness.run([str(self.harness.program), *case.words.split()], case.given, folder, more)
         return ended, met.read_text() if met.exists() else ""
 
-
-    def count(self, words: str, folder: pathlib.Path, call: str, to: str) -> tuple[Ended, str]:
+    def count(self, words: str, folder: pathlib.Path, call: str, to: str, given: bytes = b"") -> tuple[Ended, str]:
         """Runs a command whose output goes to a file, counts its calls of a kind, and answers what it did, and how many they are."""
         met = folder / "met"
         met.unlink(missing_ok=True)
         more = {"LD_PRELOAD": str(self.path), "FAULT_CALL": call, "FAULT_KIND": "count", "FAULT_AT": "0", "FAULT_MET": str(met)}
         command = ["sh", "-c", f'exec "$0" "$@" >{to}', str(self.harness.program), *words.split()]
-        return self.harness.run(command, b"", folder, more), met.read_text() if met.exists() else ""
+        return self.harness.run(command, given, folder, more), met.read_text() if met.exists() else ""
 
 
 def begins(whole: bytes, text: bytes) -> bool:
@@ -354,6 +356,22 @@ def growths(library: Library) -> Iterator[Outcome]:
         yield compared(f"{words}, how often memory is taken", f"{words} with one event, and with {MANY_LINES}", sorted(counts), sorted(counts)[:1])
 
 
+def syncs(library: Library) -> Iterator[Outcome]:
+    """A tape is synced once where it is opened with a record, and once behind each record that is written to it."""
+    for moves in (1, MOST_MOVES):
+        files = {"M": LANE.encode(), "P": plan(f"0 0 {'ew' * (moves // 2)}e").encode()}
+        tape = b"".join(struct.pack(">BBIHH", 0x50, 1 + r % 2, 7, 0, (r + 1) // 2) for r in range(2 * moves))
+        for records in sorted({0, 1, 2 * moves - 1, 2 * moves}):
+            folder = library.harness.folder({**files, TAPE: tape[: 10 * records]})
+            written = 2 * moves - records
+            given = lines(*(("start", "finish")[r % 2] for r in range(records, 2 * moves)))
+            name = f"syncs of a tape of {records} records to which {written} are written"
+            ended, count = library.count("agent M P 0 T", folder, "sync", "out", given)
+            ran = f"mapf agent M P 0 T  with {records} records on the tape, and the lines start and finish {written} times in all"
+            due = (Ended(0, b"", b""), str(written + (records > 0)), True)
+            yield compared(name, ran, (ended, count, (folder / TAPE).read_bytes() == tape), due)
+
+
 def outcomes(harness: Harness) -> Iterator[Outcome]:
     if not shutil.which("cc"):
         yield Outcome("calls of the system that fail", lacks="cc")
@@ -365,6 +383,7 @@ def outcomes(harness: Harness) -> Iterator[Outcome]:
     if library.built.fault or outcome.fault:
         return
     yield from growths(library)
+    yield from syncs(library)
     kinds = LONG_KINDS if harness.is_long else KINDS
     for call, kind in ((call, kind) for call, each in kinds.items() for kind in each):
         # Where memory stays wanting, an agent that can't hear answers other things from there on.

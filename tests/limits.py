@@ -148,6 +148,20 @@ def of_long_plans(harness: Harness) -> list[Outcome]:
     files = {"M": map_text(["." * width]), "P": plan(f"0 0 {'e' * (width - 1)}").encode()}
     outcomes.append(checked(harness, "65,535 cells on one way", files, f"accepted agents 1 cost {width - 1} makespan {width - 1}"))
     outcomes.append(asked(harness, "deps of one way", "deps M P", files, answer(0, f"agents 1 moves {width - 1} needs 0 rotations 0\n")))
+    outcomes.append(asked(harness, "the cells of one way", "path M P", files, Ended(0, lines(*(f"{x} {x} 0" for x in range(width))), b"")))
+    to_the_end = {"M": LANE.encode(), "P": plan("2 0 =", f"0 0 {to_and_fro}e").encode()}
+    rows = lines(*(f"{time} 2 0 {time % 2} 0" for time in range(most + 1)))
+    outcomes.append(asked(harness, f"where two agents are at {most + 1} times", "path M P", to_the_end, Ended(0, rows, b"")))
+    for acts, fault in ((f"{to_and_fro}n", f"BadMove 1 {most - 1}"), (f"{'-' * (most - 1)}w", f"BadMove 1 {most - 1}")):
+        spoiled = {"M": LANE.encode(), "P": plan("2 0 =", f"0 0 {acts}").encode()}
+        outcomes.append(asked(harness, f"a path with {fault}", "path M P", spoiled, answer(1, fault)))
+    count = 60
+    moved = count * most
+    text = plan(*(f"0 {y} {to_and_fro}e" for y in range(count))).encode()
+    files = {"M": map_text(["..."] * count), "P": text, "E": lines("mapf-events 1", f"start {count - 1}")}
+    head = f"agents {count} moves {moved} needs 0 rotations 0"
+    outcomes.append(asked(harness, f"deps of {moved} moves", "deps M P", files, Ended(0, lines(head), b"")))
+    outcomes.append(asked(harness, f"a run of {moved} moves", "run M P E", files, Ended(0, lines(f"moving 1 {count - 1}"), b"")))
     for count in (most + 1, 1_000_000):
         files = {"M": LANE.encode(), "P": plan(f"0 0 {'-' * count}").encode()}
         outcomes.append(asked(harness, f"{count} acts", "check M P", files, answer(1, "TooMany 4")))
@@ -178,6 +192,13 @@ def of_most_acts(harness: Harness) -> list[Outcome]:
         ((f"0 0 {walk}e", f"2 {full + 1} {walk}e"), f"rejected BadStart {other}"),
     ):
         outcomes.append(checked(harness, f"{MOST_ACTS_OF_ALL} acts, {verdict}", {"M": map_bytes, "P": text(*last_two)}, verdict))
+    for last_two, due in (
+        ((f"0 0 {wait}e", f"2 0 {walk}w"), Ended(0, lines(*(f"{time} {2 + time % 2 if time < steps else 1} 0" for time in range(steps + 1))), b"")),
+        ((f"0 0 {walk}e", f"2 0 {walk}n"), answer(1, f"BadMove {other} {steps - 1}")),
+        ((f"0 0 {walk}e", f"2 {full + 1} {walk}e"), answer(1, f"BadStart {other}")),
+    ):
+        files = {"M": map_bytes, "P": text(*last_two)}
+        outcomes.append(asked(harness, f"one path of {MOST_ACTS_OF_ALL} acts", f"path M P --agent {other}", files, due))
     if harness.is_long:
         files = {"M": map_bytes, "P": text(f"0 0 {walk}e", f"2 0 {walk}e"), "E": lines("mapf-events 1", f"start {other}", "start 0", f"start {full}")}
         counts = f"agents {full + 1} moves {moved} needs 0 rotations 0"
@@ -220,7 +241,15 @@ def of_most_agents(harness: Harness) -> list[Outcome]:
         ((f"{right} {row + 1} ---",), f"rejected BadStart {last}"),
     ):
         outcomes.append(checked(harness, f"{count} agents, {verdict}", {"M": map_bytes, "P": plan(*agents(*changed)).encode()}, verdict))
+        if "Bad" in verdict:
+            fault = verdict.partition(" ")[2]
+            outcomes.append(asked(harness, f"paths with {fault}", "path M P", {"M": map_bytes, "P": plan(*agents(*changed)).encode()}, answer(1, fault)))
     plan_bytes = plan(*agents()).encode()
+    cells = [" ".join([str(time), *(f"{x + time % 2} {y}" for x, y in starts)]) for time in range(4)]
+    files = {"M": map_bytes, "P": plan_bytes}
+    outcomes.append(asked(harness, f"where {count} agents are", "path M P", files, Ended(0, lines(*cells), b"")))
+    outcomes.append(asked(harness, f"agent {last} of them", f"path M P --agent {last}", files, Ended(0, lines(*(f"{time} {starts[last][0] + time % 2} {starts[last][1]}" for time in range(4))), b"")))
+    outcomes.append(asked(harness, f"agent {count} of them", f"path M P --agent {count}", files, answer(1, "NoSuchAgent")))
     as_json = f'{{"accepted":true,"agents":{count},"cost":{3 * count},"makespan":3}}\n'
     outcomes.append(asked(harness, f"{count} agents as JSON", "check M P --json", {"M": map_bytes, "P": plan_bytes}, answer(0, as_json)))
     size = f"m.map {2 * in_row} {len(rows) + 1}"
@@ -280,6 +309,76 @@ def of_a_line(harness: Harness) -> list[Outcome]:
     due = lines(f"at {last} 0 done 0", f"moving {last + 1} 0", f"said {said(last, 0)}")
     outcomes.append(asked(harness, f"agent {last}", f"agent M P {last} T", {**files, "T": b""}, Ended(0, due, b""), lines("start", "say")))
     outcomes.append(asked(harness, f"agent {count}", f"agent M P {count} T", {**files, "T": b""}, answer(1, "NoSuchAgent")))
+    return outcomes
+
+
+def of_hearings(harness: Harness, version: int) -> list[Outcome]:
+    """A run in which the first of as many agents as there may be hears of all others, by a message of each. At version 2 it then tells another
+    one of all at once, and hears as many entries again, all of which it knows."""
+    count, in_row = MOST_AGENTS, 100
+    cells = [(2 * (i % in_row), i // in_row) for i in range(count)]
+    gone = [(i, 1) for i in range(count)]
+
+    def own(agent: int) -> str:
+        return said(agent, 1) if version == 1 else message(agent, (agent, 1))
+
+    def whole(agent: int) -> str:
+        return said(agent, 1) if version == 1 else message(agent, *gone)
+
+    turns = []
+    for number, i in enumerate((*range(1, count), 0)):
+        x, y = cells[i]
+        turns += [(f"start {i}", f"moving {x + 1} {y}"), (f"finish {i}", f"arrived {x + 1} {y}"), (f"say {i}", f"said {number} {own(i) if i else whole(0)}")]
+        turns.append((f"deliver 0 {number}", f"heard {i} 1") if i else (f"deliver 1 {number}", "heard 0 1"))
+    # All of it is known, and is said again and again; then a restart forgets it.
+    turns += [("say 1", f"said {count} {whole(1)}"), (f"deliver 0 {count}", "heard 1 1"), (f"deliver 1 {count - 1}", "heard 0 1"), ("deliver 0 0", "heard 1 1")]
+    number = count + 1
+    for _ in range(100):
+        turns += [("say 0", f"said {number} {whole(0)}"), (f"deliver 1 {number}", "heard 0 1")]
+        number += 1
+    turns += [("restart 0", f"at {cells[0][0] + 1} {cells[0][1]} done 1"), ("say 0", f"said {number} {own(0)}")]
+    events, replies = zip(*turns)
+    files = {"M": map_text(["." * (2 * in_row)] * (count // in_row)), "P": plan(*(f"{x} {y} e" for x, y in cells)).encode()}
+    files["E"] = lines(f"mapf-events {version}", *events)
+    return [asked(harness, f"an agent that hears of {count - 1} others at version {version}", "run M P E", files, Ended(0, lines(*replies), b""))]
+
+
+def of_a_ring(harness: Harness) -> list[Outcome]:
+    """As many agents as there may be, all of which turn round in one circle."""
+    count = MOST_AGENTS
+    half = count // 2
+    east = [f"{x} 0 {'e' if x + 1 < half else 's'}" for x in range(half)]
+    west = [f"{x} 1 {'w' if x else 'n'}" for x in reversed(range(half))]
+    files = {"M": map_text(["." * half] * 2), "P": plan(*east, *west).encode(), "E": b"mapf-events 1\n"}
+    head = f"agents {count} moves {count} needs {count} rotations 1"
+    needs = (f"need {i} 0 {(i + 1) % count} 1" for i in range(count))
+    turn = " ".join(["rotation", "0", *map(str, range(count))])
+    return [
+        checked(harness, f"{count} agents that turn", files, f"accepted agents {count} cost {count} makespan 1"),
+        asked(harness, f"deps of {count} agents that turn", "deps M P", files, Ended(0, lines(head, *needs, turn), b"")),
+        asked(harness, f"{count} agents that turn block", "run M P E --complete", files, answer(1, "blocked 0\n")),
+    ]
+
+
+def of_plans_on_great_maps(harness: Harness) -> list[Outcome]:
+    """Plans on maps as great as they may be: an agent in the first cell stays, and one comes into the last cell."""
+    outcomes = []
+    for width, height in GREATEST_MAPS:
+        x, y = width - 1, height - 1
+        mover = f"{x - 1} {y} e" if width > 1 else f"{x} {y - 1} s"
+        start = " ".join(mover.split()[:2])
+        files = {"M": map_text(["." * width] * height), "P": plan(mover, "0 0 =").encode(), "E": lines("mapf-events 1", "start 0"), "T": b""}
+        spoiled = {**files, "P": plan(mover, f"{x} {y} =").encode()}
+        outcomes.append(checked(harness, f"a plan on {width} x {height}", files, "accepted agents 2 cost 1 makespan 1"))
+        outcomes.append(checked(harness, f"two agents in the last cell of {width} x {height}", spoiled, f"rejected Vertex 0 1 1 {x} {y}"))
+        for words, out in (
+            ("deps M P", lines("agents 2 moves 1 needs 0 rotations 0")),
+            (f"deps M P --cell {x} {y}", lines("visit 0 1 1")),
+            ("path M P", lines(f"0 {start} 0 0", f"1 {x} {y} 0 0")),
+            ("run M P E --complete", lines(f"moving {x} {y}", "complete 1", "finish 0")),
+            ("agent M P 0 T", lines(f"at {start} done 0", f"moving {x} {y}")),
+        ):
+            outcomes.append(asked(harness, f"{words} on {width} x {height}", words, files, Ended(0, out, b""), b"start\n"))
     return outcomes
 
 
@@ -399,6 +498,9 @@ TESTS: Sequence[Test] = (
     of_most_acts,
     of_most_agents,
     of_a_line,
+    of_a_ring,
+    of_plans_on_great_maps,
+    *(functools.partial(of_hearings, version=version) for version in (1, 2)),
     of_many_cells,
     *(functools.partial(of_long_runs, version=version) for version in (1, 2)),
     of_long_tapes,
