@@ -1,23 +1,21 @@
 //! How runs end: answered events complete them, which are answered again from the same state; or the first rotation blocks them.
 use crate::texts::{ONE_BEHIND, ROW, SQUARE, TURNING, graph_of};
+use depgraph::{Graph, OutOfMemory};
 use runner::{CompleteFault, Event, Reply, Runner, Version};
 use std::alloc::Global;
 use std::process::Abort;
 use std::test::Fail;
 
-/// Answers events and then those that complete their run: none of these is refused, and then each agent has made all its moves.
-fn expect_completed(
-    rt: &impl Abort,
-    alloc: Global,
-    agents: &str,
-    version: Version,
-    events: &[Event],
-) -> Result<(), Fail> {
-    let graph = graph_of(alloc, ROW, agents)?;
-    let mut runner = Runner::with_version(alloc, &graph, version)?;
+/// Answers events, of which some may be refused.
+fn answer_all(runner: &mut Runner<'_>, events: &[Event]) -> Result<(), OutOfMemory> {
     for event in events {
         let _reply = runner.step(*event)?;
     }
+    Ok(())
+}
+
+/// Answers the events that complete a run: none is refused.
+fn complete(rt: &impl Abort, runner: &mut Runner<'_>) -> Result<(), Fail> {
     let Ok(completing) = runner.complete() else {
         return Err("no completion was found".into());
     };
@@ -26,12 +24,30 @@ fn expect_completed(
         let is_refused = matches!(reply, Reply::Refused(_));
         assert!(rt; !is_refused, "{event:?}: {reply:?}");
     }
+    Ok(())
+}
+
+/// How many moves an agent has made that stands after a restart.
+fn moves_made(runner: &mut Runner<'_>, agent: u32) -> Option<u32> {
+    match runner.step(Event::Restart(agent)) {
+        Ok(Reply::At(_, done)) => Some(done),
+        _ => None,
+    }
+}
+
+/// Answers events and then those that complete their run, and then each agent has made all its moves.
+fn run_to_the_end(
+    rt: &impl Abort,
+    alloc: Global,
+    graph: &Graph,
+    version: Version,
+    events: &[Event],
+) -> Result<(), Fail> {
+    let mut runner = Runner::with_version(alloc, graph, version)?;
+    answer_all(&mut runner, events)?;
+    complete(rt, &mut runner)?;
     for id in 0..graph.agents() {
-        let reply = runner.step(Event::Restart(id))?;
-        let Reply::At(_, done) = reply else {
-            return Err("an agent is still moving".into());
-        };
-        assert_eq!(rt; Some(done), graph.moves(id), "agent {id}");
+        assert_eq!(rt; moves_made(&mut runner, id), graph.moves(id), "agent {id}");
     }
     Ok(())
 }
@@ -52,9 +68,11 @@ static BEGUN: [&[Event]; 4] = [
 
 #[test]
 fn each_run_in_the_row_is_completed(rt: HostRuntime) -> Result<(), Fail> {
+    let graph = graph_of(rt.alloc(), ROW, ONE_BEHIND)?;
     for events in BEGUN {
-        expect_completed(&rt, rt.alloc(), ONE_BEHIND, Version::One, events)?;
-        expect_completed(&rt, rt.alloc(), ONE_BEHIND, Version::Two, events)?;
+        for version in [Version::One, Version::Two] {
+            run_to_the_end(&rt, rt.alloc(), &graph, version, events)?;
+        }
     }
     Ok(())
 }

@@ -80,21 +80,19 @@ fn arrives(runner: &mut Runner<'_>, agent: u32) -> Result<(), Fail> {
 }
 
 /// In each round the hindmost comes first, so what it is told it can use in the next round.
-#[test]
-fn a_thousand_agents(rt: HostRuntime) -> Result<(), Fail> {
-    let plan = line_of_agents(rt.alloc())?;
-    let graph = Graph::build(rt.alloc(), &plan)?;
-    let mut runner = Runner::new(rt.alloc(), &graph)?;
+fn all_advance(rt: &impl Abort, runner: &mut Runner<'_>) -> Result<(), Fail> {
     for round in 0..AGENTS + MOVES - 1 {
         for agent in (0..AGENTS).rev() {
             let is_due = agent <= round && round < agent + MOVES;
-            assert_eq!(rt;
-                advances(&rt, &mut runner, agent)?,
-                is_due,
-                "agent {agent}, round {round}"
-            );
+            let has_moved = advances(rt, runner, agent)?;
+            assert_eq!(rt; has_moved, is_due, "agent {agent}, round {round}");
         }
     }
+    Ok(())
+}
+
+/// The agents stand in the last cells of the corridor.
+fn all_at_ends(rt: &impl Abort, runner: &Runner<'_>) {
     for agent in 0..AGENTS {
         let end = Cell {
             x: (AGENTS + MOVES - 1 - agent) as u16,
@@ -102,5 +100,13 @@ fn a_thousand_agents(rt: HostRuntime) -> Result<(), Fail> {
         };
         assert_eq!(rt; runner.held(agent), Some(Held::At(end)));
     }
+}
+
+#[test]
+fn a_thousand_agents(rt: HostRuntime) -> Result<(), Fail> {
+    let graph = Graph::build(rt.alloc(), &line_of_agents(rt.alloc())?)?;
+    let mut runner = Runner::new(rt.alloc(), &graph)?;
+    all_advance(&rt, &mut runner)?;
+    all_at_ends(&rt, &runner);
     all_apart(&rt, &runner, AGENTS)
 }

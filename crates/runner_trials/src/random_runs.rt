@@ -4,8 +4,9 @@ use crate::plain_run::PlainRun;
 use crate::texts::{FIELD, checked};
 use crate::watch::Watch;
 use depgraph::Graph;
+use plan::CheckedPlan;
 use runner::{Event, Reply, Version};
-use std::alloc::Global;
+use std::alloc::{AllocError, Global};
 use std::process::Abort;
 use std::test::Fail;
 
@@ -82,6 +83,30 @@ struct Noted {
     lines: Vec<String>,
 }
 
+impl Noted {
+    fn note(&mut self, event: Event, line: String) -> Result<(), AllocError> {
+        self.events.push(event)?;
+        self.lines.push(line)?;
+        Ok(())
+    }
+}
+
+/// The line of the reply to an event, which is looked at, and answered by a plain run too; and whether a message was said.
+fn answered(
+    rt: &impl Abort,
+    alloc: Global,
+    watch: &mut Watch<'_>,
+    plain: &mut PlainRun<'_>,
+    event: Event,
+) -> Result<(bool, String), Fail> {
+    let reply = watch.step(rt, event)?;
+    let is_said = matches!(&reply, Reply::Said(_, _));
+    let reply = line(alloc, &reply)?;
+    let expected = line(alloc, &plain.step(event)?)?;
+    assert_eq!(rt; reply.as_str(), expected.as_str(), "after {event:?}");
+    Ok((is_said, reply))
+}
+
 /// Events at random among so many agents, each of which is looked at, and answered by a plain run too.
 fn watched(
     rt: &impl Abort,
@@ -99,15 +124,9 @@ fn watched(
     let mut said = 0u32;
     for _ in 0..EVENTS {
         let event = numbers.event(agents, said);
-        let reply = watch.step(rt, event)?;
-        if matches!(&reply, Reply::Said(_, _)) {
-            said = said.saturating_add(1);
-        }
-        let expected = line(alloc, &plain.step(event)?)?;
-        let reply = line(alloc, &reply)?;
-        assert_eq!(rt; reply.as_str(), expected.as_str(), "after {event:?}");
-        noted.events.push(event)?;
-        noted.lines.push(reply)?;
+        let (is_said, line) = answered(rt, alloc, watch, plain, event)?;
+        said = said.saturating_add(u32::from(is_said));
+        noted.note(event, line)?;
     }
     Ok(noted)
 }
@@ -129,6 +148,21 @@ fn compare(
     Ok(())
 }
 
+/// Events at random among the agents of a plan, and whether all came to their ends.
+fn watched_run(
+    rt: &impl Abort,
+    alloc: Global,
+    plan: &CheckedPlan,
+    graph: &Graph,
+    version: Version,
+    seed: u64,
+) -> Result<(Noted, bool), Fail> {
+    let mut watch = Watch::new(alloc, plan, graph, version)?;
+    let mut plain = PlainRun::new(alloc, graph, version)?;
+    let noted = watched(rt, alloc, &mut watch, &mut plain, plan.agents(), seed)?;
+    Ok((noted, watch.is_over()))
+}
+
 /// Runs a plan on events at random. Whether all agents came to their ends.
 fn is_run_to_the_end(
     rt: &impl Abort,
@@ -139,11 +173,9 @@ fn is_run_to_the_end(
 ) -> Result<bool, Fail> {
     let plan = checked(alloc, FIELD, agents)?;
     let graph = Graph::build(alloc, &plan)?;
-    let mut watch = Watch::new(alloc, &plan, &graph, version)?;
-    let mut plain = PlainRun::new(alloc, &graph, version)?;
-    let noted = watched(rt, alloc, &mut watch, &mut plain, plan.agents(), seed)?;
+    let (noted, is_over) = watched_run(rt, alloc, &plan, &graph, version, seed)?;
     compare(rt, alloc, &graph, version, &noted)?;
-    Ok(watch.is_over())
+    Ok(is_over)
 }
 
 /// Several such runs of a plan, each of which ends, or none.

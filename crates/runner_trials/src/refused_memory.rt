@@ -96,6 +96,39 @@ fn answer(
     }
 }
 
+/// The replies to events, one by one.
+fn step_all(
+    rt: &impl Abort,
+    alloc: Global,
+    runner: &mut Runner<'_>,
+    plain: &mut PlainRun<'_>,
+    rows: &[(Event, &str)],
+) -> Result<(), OutOfMemory> {
+    for (event, expected) in rows {
+        let reply = line(alloc, &answer(rt, runner, plain, *event)?)?;
+        assert_eq!(rt; reply.as_str(), *expected, "after {event:?}");
+        plain.step(*event)?;
+    }
+    Ok(())
+}
+
+/// The replies to events, one by one, and what completes their run.
+fn complete_all(
+    rt: &impl Abort,
+    alloc: Global,
+    graph: &Graph,
+    version: Version,
+    rows: &[(Event, &str)],
+) -> Result<(), OutOfMemory> {
+    let mut runner = Runner::with_version(alloc, graph, version)?;
+    let mut plain = PlainRun::new(alloc, graph, version)?;
+    step_all(rt, alloc, &mut runner, &mut plain, rows)?;
+    match runner.complete() {
+        Err(CompleteFault::OutOfMemory) => Err(OutOfMemory),
+        _ => Ok(()),
+    }
+}
+
 /// The replies to events, one by one and then at once: each is the right one, or memory was refused, and so is what completes their run.
 fn attempt(
     rt: &impl Abort,
@@ -106,16 +139,7 @@ fn attempt(
     rows: &[(Event, &str)],
 ) -> Result<(), OutOfMemory> {
     let graph = graph_of(rt, alloc, map, agents)?;
-    let mut runner = Runner::with_version(alloc, &graph, version)?;
-    let mut plain = PlainRun::new(alloc, &graph, version)?;
-    for (event, expected) in rows {
-        let reply = line(alloc, &answer(rt, &mut runner, &plain, *event)?)?;
-        assert_eq!(rt; reply.as_str(), *expected, "after {event:?}");
-        plain.step(*event)?;
-    }
-    if let Err(CompleteFault::OutOfMemory) = runner.complete() {
-        return Err(OutOfMemory);
-    }
+    complete_all(rt, alloc, &graph, version, rows)?;
     expect_list(rt, alloc, &graph, version, rows)
 }
 

@@ -1,12 +1,24 @@
 //! Small runs, whose replies are known.
 use crate::lines::{expect, expect_list};
 use crate::texts::{ONE_BEHIND, ROW, graph_of};
+use depgraph::Graph;
 use grid::Cell;
 use model::Held;
 use runner::{Event, Runner, Version};
 use std::alloc::Global;
 use std::process::Abort;
 use std::test::Fail;
+
+/// The replies of a runner to events.
+fn expect_steps(
+    rt: &impl Abort,
+    alloc: Global,
+    graph: &Graph,
+    rows: &[(Event, &str)],
+) -> Result<(), Fail> {
+    let mut runner = Runner::new(alloc, graph)?;
+    expect(rt, alloc, &mut runner, rows)
+}
 
 /// The replies to events on a map, to a runner and to a list of them at once.
 fn expect_replies(
@@ -17,8 +29,7 @@ fn expect_replies(
     rows: &[(Event, &str)],
 ) -> Result<(), Fail> {
     let graph = graph_of(alloc, map, agents)?;
-    let mut runner = Runner::new(alloc, &graph)?;
-    expect(rt, alloc, &mut runner, rows)?;
+    expect_steps(rt, alloc, &graph, rows)?;
     expect_list(rt, alloc, &graph, Version::One, rows)?;
     Ok(())
 }
@@ -76,6 +87,15 @@ const MIDDLE: Cell = Cell { x: 1, y: 0 };
 
 const RIGHT: Cell = Cell { x: 2, y: 0 };
 
+/// What agents hold at first.
+static FIRST_HELD: [(u32, Option<Held>); 5] = [
+    (0, Some(Held::At(MIDDLE))),
+    (1, Some(Held::At(LEFT))),
+    (2, None),
+    (65_536, None),
+    (u32::MAX, None),
+];
+
 /// Events, and what agent 0 holds after each.
 static HELD: [(Event, Held); 5] = [
     (Event::Start(1), Held::At(MIDDLE)),
@@ -89,18 +109,15 @@ static HELD: [(Event, Held); 5] = [
 fn what_agents_hold(rt: HostRuntime) -> Result<(), Fail> {
     let graph = graph_of(rt.alloc(), ROW, ONE_BEHIND)?;
     let mut runner = Runner::new(rt.alloc(), &graph)?;
-    for (agent, held) in [
-        (0, Some(Held::At(MIDDLE))),
-        (1, Some(Held::At(LEFT))),
-        (2, None),
-        (65_536, None),
-        (u32::MAX, None),
-    ] {
+    for &(agent, held) in &FIRST_HELD {
         assert_eq!(rt; runner.held(agent), held);
     }
     for &(event, held) in &HELD {
-        runner.step(event)?;
-        assert_eq!(rt; runner.held(0), Some(held), "after {event:?}");
+        let is_answered = runner.step(event).is_ok();
+        assert!(rt;
+            is_answered && runner.held(0) == Some(held),
+            "after {event:?}"
+        );
     }
     Ok(())
 }

@@ -5,6 +5,7 @@ use crate::watch::Watch;
 use depgraph::Graph;
 use grid::Cell;
 use model::Held;
+use plan::CheckedPlan;
 use runner::{Event, Version};
 use std::alloc::Global;
 use std::process::Abort;
@@ -108,19 +109,39 @@ fn stopped(
     Ok(())
 }
 
+/// Where the agents come to rest.
+static ENDS: [(u32, Cell); 2] = [(0, Cell { x: 2, y: 0 }), (1, Cell { x: 1, y: 0 })];
+
+/// Whether both agents have walked their paths, and hold the cells at their ends.
+fn are_at_ends(watch: &Watch<'_>) -> bool {
+    let mut are_there = watch.is_over();
+    for &(agent, end) in &ENDS {
+        are_there = are_there && watch.runner().held(agent) == Some(Held::At(end));
+    }
+    are_there
+}
+
+/// The whole run from its beginning, in which the write with a number is torn. Whether it comes to its end.
+fn comes_to_its_end(
+    rt: &impl Abort,
+    alloc: Global,
+    plan: &CheckedPlan,
+    graph: &Graph,
+    (number, stored): (usize, u32),
+) -> Result<bool, Fail> {
+    let mut watch = Watch::new(alloc, plan, graph, Version::One)?;
+    stopped(rt, alloc, &mut watch, number, stored)?;
+    Ok(are_at_ends(&watch))
+}
+
 #[test]
 fn each_write_is_torn(rt: HostRuntime) -> Result<(), Fail> {
     let plan = checked(rt.alloc(), ROW, ONE_BEHIND)?;
     let graph = Graph::build(rt.alloc(), &plan)?;
     for number in 0..4 {
         for stored in 0..11 {
-            let mut watch = Watch::new(rt.alloc(), &plan, &graph, Version::One)?;
-            stopped(&rt, rt.alloc(), &mut watch, number, stored)?;
-            assert!(rt; watch.is_over(), "write {number} after {stored} bytes");
-            let ends = [Cell { x: 2, y: 0 }, Cell { x: 1, y: 0 }];
-            for (agent, end) in (0..2).zip(ends) {
-                assert_eq!(rt; watch.runner().held(agent), Some(Held::At(end)));
-            }
+            let is_ended = comes_to_its_end(&rt, rt.alloc(), &plan, &graph, (number, stored))?;
+            assert!(rt; is_ended, "write {number} after {stored} bytes");
         }
     }
     Ok(())

@@ -72,35 +72,51 @@ fn stepwise(
     Ok(replies)
 }
 
+/// The texts of the replies to events, at once and one by one.
+fn replies_to(
+    alloc: Global,
+    run: &TextRun,
+    version: Version,
+    events: &[Event],
+) -> Result<[String; 2], Fail> {
+    let graph = graph_of(alloc, run.map, run.agents)?;
+    let at_once = text_of(alloc, &run_with(alloc, &graph, version, events)?)?;
+    let one_by_one = text_of(alloc, &stepwise(alloc, &graph, version, events)?)?;
+    Ok([at_once, one_by_one])
+}
+
 #[test]
 fn events_that_were_read(rt: HostRuntime) -> Result<(), Fail> {
     let alloc = rt.alloc();
     for run in &RUNS {
-        let graph = graph_of(alloc, run.map, run.agents)?;
         let (version, events) = read_events_any(alloc, &mut Counted::new(run.events.as_bytes()))?;
         assert_eq!(rt; version, run.version);
-        let replies = text_of(alloc, &run_with(alloc, &graph, version, &events)?)?;
-        assert_eq!(rt; replies.as_str(), run.replies);
-        let replies = text_of(alloc, &stepwise(alloc, &graph, version, &events)?)?;
-        assert_eq!(rt; replies.as_str(), run.replies);
+        let [at_once, one_by_one] = replies_to(alloc, run, version, &events)?;
+        assert_eq!(rt; at_once.as_str(), run.replies);
+        assert_eq!(rt; one_by_one.as_str(), run.replies);
     }
     Ok(())
 }
 
+/// The replies to the texts of a run.
+fn replayed(alloc: Global, run: &TextRun) -> Result<Vec<u8>, Fail> {
+    let plan = plan_text(alloc, run.agents)?;
+    let mut replies = Vec::new(alloc);
+    run_text(
+        alloc,
+        &mut Counted::new(run.map.as_bytes()),
+        &mut Counted::new(plan.as_bytes()),
+        &mut Counted::new(run.events.as_bytes()),
+        &mut Counted::new(&mut replies),
+    )
+    .map_err(|_| "a run was not replayed")?;
+    Ok(replies)
+}
+
 #[test]
 fn whole_texts(rt: HostRuntime) -> Result<(), Fail> {
-    let alloc = rt.alloc();
     for run in &RUNS {
-        let plan = plan_text(alloc, run.agents)?;
-        let mut replies = Vec::new(alloc);
-        let end = run_text(
-            alloc,
-            &mut Counted::new(run.map.as_bytes()),
-            &mut Counted::new(plan.as_bytes()),
-            &mut Counted::new(run.events.as_bytes()),
-            &mut Counted::new(&mut replies),
-        );
-        assert_eq!(rt; end, Ok(()));
+        let replies = replayed(rt.alloc(), run)?;
         assert!(rt; replies.as_slice() == run.replies.as_bytes());
     }
     Ok(())
