@@ -27,7 +27,7 @@ MANY = ROOT / "tests" / "many_conversions.py"
 SAMPLES = (("fleet/warehouse.map", 12, 12), ("planners/hall.map", 60, 7))
 NUMBER = "7"
 # Random plans a format, and how many of them one process converts.
-SHORT_ROUNDS, LONG_ROUNDS, ROUND = 40, 200, 40
+SHORT_ROUNDS, LONG_ROUNDS, ROUND = 20, 200, 20
 SHORT_PLACES, LONG_PLACES = 200, 2_000
 # Formats whose greatest texts are soon converted.
 SOON_AT_LIMITS = ("csv", "paths", "tracker")

@@ -302,4 +302,5 @@ def outcomes(harness: Harness) -> Iterator[Outcome]:
     yield from of_bad_lists(room)
     yield from of_processes(room)
     yield from of_stops(room)
-    yield from of_a_cluster(room)
+    if harness.is_long:
+        yield from of_a_cluster(room)
