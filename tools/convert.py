@@ -15,13 +15,13 @@ import argparse
 import contextlib
 import pathlib
 import shutil
-import signal
 import sys
 import tempfile
 from typing import Optional, Sequence
 
 sys.dont_write_bytecode = True
 import path_check  # noqa: E402
+from leaving import heed_signals  # noqa: E402
 from path_check import Failed, Program, Refused  # noqa: E402
 from plan_formats import Format, formats, mapf_plan  # noqa: E402
 from plan_formats.texts import text_of  # noqa: E402
@@ -175,17 +175,6 @@ def convert(given: argparse.Namespace) -> None:
     context = Given(*size, has_map=bool(size), tasks=tasks)
     data = pathlib.Path(given.file).read_bytes()
     (from_plan if given.to else to_plan)(given, data, context)
-
-
-def heed_signals() -> None:
-    """Whatever asks this call to end, drafts are gone then."""
-
-    def leave(number: int, _: object) -> None:
-        sys.exit(128 + number)
-
-    for number in (signal.SIGTERM, signal.SIGHUP, signal.SIGINT):
-        if signal.getsignal(number) is not signal.SIG_IGN:
-            signal.signal(number, leave)
 
 
 def main(words: Sequence[str]) -> int:

@@ -17,7 +17,6 @@ import collections
 import json
 import os
 import pathlib
-import signal
 import sys
 import time
 from typing import Iterator, Sequence
@@ -28,6 +27,7 @@ from judging.jobs import BadJobs, Job, by_names, read_jobs  # noqa: E402
 from judging.results import BadResults, Results  # noqa: E402
 from judging.verdicts import ACCEPTED, FAILED, VERDICTS  # noqa: E402
 from judging.workers import Work  # noqa: E402
+from leaving import heed_signals  # noqa: E402
 from plan_formats import formats  # noqa: E402
 
 ROOT = pathlib.Path(__file__).resolve().parent.parent
@@ -142,17 +142,6 @@ def judge_one(given: argparse.Namespace) -> None:
     job = Job(**{**fields, "folder": pathlib.Path(fields["folder"])})
     for row in workers.on_this_machine([job], Work(given.program, given.source, given.seconds), 1):
         json.dump(row, sys.stdout)
-
-
-def heed_signals() -> None:
-    """Whatever asks the judge to end, its jobs end too, and what is written is synced."""
-
-    def leave(number: int, _: object) -> None:
-        sys.exit(128 + number)
-
-    for number in (signal.SIGTERM, signal.SIGHUP, signal.SIGINT):
-        if signal.getsignal(number) is not signal.SIG_IGN:
-            signal.signal(number, leave)
 
 
 def main(words: Sequence[str]) -> int:

@@ -14,6 +14,7 @@ from typing import Iterator, Optional, Sequence
 
 from judging.jobs import Job
 from judging.verdicts import FAILED, Verdict, judged, result_of
+from leaving import SIGNALS
 from path_check import Program
 
 TOOL = pathlib.Path(__file__).resolve().parent.parent / "judge.py"
@@ -51,7 +52,7 @@ def work_in_child(job: Job, work: Work, end: connection.Connection) -> None:
         # The file of results is locked for as long as somebody has it open.
         os.closerange(3, end.fileno())
         os.closerange(end.fileno() + 1, MOST_FILES)
-        for number in (signal.SIGTERM, signal.SIGHUP, signal.SIGINT):
+        for number in SIGNALS:
             signal.signal(number, signal.SIG_DFL)
         end.send(judged(job, Program(work.program), work.source))
         status = 0
