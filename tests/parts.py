@@ -24,6 +24,7 @@ import launcher
 import limits
 import refusals
 import shipping
+import showing
 import sources
 import vectors
 from harness import ROOT, SHIPPED, Harness, Outcome, Report
@@ -45,6 +46,7 @@ PARTS: dict[str, tuple[str, Callable[[Harness], Iterator[Outcome]]]] = {
     "endings": ("how runs end: the events that complete them, or the rotation in the way", endings.outcomes),
     "convert": ("plans of other formats, converted and back", converting.outcomes),
     "judge": ("many plans, judged as one table", judging.outcomes),
+    "show": ("plans and runs as pages in a browser, and as pictures", showing.outcomes),
     "vectors": ("the answers of an independent implementation", vectors.outcomes),
     "fleet": ("robots as processes that are killed at random", fleet.outcomes),
 }

@@ -4,7 +4,7 @@ import os
 import pathlib
 import stat
 import tempfile
-from typing import Iterable, Iterator, Optional
+from typing import Iterable, Iterator, Optional, Union
 
 
 def refuse_what_is_no_file(target: pathlib.Path) -> None:
@@ -22,19 +22,23 @@ def mode_of(target: pathlib.Path) -> int:
     return 0o666 & ~mask
 
 
-class Draft:
-    """A text beside its target, or in a folder of temporary files where there is none."""
+def as_bytes(piece: Union[str, bytes]) -> bytes:
+    return piece if isinstance(piece, bytes) else piece.encode("ascii")
 
-    def __init__(self, pieces: Iterable[str], target: Optional[pathlib.Path]):
+
+class Draft:
+    """A text or a picture beside its target, or in a folder of temporary files where there is none."""
+
+    def __init__(self, pieces: Iterable[Union[str, bytes]], target: Optional[pathlib.Path]):
         # What a link names is replaced, and the link is kept.
         self.target = target and pathlib.Path(os.path.realpath(target))
         if self.target:
             refuse_what_is_no_file(self.target)
         folder = self.target and self.target.parent
-        with tempfile.NamedTemporaryFile("w", encoding="ascii", newline="", prefix=".mapf-", dir=folder, delete=False) as file:
+        with tempfile.NamedTemporaryFile("wb", prefix=".mapf-", dir=folder, delete=False) as file:
             self.path = pathlib.Path(file.name)
             try:
-                file.writelines(pieces)
+                file.writelines(map(as_bytes, pieces))
                 file.flush()
                 if self.target:
                     os.fsync(file.fileno())
@@ -58,7 +62,7 @@ class Draft:
 
 
 @contextlib.contextmanager
-def draft(pieces: Iterable[str], target: Optional[pathlib.Path]) -> Iterator[Draft]:
+def draft(pieces: Iterable[Union[str, bytes]], target: Optional[pathlib.Path]) -> Iterator[Draft]:
     """A draft that is gone afterwards, unless it was put in place of its target."""
     made = Draft(pieces, target)
     try:

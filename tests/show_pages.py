@@ -1,0 +1,335 @@
+"""What pages of tools/show.py do in a browser: what they draw and where, what they say, and what each key does."""
+import pathlib
+import time
+from typing import Callable, Iterator, Sequence
+
+from chromium import Chromium
+from harness import Outcome, compared
+
+# A run of two agents behind one another: the first one's writes are torn twice, and its first message is lost.
+RUN = (
+    "start 1",
+    "tear 0 4",
+    "start 0",
+    "start 0",
+    "restart 0",
+    "start 0",
+    "tear 0 3",
+    "finish 0",
+    "restart 0",
+    "finish 0",
+    "say 0",
+    "say 0",
+    "deliver 1 1",
+    "start 1",
+    "restart 1",
+    "finish 1",
+    "start 7",
+    "deliver 1 9",
+)
+# Behind so many of these events: the cells that each agent holds and what is seen of it, and the messages on their way and lost.
+SEEN = (
+    ("1,0", "0,0", 0, 0),
+    ("1,0", "0,0 waits for 0", 0, 0),
+    ("1,0 armed", "0,0 waits for 0", 0, 0),
+    ("1,0 broken", "0,0 waits for 0", 0, 0),
+    ("1,0 broken", "0,0 waits for 0", 0, 0),
+    ("1,0 restarted", "0,0 waits for 0", 0, 0),
+    ("1,0 2,0 restarted", "0,0 waits for 0", 0, 0),
+    ("1,0 2,0 armed restarted", "0,0 waits for 0", 0, 0),
+    ("1,0 2,0 broken", "0,0 waits for 0", 0, 0),
+    ("1,0 2,0 restarted", "0,0 waits for 0", 0, 0),
+    ("2,0 home restarted", "0,0 waits for 0", 0, 0),
+    ("2,0 home restarted", "0,0 waits for 0", 0, 1),
+    ("2,0 home", "0,0 waits for 0", 1, 1),
+    ("2,0 home", "0,0", 0, 1),
+    ("2,0 home", "0,0 1,0", 0, 0),
+    ("2,0 home", "0,0 1,0 restarted", 0, 0),
+    ("2,0 home", "1,0 home restarted", 0, 0),
+    ("2,0 home", "1,0 home restarted", 0, 0),
+    ("2,0 home", "1,0 home", 0, 0),
+)
+LOOK = """((count) => { page.seek(count); const { moment } = page.world;
+  const said = (agent) => [...moment.held(agent).map((it) => it.join(",")),
+    ...[["broken", 4], ["home", 8], ["armed", 16]].filter(([, bit]) => moment.look[agent] & bit).map(([word]) => word),
+    ...(moment.waitsFor[agent] >= 0 ? [`waits for ${moment.waitsFor[agent]}`] : []), ...(moment.fresh[agent] > 0 ? ["restarted"] : [])].join(" ");
+  const letters = page.world.letters();
+  return [said(0), said(1), letters.filter((it) => it.receiver >= 0).length, letters.filter((it) => it.receiver < 0).length]; })"""
+# The colours of faults, rings, plain ground, walls, and what lies beside the map.
+FAULT, RING, LAND, WALL, BESIDE = [213, 94, 0], [142, 63, 134], [255, 255, 255], [74, 81, 92], [233, 231, 225]
+DARK_LAND = [34, 38, 45]
+# The largest page has to be drawn so often in a second, for so many seconds.
+LEAST_FRAMES, SECONDS = 30.0, 4
+PHONE = 390
+Page = Callable[..., pathlib.Path]
+
+
+def pixel(browser: Chromium, x: float, y: float) -> list[int]:
+    """The colour of the page at a place between cells: whole numbers are the middles of cells."""
+    script = f"""(() => {{ page.draw(); const [x, y] = page.view.pixel({x}, {y}).map(Math.round);
+      const copy = new OffscreenCanvas(1, 1).getContext("2d", {{ willReadFrequently: true }});
+      copy.drawImage(page.canvas, -x, -y);
+      return [...copy.getImageData(0, 0, 1, 1).data].slice(0, 3); }})()"""
+    return browser.value(script)
+
+
+def quiet(browser: Chromium, name: str, page: pathlib.Path) -> Iterator[Outcome]:
+    """A page has no error, and asks for nothing but itself."""
+    yield compared(f"no error in the console: {name}", str(page.name), browser.faults, [])
+    yield compared(f"nothing of the network: {name}", str(page.name), set(browser.requests) - {page.absolute().as_uri(), "about:blank"}, set())
+    yield compared(f"no trouble is told: {name}", str(page.name), browser.value("document.getElementById('trouble').hidden"), True)
+
+
+# A page with a fault: its files, the time at which it opens, what it says, the cells that are marked and some that aren't, and who is marked.
+FAULTS = (
+    ("vertex", ["lane.map", "vertex.plan"], 2, "Agents 0 and 1 both stand in column 0, row 0 at time 2.", [(0, 0)], [(1, 0), (2, 0)], [0, 1]),
+    ("swap", ["lane.map", "swap.plan"], 0, "In step 0 agents 0 and 1 exchange their cells, column 0, row 0 and column 1, row 0.", [(0, 0), (1, 0)], [(2, 0)], [0, 1]),
+    ("trees", ["terrain.map", "trees.plan"], 2, "In step 2 agent 0 is to go south, from column 1, row 1 (land) to column 1, row 2 (trees): that is no legal step.", [(1, 2)], [(1, 1), (0, 0)], [0]),
+    ("off the map", ["terrain.map", "beside.plan"], 0, "In step 0 agent 0 is to go east, from column 7, row 3 (land) to column 8, row 3 (off the map): that is no legal step.", [(8, 3)], [(7, 3)], [0]),
+    ("a bad start", ["terrain.map", "start.plan"], 0, "Agent 1 starts in column 3, row 2: out of bounds.", [(3, 2)], [(3, 1), (0, 0)], [1]),
+    ("a start far off", ["terrain.map", "far.plan"], 0, "Agent 0 starts in column 60000, row 2: off the map.", [], [(0, 0)], [0]),
+)
+
+
+def faults(page: Page, browser: Chromium) -> Iterator[Outcome]:
+    for name, words, moment, told, marked, others, agents in FAULTS:
+        file = page("fault.html", *words)
+        browser.open(file)
+        yield from quiet(browser, name, file)
+        yield compared(f"it opens at the fault: {name}", " ".join(words), browser.value("page.time"), moment)
+        yield compared(f"the fault in words: {name}", " ".join(words), browser.value("document.getElementById('verdict').textContent"), told)
+        # Cells have their mark just inside their sides; the upper left corner is free of agents.
+        found = [pixel(browser, x - 0.48, y - 0.4) == FAULT for x, y in [*marked, *others]]
+        yield compared(f"the cells of the fault: {name}", " ".join(words), found, [True] * len(marked) + [False] * len(others))
+        script = "page.faults.flatMap((it) => it.agents)"
+        yield compared(f"who has the fault: {name}", " ".join(words), browser.value(script), agents)
+
+
+def accepted(page: Page, browser: Chromium) -> Iterator[Outcome]:
+    file = page("behind.html", "lane.map", "behind.plan")
+    browser.open(file)
+    yield from quiet(browser, "an accepted plan", file)
+    told = browser.value("document.getElementById('verdict').textContent")
+    yield compared("the verdict in words", file.name, told, "The plan is accepted: 2 agents, sum of costs 2, makespan 1.")
+    cells = browser.value("[0, 1, 2].map((time) => { page.seek(time); return [0, 1].map((agent) => page.world.moment.held(agent).join(';')); })")
+    yield compared("where agents are", file.name, cells, [["1,0", "0,0"], ["2,0", "1,0"], ["2,0", "1,0"]])
+    # Both agents are drawn where they are: no ground is seen there, but it is where nobody is.
+    browser.value("page.seek(0), page.wish('goals')")
+    ground = [pixel(browser, x, 0.3) == LAND for x in (0, 1, 2)]
+    yield compared("agents are drawn in their cells", file.name, ground, [False, False, True])
+    x, y = browser.value("(() => { const box = page.canvas.getBoundingClientRect(); const [x, y] = page.view.pixel(0, 0); return [box.left + x, box.top + y]; })()")
+    browser.click(x, y)
+    about = browser.value("document.getElementById('about').textContent")
+    yield compared("a click chooses an agent", file.name, browser.value("page.wishes.agent"), 1)
+    due = "move 0, in step 0, to column 1, row 0: waits until agent 0 has finished 1 move"
+    yield compared("for whom it waits", file.name, due in about, True)
+    browser.value("document.querySelector('#about button').click()")
+    yield compared("who is waited for can be chosen", file.name, browser.value("page.wishes.agent"), 0)
+    browser.click(x + 500, y + 200)
+    yield compared("a click beside all chooses none", file.name, browser.value("page.wishes.agent"), -1)
+
+
+def terrain(page: Page, browser: Chromium) -> Iterator[Outcome]:
+    """A plan without agents: the map alone, every kind of terrain in its place."""
+    file = page("nobody.html", "terrain.map", "nobody.plan")
+    browser.open(file)
+    yield from quiet(browser, "no agents", file)
+    found = {kind: pixel(browser, x + 0.4, y + 0.4) for kind, (x, y) in {"land": (0, 0), "other land": (1, 1), "out": (3, 2), "other out": (5, 2), "beside": (8, 2)}.items()}
+    yield compared("the ground", file.name, found, {"land": LAND, "other land": LAND, "out": WALL, "other out": WALL, "beside": BESIDE})
+    kinds = [pixel(browser, x + 0.4, y + 0.4) for x, y in ((0, 0), (3, 1), (5, 1), (1, 2), (3, 2))]
+    yield compared("five grounds differ", file.name, len({tuple(it) for it in kinds}), 5)
+    yield compared("nothing to play", file.name, browser.value("['play', 'on', 'slider'].every((it) => document.getElementById(it).disabled)"), True)
+    browser.key(" ")
+    browser.key("n")
+    yield compared("keys do no harm", file.name, browser.value("[page.time, page.playing, page.wishes.agent]"), [0, False, -1])
+    yield from quiet(browser, "no agents, after keys", file)
+
+
+def turning(page: Page, browser: Chromium) -> Iterator[Outcome]:
+    for name, words in (("plan", ["square.map", "turn.plan"]), ("run", ["square.map", "turn.plan", "none.events"])):
+        file = page("turn.html", *words)
+        browser.open(file)
+        yield from quiet(browser, f"a rotation in a {name}", file)
+        heads = [pixel(browser, x, y) for x, y in ((0.52, 0), (1, 0.52), (0.48, 1), (0, 0.48))]
+        yield compared(f"a rotation is a ring with a head on each step: {name}", " ".join(words), heads, [RING] * 4)
+        text = browser.value("document.getElementById('turns').textContent")
+        yield compared(f"a rotation in words: {name}", " ".join(words), "Step 0: agents 0, 1, 2, 3" in text, True)
+    told = browser.value("document.getElementById('ending').textContent")
+    yield compared("how a blocked run ends", file.name, told, "Blocked: rotation 0 can never begin, so no events bring this run to its end.")
+
+
+def running(page: Page, browser: Chromium) -> Iterator[Outcome]:
+    file = page("run.html", "lane.map", "behind.plan", "run.events")
+    browser.open(file)
+    yield from quiet(browser, "a run", file)
+    counts = list(range(len(SEEN)))
+    for order in (counts, counts[::-1]):
+        found = {count: browser.value(f"{LOOK}({count})") for count in order}
+        for count in counts:
+            yield compared(f"behind {count} events, {'onwards' if order is counts else 'backwards'}", RUN[count - 1] if count else "nothing", found[count], list(SEEN[count]))
+    browser.value("page.seek(8), page.draw()")
+    box = browser.value("document.getElementById('event').textContent")
+    yield compared("an event with its reply", file.name, box, "8. finish 0refused StoreFailed")
+    rows = browser.value("[...document.querySelectorAll('#rows button')].map((it) => [...it.children].map((part) => part.textContent).join(' '))")
+    yield compared("the events around it", file.name, rows[3:6], ["7 tear 0 3 armed", "8 finish 0 refused StoreFailed", "9 restart 0 between 1 0 2 0 done 0"])
+    browser.value("document.querySelectorAll('#rows button')[5].click()")
+    yield compared("a row can be clicked", file.name, browser.value("page.time"), 9)
+    browser.value("page.seek(11), page.draw()")
+    yield compared("who hears a message", file.name, "heard by nobody" in browser.value("document.getElementById('event').textContent"), True)
+    told = browser.value("document.getElementById('ending').textContent")
+    yield compared("how the run ends", file.name, told, "Complete: behind the last event each agent is at the end of its path.")
+    # A moving agent holds both cells, and is drawn in both; a broken one has the colour of faults, and form besides.
+    browser.value("page.wish('goals'), page.seek(6)")
+    yield compared("a moving agent is in both cells", file.name, [pixel(browser, x, 0.3) == LAND for x in (1, 1.5, 2)], [False] * 3)
+    browser.value("page.seek(3)")
+    radius = browser.value("page.drawing.radius / page.view.scale")
+    yield compared("a broken agent is a square", file.name, pixel(browser, 1 - 0.86 * radius, 0.5 * radius), FAULT)
+
+
+# Keys on a plan of four steps, one after another: the key, with Shift or not, what is looked at, and what is due of before and after.
+KEYS: Sequence[tuple[str, bool, str, Callable[[object, object], bool]]] = (
+    ("ArrowRight", False, "page.time", lambda before, after: (before, after) == (0, 1)),
+    ("ArrowRight", False, "page.time", lambda before, after: after == 2),
+    ("ArrowLeft", False, "page.time", lambda before, after: after == 1),
+    ("End", False, "page.time", lambda before, after: after == 4),
+    ("ArrowRight", False, "page.time", lambda before, after: after == 4),
+    ("Home", False, "page.time", lambda before, after: after == 0),
+    ("ArrowLeft", False, "page.time", lambda before, after: after == 0),
+    (" ", False, "page.playing", lambda before, after: (before, after) == (False, True)),
+    (" ", False, "page.playing", lambda before, after: (before, after) == (True, False)),
+    ("ArrowUp", False, "page.speed", lambda before, after: after == 2 * before),
+    ("ArrowDown", False, "page.speed", lambda before, after: after == before / 2),
+    ("+", False, "page.view.scale", lambda before, after: after > before),
+    ("-", False, "page.view.scale", lambda before, after: after < before),
+    ("-", False, "page.view.scale", lambda before, after: after < before),
+    ("0", False, "page.view.scale", lambda before, after: after > before),
+    ("ArrowRight", True, "[page.view.x, page.view.y]", lambda before, after: after == [before[0] - 60, before[1]]),
+    ("ArrowLeft", True, "[page.view.x, page.view.y]", lambda before, after: after == [before[0] + 60, before[1]]),
+    ("ArrowDown", True, "[page.view.x, page.view.y]", lambda before, after: after == [before[0], before[1] - 60]),
+    ("ArrowUp", True, "[page.view.x, page.view.y]", lambda before, after: after == [before[0], before[1] + 60]),
+    ("n", False, "page.wishes.agent", lambda before, after: (before, after) == (-1, 0)),
+    ("n", False, "page.wishes.agent", lambda before, after: after == 1),
+    ("p", False, "page.wishes.agent", lambda before, after: after == 0),
+    ("c", False, "page.view.pixel(page.world.moment.x[0], page.world.moment.y[0]).map((it, side) => Math.round(it - [page.width, page.height][side] / 2))", lambda before, after: after == [0, 0] != before),
+    ("Escape", False, "page.wishes.agent", lambda before, after: after == -1),
+    ("g", False, "page.wishes.goals", lambda before, after: (before, after) == (True, False)),
+    ("m", False, "page.wishes.letters", lambda before, after: (before, after) == (True, False)),
+    ("d", False, "document.documentElement.dataset.theme + page.theme", lambda before, after: (before, after) == ("lightauto", "lightlight")),
+    ("d", False, "document.documentElement.dataset.theme + page.theme", lambda before, after: after == "darkdark"),
+    ("?", True, "document.getElementById('keys').open", lambda before, after: (before, after) == (False, True)),
+    ("/", False, "document.activeElement.id", lambda before, after: after == "number"),
+)
+
+
+def press_all(browser: Chromium, ran: str, keys: Sequence[tuple[str, bool, str, Callable[[object, object], bool]]]) -> Iterator[Outcome]:
+    for number, (key, shift, look, is_due) in enumerate(keys):
+        before = browser.value(look)
+        browser.key(key, shift)
+        after = browser.value(look)
+        yield compared(f"key {number}, {key!r}", ran, is_due(before, after) or f"{look} went from {before} to {after}", True)
+
+
+def keys(page: Page, browser: Chromium) -> Iterator[Outcome]:
+    file = page("keys.html", "hall.map", "keys.plan")
+    browser.open(file)
+    yield from press_all(browser, "the plan keys.plan", KEYS)
+    for letter in "1":
+        browser.key(letter)
+    browser.key("Enter")
+    yield compared("a number that is typed", file.name, browser.value("page.wishes.agent"), 1)
+    yield from quiet(browser, "after all keys", file)
+    browser.open(page("fault.html", "lane.map", "vertex.plan"))
+    browser.value("page.seek(0)")
+    yield from press_all(browser, "a fault", (("x", False, "page.time", lambda before, after: (before, after) == (0, 2)),))
+    browser.open(page("turn.html", "square.map", "turn.plan"))
+    browser.value("page.seek(1)")
+    yield from press_all(browser, "a rotation", (("r", False, "page.time", lambda before, after: (before, after) == (1, 0)),))
+    browser.open(page("run.html", "lane.map", "behind.plan", "run.events"))
+    # Writes fail in events 3 and 8, restarts are 5, 9 and 15.
+    onwards = [(".", False, "page.time", lambda before, after, due=due: after == due) for due in (3, 5, 8, 9, 15, 15)]
+    backwards = [(",", False, "page.time", lambda before, after, due=due: after == due) for due in (9, 8)]
+    yield from press_all(browser, "a run", [*onwards, *backwards])
+
+
+def fingers(page: Page, browser: Chromium) -> Iterator[Outcome]:
+    """Buttons, the slider, dragging and the wheel."""
+    file = page("keys.html", "hall.map", "keys.plan")
+    browser.open(file)
+    for name, look, due in (("last", "page.time", 4), ("back", "page.time", 3), ("on", "page.time", 4), ("first", "page.time", 0), ("play", "page.playing", True), ("play", "page.playing", False)):
+        browser.value(f"document.getElementById('{name}').click()")
+        yield compared(f"the button {name}", file.name, browser.value(look), due)
+    browser.value("(() => { const it = document.getElementById('slider'); it.value = 2.5; it.dispatchEvent(new Event('input')); })()")
+    yield compared("the slider", file.name, browser.value("page.time"), 2.5)
+    browser.value("(() => { const it = document.getElementById('speed'); it.value = 8; it.dispatchEvent(new Event('change')); })()")
+    yield compared("the speed", file.name, browser.value("page.speed"), 8)
+    before = browser.value("[page.view.x, page.view.y]")
+    browser.press("mousePressed", 300, 300)
+    for step in range(1, 5):
+        browser.press("mouseMoved", 300 + 10 * step, 300 + 5 * step)
+    browser.press("mouseReleased", 340, 320)
+    browser.settle()
+    yield compared("dragging moves the map", file.name, browser.value("[page.view.x, page.view.y]"), [before[0] + 40, before[1] + 20])
+    yield compared("dragging chooses nobody", file.name, browser.value("page.wishes.agent"), -1)
+    scale = browser.value("page.view.scale")
+    browser.ask("Input.dispatchMouseEvent", type="mouseWheel", x=300, y=300, deltaX=0, deltaY=-200)
+    browser.settle()
+    time.sleep(0.1)
+    yield compared("the wheel zooms", file.name, browser.value("page.view.scale") > scale, True)
+    for name, grows in (("closer", True), ("farther", False)):
+        scale = browser.value("page.view.scale")
+        browser.value(f"document.getElementById('{name}').click()")
+        yield compared(f"the button {name}", file.name, (browser.value("page.view.scale") > scale), grows)
+
+
+def playing(page: Page, browser: Chromium) -> Iterator[Outcome]:
+    file = page("keys.html", "hall.map", "keys.plan")
+    browser.open(file)
+    browser.value("page.setSpeed(2), page.play()")
+    time.sleep(0.9)
+    on_the_way = browser.value("[page.playing, page.time > 0.5 && page.time < 3.5]")
+    yield compared("it plays", file.name, on_the_way, [True, True])
+    browser.value("page.setSpeed(8)")
+    time.sleep(0.9)
+    yield compared("it ends at the end", file.name, browser.value("[page.playing, page.time]"), [False, 4])
+    browser.key(" ")
+    yield compared("and begins again", file.name, browser.value("page.playing && page.time < 4"), True)
+
+
+def readers(page: Page, browser: Chromium) -> Iterator[Outcome]:
+    """What is there for screen readers, for small screens, and in the dark."""
+    file = page("run.html", "lane.map", "behind.plan", "run.events")
+    browser.open(file, PHONE, 844, dark=True)
+    yield from quiet(browser, "on a phone", file)
+    browser.value("page.seek(8)")
+    browser.settle()
+    told = browser.value("document.getElementById('now').textContent")
+    yield compared("the moment in words", file.name, told, "8 of 18 events: 1 on the way, 1 waiting, 0 at the end, 1 broken. Last: finish 0: refused StoreFailed.")
+    live = "[document.getElementById('now').getAttribute('aria-live'), page.canvas.getAttribute('role'), page.canvas.getAttribute('aria-describedby')]"
+    yield compared("it is read aloud", file.name, browser.value(live), ["polite", "img", "now"])
+    browser.value("page.play(), page.draw()")
+    yield compared("but not while it plays", file.name, browser.value("document.getElementById('now').getAttribute('aria-live')"), "off")
+    browser.value("page.pause()")
+    nameless = "[...document.querySelectorAll('button, input, select')].filter((it) => !it.textContent.trim() && !it.ariaLabel && !(it.labels && it.labels.length)).length"
+    yield compared("every control has a name", file.name, browser.value(nameless), 0)
+    yield compared("nothing is wider than a phone", file.name, browser.value("document.documentElement.scrollWidth"), PHONE)
+    small = "[...document.querySelectorAll('#buttons button, #zoom button')].filter((it) => it.offsetWidth < 44 || it.offsetHeight < 44).length"
+    yield compared("buttons are as large as a finger", file.name, browser.value(small), 0)
+    browser.value("page.wish('goals'), page.seek(0)")
+    yield compared("it is dark where the system is", file.name, pixel(browser, 2.2, 0.3), DARK_LAND)
+
+
+def frames(browser: Chromium, page: pathlib.Path) -> Iterator[Outcome]:
+    """How often the largest page is drawn in a second while it plays, at several sizes of a cell."""
+    browser.open(page)
+    yield from quiet(browser, "the largest page", page)
+    for scale in (0, 4, 8, 16, 32):
+        browser.value(f"page.fit(), page.seek(0), {scale} && (page.view.scale = {scale}, page.view.centre(256, 256, page.width, page.height)), page.play()")
+        script = f"""new Promise((go) => {{ const begin = performance.now(), first = page.frames;
+          setTimeout(() => go((page.frames - first) / (performance.now() - begin) * 1000), {1000 * SECONDS}); }})"""
+        found = browser.value(script)
+        yield compared(f"frames a second, {scale or 'all'} pixels a cell", page.name, found if found < LEAST_FRAMES else "enough", "enough")
+
+
+def outcomes(page: Page, browser: Chromium) -> Iterator[Outcome]:
+    for test in (accepted, faults, terrain, turning, running, keys, fingers, playing, readers):
+        yield from test(page, browser)

@@ -1,0 +1,250 @@
+"""tools/show.py: pages and pictures of plans and runs. Pages are opened in a browser, where there is one."""
+import base64
+import json
+import pathlib
+import random
+import re
+import shutil
+import struct
+import sys
+import zlib
+from typing import Iterator, Mapping, Optional
+
+import chromium
+import gif_reader
+import show_pages
+from harness import ROOT, Ended, Harness, Outcome, compared, ended_as, shown
+from texts import BEHIND, HALL, LANE, NOBODY, SHORT, SQUARE, SWAP, TURN, VERTEX, WALL, events, plan
+
+TOOL = ROOT / "tools" / "show.py"
+TERRAIN = "type octile\nheight 4\nwidth 8\nmap\n........\n.GGSSWW.\n.TT@@OO.\n..S.W.T.\n"
+OLD = b"old"
+MOST_PAGE = 10_000_000
+TEXTS = {
+    "lane.map": LANE,
+    "wall.map": WALL,
+    "square.map": SQUARE,
+    "hall.map": HALL,
+    "terrain.map": TERRAIN,
+    "short.map": SHORT,
+    "behind.plan": BEHIND,
+    "swap.plan": SWAP,
+    "vertex.plan": VERTEX,
+    "turn.plan": TURN,
+    "nobody.plan": NOBODY,
+    "trees.plan": plan("0 0 ess", "7 0 -"),
+    "beside.plan": plan("7 3 ee", "0 0 e"),
+    "start.plan": plan("0 0 e", "3 2 n"),
+    "far.plan": plan("60000 2 =", "0 0 e"),
+    "bad.plan": BEHIND.replace("e-", "ex"),
+    "keys.plan": plan("0 0 eee-", "0 1 -eee"),
+    "run.events": events(*show_pages.RUN),
+    "none.events": events(),
+    "bad.events": events("start 0", "stop 0"),
+    "hang.events": events("start 0"),
+}
+
+
+class Room:
+    """A folder of texts, and calls of the tool in it."""
+
+    def __init__(self, harness: Harness):
+        self.harness = harness
+        self.folder = harness.folder({name: text.encode() for name, text in TEXTS.items()})
+
+    def words(self, *words: str) -> list[str]:
+        return [sys.executable, str(TOOL), *words, "--program", str(self.harness.program)]
+
+    def show(self, *words: str, more: Mapping[str, str] = {}) -> Ended:
+        return self.harness.run(self.words(*words), folder=self.folder, more=more)
+
+    def page(self, name: str, *words: str) -> pathlib.Path:
+        """A page, which has to come without a word."""
+        ended = self.show(*words, "-o", name)
+        if ended != Ended(0, b"", b""):
+            raise ValueError(f"{shown(['tools/show.py', *words])}: {ended}")
+        return self.folder / name
+
+
+def sections(page: bytes) -> tuple[dict, dict[str, bytes]]:
+    """What a page holds: its facts, and its packed parts."""
+    facts = json.loads(re.search(rb'<script id="facts"[^>]*>(.*?)</script>', page, re.DOTALL)[1])
+    data = re.search(rb'<script id="data"[^>]*>(.*?)</script>', page, re.DOTALL)[1]
+    whole, parts, at = zlib.decompress(base64.b64decode(data), -15), {}, 0
+    for name, size in facts["sizes"].items():
+        parts[name] = whole[at : at + size]
+        at += (size + 3) // 4 * 4
+    return facts, parts
+
+
+def held(room: Room) -> Iterator[Outcome]:
+    """What stands in a page, read without a browser."""
+    file = room.page("held.html", "lane.map", "behind.plan", "run.events")
+    page = file.read_bytes()
+    file.unlink()
+    facts, parts = sections(page)
+    ran = "tools/show.py lane.map behind.plan run.events"
+    yield compared("a page is ASCII", ran, page.isascii(), True)
+    yield compared("a page names no other place", ran, re.findall(rb"https?:|//[a-z]+\.|src=|@import|url\(", page), [])
+    yield compared("its verdict", ran, facts["verdict"], {"accepted": True, "agents": 2, "cost": 2, "makespan": 1})
+    yield compared("its files", ran, facts["names"], {"map": "lane.map", "plan": "behind.plan", "events": "run.events"})
+    yield compared("its map", ran, (facts["width"], facts["height"], parts["terrain"]), (3, 1, b"..."))
+    yield compared("its paths", ran, (struct.unpack("<4i", parts["starts"]), parts["acts"]), ((1, 0, 0, 0), b"ee"))
+    yield compared("its waits", ran, struct.unpack("<2H2H", parts["needs"] + parts["more"]), (65535, 0, 0, 1))
+    yield compared("its events", ran, parts["events"].decode().split("\n"), list(show_pages.RUN))
+    yield compared("its replies", ran, len(parts["replies"].split(b"\n")), len(show_pages.RUN))
+
+
+# Calls that write nothing: their words, what they tell, and their status.
+REFUSED: list[tuple[list[str], str, int]] = [
+    (["short.map", "behind.plan"], "short.map: mapf: ShortRow 6", 1),
+    (["no.map", "behind.plan"], "no.map: mapf: OpenFailed", 3),
+    (["lane.map", "bad.plan"], "bad.plan: mapf: BadAct 4 12", 1),
+    (["lane.map", "no.plan"], "no.plan: mapf: OpenFailed", 3),
+    (["lane.map", "lane.map"], "lane.map: mapf: BadHeader 1", 1),
+    (["lane.map", "behind.plan", "bad.events"], "bad.events: mapf: BadEvent 3", 1),
+    (["lane.map", "behind.plan", "behind.plan"], "behind.plan: mapf: NoHeader", 1),
+    (["lane.map", "behind.plan", "no.events"], "no.events: mapf: OpenFailed", 3),
+    (["lane.map", "behind.plan", "--png", "1", "--browser", "no-browser"], "show: no-browser is no program; a picture needs one, and --browser PATH says where it is", 3),
+    (["lane.map", "behind.plan", "--gif", "0", "1", "--browser", "/bin/false"], "show: /bin/false has ended", 3),
+]
+BAD_LINES = (
+    ["lane.map"],
+    ["lane.map", "behind.plan", "--png", "x", "-o", "a"],
+    ["lane.map", "behind.plan", "--png", "-1", "-o", "a"],
+    ["lane.map", "behind.plan", "--png", "1"],
+    ["lane.map", "behind.plan", "--gif", "1", "0", "-o", "a"],
+    ["lane.map", "behind.plan", "--gif", "1", "-o", "a"],
+    ["lane.map", "behind.plan", "--png", "1", "--gif", "0", "1", "-o", "a"],
+    ["lane.map", "behind.plan", "--width", "10", "-o", "a"],
+    ["lane.map", "behind.plan", "run.events", "run.events"],
+)
+
+
+def refused(room: Room) -> Iterator[Outcome]:
+    target = room.folder / "old.html"
+    for words, told, status in REFUSED:
+        target.write_bytes(OLD)
+        ended = room.show(*words, "-o", "old.html")
+        ran = shown(["tools/show.py", *words, "-o", "old.html"])
+        yield ended_as(f"refused: {' '.join(words)}", ran, ended, Ended(status, b"", f"{told}\n".encode()))
+        left = sorted(it.name for it in room.folder.iterdir() if it.name not in TEXTS)
+        yield compared(f"nothing is written: {' '.join(words)}", ran, (target.read_bytes(), left), (OLD, ["old.html"]))
+    target.unlink()
+    for words in BAD_LINES:
+        ended = room.show(*words)
+        yield compared(f"a bad command line: {' '.join(words)}", shown(words), (ended.status, ended.out, ended.err[:6]), (2, b"", b"usage:"))
+    ended = room.show("lane.map", "behind.plan", "--png", "1", "-o", "a.png", more={"PATH": ""})
+    due = Ended(3, b"", b"show: there is no Chromium on the path (chromium, chromium-browser, google-chrome, google-chrome-stable, chrome); "
+                b"a picture needs one, and --browser PATH says where it is\n")
+    yield ended_as("a picture without a browser", "PATH= tools/show.py lane.map behind.plan --png 1 -o a.png", ended, due)
+
+
+def written(room: Room) -> Iterator[Outcome]:
+    """Where the page goes."""
+    page = room.page("page.html", "lane.map", "behind.plan").read_bytes()
+    ended = room.show("lane.map", "behind.plan")
+    yield compared("a page on standard output", "tools/show.py lane.map behind.plan", (ended.status, ended.out == page, ended.err), (0, True, b""))
+    (room.folder / "folder").mkdir()
+    ended = room.show("lane.map", "behind.plan", "-o", "folder")
+    ran = "tools/show.py lane.map behind.plan -o folder"
+    yield compared("a folder is no page", ran, (ended.status, ended.out, ended.err.count(b"\n")), (3, b"", 1))
+    (room.folder / "link.html").symlink_to("page.html")
+    room.page("link.html", "lane.map", "swap.plan", "-o", "other.html")
+    yield compared("the last -o counts", "-o other.html -o link.html", (room.folder / "link.html").is_symlink(), True)
+    ended = room.show("lane.map", "swap.plan", "run.events", "-o", "rejected.html")
+    told = Ended(0, b"", b"show: run.events: not shown, since a plan that is rejected has no runs\n")
+    yield ended_as("a run of a rejected plan", "tools/show.py lane.map swap.plan run.events", ended, told)
+    for it in ("page.html", "link.html", "rejected.html"):
+        (room.folder / it).unlink()
+    shutil.rmtree(room.folder / "folder")
+
+
+def png_size(data: bytes) -> tuple[bytes, int, int]:
+    return data[:8], *struct.unpack(">2I", data[16:24])
+
+
+def pictures(room: Room) -> Iterator[Outcome]:
+    """Pictures, as they are read back."""
+    call = ["hall.map", "nobody.plan", "--png", "0", "--width", "500", "-o", "a.png"]
+    ended = room.show(*call)
+    yield ended_as("a picture", shown(call), ended, Ended(0, b"", b""))
+    mark, wide, high = png_size((room.folder / "a.png").read_bytes())
+    yield compared("its size", shown(call), (mark, 400 < wide <= 500, 200 < high < 500), (b"\x89PNG\r\n\x1a\n", True, True))
+    # Four frames a step of a plan, one an event of a run, and both ends.
+    for name, words, count in (("plan", ["square.map", "turn.plan", "--gif", "0", "1"], 5), ("run", ["lane.map", "behind.plan", "run.events", "--gif", "2", "8"], 7)):
+        call = [*words, "-o", f"{name}.gif"]
+        ended = room.show(*call)
+        yield ended_as(f"a moving picture of a {name}", shown(call), ended, Ended(0, b"", b""))
+        read = gif_reader.read((room.folder / f"{name}.gif").read_bytes())
+        yield compared(f"its frames: {name}", shown(call), (len(read.frames), {len(it) for it in read.frames}), (count, {read.width * read.height}))
+        yield compared(f"it moves: {name}", shown(call), len(set(read.frames)) > count // 2, True)
+    for words, told in (
+        (["lane.map", "behind.plan", "--png", "3"], "show: the last time is 2, and 3 is wanted"),
+        (["lane.map", "behind.plan", "run.events", "--gif", "0", "99"], f"show: the last time is {len(show_pages.RUN)}, and 99 is wanted"),
+    ):
+        ended = room.show(*words, "-o", "b.png")
+        yield ended_as(f"a time that isn't there: {' '.join(words)}", shown(words), ended, Ended(1, b"", f"{told}\n".encode()))
+
+
+def large_texts() -> tuple[bytes, bytes]:
+    """A thousand agents for a thousand steps on 512 x 512 cells: each goes at random, and into no cell that anybody holds or takes."""
+    rng, side, agents, steps = random.Random(5), 512, 1000, 1000
+    free = [1] * (side * side)
+    for _ in range(side * side // 40):
+        free[rng.randrange(side * side)] = 0
+    cells = rng.sample([it for it in range(side * side) if free[it]], agents)
+    taken = set(cells)
+    acts, ways = [bytearray() for _ in cells], [(b"e"[0], 1), (b"w"[0], -1), (b"s"[0], side), (b"n"[0], -side)]
+    heading = [rng.choice(ways) for _ in cells]
+    for _ in range(steps):
+        left = set()
+        for agent, cell in enumerate(cells):
+            act, by = heading[agent]
+            to = cell + by
+            isin = 0 <= to < side * side and (abs(by) == side or to // side == cell // side)
+            if isin and free[to] and to not in taken and rng.random() < 0.9:
+                acts[agent].append(act)
+                left.add(cell)
+                cells[agent] = to
+                taken.add(to)
+            else:
+                acts[agent].append(b"-"[0])
+                heading[agent] = rng.choice(ways)
+        # Who left a cell holds it up to the end of the step.
+        taken -= left
+    starts = []
+    for agent, cell in enumerate(cells):
+        back = sum({101: 1, 119: -1, 115: side, 110: -side}.get(act, 0) for act in acts[agent])
+        starts.append(cell - back)
+    rows = "".join("".join("@."[it] for it in free[row * side : (row + 1) * side]) + "\n" for row in range(side))
+    lines = "".join(f"agent {start % side} {start // side} {course.decode()}\n" for start, course in zip(starts, acts))
+    return f"type octile\nheight {side}\nwidth {side}\nmap\n{rows}".encode(), f"mapf-plan 1\nnumber 7\nagents {agents}\n{lines}".encode()
+
+
+def largest(room: Room, browser: Optional[chromium.Chromium]) -> Iterator[Outcome]:
+    for name, text in zip(("large.map", "large.plan"), large_texts()):
+        (room.folder / name).write_bytes(text)
+    page = room.page("large.html", "large.map", "large.plan")
+    ran = "tools/show.py with 1,000 agents for 1,000 steps on 512 x 512 cells"
+    yield compared("the size of the largest page", ran, page.stat().st_size <= MOST_PAGE, True)
+    if browser:
+        yield from show_pages.frames(browser, page)
+    else:
+        yield Outcome("frames of the largest page", lacks="Chromium")
+
+
+def outcomes(harness: Harness) -> Iterator[Outcome]:
+    room = Room(harness)
+    for test in (held, refused, written):
+        yield from test(room)
+    if not chromium.found():
+        yield Outcome("pages in a browser, and pictures", lacks="Chromium")
+        if harness.is_long:
+            yield from largest(room, None)
+        return
+    yield from pictures(room)
+    with chromium.Chromium(room.folder) as browser:
+        yield from show_pages.outcomes(room.page, browser)
+        if harness.is_long:
+            yield from largest(room, browser)

@@ -1,0 +1,150 @@
+#!/usr/bin/env python3
+"""Shows a plan, or a run of it, as one page for a browser, or as pictures. docs/SHOWING.md says what is drawn how.
+
+Usage: show.py MAP PLAN [EVENTS] [-o PAGE.html]
+       show.py MAP PLAN [EVENTS] --png TIME -o PICTURE.png
+       show.py MAP PLAN [EVENTS] --gif FROM TO -o PICTURE.gif
+
+All that is shown is what `mapf` says of the files. The page opens at the fault of a plan that is rejected. With EVENTS it shows a run: TIME is then
+how many events have been answered. A picture is drawn by a Chromium, which has to be there; a page needs nothing but a browser to look at it.
+
+Status 0: done. 1: a text has a fault, told in the line of `mapf` with the file. 2: a bad command line. 3: a file or a tool failed, or there is no
+browser for a picture. Unless it is 0, nothing is written.
+"""
+import argparse
+import contextlib
+import pathlib
+import shutil
+import sys
+import tempfile
+from typing import Optional, Sequence
+
+sys.dont_write_bytecode = True
+from leaving import heed_signals  # noqa: E402
+from showing import pictures  # noqa: E402
+from showing.browser import Browser, find  # noqa: E402
+from showing.courses import read_courses  # noqa: E402
+from showing.page import Shown, page  # noqa: E402
+from showing.program import Failed, Program, Refused, copied  # noqa: E402
+from showing.runs import Run, read_run  # noqa: E402
+from showing.verdicts import faults_of, read_ground, read_verdict  # noqa: E402
+from showing.waits import no_waits, read_waits  # noqa: E402
+from whole_file import draft  # noqa: E402
+
+ROOT = pathlib.Path(__file__).resolve().parent.parent
+BAD_LINE, FAILED = 2, 3
+
+
+def tell(line: str) -> None:
+    """Writes a line on standard error. Where nobody can read it, the work goes on."""
+    # A closed standard error is None, and would be taken for standard output.
+    with contextlib.suppress(OSError):
+        if sys.stderr:
+            print(line, file=sys.stderr, flush=True)
+
+
+def time(word: str) -> float:
+    """A time, or a moment between two times."""
+    with contextlib.suppress(ValueError):
+        if word.isascii() and word.replace(".", "", 1).isdigit() and len(word) < 16:
+            return float(word)
+    raise argparse.ArgumentTypeError(f"a time is wanted, as 12 or 12.5, and '{word[:40]}' is none")
+
+
+def read_words(words: Sequence[str]) -> argparse.Namespace:
+    parser = argparse.ArgumentParser(prog="show.py", description=__doc__, formatter_class=argparse.RawDescriptionHelpFormatter)
+    parser.add_argument("map", metavar="MAP", help="the map of the plan")
+    parser.add_argument("plan", metavar="PLAN", help="the plan; tools/convert.py makes one of what planners write")
+    parser.add_argument("events", metavar="EVENTS", nargs="?", help="the events of a run of the plan")
+    parser.add_argument("-o", "--output", type=pathlib.Path, metavar="FILE", help="where the page (standard output) or the picture goes")
+    kind = parser.add_mutually_exclusive_group()
+    kind.add_argument("--png", type=time, metavar="TIME", help="a picture of this time, in place of the page")
+    kind.add_argument("--gif", type=time, nargs=2, metavar=("FROM", "TO"), help="a moving picture from one time to the other")
+    parser.add_argument("--dark", action="store_true", help="the picture is dark")
+    parser.add_argument("--width", type=int, default=pictures.WIDTH, metavar="PIXELS", help=f"the most pixels that a picture is wide ({pictures.WIDTH})")
+    parser.add_argument("--browser", metavar="PATH", help="the browser that draws pictures (a Chromium on the path)")
+    parser.add_argument("--program", type=pathlib.Path, default=ROOT / "mapf", metavar="PATH", help="the program mapf (that of this checkout)")
+    given = parser.parse_args(words)
+    given.is_picture = given.png is not None or given.gif is not None
+    if given.is_picture and not given.output:
+        parser.error("a picture goes into a file: -o FILE is wanted")
+    if given.gif and given.gif[0] > given.gif[1]:
+        parser.error("--gif FROM TO: the first time is above the second")
+    if not pictures.LEAST_WIDTH <= given.width <= pictures.MOST_WIDTH:
+        parser.error(f"--width is a number from {pictures.LEAST_WIDTH} to {pictures.MOST_WIDTH}")
+    return given
+
+
+def look(given: argparse.Namespace, folder: pathlib.Path) -> Shown:
+    """All that the program says of the files."""
+    program = Program(given.program)
+    plan_file = copied(given.plan, folder, "plan")
+    ground, map_text = read_ground(program, given.map, given.map)
+    (folder / "map").write_bytes(map_text)
+    files = [str(folder / "map"), plan_file]
+    verdict = read_verdict(program, files, given.plan)
+    courses = read_courses(program, files)
+    is_valid = bool(verdict["accepted"])
+    waits = read_waits(program, files, courses.acts) if is_valid else no_waits()
+    run: Optional[Run] = None
+    if given.events and is_valid:
+        run = read_run(program, [*files, copied(given.events, folder, "events")], given.events)
+    elif given.events:
+        tell(f"show: {given.events}: not shown, since a plan that is rejected has no runs")
+    names = {name: pathlib.Path(getattr(given, name)).name for name in ("map", "plan", "events") if getattr(given, name)}
+    return Shown(names, ground, courses, verdict, faults_of(verdict, courses, ground), waits, run)
+
+
+def write_page(given: argparse.Namespace, shown: Shown) -> None:
+    with draft(page(shown), given.output) as made:
+        if given.output:
+            made.put()
+            return
+        with open(made.path, "rb") as file, open(1, "wb", closefd=False) as out:
+            shutil.copyfileobj(file, out)
+
+
+def write_picture(given: argparse.Namespace, shown: Shown, folder: pathlib.Path) -> None:
+    file = folder / "page.html"
+    file.write_text("".join(page(shown)), encoding="ascii")
+    kind = pictures.Kind(given.width, given.dark)
+    with Browser(find(given.browser), folder / "browser") as browser:
+        browser.open(file)
+        picture = pictures.png(browser, given.png, kind) if given.png is not None else pictures.gif(browser, *given.gif, kind)
+    with draft([picture], given.output) as made:
+        made.put()
+
+
+def show(given: argparse.Namespace) -> None:
+    if given.is_picture:
+        find(given.browser)
+    with tempfile.TemporaryDirectory(prefix="mapf-show-") as name:
+        folder = pathlib.Path(name)
+        shown = look(given, folder)
+        if given.is_picture:
+            write_picture(given, shown, folder)
+        else:
+            write_page(given, shown)
+
+
+def main(words: Sequence[str]) -> int:
+    given = read_words(words)
+    try:
+        show(given)
+    except Refused as fault:
+        tell(str(fault))
+        return fault.status
+    except Failed as fault:
+        tell(f"show: {fault}")
+    except OSError as fault:
+        tell(f"show: {fault.filename}: {fault.strerror}" if fault.filename else f"show: {fault.strerror or fault}")
+    except MemoryError:
+        tell(f"show: {given.plan}: there is no memory for it")
+    else:
+        return 0
+    return FAILED
+
+
+if __name__ == "__main__":
+    heed_signals()
+    sys.exit(main(sys.argv[1:]))

@@ -1,0 +1,402 @@
+// The page: brings the world to a time, and draws it when something has changed.
+
+const SPEEDS = [0.25, 0.5, 1, 2, 4, 8, 16, 32, 64, 128, 256, 512, 1024, 2048, 4096];
+// A whole plan, or a whole run, is first played in about so many seconds, and never faster than in so few.
+const PLAYED_IN = 60, AT_LEAST_IN = 8;
+const THEMES = ["auto", "light", "dark"];
+const FAULT_SCALE = 34;
+// How wide a picture is at least, so that its words have room, and how high a line of them.
+const LEAST_PICTURE = 420, LINE = 18;
+
+class Show {
+  constructor(facts, sections) {
+    const courses = new Courses(facts, sections), rotations = rotationsOf(sections.rotations);
+    this.facts = facts;
+    this.world = facts.run
+      ? new RunWorld(courses, rotations, new Log(linesOf(sections.events), linesOf(sections.replies), courses.count), facts.run.ending)
+      : new PlanWorld(courses, rotations);
+    this.faults = facts.faults;
+    this.ground = new Ground(facts, sections.terrain);
+    this.drawing = new Drawing(this.ground, this.world, this.faults);
+    this.view = new View();
+    this.wishes = { goals: true, letters: true, agent: -1 };
+    this.playing = false;
+    this.frames = 0;
+    this.canvas = document.getElementById("map");
+    this.context = this.canvas.getContext("2d", { alpha: false });
+    this.slider = document.getElementById("slider");
+    this.slider.max = this.world.end;
+    this.panel = new Panel(facts, this.world, this.faults, this);
+    this.signs = signsOf(this.world, sections.terrain, this.faults);
+    this.offerSpeeds();
+    this.setTheme(this.storedTheme());
+    for (const name of ["first", "back", "play", "on", "last", "slider", "speed"]) document.getElementById(name).disabled = !this.world.end;
+    for (const name of ["sooner", "later"]) document.getElementById(name).disabled = !this.world.marks.length;
+    this.controls = new Controls(this);
+    new ResizeObserver(() => this.resize()).observe(this.canvas);
+    matchMedia("(prefers-color-scheme: dark)").addEventListener("change", () => this.setTheme(this.theme));
+    this.resize();
+  }
+
+  get time() {
+    return this.world.time;
+  }
+
+  offerSpeeds() {
+    const unit = this.world.isRun ? "events/s" : "steps/s";
+    const most = Math.max(8, this.world.end / AT_LEAST_IN), usual = Math.max(this.world.isRun ? 1 : 2, this.world.end / PLAYED_IN);
+    this.speeds = SPEEDS.filter((it) => it <= most);
+    const select = document.getElementById("speed");
+    for (const speed of this.speeds) select.add(new Option(`${speed} ${unit}`, speed));
+    this.setSpeed(this.speeds.find((it) => it >= usual) || this.speeds[this.speeds.length - 1]);
+  }
+
+  setSpeed(speed) {
+    this.speed = speed;
+    document.getElementById("speed").value = speed;
+  }
+
+  faster(by) {
+    const place = this.speeds.indexOf(this.speed) + by;
+    this.setSpeed(this.speeds[Math.max(0, Math.min(this.speeds.length - 1, place))]);
+  }
+
+  // Time
+
+  seek(time, isPlaying = false) {
+    if (!isPlaying) this.pause();
+    this.world.seek(Math.max(0, Math.min(this.world.end, time)));
+    this.touch();
+  }
+
+  step(by) {
+    const time = this.world.time;
+    this.seek(by > 0 ? Math.floor(time) + 1 : Math.ceil(time) - 1);
+  }
+
+  toggle() {
+    if (this.playing) this.pause();
+    else this.play();
+  }
+
+  play() {
+    if (!this.world.end) return;
+    if (this.world.time >= this.world.end) this.world.seek(0);
+    this.playing = true;
+    this.before = 0;
+    this.showPlaying();
+  }
+
+  pause() {
+    this.playing = false;
+    this.showPlaying();
+  }
+
+  showPlaying() {
+    const play = document.getElementById("play");
+    play.classList.toggle("playing", this.playing);
+    play.setAttribute("aria-label", this.playing ? "Pause" : "Play");
+    this.touch();
+  }
+
+  toMark(by) {
+    const { marks, time } = this.world;
+    const found = by > 0 ? marks.find((it) => it > time) : marks.filter((it) => it < time).pop();
+    if (found !== undefined) this.seek(found);
+  }
+
+  toRotation() {
+    const { rotations, time } = this.world;
+    const next = rotations.find((it) => it.step > time) || rotations[0];
+    if (next && !this.world.isRun) this.seek(next.step);
+  }
+
+  showFault(fault = this.faults[0]) {
+    if (!fault) return;
+    this.seek(fault.time);
+    this.fit();
+    if (this.view.scale < FAULT_SCALE / 2) {
+      this.view.scale = FAULT_SCALE;
+      this.view.centre(...fault.cells[0], this.width, this.height);
+    }
+    this.touch();
+  }
+
+  // What is seen of the map
+
+  resize() {
+    const box = this.canvas.getBoundingClientRect(), isFirst = !this.width;
+    const isWhole = this.isWhole;
+    this.dots = window.devicePixelRatio || 1;
+    [this.width, this.height] = [box.width, box.height];
+    this.canvas.width = Math.round(box.width * this.dots);
+    this.canvas.height = Math.round(box.height * this.dots);
+    if (isFirst || isWhole) this.fit();
+    this.drawStrip();
+    // A canvas that changed its size is empty until it is drawn.
+    this.draw();
+  }
+
+  /** The map, with the cells of a fault that lie beside it. */
+  box() {
+    const box = { left: 0, top: 0, right: this.facts.width, bottom: this.facts.height };
+    const most = Math.max(4, (box.right + box.bottom) / 2);
+    for (const [x, y] of this.faults.flatMap((it) => it.cells)) {
+      if (x > -most && y > -most && x < box.right + most && y < box.bottom + most) {
+        box.left = Math.min(box.left, x);
+        box.top = Math.min(box.top, y);
+        box.right = Math.max(box.right, x + 1);
+        box.bottom = Math.max(box.bottom, y + 1);
+      }
+    }
+    return box;
+  }
+
+  fit() {
+    this.view.fit(this.box(), this.width, this.height, marginsOf(this.width));
+    this.isWhole = true;
+    this.touch();
+  }
+
+  zoom(factor, x = this.width / 2, y = this.height / 2) {
+    this.view.zoom(factor, x, y);
+    this.isWhole = false;
+    this.touch();
+  }
+
+  move(x, y) {
+    this.view.move(x, y);
+    this.isWhole = false;
+    this.touch();
+  }
+
+  centre() {
+    const { agent } = this.wishes;
+    if (agent < 0) return;
+    this.view.centre(this.world.moment.x[agent], this.world.moment.y[agent], this.width, this.height);
+    this.isWhole = false;
+    this.touch();
+  }
+
+  // Agents
+
+  choose(agent, isLookedFor = false) {
+    this.wishes.agent = agent;
+    if (agent >= 0) {
+      document.getElementById("number").value = agent;
+      const [x, y] = this.view.pixel(this.world.moment.x[agent], this.world.moment.y[agent]);
+      if (isLookedFor && !(x > 0 && y > 0 && x < this.width && y < this.height)) this.centre();
+    }
+    this.touch();
+  }
+
+  chooseNext(by) {
+    const { count } = this.world.courses;
+    if (count) this.choose(this.wishes.agent < 0 ? (by > 0 ? 0 : count - 1) : (this.wishes.agent + by + count) % count, true);
+  }
+
+  /** Chooses the agent that is nearest to a pixel, if one is near. */
+  chooseAt(x, y) {
+    const { moment } = this.world;
+    let found = -1, least = Math.max(12, this.view.scale * 0.75);
+    for (let agent = 0; agent < moment.count; agent += 1) {
+      const [px, py] = this.view.pixel(moment.x[agent], moment.y[agent]), far = Math.hypot(px - x, py - y);
+      if (far < least) [found, least] = [agent, far];
+    }
+    this.choose(found);
+  }
+
+  wish(name) {
+    this.wishes[name] = !this.wishes[name];
+    this.touch();
+  }
+
+  // Light and dark
+
+  storedTheme() {
+    const given = new URLSearchParams(location.hash.slice(1)).get("theme");
+    return THEMES.includes(given) ? given : "auto";
+  }
+
+  nextTheme() {
+    this.setTheme(THEMES[(THEMES.indexOf(this.theme) + 1) % THEMES.length]);
+  }
+
+  setTheme(theme) {
+    this.theme = theme;
+    const isDark = theme === "dark" || (theme === "auto" && matchMedia("(prefers-color-scheme: dark)").matches);
+    document.documentElement.dataset.theme = isDark ? "dark" : "light";
+    document.getElementById("theme").textContent = { auto: "Auto", light: "Light", dark: "Dark" }[theme];
+    this.colours = coloursOf(document.documentElement.dataset.theme);
+    drawSigns(document.getElementById("signs"), this.signs, this.colours);
+    this.drawStrip();
+    this.touch();
+  }
+
+  // Drawing
+
+  /** Something has changed: it is drawn before it is seen next. */
+  touch() {
+    if (this.waiting) return;
+    this.waiting = true;
+    requestAnimationFrame((now) => this.frame(now));
+  }
+
+  frame(now) {
+    this.waiting = false;
+    if (this.playing) {
+      const passed = this.before ? Math.min(0.25, (now - this.before) / 1000) : 0;
+      this.before = now;
+      this.world.seek(Math.min(this.world.end, this.world.time + passed * this.speed));
+      if (this.world.time >= this.world.end) this.pause();
+    }
+    this.draw();
+    if (this.playing) this.touch();
+  }
+
+  draw() {
+    if (!this.width || !this.height) return;
+    this.drawing.draw(this.context, this.view, this.width, this.height, this.dots, this.colours, this.wishes);
+    this.frames += 1;
+    this.slider.value = this.world.time;
+    this.slider.setAttribute("aria-valuetext", `${this.world.isRun ? "event" : "time"} ${shownTime(this.world.time)} of ${this.world.end}`);
+    this.panel.update(this.wishes.agent, this.playing);
+  }
+
+  /** Beside the slider: where writes fail and robots restart, where a fault is, where a rotation turns. */
+  drawStrip() {
+    const strip = document.getElementById("strip"), { world } = this;
+    const marks = [
+      ...world.marks.map((time) => [time, world.log.isFailure(time - 1) ? this.colours.fault : this.colours.accent]),
+      ...this.faults.map((it) => [it.time, this.colours.fault]),
+      ...(world.isRun ? [] : world.rotations.map((it) => [it.step, this.colours.ring])),
+    ];
+    strip.hidden = !marks.length;
+    const width = strip.clientWidth, dots = window.devicePixelRatio || 1;
+    strip.width = Math.round(width * dots);
+    strip.height = Math.round(10 * dots);
+    const context = strip.getContext("2d");
+    context.setTransform(dots, 0, 0, dots, 0, 0);
+    // The knob of the slider is as wide as this.
+    const knob = 16;
+    for (const [time, colour] of marks) {
+      const x = knob / 2 + (width - knob) * (world.end ? time / world.end : 0);
+      context.fillStyle = colour;
+      context.beginPath();
+      context.moveTo(x, 0);
+      context.lineTo(x + 3.5, 8);
+      context.lineTo(x - 3.5, 8);
+      context.fill();
+    }
+  }
+}
+
+/** A text in lines that are no wider than this, but for the last. */
+function wrapped(context, text, width, most) {
+  const lines = [""];
+  for (const word of text.split(" ")) {
+    const longer = `${lines[lines.length - 1]} ${word}`.trim();
+    if (context.measureText(longer).width <= width || lines.length === most) lines[lines.length - 1] = longer;
+    else lines.push(word);
+  }
+  return lines;
+}
+
+/** A picture of a moment, by itself: the map as large as fits, and a line below it. */
+class Picture {
+  constructor(show, time, width, isDark) {
+    this.show = show;
+    this.time = time;
+    this.colours = coloursOf(isDark ? "dark" : "light");
+    const box = show.box(), wide = box.right - box.left, high = box.bottom - box.top;
+    const [besides, above] = [MARGINS.left + MARGINS.right, MARGINS.top + MARGINS.bottom];
+    this.scale = Math.min(MOST_FITTED, Math.max(1, (width - besides) / wide));
+    this.width = Math.round(Math.max(Math.min(width, LEAST_PICTURE), wide * this.scale + besides));
+    this.lines = this.width < 640 ? 2 : 1;
+    this.below = LINE * (this.lines + (show.world.isRun ? 1 : 0)) + 10;
+    this.height = Math.round(high * this.scale + above) + this.below;
+    if (this.height > 4 * width) throw new RangeError("the map is too high for a picture");
+    this.box = box;
+  }
+
+  drawn() {
+    const { show } = this, { world } = show, before = world.time;
+    const canvas = document.createElement("canvas");
+    canvas.width = this.width;
+    canvas.height = this.height;
+    const context = canvas.getContext("2d", { alpha: false });
+    const view = new View();
+    view.fit(this.box, this.width, this.height - this.below);
+    world.seek(this.time);
+    show.drawing.draw(context, view, this.width, this.height, 1, this.colours, show.wishes);
+    this.drawLine(context);
+    world.seek(before);
+    return canvas;
+  }
+
+  drawLine(context) {
+    const { show, width, height, below, colours, lines } = this, { world } = show;
+    context.fillStyle = colours.card;
+    context.fillRect(0, height - below, width, below);
+    context.fillStyle = colours.ink;
+    context.textAlign = "left";
+    context.textBaseline = "middle";
+    context.font = "13px system-ui, \"DejaVu Sans\", sans-serif";
+    const count = Math.floor(this.time);
+    const first = show.faults.length ? show.faults[0].words : world.inWords().split(" Last:")[0];
+    wrapped(context, first, width - 20, lines).forEach((line, place) => {
+      context.fillText(line, 10, height - below + 5 + (place + 0.5) * LINE, width - 20);
+    });
+    if (!world.isRun) return;
+    const last = count ? `${world.log.events[count - 1]}  \u2192  ${world.log.replies[count - 1].slice(0, 60)}` : "before the first event";
+    context.font = "13px ui-monospace, \"DejaVu Sans Mono\", monospace";
+    context.fillText(last, 10, height - 5 - 0.5 * LINE, width - 20);
+  }
+
+  png() {
+    return this.drawn().toDataURL("image/png").split(",")[1];
+  }
+
+  /** Red, green and blue of each pixel, as text. */
+  pixels() {
+    const { data } = this.drawn().getContext("2d").getImageData(0, 0, this.width, this.height);
+    const letters = [];
+    for (let row = 0; row < this.height; row += 1) {
+      const bytes = [];
+      for (let at = 4 * row * this.width; at < 4 * (row + 1) * this.width; at += 4) bytes.push(data[at], data[at + 1], data[at + 2]);
+      letters.push(String.fromCharCode(...bytes));
+    }
+    return { width: this.width, height: this.height, pixels: btoa(letters.join("")) };
+  }
+}
+
+/** What a program that opens the page can ask of it. */
+function offered(ready) {
+  return {
+    ready,
+    get end() { return window.page.world.end; },
+    get isRun() { return window.page.world.isRun; },
+    png: (time, width, isDark) => new Picture(window.page, time, width, isDark).png(),
+    pixels: (time, width, isDark) => new Picture(window.page, time, width, isDark).pixels(),
+  };
+}
+
+async function start() {
+  const facts = JSON.parse(document.getElementById("facts").textContent);
+  const sections = await unpack(facts.sizes);
+  window.page = new Show(facts, sections);
+  const given = new URLSearchParams(location.hash.slice(1));
+  if (given.has("time")) window.page.seek(Number(given.get("time")));
+  else window.page.showFault();
+  if (given.has("agent")) window.page.choose(Number(given.get("agent")));
+  window.page.draw();
+}
+
+function tellTrouble(fault) {
+  const trouble = document.getElementById("trouble");
+  trouble.textContent = typeof DecompressionStream === "undefined" ? "This browser is too old for the drawing: it can't unpack what the page holds." : `The drawing failed: ${fault.message}`;
+  trouble.hidden = false;
+  throw fault;
+}
+
+window.show = offered(start().catch(tellTrouble));

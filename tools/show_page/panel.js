@@ -1,0 +1,129 @@
+// What stands beside the drawing: the fault, rotations, events, and the agent that was chosen.
+
+const ROWS = 9, MOST_TURNS = 6;
+
+class Panel {
+  constructor(facts, world, faults, act) {
+    this.facts = facts;
+    this.world = world;
+    this.faults = faults;
+    // What a click asks for: `seek` a time, `choose` an agent.
+    this.act = act;
+    this.said = "";
+    this.element = (name) => document.getElementById(name);
+    this.showVerdict();
+    this.showFaults();
+    this.showTurns();
+    if (world.isRun) this.showRun();
+  }
+
+  showVerdict() {
+    this.element("verdict").className = this.faults.length ? "bad" : "good";
+  }
+
+  showFaults() {
+    const { facts, faults } = this;
+    const section = this.element("faults");
+    section.hidden = !faults.length;
+    if (!faults.length) return;
+    section.append(made("h2", "", "Rejected"));
+    for (const fault of faults) {
+      if (faults.length > 1) section.append(made("p", "", fault.words));
+      section.append(made("p", "row", made("code", "", fault.said), button(`Show time ${fault.time}`, () => this.act.showFault(fault), "to the fault (x)")));
+    }
+    const faint = (text) => section.append(made("p", "faint", text));
+    if (facts.told) faint("Of such a plan no path is answered. The paths are drawn as the text of the plan gives them.");
+    if (facts.names.events) faint("A plan that is rejected has no runs, so the events are not shown.");
+    else faint("Of a plan that is rejected it isn't said who waits for whom.");
+  }
+
+  showTurns() {
+    const { rotations } = this.world;
+    const section = this.element("turns");
+    section.hidden = !rotations.length;
+    if (!rotations.length) return;
+    section.append(made("h2", "", counted(rotations.length, "rotation", "rotations")));
+    section.append(made("p", "", "Each of its agents moves into the cell of the next one, all in one step. Agents that wait for one another can't begin that: no run of this plan comes to its end."));
+    for (const it of rotations.slice(0, MOST_TURNS)) {
+      const line = made("p", "", `Step ${it.step}: agents ${listed(it.agents)} `);
+      if (!this.world.isRun) line.append(button("Show", () => this.act.seek(it.step), "to this rotation"));
+      section.append(line);
+    }
+    if (rotations.length > MOST_TURNS) section.append(made("p", "faint", `and ${rotations.length - MOST_TURNS} more: the key r goes to the next one`));
+  }
+
+  showRun() {
+    this.element("events").hidden = false;
+    this.element("ending").textContent = endingInWords(this.world.ending);
+    const list = this.element("rows");
+    this.rows = Array.from({ length: Math.min(ROWS, this.world.end) }, () => {
+      const row = button("", () => this.act.seek(Number(row.dataset.event) + 1));
+      row.append(made("span", "number"), made("span", ""), made("span", ""));
+      list.append(made("li", "", row));
+      return row;
+    });
+  }
+
+  /** Brings everything to the moment. While it plays, what is read aloud is left alone. */
+  update(chosen, isPlaying) {
+    const now = this.element("now");
+    now.setAttribute("aria-live", isPlaying ? "off" : "polite");
+    this.put(now, this.world.inWords());
+    if (this.world.isRun) this.updateRows();
+    this.updateAgent(chosen);
+  }
+
+  put(element, text) {
+    if (element.textContent !== text) element.textContent = text;
+  }
+
+  updateRows() {
+    const { world } = this, current = Math.floor(world.time) - 1;
+    const first = Math.max(0, Math.min(current - Math.floor(ROWS / 2), world.end - this.rows.length));
+    this.rows.forEach((row, place) => {
+      const event = first + place, [number, what, reply] = row.children;
+      row.dataset.event = event;
+      row.classList.toggle("current", event === current);
+      row.setAttribute("aria-current", event === current ? "step" : "false");
+      reply.classList.toggle("refused", world.log.reply[event] === REFUSED);
+      this.put(number, String(event + 1));
+      this.put(what, world.log.events[event]);
+      this.put(reply, world.log.replies[event]);
+    });
+    this.updateEvent(current);
+  }
+
+  updateEvent(current) {
+    const key = `event ${current}`;
+    const box = this.element("event");
+    if (box.dataset.key === key) return;
+    box.dataset.key = key;
+    if (current < 0) {
+      box.replaceChildren(made("span", "faint", "before the first event"));
+      return;
+    }
+    const { log, post } = this.world;
+    const isRefused = log.reply[current] === REFUSED;
+    const lines = [made("div", "", `${current + 1}. ${log.events[current]}`), made("div", isRefused ? "reply refused" : "reply", log.replies[current])];
+    if (log.reply[current] === SAID) {
+      const hearers = post.hearers(current);
+      lines.push(made("div", "faint", hearers.length ? `heard later by ${listed(hearers)}` : "heard by nobody"));
+    }
+    box.replaceChildren(...lines);
+  }
+
+  updateAgent(agent) {
+    const about = this.element("about");
+    const key = `${agent} ${Math.floor(this.world.time)}`;
+    if (about.dataset.key === key) return;
+    about.dataset.key = key;
+    if (agent < 0) {
+      const text = this.world.courses.count ? "Click an agent, or type its number." : "The plan has no agents.";
+      about.replaceChildren(made("p", "faint", text));
+      return;
+    }
+    const choose = (other) => button(`agent ${other}`, () => this.act.choose(other), "chooses this agent");
+    const lines = this.world.about(agent, choose).map((it) => made("li", "", it));
+    about.replaceChildren(made("p", "", made("strong", "", `Agent ${agent}`)), made("ul", "", ...lines));
+  }
+}

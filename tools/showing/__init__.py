@@ -1,0 +1,1 @@
+"""Shows a plan or a run: what `mapf` says of it, as a page or as pictures of it."""

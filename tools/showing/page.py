@@ -1,0 +1,105 @@
+"""Puts the page together: one text with its style, its script and all that it shows."""
+import base64
+import dataclasses
+import html
+import itertools
+import json
+import pathlib
+import string
+import zlib
+from array import array
+from typing import Iterator, Optional, Sequence
+
+from showing.courses import Courses
+from showing.runs import Run
+from showing.verdicts import Fault, Ground, in_words
+from showing.waits import Waits
+
+PARTS = pathlib.Path(__file__).resolve().parent.parent / "show_page"
+# The scripts in their order. They share one scope.
+SCRIPTS = ("data", "words", "plan", "run", "ground", "view", "marks", "signs", "drawing", "panel", "controls", "main")
+
+
+@dataclasses.dataclass(frozen=True)
+class Shown:
+    """All that a page shows."""
+
+    names: dict[str, str]
+    ground: Ground
+    courses: Courses
+    verdict: dict[str, object]
+    faults: Sequence[Fault]
+    waits: Waits
+    run: Optional[Run]
+
+
+def sections(shown: Shown) -> Iterator[tuple[str, bytes]]:
+    """What there is much of, each part by its name."""
+    courses, waits, run = shown.courses, shown.waits, shown.run
+    yield "terrain", shown.ground.rows
+    yield "starts", little(array("i", itertools.chain.from_iterable(courses.starts)))
+    yield "lengths", little(array("i", map(len, courses.acts)))
+    yield "acts", b"".join(courses.acts)
+    yield "needs", little(waits.agents)
+    yield "more", little(waits.more)
+    yield "rotations", little(array("i", (it for line in waits.rotations for it in (line[0], len(line) - 1, *line[1:]))))
+    yield "events", b"\n".join(run.events) if run else b""
+    yield "replies", b"\n".join(run.replies) if run else b""
+
+
+def little(numbers: array) -> bytes:
+    """The bytes of numbers, the least first, on any machine."""
+    copy = array(numbers.typecode, numbers)
+    if array("H", [1]).tobytes()[0] == 0:
+        copy.byteswap()
+    return copy.tobytes()
+
+
+def facts(shown: Shown, parts: Sequence[tuple[str, bytes]]) -> dict[str, object]:
+    """What there is little of, and how long each of the other parts is."""
+    run = shown.run
+    return {
+        "names": shown.names,
+        "width": shown.ground.width,
+        "height": shown.ground.height,
+        "agents": len(shown.courses.starts),
+        "end": shown.courses.end,
+        "verdict": shown.verdict,
+        "words": in_words(shown.verdict, shown.faults),
+        "faults": [dataclasses.asdict(fault) for fault in shown.faults],
+        "told": shown.courses.told,
+        "run": run and {"version": run.version, "events": len(run.events), "ending": run.ending},
+        "sizes": {name: len(part) for name, part in parts},
+    }
+
+
+def packed(parts: Sequence[tuple[str, bytes]]) -> str:
+    """All parts, each filled up to a whole number of four bytes, compressed, as text."""
+    whole = b"".join(part + bytes(-len(part) % 4) for _, part in parts)
+    press = zlib.compressobj(9, zlib.DEFLATED, -zlib.MAX_WBITS)
+    return base64.b64encode(press.compress(whole) + press.flush()).decode()
+
+
+def as_json(value: object) -> str:
+    """JSON that can stand in a script: no `<` begins anything there."""
+    return json.dumps(value, separators=(",", ":")).replace("<", "\\u003c")
+
+
+def read_part(name: str) -> str:
+    return (PARTS / name).read_text(encoding="ascii")
+
+
+def page(shown: Shown) -> Iterator[str]:
+    """The text of the page, in ASCII alone."""
+    parts = list(sections(shown))
+    title = " \u00b7 ".join(shown.names.values())
+    fields = {
+        "title": html.escape(title),
+        "words": html.escape(in_words(shown.verdict, shown.faults)),
+        "style": read_part("page.css"),
+        "facts": as_json(facts(shown, parts)),
+        "data": packed(parts),
+        "script": "".join(read_part(f"{name}.js") for name in SCRIPTS),
+    }
+    text = string.Template(read_part("page.html")).substitute(fields)
+    yield text.encode("ascii", "xmlcharrefreplace").decode()

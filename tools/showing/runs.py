@@ -1,0 +1,50 @@
+"""A run: its events, what `mapf run` replies to each, and how the run can end from there."""
+import dataclasses
+import pathlib
+from typing import Sequence
+
+from showing.program import Program, Refused
+
+MOST_EVENTS = 1_000_000
+# A longer reply is shortened: a message may tell of ten thousand agents.
+MOST_REPLY = 240
+KEPT = 120
+ENDS = (b"complete ", b"blocked ")
+
+
+@dataclasses.dataclass(frozen=True)
+class Run:
+    """The events and the replies, a line each, and the line that says how the run can end."""
+
+    version: str
+    events: list[bytes]
+    replies: list[bytes]
+    ending: str
+
+
+def shortened(line: bytes) -> bytes:
+    reply = line.rstrip(b"\n")
+    if len(reply) <= MOST_REPLY:
+        return reply
+    digits = len(reply) - reply.rfind(b" ") - 1
+    return reply[:KEPT] + b".. (%d digits)" % digits
+
+
+def read_run(program: Program, files: Sequence[str], events_name: str) -> Run:
+    """The run of an accepted plan."""
+    file = files[2]
+    try:
+        events = pathlib.Path(file).read_bytes().split(b"\n")[:-1]
+    except OSError:
+        events = []
+    if len(events) - 1 > MOST_EVENTS:
+        raise Refused(f"{events_name}: there are {len(events) - 1} events, and at most {MOST_EVENTS} can be shown")
+    with program.talk("run", "--complete", "--", *files) as talk:
+        # A line behind the replies is read before the lines of how the run ends, which may be many.
+        replies = [shortened(line) for _, line in zip(events[1:], talk.lines)]
+        ending = next(talk.lines, b"")
+        for _ in talk.lines:
+            pass
+    if talk.told or not ending.startswith(ENDS):
+        talk.refuse(events_name)
+    return Run(events[0].decode(), events[1:], replies, ending.decode().rstrip("\n"))
