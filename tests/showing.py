@@ -1,5 +1,6 @@
 """tools/show.py: pages and pictures of plans and runs. Pages are opened in a browser, where there is one."""
 import base64
+import functools
 import json
 import pathlib
 import random
@@ -13,7 +14,7 @@ from typing import Iterator, Mapping, Optional
 import chromium
 import gif_reader
 import show_pages
-from harness import ROOT, Ended, Harness, Outcome, compared, ended_as, shown
+from harness import ROOT, Ended, Harness, Outcome, compared, ended_as, shown, side_by_side
 from texts import BEHIND, HALL, LANE, NOBODY, SHORT, SQUARE, SWAP, TURN, VERTEX, WALL, events, plan
 
 TOOL = ROOT / "tools" / "show.py"
@@ -121,23 +122,35 @@ BAD_LINES = (
 )
 
 
-def refused(room: Room) -> Iterator[Outcome]:
+def refuses(harness: Harness, words: list[str], told: str, status: int) -> list[Outcome]:
+    """A call that leaves the file of a page as it was, and nothing else."""
+    room = Room(harness)
     target = room.folder / "old.html"
-    for words, told, status in REFUSED:
-        target.write_bytes(OLD)
-        ended = room.show(*words, "-o", "old.html")
-        ran = shown(["tools/show.py", *words, "-o", "old.html"])
-        yield ended_as(f"refused: {' '.join(words)}", ran, ended, Ended(status, b"", f"{told}\n".encode()))
-        left = sorted(it.name for it in room.folder.iterdir() if it.name not in TEXTS)
-        yield compared(f"nothing is written: {' '.join(words)}", ran, (target.read_bytes(), left), (OLD, ["old.html"]))
-    target.unlink()
-    for words in BAD_LINES:
-        ended = room.show(*words)
-        yield compared(f"a bad command line: {' '.join(words)}", shown(words), (ended.status, ended.out, ended.err[:6]), (2, b"", b"usage:"))
+    target.write_bytes(OLD)
+    ended = room.show(*words, "-o", "old.html")
+    ran = shown(["tools/show.py", *words, "-o", "old.html"])
+    left = sorted(it.name for it in room.folder.iterdir() if it.name not in TEXTS)
+    return [
+        ended_as(f"refused: {' '.join(words)}", ran, ended, Ended(status, b"", f"{told}\n".encode())),
+        compared(f"nothing is written: {' '.join(words)}", ran, (target.read_bytes(), left), (OLD, ["old.html"])),
+    ]
+
+
+def bad_line(room: Room, words: list[str]) -> list[Outcome]:
+    ended = room.show(*words)
+    return [compared(f"a bad command line: {' '.join(words)}", shown(words), (ended.status, ended.out, ended.err[:6]), (2, b"", b"usage:"))]
+
+
+def without_browser(room: Room) -> list[Outcome]:
     ended = room.show("lane.map", "behind.plan", "--png", "1", "-o", "a.png", more={"PATH": ""})
     due = Ended(3, b"", b"show: there is no Chromium on the path (chromium, chromium-browser, google-chrome, google-chrome-stable, chrome); "
                 b"a picture needs one, and --browser PATH says where it is\n")
-    yield ended_as("a picture without a browser", "PATH= tools/show.py lane.map behind.plan --png 1 -o a.png", ended, due)
+    return [ended_as("a picture without a browser", "PATH= tools/show.py lane.map behind.plan --png 1 -o a.png", ended, due)]
+
+
+def refused(room: Room) -> Iterator[Outcome]:
+    tests = [functools.partial(refuses, room.harness, *it) for it in REFUSED]
+    yield from side_by_side([*tests, *(functools.partial(bad_line, room, it) for it in BAD_LINES), functools.partial(without_browser, room)])
 
 
 def written(room: Room) -> Iterator[Outcome]:
@@ -164,27 +177,43 @@ def png_size(data: bytes) -> tuple[bytes, int, int]:
     return data[:8], *struct.unpack(">2I", data[16:24])
 
 
-def pictures(room: Room) -> Iterator[Outcome]:
-    """Pictures, as they are read back."""
+def still(room: Room) -> list[Outcome]:
     call = ["hall.map", "nobody.plan", "--png", "0", "--width", "500", "-o", "a.png"]
     ended = room.show(*call)
-    yield ended_as("a picture", shown(call), ended, Ended(0, b"", b""))
     mark, wide, high = png_size((room.folder / "a.png").read_bytes())
-    yield compared("its size", shown(call), (mark, 400 < wide <= 500, 200 < high < 500), (b"\x89PNG\r\n\x1a\n", True, True))
-    # Four frames a step of a plan, one an event of a run, and both ends.
-    for name, words, count in (("plan", ["square.map", "turn.plan", "--gif", "0", "1"], 5), ("run", ["lane.map", "behind.plan", "run.events", "--gif", "2", "8"], 7)):
-        call = [*words, "-o", f"{name}.gif"]
-        ended = room.show(*call)
-        yield ended_as(f"a moving picture of a {name}", shown(call), ended, Ended(0, b"", b""))
-        read = gif_reader.read((room.folder / f"{name}.gif").read_bytes())
-        yield compared(f"its frames: {name}", shown(call), (len(read.frames), {len(it) for it in read.frames}), (count, {read.width * read.height}))
-        yield compared(f"it moves: {name}", shown(call), len(set(read.frames)) > count // 2, True)
-    for words, told in (
-        (["lane.map", "behind.plan", "--png", "3"], "show: the last time is 2, and 3 is wanted"),
-        (["lane.map", "behind.plan", "run.events", "--gif", "0", "99"], f"show: the last time is {len(show_pages.RUN)}, and 99 is wanted"),
-    ):
-        ended = room.show(*words, "-o", "b.png")
-        yield ended_as(f"a time that isn't there: {' '.join(words)}", shown(words), ended, Ended(1, b"", f"{told}\n".encode()))
+    return [
+        ended_as("a picture", shown(call), ended, Ended(0, b"", b"")),
+        compared("its size", shown(call), (mark, 400 < wide <= 500, 200 < high < 500), (b"\x89PNG\r\n\x1a\n", True, True)),
+    ]
+
+
+def moving(room: Room, name: str, words: list[str], count: int) -> list[Outcome]:
+    """Four frames a step of a plan, one an event of a run, and both ends."""
+    call = [*words, "-o", f"{name}.gif"]
+    ended = room.show(*call)
+    read = gif_reader.read((room.folder / f"{name}.gif").read_bytes())
+    return [
+        ended_as(f"a moving picture of a {name}", shown(call), ended, Ended(0, b"", b"")),
+        compared(f"its frames: {name}", shown(call), (len(read.frames), {len(it) for it in read.frames}), (count, {read.width * read.height})),
+        compared(f"it moves: {name}", shown(call), len(set(read.frames)), count),
+    ]
+
+
+def no_such_time(room: Room, words: list[str], told: str) -> list[Outcome]:
+    ended = room.show(*words, "-o", "b.png")
+    return [ended_as(f"a time that isn't there: {' '.join(words)}", shown(words), ended, Ended(1, b"", f"{told}\n".encode()))]
+
+
+def pictures(room: Room) -> Iterator[Outcome]:
+    """Pictures, as they are read back."""
+    run, end = ["lane.map", "behind.plan", "run.events"], len(show_pages.RUN)
+    yield from side_by_side([
+        functools.partial(still, room),
+        functools.partial(moving, room, "plan", ["square.map", "turn.plan", "--gif", "0", "1"], 5),
+        functools.partial(moving, room, "run", [*run, "--gif", "2", "8"], 7),
+        functools.partial(no_such_time, room, ["lane.map", "behind.plan", "--png", "3"], "show: the last time is 2, and 3 is wanted"),
+        functools.partial(no_such_time, room, [*run, "--gif", "0", "99"], f"show: the last time is {end}, and 99 is wanted"),
+    ])
 
 
 def large_texts() -> tuple[bytes, bytes]:

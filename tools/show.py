@@ -83,9 +83,9 @@ def look(given: argparse.Namespace, folder: pathlib.Path) -> Shown:
     (folder / "map").write_bytes(map_text)
     files = [str(folder / "map"), plan_file]
     verdict = read_verdict(program, files, given.plan)
-    courses = read_courses(program, files)
+    courses = read_courses(program, files, given.plan)
     is_valid = bool(verdict["accepted"])
-    waits = read_waits(program, files, courses.acts) if is_valid else no_waits()
+    waits = read_waits(program, files, courses.acts, given.plan) if is_valid else no_waits()
     run: Optional[Run] = None
     if given.events and is_valid:
         run = read_run(program, [*files, copied(given.events, folder, "events")], given.events)
@@ -110,7 +110,7 @@ def write_picture(given: argparse.Namespace, shown: Shown, folder: pathlib.Path)
     kind = pictures.Kind(given.width, given.dark)
     with Browser(find(given.browser), folder / "browser") as browser:
         browser.open(file)
-        picture = pictures.png(browser, given.png, kind) if given.png is not None else pictures.gif(browser, *given.gif, kind)
+        picture = pictures.moving_picture(browser, *given.gif, kind) if given.gif else pictures.picture(browser, given.png, kind)
     with draft([picture], given.output) as made:
         made.put()
 

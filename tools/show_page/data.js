@@ -93,6 +93,10 @@ class Courses {
     return this.cell(agent, this.lengths[agent]);
   }
 
+  inWords(agent) {
+    return `goes from ${shownCell(this.cell(agent, 0))} to ${shownCell(this.goal(agent))} in ${counted(this.moves[agent], "move", "moves")}`;
+  }
+
   /** Whether an agent moves in a step. */
   isMove(agent, step) {
     return step < this.lengths[agent] && this.acts[this.firstAct[agent] + step] !== STAYS;

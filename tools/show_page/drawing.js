@@ -1,7 +1,7 @@
 // One picture of a moment: the map, and on it all that is seen.
 
 const NUMBER_FROM = 7, NEAR = 0.2, ASIDE = 0.25;
-// Where more messages are on their way, they are drawn smaller, and without lines.
+// Where more messages are on their way, they are drawn smaller, and their lines faintly.
 const MANY_LETTERS = 16;
 
 /** Keeps the picture of the map and the goals for as long as they are seen from the same place. */
@@ -179,8 +179,7 @@ class Drawing {
     for (let agent = 0; agent < moment.count; agent += 1) {
       if (!this.isSeen(moment.x[agent], moment.y[agent])) continue;
       const [x, y] = this.place(agent), look = moment.look[agent], radius = this.radiusOf(agent);
-      const body = sprite(agent % AGENT_COLOURS.length, look, radius, dots, colours);
-      context.drawImage(body.canvas, x - body.half, y - body.half, body.side, body.side);
+      drawSprite(context, agentSprite(agent % AGENT_COLOURS.length, look, radius, dots, colours), x, y);
       if (this.radius >= NUMBER_FROM) drawNumber(context, agent, look, x, y, radius, colours);
     }
   }
@@ -213,40 +212,46 @@ class Drawing {
     }
   }
 
-  /** The messages, below the agents. Where there are many, only those of the agent that was chosen have a line. */
+  /** The messages, below the agents. Where there are many, those of the agent that was chosen stand out. */
   drawLetters() {
     const { radius, wishes } = this;
     const letters = this.world.letters(), isMany = letters.length > MANY_LETTERS;
+    const standsOut = (it) => !isMany || it.sender === wishes.agent || it.receiver === wishes.agent;
+    const sent = letters.filter((it) => it.receiver >= 0);
+    this.drawWays(sent.filter((it) => !standsOut(it)), false);
+    this.drawWays(sent.filter(standsOut), true);
     const size = Math.max(7, Math.min(18, (isMany ? 0.6 : 0.9) * radius));
-    for (const letter of letters) {
-      const isOfChosen = letter.sender === wishes.agent || letter.receiver === wishes.agent;
-      this.drawOnItsWay(letter, isOfChosen ? 1.3 * size : size, isOfChosen || !isMany);
-    }
+    for (const letter of letters) this.drawLetterAt(letter, isMany && standsOut(letter) ? 1.3 * size : size);
   }
 
-  drawOnItsWay(letter, size, hasLine) {
-    const { context, radius, colours } = this;
-    const [x, y] = this.place(letter.sender);
-    if (letter.receiver < 0) {
-      // It falls off, and fades.
-      context.globalAlpha = 1 - 0.8 * letter.part;
-      drawLetter(context, x + 1.1 * radius, y - radius - size * 0.4 + letter.part * radius, size, true, colours);
-      context.globalAlpha = 1;
-      return;
-    }
-    const [toX, toY] = this.place(letter.receiver);
+  /** The lines on which messages go. */
+  drawWays(letters, isClear) {
+    const { context, colours } = this;
     context.strokeStyle = colours.letter;
-    context.globalAlpha = hasLine ? 0.9 : 0.3;
-    context.lineWidth = hasLine ? 1.4 : 1;
-    context.setLineDash([2, 3]);
+    context.globalAlpha = isClear ? 0.9 : 0.2;
+    context.lineWidth = isClear ? 1.4 : 1;
+    context.setLineDash(isClear ? [2, 3] : []);
     context.beginPath();
-    context.moveTo(x, y);
-    context.lineTo(toX, toY);
+    for (const { sender, receiver } of letters) {
+      context.moveTo(...this.place(sender));
+      context.lineTo(...this.place(receiver));
+    }
     context.stroke();
     context.setLineDash([]);
     context.globalAlpha = 1;
-    const share = 0.12 + 0.76 * letter.part;
-    drawLetter(context, x + share * (toX - x), y + share * (toY - y), size, !letter.isHeard && letter.part > 0.8, colours);
+  }
+
+  drawLetterAt({ sender, receiver, part, isHeard }, size) {
+    const { context, radius, dots, colours } = this, [x, y] = this.place(sender);
+    if (receiver < 0) {
+      // It comes off, and fades.
+      context.globalAlpha = 1 - 0.8 * part;
+      drawSprite(context, letterSprite(size, true, dots, colours), x + 1.1 * radius, y - radius - 0.4 * size + part * radius);
+      context.globalAlpha = 1;
+      return;
+    }
+    const [toX, toY] = this.place(receiver), share = 0.12 + 0.76 * part;
+    drawSprite(context, letterSprite(size, !isHeard && part > 0.8, dots, colours), x + share * (toX - x), y + share * (toY - y));
   }
 
   /** The agent that was chosen, and for whom it waits. */

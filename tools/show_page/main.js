@@ -5,8 +5,8 @@ const SPEEDS = [0.25, 0.5, 1, 2, 4, 8, 16, 32, 64, 128, 256, 512, 1024, 2048, 40
 const PLAYED_IN = 60, AT_LEAST_IN = 8;
 const THEMES = ["auto", "light", "dark"];
 const FAULT_SCALE = 34;
-// How wide a picture is at least, so that its words have room, and how high a line of them.
-const LEAST_PICTURE = 420, LINE = 18;
+// While it plays, what stands beside the drawing changes no more often than so, in milliseconds.
+const PANEL_EACH = 100;
 
 class Show {
   constructor(facts, sections) {
@@ -22,6 +22,7 @@ class Show {
     this.wishes = { goals: true, letters: true, agent: -1 };
     this.playing = false;
     this.frames = 0;
+    this.told = 0;
     this.canvas = document.getElementById("map");
     this.context = this.canvas.getContext("2d", { alpha: false });
     this.slider = document.getElementById("slider");
@@ -43,11 +44,11 @@ class Show {
   }
 
   offerSpeeds() {
-    const unit = this.world.isRun ? "events/s" : "steps/s";
+    document.getElementById("unit").textContent = this.world.isRun ? "Events a second" : "Steps a second";
     const most = Math.max(8, this.world.end / AT_LEAST_IN), usual = Math.max(this.world.isRun ? 1 : 2, this.world.end / PLAYED_IN);
     this.speeds = SPEEDS.filter((it) => it <= most);
     const select = document.getElementById("speed");
-    for (const speed of this.speeds) select.add(new Option(`${speed} ${unit}`, speed));
+    for (const speed of this.speeds) select.add(new Option(`${speed}/s`, speed));
     this.setSpeed(this.speeds.find((it) => it >= usual) || this.speeds[this.speeds.length - 1]);
   }
 
@@ -96,6 +97,7 @@ class Show {
     const play = document.getElementById("play");
     play.classList.toggle("playing", this.playing);
     play.setAttribute("aria-label", this.playing ? "Pause" : "Play");
+    this.told = 0;
     this.touch();
   }
 
@@ -259,6 +261,9 @@ class Show {
     this.drawing.draw(this.context, this.view, this.width, this.height, this.dots, this.colours, this.wishes);
     this.frames += 1;
     this.slider.value = this.world.time;
+    const now = performance.now();
+    if (this.playing && now - this.told < PANEL_EACH) return;
+    this.told = now;
     this.slider.setAttribute("aria-valuetext", `${this.world.isRun ? "event" : "time"} ${shownTime(this.world.time)} of ${this.world.end}`);
     this.panel.update(this.wishes.agent, this.playing);
   }
@@ -291,92 +296,12 @@ class Show {
   }
 }
 
-/** A text in lines that are no wider than this, but for the last. */
-function wrapped(context, text, width, most) {
-  const lines = [""];
-  for (const word of text.split(" ")) {
-    const longer = `${lines[lines.length - 1]} ${word}`.trim();
-    if (context.measureText(longer).width <= width || lines.length === most) lines[lines.length - 1] = longer;
-    else lines.push(word);
-  }
-  return lines;
-}
-
-/** A picture of a moment, by itself: the map as large as fits, and a line below it. */
-class Picture {
-  constructor(show, time, width, isDark) {
-    this.show = show;
-    this.time = time;
-    this.colours = coloursOf(isDark ? "dark" : "light");
-    const box = show.box(), wide = box.right - box.left, high = box.bottom - box.top;
-    const [besides, above] = [MARGINS.left + MARGINS.right, MARGINS.top + MARGINS.bottom];
-    this.scale = Math.min(MOST_FITTED, Math.max(1, (width - besides) / wide));
-    this.width = Math.round(Math.max(Math.min(width, LEAST_PICTURE), wide * this.scale + besides));
-    this.lines = this.width < 640 ? 2 : 1;
-    this.below = LINE * (this.lines + (show.world.isRun ? 1 : 0)) + 10;
-    this.height = Math.round(high * this.scale + above) + this.below;
-    if (this.height > 4 * width) throw new RangeError("the map is too high for a picture");
-    this.box = box;
-  }
-
-  drawn() {
-    const { show } = this, { world } = show, before = world.time;
-    const canvas = document.createElement("canvas");
-    canvas.width = this.width;
-    canvas.height = this.height;
-    const context = canvas.getContext("2d", { alpha: false });
-    const view = new View();
-    view.fit(this.box, this.width, this.height - this.below);
-    world.seek(this.time);
-    show.drawing.draw(context, view, this.width, this.height, 1, this.colours, show.wishes);
-    this.drawLine(context);
-    world.seek(before);
-    return canvas;
-  }
-
-  drawLine(context) {
-    const { show, width, height, below, colours, lines } = this, { world } = show;
-    context.fillStyle = colours.card;
-    context.fillRect(0, height - below, width, below);
-    context.fillStyle = colours.ink;
-    context.textAlign = "left";
-    context.textBaseline = "middle";
-    context.font = "13px system-ui, \"DejaVu Sans\", sans-serif";
-    const count = Math.floor(this.time);
-    const first = show.faults.length ? show.faults[0].words : world.inWords().split(" Last:")[0];
-    wrapped(context, first, width - 20, lines).forEach((line, place) => {
-      context.fillText(line, 10, height - below + 5 + (place + 0.5) * LINE, width - 20);
-    });
-    if (!world.isRun) return;
-    const last = count ? `${world.log.events[count - 1]}  \u2192  ${world.log.replies[count - 1].slice(0, 60)}` : "before the first event";
-    context.font = "13px ui-monospace, \"DejaVu Sans Mono\", monospace";
-    context.fillText(last, 10, height - 5 - 0.5 * LINE, width - 20);
-  }
-
-  png() {
-    return this.drawn().toDataURL("image/png").split(",")[1];
-  }
-
-  /** Red, green and blue of each pixel, as text. */
-  pixels() {
-    const { data } = this.drawn().getContext("2d").getImageData(0, 0, this.width, this.height);
-    const letters = [];
-    for (let row = 0; row < this.height; row += 1) {
-      const bytes = [];
-      for (let at = 4 * row * this.width; at < 4 * (row + 1) * this.width; at += 4) bytes.push(data[at], data[at + 1], data[at + 2]);
-      letters.push(String.fromCharCode(...bytes));
-    }
-    return { width: this.width, height: this.height, pixels: btoa(letters.join("")) };
-  }
-}
-
 /** What a program that opens the page can ask of it. */
 function offered(ready) {
   return {
     ready,
     get end() { return window.page.world.end; },
     get isRun() { return window.page.world.isRun; },
-    png: (time, width, isDark) => new Picture(window.page, time, width, isDark).png(),
     pixels: (time, width, isDark) => new Picture(window.page, time, width, isDark).pixels(),
   };
 }
@@ -394,7 +319,8 @@ async function start() {
 
 function tellTrouble(fault) {
   const trouble = document.getElementById("trouble");
-  trouble.textContent = typeof DecompressionStream === "undefined" ? "This browser is too old for the drawing: it can't unpack what the page holds." : `The drawing failed: ${fault.message}`;
+  const isOld = typeof DecompressionStream === "undefined";
+  trouble.textContent = isOld ? "This browser is too old for the drawing: it can't unpack what the page holds." : `The drawing failed: ${fault.message}`;
   trouble.hidden = false;
   throw fault;
 }

@@ -3,7 +3,7 @@
 // Colours that can be told apart by the colour-blind; vermilion is left to faults.
 const AGENT_COLOURS = ["#56b4e9", "#e69f00", "#009e73", "#f0e442", "#0072b2", "#cc79a7"];
 const INK_ON = ["#10151b", "#10151b", "#ffffff", "#10151b", "#ffffff", "#10151b"];
-const COLOUR_NAMES = ["paper", "card", "ink", "faint", "edge", "accent", "land", "grid", "wall", "trees", "swamp", "water", "glyph", "off", "fault", "ring", "wait", "letter", "halo"];
+const COLOUR_NAMES = "card ink faint edge accent land grid wall trees swamp water glyph off fault ring wait letter halo".split(" ");
 const SQUARES_BELOW = 6;
 
 /** The colours of a theme, by their names. */
@@ -26,23 +26,35 @@ function radiusOf(scale) {
   return Math.max(2, 0.36 * scale);
 }
 
-/** An agent as a small picture that is drawn many times. */
+/** Small pictures that are drawn many times, each around its middle, known by their keys. */
 const sprite = (() => {
   const known = new Map();
-  return (hue, look, radius, dots, colours) => {
-    const key = `${hue} ${look & (WAITS | BROKEN | HOME)} ${radius.toFixed(1)} ${dots} ${colours.theme}`;
-    if (!known.has(key)) {
+  return (key, side, dots, draw) => {
+    const whole = `${key} ${side.toFixed(1)} ${dots}`;
+    if (!known.has(whole)) {
       if (known.size > 2000) known.clear();
-      const side = Math.ceil((2 * radius + 6) * dots);
-      const canvas = new OffscreenCanvas(side, side);
+      const canvas = new OffscreenCanvas(Math.ceil(side * dots), Math.ceil(side * dots));
       const context = canvas.getContext("2d");
-      context.setTransform(dots, 0, 0, dots, side / 2, side / 2);
-      drawBody(context, hue, look, radius, colours);
-      known.set(key, { canvas, half: side / 2 / dots, side: side / dots });
+      context.setTransform(dots, 0, 0, dots, canvas.width / 2, canvas.height / 2);
+      draw(context);
+      known.set(whole, { canvas, side: canvas.width / dots });
     }
-    return known.get(key);
+    return known.get(whole);
   };
 })();
+
+function drawSprite(context, { canvas, side }, x, y) {
+  context.drawImage(canvas, x - side / 2, y - side / 2, side, side);
+}
+
+function agentSprite(hue, look, radius, dots, colours) {
+  const key = `agent ${hue} ${look & (WAITS | BROKEN | HOME)} ${colours.theme}`;
+  return sprite(key, 2 * radius + 6, dots, (context) => drawBody(context, hue, look, radius, colours));
+}
+
+function letterSprite(size, isLost, dots, colours) {
+  return sprite(`letter ${isLost} ${colours.theme}`, 2 * size, dots, (context) => drawLetter(context, 0, 0, size, isLost, colours));
+}
 
 /** An agent around the origin: a disc, hollow where it waits, a square with a cross where it is broken. */
 function drawBody(context, hue, look, radius, colours) {

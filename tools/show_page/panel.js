@@ -43,7 +43,8 @@ class Panel {
     section.hidden = !rotations.length;
     if (!rotations.length) return;
     section.append(made("h2", "", counted(rotations.length, "rotation", "rotations")));
-    section.append(made("p", "", "Each of its agents moves into the cell of the next one, all in one step. Agents that wait for one another can't begin that: no run of this plan comes to its end."));
+    section.append(made("p", "", "Each of its agents moves into the cell of the next one, all in one step. "
+      + "Agents that wait for one another can't begin that: no run of this plan comes to its end."));
     for (const it of rotations.slice(0, MOST_TURNS)) {
       const line = made("p", "", `Step ${it.step}: agents ${listed(it.agents)} `);
       if (!this.world.isRun) line.append(button("Show", () => this.act.seek(it.step), "to this rotation"));
@@ -105,11 +106,15 @@ class Panel {
     const { log, post } = this.world;
     const isRefused = log.reply[current] === REFUSED;
     const lines = [made("div", "", `${current + 1}. ${log.events[current]}`), made("div", isRefused ? "reply refused" : "reply", log.replies[current])];
-    if (log.reply[current] === SAID) {
-      const hearers = post.hearers(current);
-      lines.push(made("div", "faint", hearers.length ? `heard later by ${listed(hearers)}` : "heard by nobody"));
-    }
+    if (log.reply[current] === SAID) lines.push(made("div", "faint", this.heardInWords(log.who[current], post.hearers(current))));
     box.replaceChildren(...lines);
+  }
+
+  heardInWords(sender, hearers) {
+    if (!hearers.length) return "heard by nobody";
+    const all = Array.from({ length: this.world.courses.count }, (_, agent) => agent);
+    const others = all.filter((it) => it !== sender && !hearers.includes(it));
+    return `heard later by ${listed(hearers)}${others.length ? `; not by ${listed(others)}` : ""}`;
   }
 
   updateAgent(agent) {

@@ -92,7 +92,7 @@ class PlanWorld {
   about(agent, choose) {
     const { courses } = this;
     const done = this.finished(agent);
-    const lines = [`goes from ${shownCell(courses.cell(agent, 0))} to ${shownCell(courses.goal(agent))} in ${counted(courses.moves[agent], "move", "moves")}, and is there from time ${courses.lengths[agent]} on`];
+    const lines = [`${courses.inWords(agent)}, and is there from time ${courses.lengths[agent]} on`];
     lines.push(`now in ${shownCell(courses.cell(agent, Math.floor(this.time)))}, ${counted(done, "move", "moves")} finished`);
     for (let move = done; move < Math.min(done + 3, courses.moves[agent]); move += 1) lines.push(this.needLine(agent, move, choose));
     if (done === courses.moves[agent]) lines.push("it makes no more moves");

@@ -28,29 +28,50 @@ function agentSign(look, number = 3) {
   };
 }
 
+/** An agent with something around it. */
+function markedSign(look, mark) {
+  return (context, colours) => {
+    drawBodyAt(context, SIGN_WIDTH / 2, SIGN_HEIGHT / 2, 3, look, 7, colours);
+    mark(context, SIGN_WIDTH / 2, SIGN_HEIGHT / 2, 7, colours);
+  };
+}
+
+const haloSign = (name) => markedSign(0, (context, x, y, radius, colours) => drawHalo(context, x, y, radius, colours[name], colours));
+const restartSign = markedSign(0, (context, x, y, radius, colours) => drawRestart(context, x, y, radius, 1, colours));
+const goalSign = (context, colours) => drawGoal(context, SIGN_WIDTH / 2, SIGN_HEIGHT / 2, 3, 26, colours, 3);
+const waitSign = (context, colours) => drawWait(context, [2, SIGN_HEIGHT / 2], [42, SIGN_HEIGHT / 2], 4, colours);
+const letterSign = (isLost) => (context, colours) => drawLetter(context, SIGN_WIDTH / 2, SIGN_HEIGHT / 2, 17, isLost, colours);
+const ringSign = (context, colours) => drawRing(context, [[10, 5], [34, 5], [34, 21], [10, 21]], 7, colours);
+const faultSign = (context, colours) => drawFaultCell(context, SIGN_WIDTH / 2, SIGN_HEIGHT / 2, 24, colours);
+
+function movingSign(context, colours) {
+  drawBands(context, [[[13, SIGN_HEIGHT / 2], [31, SIGN_HEIGHT / 2]]], 0, 18);
+  drawBodyAt(context, 20, SIGN_HEIGHT / 2, 0, 0, 7, colours);
+}
+
 /** The signs of a page: a drawing and its meaning, of what there can be on it. */
 function signsOf(world, terrain, faults) {
-  const middle = SIGN_HEIGHT / 2;
   const has = (...codes) => codes.some((code) => terrain.includes(code));
-  const signs = [[agentSign(0), "an agent"]];
-  const add = (wanted, draw, text) => wanted && signs.push([draw, text]);
-  signs.push([(context, colours) => drawGoal(context, SIGN_WIDTH / 2, middle, 3, 26, colours, 3), "where its path ends"]);
-  add(world.isRun, (context, colours) => { drawBands(context, [[[13, middle], [31, middle]]], 0, 18); drawBodyAt(context, 20, middle, 0, 0, 7, colours); }, "moving: it holds both cells");
-  add(world.isRun, agentSign(WAITS), "waiting: a start was refused");
-  add(world.isRun || world.courses.needs.length, (context, colours) => drawWait(context, [2, middle], [42, middle], 4, colours), "from who waits to whom it waits for");
-  add(world.isRun, agentSign(BROKEN), "broken: a write failed");
-  add(world.isRun, (context, colours) => { drawBodyAt(context, 22, middle, 3, 0, 7, colours); drawRestart(context, 22, middle, 7, 1, colours); }, "restarted a short while ago");
-  add(world.isRun, (context, colours) => drawLetter(context, 22, middle, 17, false, colours), "a message on its way");
-  add(world.isRun, (context, colours) => drawLetter(context, 22, middle, 17, true, colours), "a message that nobody hears");
-  add(world.rotations.length, (context, colours) => drawRing(context, [[10, 5], [34, 5], [34, 21], [10, 21]], 7, colours), "a rotation: who turn round together");
-  add(faults.length, (context, colours) => drawFaultCell(context, 22, middle, 24, colours), "a cell of the fault");
-  add(faults.length, (context, colours) => { drawBodyAt(context, 22, middle, 3, 0, 7, colours); drawHalo(context, 22, middle, 7, colours.fault, colours); }, "an agent of the fault");
-  signs.push([(context, colours) => { drawBodyAt(context, 22, middle, 3, 0, 7, colours); drawHalo(context, 22, middle, 7, colours.ink, colours); }, "the agent that you chose"]);
-  add(has(64, 79), terrainSign(0), "out of bounds");
-  add(has(TREES), terrainSign(TREES), "trees");
-  add(has(SWAMP), terrainSign(SWAMP), "swamp");
-  add(has(WATER), terrainSign(WATER), "water");
-  return signs;
+  const { isRun } = world, saysWaits = isRun || world.courses.needs.length > 0;
+  return [
+    [true, agentSign(0), "an agent"],
+    [true, goalSign, "where its path ends"],
+    [isRun, movingSign, "moving: it holds both cells"],
+    [isRun, agentSign(WAITS), "waiting: a start was refused"],
+    [saysWaits, waitSign, "from who waits to whom it waits for"],
+    [isRun, agentSign(BROKEN), "broken: a write failed"],
+    [isRun, restartSign, "restarted a short while ago"],
+    [isRun, letterSign(false), "a message on its way"],
+    [isRun, letterSign(true), "a message that nobody hears"],
+    [world.rotations.length > 0, ringSign, "a rotation: who turn round together"],
+    [faults.length > 0, faultSign, "a cell of the fault"],
+    [faults.length > 0, haloSign("fault"), "an agent of the fault"],
+    [true, haloSign("ink"), "the agent that you chose"],
+    [has(64, 79), terrainSign(0), "out of bounds"],
+    [has(TREES), terrainSign(TREES), "trees"],
+    [has(SWAMP), terrainSign(SWAMP), "swamp"],
+    [has(WATER), terrainSign(WATER), "water"],
+  ].filter(([isThere]) => isThere).map(([, draw, text]) => [draw, text]);
 }
 
 function drawBodyAt(context, x, y, hue, look, radius, colours) {

@@ -32,6 +32,8 @@ READS, WRITES = 3, 4
 ABOVE = 10
 # No answer takes nearly as long.
 SECONDS = 120.0
+# How long is waited before a page is asked again whether it is there.
+STEP = 0.02
 PIECE = 1 << 20
 
 
@@ -43,6 +45,10 @@ def find(given: Optional[str]) -> str:
             return path
     what = f"{given} is no program" if given else f"there is no Chromium on the path ({', '.join(NAMES)})"
     raise Failed(f"{what}; a picture needs one, and --browser PATH says where it is")
+
+
+class NoAnswer(Failed):
+    """The browser answers that it can't."""
 
 
 class Browser:
@@ -103,7 +109,7 @@ class Browser:
             if answer.get("id") == self.number:
                 break
         if "error" in answer:
-            raise Failed(f"{self.path}: {method}: {answer['error'].get('message')}")
+            raise NoAnswer(f"{self.path}: {method}: {answer['error'].get('message')}")
         return answer["result"]
 
     def message(self) -> bytes:
@@ -121,18 +127,25 @@ class Browser:
     def open(self, file: pathlib.Path) -> None:
         """Opens a page, and waits until it is drawn."""
         self.ask("Page.navigate", url=file.absolute().as_uri())
-        # What the page promises may not be there yet, while the page before it is left.
-        ready = "new Promise((go) => { const look = () => (window.show ? show.ready.then(() => go(true)) : setTimeout(look, 20)); look(); })"
         end = time.monotonic() + SECONDS
-        while time.monotonic() < end:
-            with contextlib.suppress(Failed):
-                if self.value(ready):
-                    return
-        raise Failed(f"{self.path}: the page is not drawn")
+        while not self.is_there():
+            if time.monotonic() > end:
+                raise Failed(f"{self.path} doesn't load the page")
+            time.sleep(STEP)
+        trouble = self.value("show.ready.then(() => '', String)")
+        if trouble:
+            raise Failed(f"{self.path}: {trouble}")
+
+    def is_there(self) -> bool:
+        """Whether the page is loaded. While the page before it is left, nothing can be asked."""
+        with contextlib.suppress(NoAnswer):
+            return bool(self.value("Boolean(window.show)"))
+        return False
 
     def value(self, script: str) -> object:
         """What a script comes to."""
         answer = self.ask("Runtime.evaluate", expression=script, awaitPromise=True, returnByValue=True)
         if "exceptionDetails" in answer:
-            raise Failed(f"{self.path}: {answer['exceptionDetails'].get('text')}")
+            details = answer["exceptionDetails"]
+            raise Failed(f"{self.path}: {details.get('exception', details).get('description', details.get('text'))}".partition("\n")[0])
         return answer["result"].get("value")

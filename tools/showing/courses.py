@@ -34,7 +34,7 @@ class Courses:
         return x + sum(dx for dx, _ in steps), y + sum(dy for _, dy in steps)
 
 
-def by_path(lines: Iterator[bytes]) -> Courses:
+def by_path(lines: Iterator[bytes], plan: str) -> Courses:
     """The courses of the lines of `mapf path`."""
     starts: list[Cell] = []
     rows: list[bytes] = []
@@ -47,7 +47,7 @@ def by_path(lines: Iterator[bytes]) -> Courses:
             starts = list(zip(xs, ys))
             continue
         if time * len(starts) > MOST_TIMES:
-            raise Refused(f"there are more than {MOST_TIMES} times of {len(starts)} agents: too many to be shown")
+            raise Refused(f"{plan}: {len(starts)} agents have more than {MOST_TIMES} times in all, which is more than can be shown")
         rows.append(array("b", map(sub, sums, before)).tobytes().translate(ACT_OF))
     whole = b"".join(rows)
     if b"\0" in whole:
@@ -63,13 +63,13 @@ def by_text(plan: bytes, told: str) -> Courses:
     return Courses(starts, [it.rstrip(b"-") for it in acts], max(map(len, acts), default=0), told)
 
 
-def read_courses(program: Program, files: Sequence[str]) -> Courses:
+def read_courses(program: Program, files: Sequence[str], plan: str) -> Courses:
     """The courses of a plan that the program can read."""
     with program.talk("path", "--", *files) as talk:
-        courses = by_path(talk.lines)
+        courses = by_path(talk.lines, plan)
     found = AN_AGENTS_FAULT.fullmatch(talk.told)
     if found and talk.status == FAULT:
         return by_text(pathlib.Path(files[1]).read_bytes(), found[1])
     if talk.status:
-        talk.refuse("mapf path")
+        talk.refuse(plan)
     return courses

@@ -1,62 +1,15 @@
-"""Writes a moving GIF: one palette for all frames, of the colours that are seen most, and of each frame the part that differs from the one before."""
-import collections
-import dataclasses
+"""Writes a moving GIF: one palette for all frames, and of each frame the part that differs from the one before."""
 import struct
 from typing import Iterable, Iterator, Optional, Sequence
 
-MOST_COLOURS = 255
+from showing.palette import Frame, Palette
+
 # In place of a colour: the pixel is as in the frame before.
 KEPT = 255
 # A code of LZW has at most so many bits.
 MOST_BITS = 12
 BITS = 8
 CLEAR, END, FIRST = 1 << BITS, (1 << BITS) + 1, (1 << BITS) + 2
-# The bits of red, green and blue that are told apart.
-SHADE = bytes(byte & 0xF8 | byte >> 5 for byte in range(256))
-
-
-@dataclasses.dataclass(frozen=True)
-class Frame:
-    """A picture of three bytes a pixel: red, green and blue."""
-
-    width: int
-    height: int
-    pixels: bytes
-
-    def colours(self) -> list[int]:
-        """The colour of each pixel, as a number."""
-        red, green, blue = (self.pixels[part::3].translate(SHADE) for part in range(3))
-        return [r << 16 | g << 8 | b for r, g, b in zip(red, green, blue)]
-
-
-def nearest(colour: int, palette: Sequence[int]) -> int:
-    """The place of the colour of a palette that differs least."""
-
-    def distance(other: int) -> int:
-        return sum(((colour >> part & 255) - (other >> part & 255)) ** 2 for part in (0, 8, 16))
-
-    return min(range(len(palette)), key=lambda place: distance(palette[place]))
-
-
-class Palette:
-    """The colours that some frames have most, and for every other colour the one that differs least."""
-
-    def __init__(self, frames: Iterable[Frame]):
-        counted: "collections.Counter[int]" = collections.Counter()
-        for frame in frames:
-            counted.update(frame.colours())
-        self.colours = [colour for colour, _ in counted.most_common(MOST_COLOURS)]
-        self.places = {colour: place for place, colour in enumerate(self.colours)}
-
-    def picture(self, frame: Frame) -> bytes:
-        """The place of each pixel's colour."""
-        colours = frame.colours()
-        for colour in set(colours) - self.places.keys():
-            self.places[colour] = nearest(colour, self.colours)
-        return bytes(map(self.places.__getitem__, colours))
-
-    def table(self) -> bytes:
-        return b"".join(colour.to_bytes(3, "big") for colour in self.colours).ljust(3 << BITS, b"\0")
 
 
 class Bits:
@@ -130,6 +83,6 @@ def images(frames: Iterable[tuple[Frame, int]], palette: Palette) -> Iterator[by
 def encode(samples: Sequence[Frame], frames: Iterable[tuple[Frame, int]]) -> bytes:
     """The file of frames, each seen for so many hundredths of a second, again and again. The samples are of their size, and give the palette."""
     palette = Palette(samples)
-    head = b"GIF89a" + struct.pack("<HHBBB", samples[0].width, samples[0].height, 0xF7, 0, 0) + palette.table()
+    head = b"GIF89a" + struct.pack("<HHBBB", samples[0].width, samples[0].height, 0xF7, 0, 0) + palette.table().ljust(3 << BITS, b"\0")
     again = b"\x21\xff\x0bNETSCAPE2.0\x03\x01\x00\x00\x00"
     return head + again + b"".join(images(frames, palette)) + b"\x3b"

@@ -17,7 +17,7 @@ from showing.waits import Waits
 
 PARTS = pathlib.Path(__file__).resolve().parent.parent / "show_page"
 # The scripts in their order. They share one scope.
-SCRIPTS = ("data", "words", "plan", "run", "ground", "view", "marks", "signs", "drawing", "panel", "controls", "main")
+SCRIPTS = ("data", "words", "plan", "log", "run", "ground", "view", "marks", "signs", "drawing", "panel", "controls", "picture", "main")
 
 
 @dataclasses.dataclass(frozen=True)

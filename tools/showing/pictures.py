@@ -2,8 +2,9 @@
 import base64
 import dataclasses
 
-from showing import gif as gif_file
+from showing import gif, png
 from showing.browser import Browser
+from showing.palette import Frame
 from showing.program import Failed, Refused
 
 WIDTH, LEAST_WIDTH, MOST_WIDTH = 800, 100, 4000
@@ -34,9 +35,17 @@ def hold_time(time: float, end: float) -> None:
         raise Refused(f"show: the last time is {end:g}, and {time:g} is wanted")
 
 
-def png(browser: Browser, time: float, kind: Kind) -> bytes:
+def frame(browser: Browser, time: float, kind: Kind) -> Frame:
+    found = browser.value(f"show.pixels({kind.words(time)})")
+    if not isinstance(found, dict):
+        raise Failed("the browser draws no picture")
+    return Frame(found["width"], found["height"], base64.b64decode(found["pixels"]))
+
+
+def picture(browser: Browser, time: float, kind: Kind) -> bytes:
+    """A PNG of a time."""
     hold_time(time, end_of(browser))
-    return base64.b64decode(str(browser.value(f"show.png({kind.words(time)})")))
+    return png.encode(frame(browser, time, kind))
 
 
 def times_of(first: float, last: float, is_run: bool) -> list[float]:
@@ -48,17 +57,11 @@ def times_of(first: float, last: float, is_run: bool) -> list[float]:
     return times if times[-1] == last else [*times, last]
 
 
-def frame(browser: Browser, time: float, kind: Kind) -> gif_file.Frame:
-    found = browser.value(f"show.pixels({kind.words(time)})")
-    if not isinstance(found, dict):
-        raise Failed("the browser draws no picture")
-    return gif_file.Frame(found["width"], found["height"], base64.b64decode(found["pixels"]))
-
-
-def gif(browser: Browser, first: float, last: float, kind: Kind) -> bytes:
+def moving_picture(browser: Browser, first: float, last: float, kind: Kind) -> bytes:
+    """A GIF from one time to another."""
     hold_time(last, end_of(browser))
     is_run = bool(browser.value("show.isRun"))
     times = times_of(first, last, is_run)
     delays = [OF_AN_EVENT if is_run else OF_A_STEP] * (len(times) - 1) + [LAST]
     samples = [frame(browser, times[place], kind) for place in (0, len(times) // 2, -1)]
-    return gif_file.encode(samples, ((frame(browser, time, kind), delay) for time, delay in zip(times, delays)))
+    return gif.encode(samples, ((frame(browser, time, kind), delay) for time, delay in zip(times, delays)))

@@ -23,7 +23,7 @@ def no_waits() -> Waits:
     return Waits(array("H"), array("H"), [])
 
 
-def read_waits(program: Program, files: Sequence[str], acts: Sequence[bytes]) -> Waits:
+def read_waits(program: Program, files: Sequence[str], acts: Sequence[bytes], plan: str) -> Waits:
     firsts, count = [], 0
     for course in acts:
         firsts.append(count)
@@ -40,5 +40,5 @@ def read_waits(program: Program, files: Sequence[str], acts: Sequence[bytes]) ->
             elif word == b"rotation":
                 waits.rotations.append(list(map(int, rest)))
     if talk.status:
-        talk.refuse("mapf deps")
+        talk.refuse(plan)
     return waits
