@@ -1,4 +1,5 @@
 """What pages of tools/show.py do in a browser: what they draw and where, what they say, and what each key does."""
+import dataclasses
 import pathlib
 import time
 from typing import Callable, Iterator, Sequence
@@ -80,29 +81,47 @@ def quiet(browser: Chromium, name: str, page: pathlib.Path) -> Iterator[Outcome]
     yield compared(f"no trouble is told: {name}", str(page.name), browser.value("document.getElementById('trouble').hidden"), True)
 
 
-# A page with a fault: its files, the time at which it opens, what it says, the cells that are marked and some that aren't, and who is marked.
+@dataclasses.dataclass(frozen=True)
+class Faulty:
+    """A page with a fault: its files, the time at which it opens, what it says, the cells that are marked, some that aren't, and who is marked."""
+
+    name: str
+    files: list[str]
+    time: int
+    words: str
+    marked: list[tuple[int, int]]
+    others: list[tuple[int, int]]
+    agents: list[int]
+
+
+NO_STEP = "that is no legal step."
+TOGETHER = "Agents 0 and 1 both stand in column 1, row 0 at time 1."
+LATER = f"In step 2 agent 0 is to go west, from column 0, row 0 (land) to column -1, row 0 (off the map): {NO_STEP}"
+EXCHANGE = "In step 0 agents 0 and 1 exchange their cells, column 0, row 0 and column 1, row 0."
+INTO_TREES = f"In step 2 agent 0 is to go south, from column 1, row 1 (land) to column 1, row 2 (trees): {NO_STEP}"
+OFF = f"In step 0 agent 0 is to go east, from column 7, row 3 (land) to column 8, row 3 (off the map): {NO_STEP}"
 FAULTS = (
-    ("vertex", ["lane.map", "vertex.plan"], 2, "Agents 0 and 1 both stand in column 0, row 0 at time 2.", [(0, 0)], [(1, 0), (2, 0)], [0, 1]),
-    ("swap", ["lane.map", "swap.plan"], 0, "In step 0 agents 0 and 1 exchange their cells, column 0, row 0 and column 1, row 0.", [(0, 0), (1, 0)], [(2, 0)], [0, 1]),
-    ("trees", ["terrain.map", "trees.plan"], 2, "In step 2 agent 0 is to go south, from column 1, row 1 (land) to column 1, row 2 (trees): that is no legal step.", [(1, 2)], [(1, 1), (0, 0)], [0]),
-    ("off the map", ["terrain.map", "beside.plan"], 0, "In step 0 agent 0 is to go east, from column 7, row 3 (land) to column 8, row 3 (off the map): that is no legal step.", [(8, 3)], [(7, 3)], [0]),
-    ("a bad start", ["terrain.map", "start.plan"], 0, "Agent 1 starts in column 3, row 2: out of bounds.", [(3, 2)], [(3, 1), (0, 0)], [1]),
-    ("a start far off", ["terrain.map", "far.plan"], 0, "Agent 0 starts in column 60000, row 2: off the map.", [], [(0, 0)], [0]),
+    Faulty("vertex", ["lane.map", "vertex.plan"], 2, "Agents 0 and 1 both stand in column 0, row 0 at time 2.", [(0, 0)], [(1, 0), (2, 0)], [0, 1]),
+    Faulty("swap", ["lane.map", "swap.plan"], 0, EXCHANGE, [(0, 0), (1, 0)], [(2, 0)], [0, 1]),
+    Faulty("trees", ["terrain.map", "trees.plan"], 2, INTO_TREES, [(1, 2)], [(1, 1), (0, 0)], [0]),
+    Faulty("off the map", ["terrain.map", "beside.plan"], 0, OFF, [(8, 3)], [(7, 3)], [0]),
+    Faulty("a bad start", ["terrain.map", "start.plan"], 0, "Agent 1 starts in column 3, row 2: out of bounds.", [(3, 2)], [(3, 1), (0, 0)], [1]),
+    Faulty("a fault and a later step", ["lane.map", "both.plan"], 1, f"{TOGETHER} {LATER}", [(1, 0), (-1, 0)], [(0, 0), (2, 0)], [0, 1, 0]),
+    Faulty("a start far off", ["terrain.map", "far.plan"], 0, "Agent 0 starts in column 60000, row 2: off the map.", [], [(0, 0)], [0]),
 )
 
 
 def faults(page: Page, browser: Chromium) -> Iterator[Outcome]:
-    for name, words, moment, told, marked, others, agents in FAULTS:
-        file = page("fault.html", *words)
+    for it in FAULTS:
+        file, ran = page("fault.html", *it.files), " ".join(it.files)
         browser.open(file)
-        yield from quiet(browser, name, file)
-        yield compared(f"it opens at the fault: {name}", " ".join(words), browser.value("page.time"), moment)
-        yield compared(f"the fault in words: {name}", " ".join(words), browser.value("document.getElementById('verdict').textContent"), told)
+        yield from quiet(browser, it.name, file)
+        yield compared(f"it opens at the fault: {it.name}", ran, browser.value("page.time"), it.time)
+        yield compared(f"the fault in words: {it.name}", ran, browser.value("document.getElementById('verdict').textContent"), it.words)
         # Cells have their mark just inside their sides; the upper left corner is free of agents.
-        found = [pixel(browser, x - 0.48, y - 0.4) == FAULT for x, y in [*marked, *others]]
-        yield compared(f"the cells of the fault: {name}", " ".join(words), found, [True] * len(marked) + [False] * len(others))
-        script = "page.faults.flatMap((it) => it.agents)"
-        yield compared(f"who has the fault: {name}", " ".join(words), browser.value(script), agents)
+        found = [pixel(browser, x - 0.48, y - 0.4) == FAULT for x, y in [*it.marked, *it.others]]
+        yield compared(f"the cells of the fault: {it.name}", ran, found, [True] * len(it.marked) + [False] * len(it.others))
+        yield compared(f"who has the fault: {it.name}", ran, browser.value("page.faults.flatMap((it) => it.agents)"), it.agents)
 
 
 def accepted(page: Page, browser: Chromium) -> Iterator[Outcome]:

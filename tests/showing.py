@@ -1,19 +1,25 @@
 """tools/show.py: pages and pictures of plans and runs. Pages are opened in a browser, where there is one."""
 import base64
+import contextlib
 import functools
 import json
+import os
 import pathlib
 import random
 import re
 import shutil
+import signal
 import struct
+import subprocess
 import sys
+import time
 import zlib
 from typing import Iterator, Mapping, Optional
 
 import chromium
 import gif_reader
 import show_pages
+import show_replays
 from harness import ROOT, Ended, Harness, Outcome, compared, ended_as, shown, side_by_side
 from texts import BEHIND, HALL, LANE, NOBODY, SHORT, SQUARE, SWAP, TURN, VERTEX, WALL, events, plan
 
@@ -37,6 +43,7 @@ TEXTS = {
     "beside.plan": plan("7 3 ee", "0 0 e"),
     "start.plan": plan("0 0 e", "3 2 n"),
     "far.plan": plan("60000 2 =", "0 0 e"),
+    "both.plan": plan("0 0 eww", "1 0 ="),
     "bad.plan": BEHIND.replace("e-", "ex"),
     "keys.plan": plan("0 0 eee-", "0 1 -eee"),
     "run.events": events(*show_pages.RUN),
@@ -173,6 +180,29 @@ def written(room: Room) -> Iterator[Outcome]:
     shutil.rmtree(room.folder / "folder")
 
 
+def stopped(room: Room) -> Iterator[Outcome]:
+    """A call that is ended while a picture is drawn leaves no file, no folder and no browser."""
+    away = room.harness.folder()
+    call = room.words("square.map", "turn.plan", "--gif", "0", "1", "-o", "stopped.gif")
+    started = subprocess.Popen(call, cwd=room.folder, env={**os.environ, "TMPDIR": str(away)}, stderr=subprocess.PIPE)
+    end = time.monotonic() + 30
+    while not any(away.glob("*/browser/*")) and time.monotonic() < end:
+        time.sleep(0.05)
+    started.terminate()
+    told = started.communicate()[1]
+    left = [it.name for it in away.iterdir()] + [it.name for it in room.folder.glob("stopped*")]
+    running = [it.parent.name for it in pathlib.Path("/proc").glob("[0-9]*/cmdline") if str(away).encode() in words_of(it)]
+    ran = "tools/show.py square.map turn.plan --gif 0 1, ended while it draws"
+    yield compared("a call that is ended leaves nothing", ran, (started.returncode, told, left, running), (128 + signal.SIGTERM, b"", [], []))
+
+
+def words_of(file: pathlib.Path) -> bytes:
+    """The words of a process, if it is there."""
+    with contextlib.suppress(OSError):
+        return file.read_bytes()
+    return b""
+
+
 def png_size(data: bytes) -> tuple[bytes, int, int]:
     return data[:8], *struct.unpack(">2I", data[16:24])
 
@@ -273,7 +303,9 @@ def outcomes(harness: Harness) -> Iterator[Outcome]:
             yield from largest(room, None)
         return
     yield from pictures(room)
+    yield from stopped(room)
     with chromium.Chromium(room.folder) as browser:
         yield from show_pages.outcomes(room.page, browser)
+        yield from show_replays.outcomes(harness, room.folder, room.page, browser)
         if harness.is_long:
             yield from largest(room, browser)

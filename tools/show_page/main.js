@@ -310,10 +310,10 @@ async function start() {
   const facts = JSON.parse(document.getElementById("facts").textContent);
   const sections = await unpack(facts.sizes);
   window.page = new Show(facts, sections);
-  const given = new URLSearchParams(location.hash.slice(1));
-  if (given.has("time")) window.page.seek(Number(given.get("time")));
-  else window.page.showFault();
-  if (given.has("agent")) window.page.choose(Number(given.get("agent")));
+  window.page.showFault();
+  const given = new URLSearchParams(location.hash.slice(1)), agent = parseInt(given.get("agent"), 10), time = parseFloat(given.get("time"));
+  if (time >= 0) window.page.seek(time);
+  if (agent >= 0 && agent < facts.agents) window.page.choose(agent, true);
   window.page.draw();
 }
 

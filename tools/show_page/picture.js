@@ -2,6 +2,8 @@
 
 // How wide a picture is at least, so that its words have room, and how high a line of them.
 const LEAST_PICTURE = 420, LINE = 18;
+// How many times as high as wide it is at most.
+const MOST_HIGH = 3;
 
 /** A text in lines that are no wider than this, but for the last. */
 function wrapped(context, text, width, most) {
@@ -22,12 +24,11 @@ class Picture {
     this.colours = coloursOf(isDark ? "dark" : "light");
     const box = show.box(), wide = box.right - box.left, high = box.bottom - box.top;
     const [besides, above] = [MARGINS.left + MARGINS.right, MARGINS.top + MARGINS.bottom];
-    this.scale = Math.min(MOST_FITTED, Math.max(1, (width - besides) / wide));
+    this.scale = Math.min(MOST_FITTED, (width - besides) / wide, MOST_HIGH * width / high);
     this.width = Math.round(Math.max(Math.min(width, LEAST_PICTURE), wide * this.scale + besides));
     this.lines = this.width < 640 ? 2 : 1;
     this.below = LINE * (this.lines + (show.world.isRun ? 1 : 0)) + 10;
     this.height = Math.round(high * this.scale + above) + this.below;
-    if (this.height > 4 * width) throw new RangeError("the map is too high for a picture");
     this.box = box;
   }
 

@@ -70,8 +70,12 @@ class Browser:
         finally:
             os.close(down[0])
             os.close(up[1])
-        target = self.ask("Target.createTarget", url="about:blank")["targetId"]
-        self.session = self.ask("Target.attachToTarget", targetId=target, flatten=True)["sessionId"]
+        try:
+            target = self.ask("Target.createTarget", url="about:blank")["targetId"]
+            self.session = self.ask("Target.attachToTarget", targetId=target, flatten=True)["sessionId"]
+        except BaseException:
+            self.close()
+            raise
         return self
 
     def started(self, reads: int, writes: int) -> subprocess.Popen:
@@ -83,9 +87,15 @@ class Browser:
         # Who is root has no sandbox there.
         words = [self.path, *WORDS, *(["--no-sandbox"] if os.geteuid() == 0 else []), f"--user-data-dir={self.profile}"]
         nothing = {"stdin": subprocess.DEVNULL, "stdout": subprocess.DEVNULL, "stderr": subprocess.DEVNULL}
-        return subprocess.Popen(words, pass_fds=(READS, WRITES), preexec_fn=take_places, start_new_session=True, **nothing)
+        # What the browser makes in the folder of temporary files goes with its profile.
+        self.profile.mkdir()
+        place = {**os.environ, "TMPDIR": str(self.profile)}
+        return subprocess.Popen(words, env=place, pass_fds=(READS, WRITES), preexec_fn=take_places, start_new_session=True, **nothing)
 
     def __exit__(self, *_: object) -> None:
+        self.close()
+
+    def close(self) -> None:
         # The browser ends when nobody speaks to it; what is left of it is ended then.
         for end in (self.out, self.back):
             os.close(end)

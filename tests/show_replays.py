@@ -1,0 +1,70 @@
+"""Pages of random plans and long runs, held against plain readings of the same: a planner's own paths, and the replies one after another."""
+import json
+import pathlib
+import random
+from typing import Callable, Iterator, Sequence
+
+import planner
+from chromium import Chromium
+from harness import Harness, Outcome, compared
+from plain_formats import plan_text
+from texts import events
+
+Cells = tuple[tuple[int, int], ...]
+FREE = [(x, y) for y in range(7) for x in range(9) if (x, y) not in {(2, 1), (2, 2), (5, 4), (6, 4), (3, 5)}]
+MAP = "type octile\nheight 7\nwidth 9\nmap\n" + "".join("".join(".@"[(x, y) not in FREE] for x in range(9)) + "\n" for y in range(7))
+AGENTS, EVENTS, MOMENTS = 6, 4_000, 150
+# How often each event comes.
+WEIGHTS = {"start": 8, "finish": 8, "say": 3, "deliver": 8, "restart": 1, "tear": 1}
+HELD = "JSON.stringify({}.map((time) => {{ page.world.seek(time); return Array.from({{ length: {} }}, (_, agent) => page.world.moment.held(agent)); }}))"
+
+
+def random_events(rng: random.Random) -> list[str]:
+    lines, said = [], 0
+    for word in rng.choices(list(WEIGHTS), list(WEIGHTS.values()), k=EVENTS):
+        more = f" {max(0, said - 1 - rng.randrange(9))}" if word == "deliver" else f" {rng.randrange(10)}" if word == "tear" else ""
+        lines.append(f"{word} {rng.randrange(AGENTS)}{more}")
+        said += word == "say"
+    return lines
+
+
+def followed(starts: Sequence[tuple[int, int]], lines: Sequence[str], replies: Sequence[str]) -> list[list[Cells]]:
+    """Which cells each agent holds behind each number of events, read plainly from the replies."""
+    held: list[Cells] = [(start,) for start in starts]
+    found = [list(held)]
+    for line, reply in zip(lines, replies):
+        agent, (word, *rest) = int(line.split()[1]), reply.split()
+        numbers = [int(it) for it in rest if it.isdigit()]
+        if word == "moving":
+            held[agent] = (held[agent][0], (numbers[0], numbers[1]))
+        elif word in ("arrived", "at"):
+            held[agent] = ((numbers[0], numbers[1]),)
+        elif word == "between":
+            held[agent] = ((numbers[0], numbers[1]), (numbers[2], numbers[3]))
+        found.append(list(held))
+    return found
+
+
+def seen(browser: Chromium, moments: Sequence[int]) -> list[list[Cells]]:
+    """The cells that the page shows as held at these moments, one after another."""
+    found = json.loads(str(browser.value(HELD.format(list(moments), AGENTS))))
+    return [[tuple((cell[0], cell[1]) for cell in agent) for agent in moment] for moment in found]
+
+
+def outcomes(harness: Harness, folder: pathlib.Path, page: Callable[..., pathlib.Path], browser: Chromium) -> Iterator[Outcome]:
+    rng = random.Random(3)
+    paths = planner.plan(FREE, planner.random_tasks(FREE, AGENTS, rng), rng)
+    lines = random_events(rng)
+    for name, text in (("random.map", MAP), ("random.plan", plan_text(paths, 7)), ("random.events", events(*lines))):
+        (folder / name).write_text(text)
+    browser.open(page("random.html", "random.map", "random.plan"))
+    times = range(max(map(len, paths)))
+    due = [[(path[min(time, len(path) - 1)],) for path in paths] for time in times]
+    yield compared("a random plan, time by time", "tools/show.py random.map random.plan", seen(browser, times), due)
+    replies = harness.mapf(["run", "random.map", "random.plan", "random.events"], folder=folder).out.decode().splitlines()
+    due = followed([path[0] for path in paths], lines, replies)
+    browser.open(page("random.html", "random.map", "random.plan", "random.events"))
+    for name, moments in (("in order", range(0, EVENTS + 1, 7)), ("in any order", rng.sample(range(EVENTS + 1), MOMENTS))):
+        differing = [moment for moment, cells in zip(moments, seen(browser, moments)) if cells != due[moment]]
+        yield compared(f"a long run, {name}", "tools/show.py random.map random.plan random.events", differing, [])
+    yield compared("agents move in it", "random.events", len({str(it) for it in due}) > 20, True)
