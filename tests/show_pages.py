@@ -132,6 +132,9 @@ def accepted(page: Page, browser: Chromium) -> Iterator[Outcome]:
     yield compared("the verdict in words", file.name, told, "The plan is accepted: 2 agents, sum of costs 2, makespan 1.")
     cells = browser.value("[0, 1, 2].map((time) => { page.seek(time); return [0, 1].map((agent) => page.world.moment.held(agent).join(';')); })")
     yield compared("where agents are", file.name, cells, [["1,0", "0,0"], ["2,0", "1,0"], ["2,0", "1,0"]])
+    told = [browser.value(f"(page.seek({moment}), page.draw(), document.getElementById('now').textContent)") for moment in (0, 1)]
+    due = ["Time 0 of 2: 2 agents move in this step, 0 wait, 0 at the end.", "Time 1 of 2: 0 agents move in this step, 0 wait, 2 at the end."]
+    yield compared("the moments in words", file.name, told, due)
     # Both agents are drawn where they are: no ground is seen there, but it is where nobody is.
     browser.value("page.seek(0), page.wish('goals')")
     ground = [pixel(browser, x, 0.3) == LAND for x in (0, 1, 2)]

@@ -45,6 +45,18 @@ def followed(starts: Sequence[tuple[int, int]], lines: Sequence[str], replies: S
     return found
 
 
+def under_way(lines: Sequence[str], replies: Sequence[str]) -> list[int]:
+    """How many messages are on their way behind each number of events: said, and to be delivered yet."""
+    said = [event for event, reply in enumerate(replies) if reply.startswith("said ")]
+    counts = [0] * (len(lines) + 1)
+    for event, line in enumerate(lines):
+        word, *numbers = line.split()
+        if word == "deliver" and int(numbers[1]) < len(said) and said[int(numbers[1])] < event:
+            for count in range(said[int(numbers[1])] + 1, event + 1):
+                counts[count] += 1
+    return counts
+
+
 def seen(browser: Chromium, moments: Sequence[int]) -> list[list[Cells]]:
     """The cells that the page shows as held at these moments, one after another."""
     found = json.loads(str(browser.value(HELD.format(list(moments), AGENTS))))
@@ -67,4 +79,8 @@ def outcomes(harness: Harness, folder: pathlib.Path, page: Callable[..., pathlib
     for name, moments in (("in order", range(0, EVENTS + 1, 7)), ("in any order", rng.sample(range(EVENTS + 1), MOMENTS))):
         differing = [moment for moment, cells in zip(moments, seen(browser, moments)) if cells != due[moment]]
         yield compared(f"a long run, {name}", "tools/show.py random.map random.plan random.events", differing, [])
+    script = f"Array.from({{ length: {EVENTS + 1} }}, (_, time) => time).map((time) => {{ page.world.seek(time); return page.world.letters().filter((it) => it.receiver >= 0).length; }})"
+    counts = under_way(lines, replies)
+    yield compared("messages on their way", "random.events", browser.value(script), counts)
+    yield compared("there are some, and not too many to be drawn", "random.events", (max(counts) > 3, max(counts) < 300), (True, True))
     yield compared("agents move in it", "random.events", len({str(it) for it in due}) > 20, True)

@@ -43,6 +43,7 @@ TEXTS = {
     "beside.plan": plan("7 3 ee", "0 0 e"),
     "start.plan": plan("0 0 e", "3 2 n"),
     "far.plan": plan("60000 2 =", "0 0 e"),
+    "train.plan": plan("1 0 ee", "0 0 ee"),
     "both.plan": plan("0 0 eww", "1 0 ="),
     "bad.plan": BEHIND.replace("e-", "ex"),
     "keys.plan": plan("0 0 eee-", "0 1 -eee"),
@@ -100,6 +101,11 @@ def held(room: Room) -> Iterator[Outcome]:
     yield compared("its paths", ran, (struct.unpack("<4i", parts["starts"]), parts["acts"]), ((1, 0, 0, 0), b"ee"))
     yield compared("its waits", ran, struct.unpack("<2H2H", parts["needs"] + parts["more"]), (65535, 0, 0, 1))
     yield compared("its events", ran, parts["events"].decode().split("\n"), list(show_pages.RUN))
+    train = sections(room.page("train.html", "hall.map", "train.plan").read_bytes())[1]
+    (room.folder / "train.html").unlink()
+    # Each move of the second agent waits for the same move of the first.
+    waits = struct.unpack("<4H4H", train["needs"] + train["more"])
+    yield compared("the waits of a train", "tools/show.py hall.map train.plan", waits, (65535, 65535, 0, 0, 0, 0, 1, 1))
     yield compared("its replies", ran, len(parts["replies"].split(b"\n")), len(show_pages.RUN))
 
 

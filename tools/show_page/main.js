@@ -120,6 +120,7 @@ class Show {
     if (this.view.scale < FAULT_SCALE / 2) {
       this.view.scale = FAULT_SCALE;
       this.view.centre(...fault.cells[0], this.width, this.height);
+      this.isWhole = false;
     }
     this.touch();
   }
