@@ -65,6 +65,11 @@ PHONE = 390
 Page = Callable[..., pathlib.Path]
 
 
+def text_of(name: str) -> str:
+    """A script that comes to the text of an element."""
+    return f"document.getElementById('{name}').textContent"
+
+
 def pixel(browser: Chromium, x: float, y: float) -> list[int]:
     """The colour of the page at a place between cells: whole numbers are the middles of cells."""
     script = f"""(() => {{ page.draw(); const [x, y] = page.view.pixel({x}, {y}).map(Math.round);
@@ -117,7 +122,7 @@ def faults(page: Page, browser: Chromium) -> Iterator[Outcome]:
         browser.open(file)
         yield from quiet(browser, it.name, file)
         yield compared(f"it opens at the fault: {it.name}", ran, browser.value("page.time"), it.time)
-        yield compared(f"the fault in words: {it.name}", ran, browser.value("document.getElementById('verdict').textContent"), it.words)
+        yield compared(f"the fault in words: {it.name}", ran, browser.value(text_of("verdict")), it.words)
         # Cells have their mark just inside their sides; the upper left corner is free of agents.
         found = [pixel(browser, x - 0.48, y - 0.4) == FAULT for x, y in [*it.marked, *it.others]]
         yield compared(f"the cells of the fault: {it.name}", ran, found, [True] * len(it.marked) + [False] * len(it.others))
@@ -128,7 +133,7 @@ def accepted(page: Page, browser: Chromium) -> Iterator[Outcome]:
     file = page("behind.html", "lane.map", "behind.plan")
     browser.open(file)
     yield from quiet(browser, "an accepted plan", file)
-    told = browser.value("document.getElementById('verdict').textContent")
+    told = browser.value(text_of("verdict"))
     yield compared("the verdict in words", file.name, told, "The plan is accepted: 2 agents, sum of costs 2, makespan 1.")
     cells = browser.value("[0, 1, 2].map((time) => { page.seek(time); return [0, 1].map((agent) => page.world.moment.held(agent).join(';')); })")
     yield compared("where agents are", file.name, cells, [["1,0", "0,0"], ["2,0", "1,0"], ["2,0", "1,0"]])
@@ -139,9 +144,10 @@ def accepted(page: Page, browser: Chromium) -> Iterator[Outcome]:
     browser.value("page.seek(0), page.wish('goals')")
     ground = [pixel(browser, x, 0.3) == LAND for x in (0, 1, 2)]
     yield compared("agents are drawn in their cells", file.name, ground, [False, False, True])
-    x, y = browser.value("(() => { const box = page.canvas.getBoundingClientRect(); const [x, y] = page.view.pixel(0, 0); return [box.left + x, box.top + y]; })()")
+    left, top = browser.value("[page.canvas.getBoundingClientRect()].flatMap((it) => [it.left, it.top])")
+    x, y = (edge + place for edge, place in zip((left, top), browser.value("page.view.pixel(0, 0)")))
     browser.click(x, y)
-    about = browser.value("document.getElementById('about').textContent")
+    about = browser.value(text_of("about"))
     yield compared("a click chooses an agent", file.name, browser.value("page.wishes.agent"), 1)
     due = "move 0, in step 0, to column 1, row 0: waits until agent 0 has finished 1 move"
     yield compared("for whom it waits", file.name, due in about, True)
@@ -156,8 +162,9 @@ def terrain(page: Page, browser: Chromium) -> Iterator[Outcome]:
     file = page("nobody.html", "terrain.map", "nobody.plan")
     browser.open(file)
     yield from quiet(browser, "no agents", file)
-    found = {kind: pixel(browser, x + 0.4, y + 0.4) for kind, (x, y) in {"land": (0, 0), "other land": (1, 1), "out": (3, 2), "other out": (5, 2), "beside": (8, 2)}.items()}
-    yield compared("the ground", file.name, found, {"land": LAND, "other land": LAND, "out": WALL, "other out": WALL, "beside": BESIDE})
+    # Land of both spellings, out of bounds of both, and a place beside the map.
+    found = [pixel(browser, x + 0.4, y + 0.4) for x, y in ((0, 0), (1, 1), (3, 2), (5, 2), (8, 2))]
+    yield compared("the ground", file.name, found, [LAND, LAND, WALL, WALL, BESIDE])
     kinds = [pixel(browser, x + 0.4, y + 0.4) for x, y in ((0, 0), (3, 1), (5, 1), (1, 2), (3, 2))]
     yield compared("five grounds differ", file.name, len({tuple(it) for it in kinds}), 5)
     yield compared("nothing to play", file.name, browser.value("['play', 'on', 'slider'].every((it) => document.getElementById(it).disabled)"), True)
@@ -174,9 +181,9 @@ def turning(page: Page, browser: Chromium) -> Iterator[Outcome]:
         yield from quiet(browser, f"a rotation in a {name}", file)
         heads = [pixel(browser, x, y) for x, y in ((0.52, 0), (1, 0.52), (0.48, 1), (0, 0.48))]
         yield compared(f"a rotation is a ring with a head on each step: {name}", " ".join(words), heads, [RING] * 4)
-        text = browser.value("document.getElementById('turns').textContent")
+        text = browser.value(text_of("turns"))
         yield compared(f"a rotation in words: {name}", " ".join(words), "Step 0: agents 0, 1, 2, 3" in text, True)
-    told = browser.value("document.getElementById('ending').textContent")
+    told = browser.value(text_of("ending"))
     yield compared("how a blocked run ends", file.name, told, "Blocked: rotation 0 can never begin, so no events bring this run to its end.")
 
 
@@ -188,17 +195,18 @@ def running(page: Page, browser: Chromium) -> Iterator[Outcome]:
     for order in (counts, counts[::-1]):
         found = {count: browser.value(f"{LOOK}({count})") for count in order}
         for count in counts:
-            yield compared(f"behind {count} events, {'onwards' if order is counts else 'backwards'}", RUN[count - 1] if count else "nothing", found[count], list(SEEN[count]))
+            name = f"behind {count} events, {'onwards' if order is counts else 'backwards'}"
+            yield compared(name, RUN[count - 1] if count else "nothing", found[count], list(SEEN[count]))
     browser.value("page.seek(8), page.draw()")
-    box = browser.value("document.getElementById('event').textContent")
+    box = browser.value(text_of("event"))
     yield compared("an event with its reply", file.name, box, "8. finish 0refused StoreFailed")
     rows = browser.value("[...document.querySelectorAll('#rows button')].map((it) => [...it.children].map((part) => part.textContent).join(' '))")
     yield compared("the events around it", file.name, rows[3:6], ["7 tear 0 3 armed", "8 finish 0 refused StoreFailed", "9 restart 0 between 1 0 2 0 done 0"])
     browser.value("document.querySelectorAll('#rows button')[5].click()")
     yield compared("a row can be clicked", file.name, browser.value("page.time"), 9)
     browser.value("page.seek(11), page.draw()")
-    yield compared("who hears a message", file.name, "heard by nobody" in browser.value("document.getElementById('event').textContent"), True)
-    told = browser.value("document.getElementById('ending').textContent")
+    yield compared("who hears a message", file.name, "heard by nobody" in browser.value(text_of("event")), True)
+    told = browser.value(text_of("ending"))
     yield compared("how the run ends", file.name, told, "Complete: behind the last event each agent is at the end of its path.")
     # A moving agent holds both cells, and is drawn in both; a broken one has the colour of faults, and form besides.
     browser.value("page.wish('goals'), page.seek(6)")
@@ -208,6 +216,9 @@ def running(page: Page, browser: Chromium) -> Iterator[Outcome]:
     yield compared("a broken agent is a square", file.name, pixel(browser, 1 - 0.86 * radius, 0.5 * radius), FAULT)
 
 
+# Where the first agent is, from the middle of the drawing on.
+FROM_THE_MIDDLE = """page.view.pixel(page.world.moment.x[0], page.world.moment.y[0])
+  .map((it, side) => Math.round(it - [page.width, page.height][side] / 2))"""
 # Keys on a plan of four steps, one after another: the key, with Shift or not, what is looked at, and what is due of before and after.
 KEYS: Sequence[tuple[str, bool, str, Callable[[object, object], bool]]] = (
     ("ArrowRight", False, "page.time", lambda before, after: (before, after) == (0, 1)),
@@ -232,7 +243,7 @@ KEYS: Sequence[tuple[str, bool, str, Callable[[object, object], bool]]] = (
     ("n", False, "page.wishes.agent", lambda before, after: (before, after) == (-1, 0)),
     ("n", False, "page.wishes.agent", lambda before, after: after == 1),
     ("p", False, "page.wishes.agent", lambda before, after: after == 0),
-    ("c", False, "page.view.pixel(page.world.moment.x[0], page.world.moment.y[0]).map((it, side) => Math.round(it - [page.width, page.height][side] / 2))", lambda before, after: after == [0, 0] != before),
+    ("c", False, FROM_THE_MIDDLE, lambda before, after: after == [0, 0] != before),
     ("Escape", False, "page.wishes.agent", lambda before, after: after == -1),
     ("g", False, "page.wishes.goals", lambda before, after: (before, after) == (True, False)),
     ("m", False, "page.wishes.letters", lambda before, after: (before, after) == (True, False)),
@@ -277,7 +288,8 @@ def fingers(page: Page, browser: Chromium) -> Iterator[Outcome]:
     """Buttons, the slider, dragging and the wheel."""
     file = page("keys.html", "hall.map", "keys.plan")
     browser.open(file)
-    for name, look, due in (("last", "page.time", 4), ("back", "page.time", 3), ("on", "page.time", 4), ("first", "page.time", 0), ("play", "page.playing", True), ("play", "page.playing", False)):
+    moves = (("last", "page.time", 4), ("back", "page.time", 3), ("on", "page.time", 4), ("first", "page.time", 0))
+    for name, look, due in (*moves, ("play", "page.playing", True), ("play", "page.playing", False)):
         browser.value(f"document.getElementById('{name}').click()")
         yield compared(f"the button {name}", file.name, browser.value(look), due)
     browser.value("(() => { const it = document.getElementById('slider'); it.value = 2.5; it.dispatchEvent(new Event('input')); })()")
@@ -324,14 +336,16 @@ def readers(page: Page, browser: Chromium) -> Iterator[Outcome]:
     yield from quiet(browser, "on a phone", file)
     browser.value("page.seek(8)")
     browser.settle()
-    told = browser.value("document.getElementById('now').textContent")
-    yield compared("the moment in words", file.name, told, "8 of 18 events: 1 on the way, 1 waiting, 0 at the end, 1 broken. Last: finish 0: refused StoreFailed.")
+    told = browser.value(text_of("now"))
+    due = "8 of 18 events: 1 on the way, 1 waiting, 0 at the end, 1 broken. Last: finish 0: refused StoreFailed."
+    yield compared("the moment in words", file.name, told, due)
     live = "[document.getElementById('now').getAttribute('aria-live'), page.canvas.getAttribute('role'), page.canvas.getAttribute('aria-describedby')]"
     yield compared("it is read aloud", file.name, browser.value(live), ["polite", "img", "now"])
     browser.value("page.play(), page.draw()")
     yield compared("but not while it plays", file.name, browser.value("document.getElementById('now').getAttribute('aria-live')"), "off")
     browser.value("page.pause()")
-    nameless = "[...document.querySelectorAll('button, input, select')].filter((it) => !it.textContent.trim() && !it.ariaLabel && !(it.labels && it.labels.length)).length"
+    nameless = """[...document.querySelectorAll('button, input, select')]
+      .filter((it) => !it.textContent.trim() && !it.ariaLabel && !(it.labels && it.labels.length)).length"""
     yield compared("every control has a name", file.name, browser.value(nameless), 0)
     yield compared("nothing is wider than a phone", file.name, browser.value("document.documentElement.scrollWidth"), PHONE)
     small = "[...document.querySelectorAll('#buttons button, #zoom button')].filter((it) => it.offsetWidth < 44 || it.offsetHeight < 44).length"

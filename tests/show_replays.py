@@ -20,12 +20,21 @@ HELD = "JSON.stringify({}.map((time) => {{ page.world.seek(time); return Array.f
 
 
 def random_events(rng: random.Random) -> list[str]:
-    lines, said = [], 0
+    """Events at random. Which messages there are isn't known yet: each that is delivered is the first."""
+    lines = []
     for word in rng.choices(list(WEIGHTS), list(WEIGHTS.values()), k=EVENTS):
-        more = f" {max(0, said - 1 - rng.randrange(9))}" if word == "deliver" else f" {rng.randrange(10)}" if word == "tear" else ""
+        more = " 0" if word == "deliver" else f" {rng.randrange(10)}" if word == "tear" else ""
         lines.append(f"{word} {rng.randrange(AGENTS)}{more}")
-        said += word == "say"
     return lines
+
+
+def addressed(rng: random.Random, lines: Sequence[str], replies: Sequence[str]) -> list[str]:
+    """The same events, but late messages are delivered. Whether a message can be said doesn't depend on it."""
+    found, said = [], 0
+    for line, reply in zip(lines, replies):
+        found.append(f"{line[:-1]}{max(0, said - 1 - rng.randrange(9))}" if line.startswith("deliver") else line)
+        said += reply.startswith("said ")
+    return found
 
 
 def followed(starts: Sequence[tuple[int, int]], lines: Sequence[str], replies: Sequence[str]) -> list[list[Cells]]:
@@ -66,21 +75,29 @@ def seen(browser: Chromium, moments: Sequence[int]) -> list[list[Cells]]:
 def outcomes(harness: Harness, folder: pathlib.Path, page: Callable[..., pathlib.Path], browser: Chromium) -> Iterator[Outcome]:
     rng = random.Random(3)
     paths = planner.plan(FREE, planner.random_tasks(FREE, AGENTS, rng), rng)
-    lines = random_events(rng)
-    for name, text in (("random.map", MAP), ("random.plan", plan_text(paths, 7)), ("random.events", events(*lines))):
+
+    def answers(lines: Sequence[str]) -> list[str]:
+        (folder / "random.events").write_text(events(*lines))
+        return harness.mapf(["run", "random.map", "random.plan", "random.events"], folder=folder).out.decode().splitlines()
+
+    for name, text in (("random.map", MAP), ("random.plan", plan_text(paths, 7))):
         (folder / name).write_text(text)
     browser.open(page("random.html", "random.map", "random.plan"))
     times = range(max(map(len, paths)))
     due = [[(path[min(time, len(path) - 1)],) for path in paths] for time in times]
     yield compared("a random plan, time by time", "tools/show.py random.map random.plan", seen(browser, times), due)
-    replies = harness.mapf(["run", "random.map", "random.plan", "random.events"], folder=folder).out.decode().splitlines()
+    blank = random_events(rng)
+    lines = addressed(rng, blank, answers(blank))
+    replies = answers(lines)
     due = followed([path[0] for path in paths], lines, replies)
     browser.open(page("random.html", "random.map", "random.plan", "random.events"))
     for name, moments in (("in order", range(0, EVENTS + 1, 7)), ("in any order", rng.sample(range(EVENTS + 1), MOMENTS))):
         differing = [moment for moment, cells in zip(moments, seen(browser, moments)) if cells != due[moment]]
         yield compared(f"a long run, {name}", "tools/show.py random.map random.plan random.events", differing, [])
-    script = f"Array.from({{ length: {EVENTS + 1} }}, (_, time) => time).map((time) => {{ page.world.seek(time); return page.world.letters().filter((it) => it.receiver >= 0).length; }})"
+    script = f"""Array.from({{ length: {EVENTS + 1} }}, (_, time) => {{
+      page.world.seek(time);
+      return page.world.letters().filter((it) => it.receiver >= 0).length; }})"""
     counts = under_way(lines, replies)
     yield compared("messages on their way", "random.events", browser.value(script), counts)
-    yield compared("there are some, and not too many to be drawn", "random.events", (max(counts) > 3, max(counts) < 300), (True, True))
+    yield compared("there are some, and not too many to be drawn", "random.events", (sum(counts) > EVENTS, max(counts) < 300), (True, True))
     yield compared("agents move in it", "random.events", len({str(it) for it in due}) > 20, True)

@@ -109,6 +109,7 @@ def held(room: Room) -> Iterator[Outcome]:
     yield compared("its replies", ran, len(parts["replies"].split(b"\n")), len(show_pages.RUN))
 
 
+NEEDED = "a picture needs one, and --browser PATH says where it is"
 # Calls that write nothing: their words, what they tell, and their status.
 REFUSED: list[tuple[list[str], str, int]] = [
     (["short.map", "behind.plan"], "short.map: mapf: ShortRow 6", 1),
@@ -119,7 +120,7 @@ REFUSED: list[tuple[list[str], str, int]] = [
     (["lane.map", "behind.plan", "bad.events"], "bad.events: mapf: BadEvent 3", 1),
     (["lane.map", "behind.plan", "behind.plan"], "behind.plan: mapf: NoHeader", 1),
     (["lane.map", "behind.plan", "no.events"], "no.events: mapf: OpenFailed", 3),
-    (["lane.map", "behind.plan", "--png", "1", "--browser", "no-browser"], "show: no-browser is no program; a picture needs one, and --browser PATH says where it is", 3),
+    (["lane.map", "behind.plan", "--png", "1", "--browser", "no-browser"], f"show: no-browser is no program; {NEEDED}", 3),
     (["lane.map", "behind.plan", "--gif", "0", "1", "--browser", "/bin/false"], "show: /bin/false has ended", 3),
 ]
 BAD_LINES = (
@@ -156,8 +157,8 @@ def bad_line(room: Room, words: list[str]) -> list[Outcome]:
 
 def without_browser(room: Room) -> list[Outcome]:
     ended = room.show("lane.map", "behind.plan", "--png", "1", "-o", "a.png", more={"PATH": ""})
-    due = Ended(3, b"", b"show: there is no Chromium on the path (chromium, chromium-browser, google-chrome, google-chrome-stable, chrome); "
-                b"a picture needs one, and --browser PATH says where it is\n")
+    names = "chromium, chromium-browser, google-chrome, google-chrome-stable, chrome"
+    due = Ended(3, b"", f"show: there is no Chromium on the path ({names}); {NEEDED}\n".encode())
     return [ended_as("a picture without a browser", "PATH= tools/show.py lane.map behind.plan --png 1 -o a.png", ended, due)]
 
 
