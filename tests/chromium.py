@@ -1,6 +1,5 @@
 """A Chromium without a window for tests of pages: opens them, presses keys, clicks, and reads what is there. It is spoken to over two pipes, in JSON
 messages that end with a NUL."""
-import base64
 import contextlib
 import fcntl
 import json
@@ -143,7 +142,3 @@ class Chromium:
     def settle(self) -> None:
         """Waits until what was asked for is drawn."""
         self.value("new Promise((go) => requestAnimationFrame(() => requestAnimationFrame(() => go(true))))")
-
-    def screenshot(self) -> bytes:
-        self.settle()
-        return base64.b64decode(self.ask("Page.captureScreenshot", format="png")["data"])

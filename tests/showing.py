@@ -288,16 +288,28 @@ def large_texts() -> tuple[bytes, bytes]:
     return f"type octile\nheight {side}\nwidth {side}\nmap\n{rows}".encode(), f"mapf-plan 1\nnumber 7\nagents {agents}\n{lines}".encode()
 
 
+def many_events() -> list[str]:
+    """A hundred thousand events of a thousand agents, at random."""
+    rng, lines, said = random.Random(6), [], 0
+    for word in rng.choices(("start", "finish", "say", "deliver", "restart", "tear"), (60, 60, 30, 60, 1, 1), k=100_000):
+        more = f" {max(0, said - 1 - rng.randrange(40))}" if word == "deliver" else f" {rng.randrange(10)}" if word == "tear" else ""
+        lines.append(f"{word} {rng.randrange(1000)}{more}")
+        said += word == "say"
+    return lines
+
+
 def largest(room: Room, browser: Optional[chromium.Chromium]) -> Iterator[Outcome]:
     for name, text in zip(("large.map", "large.plan"), large_texts()):
         (room.folder / name).write_bytes(text)
-    page = room.page("large.html", "large.map", "large.plan")
+    (room.folder / "large.events").write_text(events(*many_events()))
     ran = "tools/show.py with 1,000 agents for 1,000 steps on 512 x 512 cells"
-    yield compared("the size of the largest page", ran, page.stat().st_size <= MOST_PAGE, True)
-    if browser:
-        yield from show_pages.frames(browser, page)
-    else:
-        yield Outcome("frames of the largest page", lacks="Chromium")
+    for name, more in (("plan", []), ("run", ["large.events"])):
+        page = room.page(f"large-{name}.html", "large.map", "large.plan", *more)
+        yield compared(f"the size of the largest {name}", ran, page.stat().st_size <= MOST_PAGE, True)
+        if browser:
+            yield from show_pages.frames(browser, page, name)
+        else:
+            yield Outcome(f"frames of the largest {name}", lacks="Chromium")
 
 
 def outcomes(harness: Harness) -> Iterator[Outcome]:

@@ -1,7 +1,7 @@
 // The events of a run with their replies, and the messages that go from one to another.
 
 const KINDS = ["start", "finish", "say", "deliver", "restart", "tear"];
-const START = 0, FINISH = 1, SAY = 2, DELIVER = 3, RESTART = 4, TEAR = 5;
+const DELIVER = 3, RESTART = 4;
 const REPLIES = ["moving", "arrived", "said", "heard", "at", "between", "armed", "refused"];
 const MOVING = 0, ARRIVED = 1, SAID = 2, HEARD = 3, AT = 4, BETWEEN = 5, IS_ARMED = 6, REFUSED = 7;
 const REASONS = ["Waits", "StoreFailed", "Broken"];

@@ -5,7 +5,7 @@ import pathlib
 import shutil
 import subprocess
 import tempfile
-from typing import Iterator, Sequence
+from typing import IO, Iterator
 
 # The most of a line on standard error that is passed on.
 MOST_TOLD = 400
@@ -62,7 +62,7 @@ class Program:
                     process.kill()
                     raise
 
-    def followed(self, talk: Talk, process: subprocess.Popen, err) -> Iterator[bytes]:
+    def followed(self, talk: Talk, process: subprocess.Popen, err: IO[bytes]) -> Iterator[bytes]:
         yield from process.stdout
         talk.status = process.wait()
         err.seek(0)
