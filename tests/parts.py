@@ -23,6 +23,7 @@ import judging
 import launcher
 import limits
 import refusals
+import robots
 import shipping
 import sources
 import vectors
@@ -47,6 +48,7 @@ PARTS: dict[str, tuple[str, Callable[[Harness], Iterator[Outcome]]]] = {
     "judge": ("many plans, judged as one table", judging.outcomes),
     "vectors": ("the answers of an independent implementation", vectors.outcomes),
     "fleet": ("robots as processes that are killed at random", fleet.outcomes),
+    "robots": ("robots on a network, over UDP and MQTT", robots.outcomes),
 }
 
 

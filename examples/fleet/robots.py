@@ -13,6 +13,7 @@ Status 0: all have arrived, no two were in one cell, and `mapf run` answers the 
 import argparse
 import collections
 import contextlib
+import itertools
 import pathlib
 import shutil
 import subprocess
@@ -62,7 +63,7 @@ def read_words(words: Sequence[str]) -> argparse.Namespace:
     parser.add_argument("--every", type=amount, default=0.2, metavar="S", help="each robot speaks so often, and when it has arrived (%(default)g seconds)")
     parser.add_argument("--limit", type=amount, default=300.0, metavar="S", help="the longest time of a run (%(default)g seconds)")
     parser.add_argument("--seconds", type=amount, default=0.0, metavar="S", help="starts again until so much time is over (0: one run)")
-    parser.add_argument("--number", type=plan_number, metavar="N", help="the first run's plan number (the seconds since 1970)")
+    parser.add_argument("--number", type=plan_number, metavar="N", help="the plan number of the first run, the others count on (a fresh one: the seconds since 1970)")
     parser.add_argument("--broker", metavar="HOST:PORT", help="a broker that is there (one is started)")
     parser.add_argument("--port", type=int, default=0, metavar="N", help="the first of the ports on this machine (any that are free)")
     parser.add_argument("--keep", type=pathlib.Path, metavar="FOLDER", help="keeps the plan, the log and the replies of each run there")
@@ -99,11 +100,13 @@ def with_paho() -> str:
 
 
 def fresh_numbers(first: Optional[int]) -> Iterator[int]:
-    """No two runs have one number: each is greater than the one before, and no less than the seconds since 1970."""
-    number = int(time.time()) if first is None else first
-    while True:
+    """The next second since 1970, once it has begun: so no run has a number of one before it, also where that was stopped at once."""
+    for number in itertools.count(first or 0):
+        if first is None:
+            number = int(time.time()) + 1
+            while time.time() < number:
+                time.sleep(max(number - time.time(), 0))
         yield number % (1 << 32)
-        number = max(number + 1, int(time.time()) if first is None else 0)
 
 
 def check_plan(settings: Settings, given: pathlib.Path, plan: pathlib.Path, nothing: pathlib.Path) -> None:
