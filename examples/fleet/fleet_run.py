@@ -1,4 +1,5 @@
 """One run of a fleet: a watcher, a process a robot, and what is done to them, until all have arrived. Its log is held against `mapf run`."""
+import contextlib
 import dataclasses
 import os
 import pathlib
@@ -17,6 +18,8 @@ from places import Place
 HERE = pathlib.Path(__file__).resolve().parent
 # Seconds between two looks at the processes, and those that they have to end.
 LOOK, GRACE = 0.02, 10
+# A watcher that has seen enough has ended after so many seconds.
+SOON = 0.5
 # The longest time after which a robot that was killed is started again.
 LONGEST_PAUSE = 0.3
 # How long robots look for a broker that is stopped just when they start.
@@ -145,11 +148,18 @@ class Run:
             if status is None:
                 continue
             if status >= 0:
-                raise Failed(f"robot {robot} has ended with status {status}")
+                self.say_why(robot, status)
             now = time.monotonic()
             if now >= self.starts_at.setdefault(robot, now + self.rng.uniform(0, LONGEST_PAUSE)):
                 del self.starts_at[robot]
                 self.start_robot(robot)
+
+    def say_why(self, robot: int, status: int) -> None:
+        """Robots end too where the watcher has seen what must not be; then that is told."""
+        with contextlib.suppress(subprocess.TimeoutExpired):
+            self.watcher.wait(SOON)
+        self.look_after_watcher()
+        raise Failed(f"robot {robot} has ended with status {status}")
 
     def look_after_watcher(self) -> None:
         self.told += said_by(self.watcher)
