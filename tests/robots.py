@@ -111,10 +111,14 @@ for line in sys.stdin.buffer:
     agent.stdin.write(line)
     agent.stdin.flush()
     answer, chance = agent.stdout.readline(), random.random()
-    if answer.startswith((b"moving", b"arrived")) and chance < 0.3:
+    if answer.startswith((b"moving", b"arrived")) and chance < 0.4:
         agent.stdin.close()
         agent.wait()
-        if chance < 0.15:
+        if chance < 0.1:
+            os.kill(os.getppid(), 9)
+        if chance < 0.2:
+            os.kill(os.getpid(), 9)
+        if chance < 0.3:
             os.truncate(sys.argv[5], os.path.getsize(sys.argv[5]) - 10)
         print("refused StoreFailed", flush=True)
         sys.exit(3)
@@ -124,12 +128,13 @@ for line in sys.stdin.buffer:
 
 
 def of_failing_tapes(harness: Harness) -> list[Outcome]:
-    """A program whose agents say at times that a record wasn't stored, whether it was or not, and end."""
+    """A program whose agents end at times behind a record: killed, with their robots or without, before anybody is told of it; or they say that it
+    wasn't stored, whether it was or not."""
     program = harness.folder() / "mapf"
     program.write_text(FAILING.format(python=sys.executable, program=str(harness.program)), encoding="ascii")
     program.chmod(0o755)
     fleet = Fleet(harness, ["--robots", "3"], program=str(program))
-    outcomes = fleet.judged("tapes that fail", 3, restarts=2)
+    outcomes = fleet.judged("tapes that fail", 3, restarts=2, unreported=1)
     kinds = {line.split()[2] for line in fleet.text().splitlines() if line.startswith("tear ")}
     return [*outcomes, compared("tapes that fail: what was torn", "looked at the log", kinds <= {"0", "10"} and bool(kinds), True)]
 

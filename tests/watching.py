@@ -14,19 +14,22 @@ WATCHER = ROOT / "examples" / "fleet" / "watcher.py"
 MAP, PLAN = ROOT / "examples" / "plain.map", ROOT / "examples" / "behind.plan"
 MESSAGE = "460100000000000900000001"
 OPENED = ["0 opened at 1 0 done 0", "1 opened at 0 0 done 0"]
+# Robot 0 drives, and has come.
+HAS_COME = "stands 2 0"
+GONE = ["0 start moving 2 0", "0 go 2 0", HAS_COME]
 # What robots report, the events that are due behind the header, and the replies to them.
 LOGS: list[tuple[str, list[str], str, str]] = [
-    ("a whole run", [*OPENED, "0 start moving 2 0", "0 finish arrived 2 0", f"0 say said {MESSAGE}", f"1 hear {MESSAGE} heard 0 1", "1 start moving 1 0"],
+    ("a whole run", [*OPENED, *GONE, "0 finish arrived 2 0", f"0 say said {MESSAGE}", f"1 hear {MESSAGE} heard 0 1", "1 start moving 1 0"],
      "start 0,finish 0,say 0,deliver 1 0,start 1", f"moving 2 0,arrived 2 0,said 0 {MESSAGE},heard 0 1,moving 1 0"),
     ("a restart", [*OPENED, "0 opened at 1 0 done 0"], "restart 0", "at 1 0 done 0"),
     ("a start that nobody was told of", [*OPENED, "0 opened between 1 0 2 0 done 0"], "start 0,restart 0", "moving 2 0,between 1 0 2 0 done 0"),
-    ("a finish that nobody was told of", [*OPENED, "0 start moving 2 0", "0 opened at 2 0 done 1"],
+    ("a finish that nobody was told of", [*OPENED, *GONE, "0 opened at 2 0 done 1"],
      "start 0,finish 0,restart 0", "moving 2 0,arrived 2 0,at 2 0 done 1"),
     ("a start that was not stored", [*OPENED, "0 start refused StoreFailed", "0 opened at 1 0 done 0"],
      "tear 0 0,start 0,restart 0", "armed,refused StoreFailed,at 1 0 done 0"),
     ("a start that was stored all the same", [*OPENED, "0 start refused StoreFailed", "0 opened between 1 0 2 0 done 0"],
      "tear 0 10,start 0,restart 0", "armed,refused StoreFailed,between 1 0 2 0 done 0"),
-    ("a finish that was stored all the same", [*OPENED, "0 start moving 2 0", "0 finish refused StoreFailed", "0 opened at 2 0 done 1"],
+    ("a finish that was stored all the same", [*OPENED, *GONE, "0 finish refused StoreFailed", "0 opened at 2 0 done 1"],
      "start 0,tear 0 10,finish 0,restart 0", "moving 2 0,armed,refused StoreFailed,at 2 0 done 1"),
     ("the same said twice", [*OPENED, *[f"0 say said {MESSAGE[:-1]}0"] * 2, f"1 hear {MESSAGE[:-1]}0 heard 0 0", "1 dropped refused WrongPlan"],
      "say 0,say 0,deliver 1 1", f"said 0 {MESSAGE[:-1]}0,said 1 {MESSAGE[:-1]}0,heard 0 0"),
@@ -37,6 +40,8 @@ UNTRUE: list[tuple[str, list[str], str]] = [
     ("a drive without leave", [*OPENED, "0 go 2 0"], f"robot 0 sets out for the cell 2 0 {LEAVE}"),
     ("a drive whose start was refused", [*OPENED, "1 start refused Waits 0 1", "1 go 1 0"], f"robot 1 sets out for the cell 1 0 {LEAVE}"),
     ("two in one cell", [*OPENED, "1 start moving 1 0", "1 go 1 0"], "the robots 0 and 1 are both in the cell 1 0"),
+    ("a finish on the way", [*OPENED, "0 start moving 2 0", "0 go 2 0", "0 finish arrived 2 0"], "robot 0 says 'arrived 2 0', and its drive goes 1 0 2 0"),
+    ("a finish without a drive", [*OPENED, "0 start moving 2 0", "0 opened at 2 0 done 1"], "robot 0 says 'at 2 0 done 1', and its drive stands 1 0"),
     ("a message that nobody said", [*OPENED, f"1 hear {MESSAGE} heard 0 1"], f"robot 1 has heard {MESSAGE}, which none of the fleet has said"),
     ("a tape of another run", ["0 opened at 2 0 done 1"], "the tape of robot 0 isn't a new one: at 2 0 done 1"),
     ("a tape that went back", [*OPENED, "0 start moving 2 0", "0 opened at 1 0 done 0"], "robot 0 was at (1, 0), to (2, 0), done 0, and starts again at"),
@@ -62,6 +67,10 @@ class Watched:
 
     def tell(self, reports: Sequence[str]) -> None:
         for report in reports:
+            if report == HAS_COME:
+                while self.socket.recv(100).decode() != HAS_COME:
+                    pass
+                continue
             try:
                 self.socket.sendto(report.encode("latin-1"), self.path)
             except OSError:
@@ -92,7 +101,7 @@ def of_log(harness: Harness, name: str, reports: Sequence[str], events: str, rep
 
 
 def of_untruth(harness: Harness, name: str, reports: Sequence[str], told: str) -> list[Outcome]:
-    watched = Watched(harness)
+    watched = Watched(harness, ["--moves", "5"])
     watched.tell(reports)
     status, _, err = watched.end()
     wrote = (status, err.startswith("watcher: ") and told in err, err.count("\n"), os.path.exists(watched.path))

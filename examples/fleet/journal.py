@@ -111,6 +111,11 @@ class Journal:
         self.put(f"deliver {robot} {self.message[digits]}", answer)
         self.heard += 1
 
+    def cells_of(self, robot: int) -> set[Cell]:
+        """The cells that an agent holds by what is known."""
+        known = self.agents[robot]
+        return {known.cell, known.to or known.cell}
+
     def may_enter(self, robot: int, cell: Cell) -> bool:
         """Whether the agent has said that its robot is to go into this cell."""
         return self.agents[robot].to == cell

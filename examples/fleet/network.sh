@@ -115,6 +115,7 @@ clean() {
             echo "ip netns delete $name"
             continue
         fi
+        [ -e "/run/netns/$name" ] || continue
         # Where robots.py was killed, what it had started is still there.
         for process in $(ip netns pids "$name" 2>/dev/null); do
             kill -KILL "$process" 2>/dev/null

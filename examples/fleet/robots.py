@@ -121,7 +121,7 @@ def check_plan(settings: Settings, given: pathlib.Path, plan: pathlib.Path, noth
 
 def keep(run: Run, number: int, folder: pathlib.Path) -> None:
     folder.mkdir(exist_ok=True)
-    for path in (run.plan, run.log, run.replies):
+    for path in filter(pathlib.Path.exists, (run.plan, run.log, run.replies)):
         shutil.copyfile(path, folder / f"{number}{path.suffix}")
 
 

@@ -106,15 +106,23 @@ class Watcher:
             self.journal.started(robot, what)
         elif kind == "finish":
             self.journal.finished(robot, what)
+            self.hold_drive(robot, what)
         elif kind == "opened":
             self.begun = self.begun or time.monotonic()
             self.journal.opened(robot, what)
+            self.hold_drive(robot, what)
         elif kind == "where":
             self.answer(robot)
         elif kind == "go":
             self.go(robot, what.split())
         else:
             raise ValueError(kind)
+
+    def hold_drive(self, robot: int, said: str) -> None:
+        """A robot that gives up a cell has left it."""
+        drive = self.drives[robot]
+        if not {drive.cell, drive.to or drive.cell} <= self.journal.cells_of(robot):
+            raise Untrue(f"robot {robot} says '{said}', and its drive {drive.where()}")
 
     def go(self, robot: int, words: Sequence[str]) -> None:
         cell, drive = (int(words[0]), int(words[1])), self.drives[robot]
