@@ -56,7 +56,7 @@ def lacking() -> str:
 
 
 def namespaces() -> str:
-    return subprocess.run(["ip", "netns", "list"], stdout=subprocess.PIPE, text=True, check=False).stdout
+    return subprocess.run(["ip", "netns", "list"], stdout=subprocess.PIPE, stderr=subprocess.DEVNULL, text=True, check=False).stdout
 
 
 def of_network(harness: Harness) -> list[Outcome]:

@@ -262,7 +262,8 @@ def of_topics(harness: Harness, python: str) -> list[Outcome]:
 
 def of_stops(harness: Harness) -> list[Outcome]:
     """The broker is killed and started again."""
-    return Fleet(harness, ["--link", "mqtt", "--robots", "3", "--moves", "0.2", "--stops", "1", "--kills", "1", "--seed", "4"]).judged("MQTT, a broker that stops", 3, stops=1)
+    fleet = Fleet(harness, ["--link", "mqtt", "--robots", "3", "--moves", "0.2", "--stops", "1", "--kills", "1", "--seed", "4"])
+    return fleet.judged("MQTT, a broker that stops", 3, stops=1)
 
 
 def of_mqtt(harness: Harness) -> Iterator[Callable[[], list[Outcome]]]:
@@ -349,6 +350,17 @@ def of_bad_calls(harness: Harness) -> list[Outcome]:
     return outcomes
 
 
+def of_plans(harness: Harness) -> list[Outcome]:
+    """The plans of the examples can be driven to their ends."""
+    outcomes = []
+    for name, robots in (("warehouse", 12), ("depot", 60)):
+        files = [str(FLEET / f"{name}.map"), str(FLEET / f"{name}.plan")]
+        said = [harness.mapf(["check", *files]).out, harness.mapf(["run", *files, str(ROOT / "examples" / "none.events"), "--complete"]).out]
+        starts = [text.startswith(due.encode()) for text, due in zip(said, (f"accepted agents {robots} ", "complete "))]
+        outcomes.append(compared(f"the plan of {name}", f"`mapf check` and `mapf run --complete` of {files}", starts, [True, True]))
+    return outcomes
+
+
 def of_a_signal(harness: Harness, number: int) -> list[Outcome]:
     """Whatever asks the fleet to end, nothing that it started is left."""
     fleet = Fleet(harness, ["--robots", "3", "--moves", "5"])
@@ -363,6 +375,6 @@ def of_a_signal(harness: Harness, number: int) -> list[Outcome]:
 
 
 def outcomes(harness: Harness) -> Iterator[Outcome]:
-    alone = [functools.partial(test, harness) for test in (of_numbers, of_failing_tapes, of_strangers, of_one_tape, of_bad_calls)]
+    alone = [functools.partial(test, harness) for test in (of_plans, of_numbers, of_failing_tapes, of_strangers, of_one_tape, of_bad_calls)]
     signals = [functools.partial(of_a_signal, harness, number) for number in (signal.SIGTERM, signal.SIGINT)]
     yield from side_by_side([*of_udp(harness), *of_mqtt(harness), *alone, *signals, *networking.tests(harness), *watching.tests(harness)])

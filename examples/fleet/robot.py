@@ -36,6 +36,10 @@ LONGEST_MESSAGE = 65_533
 AGAIN, PAUSE = 0.5, 0.05
 
 
+class Misplaced(Exception):
+    """The drive is where the tape doesn't have it."""
+
+
 def address(word: str) -> Address:
     host, _, port = word.rpartition(":")
     if not host or not (port.isascii() and port.isdigit() and len(port) < 6 and 0 < int(port) < 65_536):
@@ -99,7 +103,7 @@ class Robot:
 
     def __init__(self, given: argparse.Namespace, link: Link, wire: Wire, agent: Agent):
         self.link, self.wire, self.agent = link, wire, agent
-        self.words, self.every = "tell" if given.tell else "say", given.every
+        self.question, self.every = "tell" if given.tell else "say", given.every
         # Where the drive is to go, and whether something has changed since a start was refused.
         self.target: Optional[Cell] = None
         self.may_start = True
@@ -126,7 +130,7 @@ class Robot:
         self.say()
 
     def say(self) -> None:
-        answer = self.ask(self.words)
+        answer = self.ask(self.question)
         if answer[0] == "said":
             self.link.send(bytes.fromhex(answer[1]))
         # Robots that were started together don't speak together for ever.
@@ -188,10 +192,6 @@ class Robot:
                     else:
                         for message in self.link.received():
                             self.hear(message)
-
-
-class Misplaced(Exception):
-    """The drive is where the tape doesn't have it."""
 
 
 def drive(given: argparse.Namespace) -> None:

@@ -83,7 +83,10 @@ class Watcher:
         self.given, self.journal, self.goals, self.queue = given, journal, goals, queue
         rng, floor = random.Random(f"drives {given.seed}"), Floor()
         starts = [known.cell for known in journal.agents]
-        self.drives = [Drive(n, cell, given.moves * rng.uniform(QUICK, SLOW), given.slips, random.Random(f"{n} {given.seed}"), floor) for n, cell in enumerate(starts)]
+        self.drives = [
+            Drive(robot, cell, given.moves * rng.uniform(QUICK, SLOW), given.slips, random.Random(f"{robot} {given.seed}"), floor)
+            for robot, cell in enumerate(starts)
+        ]
         self.dropped = 0
         self.begun = self.arrived_after = 0.0
 
