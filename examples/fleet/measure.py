@@ -15,6 +15,10 @@ import threading
 from typing import Iterator, Sequence
 
 HERE = pathlib.Path(__file__).resolve().parent
+sys.dont_write_bytecode = True
+sys.path.append(str(HERE.parent.parent / "tools"))
+from leaving import heed_signals  # noqa: E402
+
 FAILED = 3
 # A link, whether messages are of version 2, the loss and the seed.
 Case = tuple[str, bool, int, int]
@@ -49,17 +53,27 @@ def known(runs: pathlib.Path) -> dict[str, dict[str, float]]:
 class Runner:
     def __init__(self, runs: pathlib.Path, limit: int):
         self.runs, self.limit, self.lock = runs, limit, threading.Lock()
+        self.networks: set["subprocess.Popen[str]"] = set()
 
     def run(self, case: Case) -> None:
         link, tells, loss, seed = case
         words = ["--calm", "--loss", loss, "--twice", 10, "--delay", 5, 20, "--link", link, "--seed", seed, "--limit", self.limit]
         command = [str(HERE / "network.sh"), *map(str, words), *(["--tell"] if tells else [])]
-        ended = subprocess.run(command, stdin=subprocess.DEVNULL, stdout=subprocess.PIPE, stderr=subprocess.PIPE, text=True, check=False)
-        lines = [line for line in ended.stdout.splitlines() if line.startswith("run ")]
+        pipes = {"stdin": subprocess.DEVNULL, "stdout": subprocess.PIPE, "stderr": subprocess.PIPE}
+        with subprocess.Popen(command, text=True, start_new_session=True, **pipes) as network:
+            self.networks.add(network)
+            out, err = network.communicate()
+            self.networks.discard(network)
+        lines = [line for line in out.splitlines() if line.startswith("run ")]
         if not lines:
-            raise OSError(0, ended.stderr.strip().splitlines()[-1] if ended.stderr.strip() else "nothing was counted", command[0])
+            raise OSError(0, err.strip().splitlines()[-1] if err.strip() else "nothing was counted", command[0])
         with self.lock, open(self.runs, "a", encoding="ascii") as file:
             file.write(f"{head_of(case)}: {lines[0]}\n")
+
+    def stop(self) -> None:
+        """Ends the networks that are there, each of which takes itself down."""
+        for network in list(self.networks):
+            network.terminate()
 
 
 def table(given: argparse.Namespace, counted: dict[str, dict[str, float]]) -> Iterator[str]:
@@ -85,9 +99,11 @@ def measure(given: argparse.Namespace) -> None:
         try:
             for run in running:
                 run.result()
-        finally:
+        except BaseException:
             for run in running:
                 run.cancel()
+            runner.stop()
+            raise
     print("\n".join(table(given, known(given.runs))))
 
 
@@ -103,4 +119,5 @@ def main(words: Sequence[str]) -> int:
 
 
 if __name__ == "__main__":
+    heed_signals()
     sys.exit(main(sys.argv[1:]))

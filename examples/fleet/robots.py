@@ -57,7 +57,7 @@ def read_words(words: Sequence[str]) -> argparse.Namespace:
     parser.add_argument("--seed", type=int, default=1, metavar="N", help="the seed of speeds, slips and harm (%(default)s)")
     parser.add_argument("--kills", type=amount, default=0.0, metavar="RATE", help="how many processes are killed a second (0)")
     parser.add_argument("--cuts", type=amount, default=0.0, metavar="RATE", help="how many cables of network.sh are cut a second, for some seconds (0)")
-    parser.add_argument("--stops", type=amount, default=0.0, metavar="RATE", help="how often a second the broker that was started is stopped, for some seconds (0)")
+    parser.add_argument("--stops", type=amount, default=0.0, metavar="RATE", help="how often a second the started broker is stopped, for some seconds (0)")
     parser.add_argument("--moves", type=amount, default=0.05, metavar="S", help="how long a move takes, in the mean (%(default)g seconds)")
     parser.add_argument("--slips", type=amount, default=0.05, metavar="RATE", help="how many moves slip (%(default)g)")
     parser.add_argument("--every", type=amount, default=0.2, metavar="S", help="a robot speaks so often, and behind each move (%(default)g seconds)")
