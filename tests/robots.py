@@ -23,6 +23,8 @@ ROBOTS, ROBOT = FLEET / "robots.py", FLEET / "robot.py"
 WAREHOUSE = [str(FLEET / "warehouse.map"), str(FLEET / "warehouse.plan")]
 TWO = ["--map", str(ROOT / "examples" / "plain.map"), "--plan", str(ROOT / "examples" / "behind.plan")]
 PORTS, NUMBERS = iter(range(18_000, 19_900, 20)), itertools.count(100)
+# The seeds of a long test with all robots.
+LONG = range(1, 7)
 # How many bytes a stranger's datagram has at most, and the seconds between two.
 JUNK, OFTEN = 40, 0.005
 
@@ -82,6 +84,9 @@ def of_udp(harness: Harness) -> Iterator[Callable[[], list[Outcome]]]:
     yield functools.partial(run, "three robots, killed", 3, [*three, "--slips", "0.3"], **{KILLS: 3, "restarts": 1, "slips": 1})
     yield functools.partial(run, "three robots that tell, killed", 3, [*three, "--tell", "--seed", "2"], **{KILLS: 3, "restarts": 1})
     yield functools.partial(run, "three robots, multicast, killed", 3, [*three, "--link", "multicast", "--seed", "3"], **{KILLS: 3, "restarts": 1})
+    for seed in LONG if harness.is_long else ():
+        twelve = ["--kills", "3", "--seed", str(seed), *(["--tell"] if seed % 2 else [])]
+        yield functools.partial(run, f"twelve robots, seed {seed}, killed", 12, twelve, **{KILLS: 3, "restarts": 2})
 
 
 def of_numbers(harness: Harness) -> list[Outcome]:
@@ -376,5 +381,6 @@ def of_a_signal(harness: Harness, number: int) -> list[Outcome]:
 
 def outcomes(harness: Harness) -> Iterator[Outcome]:
     alone = [functools.partial(test, harness) for test in (of_plans, of_numbers, of_failing_tapes, of_strangers, of_one_tape, of_bad_calls)]
-    signals = [functools.partial(of_a_signal, harness, number) for number in (signal.SIGTERM, signal.SIGINT)]
+    numbers = (signal.SIGTERM, signal.SIGINT, signal.SIGHUP) if harness.is_long else (signal.SIGTERM,)
+    signals = [functools.partial(of_a_signal, harness, number) for number in numbers]
     yield from side_by_side([*of_udp(harness), *of_mqtt(harness), *alone, *signals, *networking.tests(harness), *watching.tests(harness)])
