@@ -57,13 +57,13 @@ class Fleet:
     def text(self) -> str:
         return "".join(path.read_text(encoding="ascii") for path in sorted((self.folder / "kept").glob("*.events")))
 
-    def judged(self, name: str, robots: int, runs: int = 1, **least: int) -> list[Outcome]:
-        """All have arrived, the logs are true, and so much was counted at least."""
+    def judged(self, name: str, robots: int, drops: bool = False, **least: int) -> list[Outcome]:
+        """All have arrived, the log is true, messages were dropped or weren't, and so much was counted at least."""
         ended = self.run()
         counted = self.counted(ended)
-        wrote = (ended.status, [run["arrived"] for run in counted], self.held(), short_of(counted, least))
+        wrote = (ended.status, [(run["arrived"], run["dropped"] > 0) for run in counted], self.held(), short_of(counted, least))
         ran = f"{shown(self.command)}, which told {ended.out[-1500:]!r} {ended.err[-1500:]!r}"
-        outcomes = [compared(name, ran, wrote, (0, [float(robots)] * runs, [True] * runs, {}))]
+        outcomes = [compared(name, ran, wrote, (0, [(robots, drops)], [True], {}))]
         return outcomes + [compared(f"{name}: what is left", ran, left_in(self.folder), [])]
 
 
@@ -168,7 +168,7 @@ def of_strangers(harness: Harness) -> list[Outcome]:
     sender = threading.Thread(target=send)
     sender.start()
     try:
-        return fleet.judged("strangers on the ports", 3, dropped=20)
+        return fleet.judged("strangers on the ports", 3, drops=True, dropped=20)
     finally:
         is_over.set()
         sender.join()
@@ -258,7 +258,7 @@ def of_topics(harness: Harness, python: str) -> list[Outcome]:
     sender = subprocess.Popen([python, "-c", CLIENT, str(broker.port), "77", "send", str(os.getpid())], stdout=subprocess.DEVNULL)
     try:
         words = ["--link", "mqtt", "--robots", "3", "--broker", broker.address, "--number", "77", "--moves", "0.1", "--tell", "--kills", "2"]
-        return Fleet(harness, words).judged("strangers on the topics", 3, dropped=20)
+        return Fleet(harness, words).judged("strangers on the topics", 3, drops=True, dropped=20)
     finally:
         sender.kill()
         sender.wait()
