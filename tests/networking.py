@@ -8,7 +8,7 @@ import subprocess
 from typing import Callable, Iterator, Sequence
 
 from harness import ROOT, Ended, Harness, Outcome, compared, ended_as, shown
-from processes import left_in, processes_of, wait_until
+from processes import heeding, left_in, processes_of, wait_until
 
 NETWORK = ROOT / "examples" / "fleet" / "network.sh"
 NETEM = """ip netns add HUB
@@ -68,7 +68,7 @@ def of_network(harness: Harness) -> list[Outcome]:
     for number in (signal.SIGINT, signal.SIGTERM, signal.SIGHUP) if harness.is_long else (signal.SIGINT,):
         pipes = {"stdin": subprocess.DEVNULL, "stdout": subprocess.DEVNULL, "stderr": subprocess.DEVNULL}
         folder = harness.folder()
-        process = subprocess.Popen([*words, "--moves", "5"], env={**os.environ, "TMPDIR": str(folder)}, start_new_session=True, **pipes)
+        process = subprocess.Popen(heeding([*words, "--moves", "5"]), env={**os.environ, "TMPDIR": str(folder)}, start_new_session=True, **pipes)
         runs = wait_until(lambda: any(" agent " in it[1] for it in processes_of(str(folder))), 20)
         process.send_signal(number)
         status = process.wait(30)

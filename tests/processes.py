@@ -2,8 +2,16 @@
 import contextlib
 import os
 import pathlib
+import sys
 import time
-from typing import Callable
+from typing import Callable, Sequence
+
+# Heeds signals again that whoever runs the tests may ignore, as a shell does for what runs behind it.
+HEEDING = "import os, signal, sys; [signal.signal(it, signal.SIG_DFL) for it in (1, 2, 15)]; os.execvp(sys.argv[1], sys.argv[1:])"
+
+
+def heeding(command: Sequence[str]) -> list[str]:
+    return [sys.executable, "-c", HEEDING, *command]
 
 
 def left_in(folder: pathlib.Path) -> list[str]:

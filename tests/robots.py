@@ -16,17 +16,30 @@ from typing import Callable, Iterator, Optional, Sequence
 import networking
 import watching
 from harness import ROOT, Ended, Harness, Outcome, compared, shown, side_by_side
-from processes import children, left_in, processes_of, wait_until
+from processes import children, heeding, left_in, processes_of, wait_until
 
 FLEET = ROOT / "examples" / "fleet"
 ROBOTS, ROBOT = FLEET / "robots.py", FLEET / "robot.py"
 WAREHOUSE = [str(FLEET / "warehouse.map"), str(FLEET / "warehouse.plan")]
 TWO = ["--map", str(ROOT / "examples" / "plain.map"), "--plan", str(ROOT / "examples" / "behind.plan")]
-PORTS, NUMBERS = iter(range(18_000, 19_900, 20)), itertools.count(100)
+PORTS, NUMBERS = iter(range(10_000 + os.getpid() % 40 * 200, 20_000, 20)), itertools.count(100)
 # The seeds of a long test with all robots.
 LONG = range(1, 7)
 # How many bytes a stranger's datagram has at most, and the seconds between two.
 JUNK, OFTEN = 40, 0.005
+
+
+def free_port() -> int:
+    """The first of twenty ports of which the system gives none by itself, and which another run of the tests hardly takes."""
+    for port in PORTS:
+        with socket.socket(socket.AF_INET, socket.SOCK_DGRAM) as one, socket.socket(socket.AF_INET, socket.SOCK_STREAM) as other:
+            try:
+                one.bind(("127.0.0.1", port))
+                other.bind(("127.0.0.1", port))
+            except OSError:
+                continue
+        return port
+    raise ValueError("no ports are free")
 
 
 class Fleet:
@@ -155,7 +168,7 @@ def junk(rng: random.Random) -> bytes:
 
 def of_strangers(harness: Harness) -> list[Outcome]:
     """Datagrams of others come to the robots' ports all the time. The plan's number is not the 5 that those have which look like messages."""
-    port, rng = next(PORTS), random.Random(5)
+    port, rng = free_port(), random.Random(5)
     fleet = Fleet(harness, ["--robots", "3", "--port", str(port), "--moves", "0.1", "--kills", "2"])
     is_over = threading.Event()
 
@@ -217,7 +230,7 @@ class Broker:
     """A broker of this test's own, which keeps messages from one run to the next."""
 
     def __init__(self, harness: Harness):
-        self.port, folder = next(PORTS), harness.folder()
+        self.port, folder = free_port(), harness.folder()
         self.address = f"127.0.0.1:{self.port}"
         (folder / "conf").write_text(f"listener {self.port} 127.0.0.1\nallow_anonymous true\nlog_dest none\n", encoding="ascii")
         self.process = subprocess.Popen([mosquitto(), "-c", str(folder / "conf")], stdin=subprocess.DEVNULL, stderr=subprocess.DEVNULL)
@@ -293,12 +306,13 @@ def of_one_tape(harness: Harness) -> list[Outcome]:
     watched = watching.Watched(harness)
     watched.socket.close()
     os.unlink(f"{watched.path}.0")
-    words = robot_words(harness, "--listen", f"127.0.0.1:{next(PORTS)}", "--peers", "127.0.0.1:9")
+    words = robot_words(harness, "--listen", f"127.0.0.1:{free_port()}", "--peers", "127.0.0.1:9")
     said = watched.folder / "said"
     with open(said, "wb") as err:
         start = functools.partial(subprocess.Popen, words, cwd=watched.folder, stdin=subprocess.DEVNULL, stderr=err, start_new_session=True)
         first = start()
-        with_agent = wait_until(lambda: children(first.pid))
+        if not wait_until(lambda: children(first.pid)):
+            raise ValueError(f"no agent was started: {said.read_bytes()!r}")
         agent = children(first.pid)[0]
         os.kill(agent, signal.SIGSTOP)
         first.kill()
@@ -312,14 +326,14 @@ def of_one_tape(harness: Harness) -> list[Outcome]:
     second.terminate()
     second.wait()
     watched.end()
-    return [compared("one agent on a tape", shown(words), (with_agent, waits, none, goes_on), (True, True, [], True))]
+    return [compared("one agent on a tape", shown(words), (waits, none, goes_on), (True, [], True))]
 
 
 def of_bad_calls(harness: Harness) -> list[Outcome]:
     """One clear line and a status, whatever is wrong."""
     outcomes = []
     folder = harness.folder({"paho.py": b"raise ImportError\n", "torn": b"x" * 10})
-    taken = next(PORTS)
+    taken = free_port()
     link = ["--listen", f"127.0.0.1:{taken}", "--peers", "127.0.0.1:9"]
     free = ["--listen", f"127.0.0.1:{taken + 1}", "--peers", "127.0.0.1:9"]
     robot = functools.partial(robot_words, harness)
@@ -371,7 +385,7 @@ def of_a_signal(harness: Harness, number: int) -> list[Outcome]:
     fleet = Fleet(harness, ["--robots", "3", "--moves", "5"])
     environment = {**os.environ, "TMPDIR": str(fleet.folder)}
     pipes = {"stdin": subprocess.DEVNULL, "stdout": subprocess.DEVNULL, "stderr": subprocess.PIPE}
-    process = subprocess.Popen(fleet.command, cwd=fleet.folder, env=environment, start_new_session=True, **pipes)
+    process = subprocess.Popen(heeding(fleet.command), cwd=fleet.folder, env=environment, start_new_session=True, **pipes)
     runs = wait_until(lambda: len([it for it in processes_of(str(fleet.folder)) if " agent " in it[1]]) == 3, 10)
     process.send_signal(number)
     _, err = process.communicate(timeout=20)
