@@ -52,11 +52,25 @@ def lacking() -> str:
         return "root"
     if not shutil.which("ip") or not shutil.which("tc"):
         return "iproute2"
+    probe = f"mapf{os.getpid()}-probe"
+    for word in ("add", "delete"):
+        if subprocess.run(["ip", "netns", word, probe], stderr=subprocess.DEVNULL, check=False).returncode:
+            return "network namespace"
     return "" if os.path.exists("/dev/net/tun") else "/dev/net/tun"
 
 
 def namespaces() -> str:
     return subprocess.run(["ip", "netns", "list"], stdout=subprocess.PIPE, stderr=subprocess.DEVNULL, text=True, check=False).stdout
+
+
+def status_of(process: "subprocess.Popen[bytes]") -> int:
+    """How it ended, which it may have to be made to."""
+    try:
+        return process.wait(30)
+    except subprocess.TimeoutExpired:
+        os.killpg(process.pid, signal.SIGTERM)
+        process.wait()
+        return 0
 
 
 def of_network(harness: Harness) -> list[Outcome]:
@@ -71,7 +85,7 @@ def of_network(harness: Harness) -> list[Outcome]:
         process = subprocess.Popen(heeding([*words, "--moves", "5"]), env={**os.environ, "TMPDIR": str(folder)}, start_new_session=True, **pipes)
         runs = wait_until(lambda: any(" agent " in it[1] for it in processes_of(str(folder))), 20)
         process.send_signal(number)
-        status = process.wait(30)
+        status = status_of(process)
         left = [f"mapf{process.pid}-" in namespaces(), left_in(folder)]
         name = f"{signal.Signals(number).name} to a network"
         outcomes.append(compared(name, shown(words), (runs, status, left), (True, 128 + number, [False, []])))
