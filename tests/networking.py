@@ -66,7 +66,7 @@ def namespaces() -> str:
 def status_of(process: "subprocess.Popen[bytes]") -> int:
     """How it ended, which it may have to be made to."""
     try:
-        return process.wait(30)
+        return process.wait(60)
     except subprocess.TimeoutExpired:
         os.killpg(process.pid, signal.SIGTERM)
         process.wait()
@@ -83,7 +83,7 @@ def of_network(harness: Harness) -> list[Outcome]:
         pipes = {"stdin": subprocess.DEVNULL, "stdout": subprocess.DEVNULL, "stderr": subprocess.DEVNULL}
         folder = harness.folder()
         process = subprocess.Popen(heeding([*words, "--moves", "5"]), env={**os.environ, "TMPDIR": str(folder)}, start_new_session=True, **pipes)
-        runs = wait_until(lambda: any(" agent " in it[1] for it in processes_of(str(folder))), 20)
+        runs = wait_until(lambda: any(" agent " in it[1] for it in processes_of(folder)))
         process.send_signal(number)
         status = status_of(process)
         left = [f"mapf{process.pid}-" in namespaces(), left_in(folder)]

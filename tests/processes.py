@@ -16,11 +16,12 @@ def heeding(command: Sequence[str]) -> list[str]:
 
 def left_in(folder: pathlib.Path) -> list[str]:
     """Temporary files that are still there, and processes that were started with a file of this folder."""
-    return [*map(str, folder.glob("mapf-*")), *(command for _, command in processes_of(str(folder)))]
+    return [*map(str, folder.glob("mapf-*")), *(command for _, command in processes_of(folder))]
 
 
-def processes_of(word: str) -> list[tuple[int, str]]:
-    found = []
+def processes_of(folder: pathlib.Path) -> list[tuple[int, str]]:
+    """Those that were started with a file of a folder."""
+    word, found = f"{folder}/", []
     for path in pathlib.Path("/proc").glob("[0-9]*/cmdline"):
         with contextlib.suppress(OSError):
             command = path.read_bytes().replace(b"\0", b" ").decode(errors="replace")
@@ -33,7 +34,7 @@ def children(pid: int) -> list[int]:
     return [int(it) for it in pathlib.Path(f"/proc/{pid}/task/{pid}/children").read_text(encoding="ascii").split()]
 
 
-def wait_until(is_so: Callable[[], object], limit: float = 5) -> bool:
+def wait_until(is_so: Callable[[], object], limit: float = 60) -> bool:
     last = time.monotonic() + limit
     while not is_so() and time.monotonic() < last:
         time.sleep(0.01)

@@ -358,6 +358,7 @@ def of_bad_calls(harness: Harness) -> list[Outcome]:
     python = with_paho()
     if python:
         calls.append(("no broker", [python, *robot(*broker)[1:]], 3, f"robot 0: no broker answers at {broker[1]}"))
+        calls.append(("no broker for a fleet", [*robots, "--link", "mqtt", *broker[:2]], 3, f"robots: no broker answers at {broker[1]}"))
     with socket.socket(socket.AF_INET, socket.SOCK_DGRAM) as other:
         other.bind(("127.0.0.1", taken))
         for name, command, status, told in calls:
@@ -386,9 +387,9 @@ def of_a_signal(harness: Harness, number: int) -> list[Outcome]:
     environment = {**os.environ, "TMPDIR": str(fleet.folder)}
     pipes = {"stdin": subprocess.DEVNULL, "stdout": subprocess.DEVNULL, "stderr": subprocess.PIPE}
     process = subprocess.Popen(heeding(fleet.command), cwd=fleet.folder, env=environment, start_new_session=True, **pipes)
-    runs = wait_until(lambda: len([it for it in processes_of(str(fleet.folder)) if " agent " in it[1]]) == 3, 10)
+    runs = wait_until(lambda: len([it for it in processes_of(fleet.folder) if " agent " in it[1]]) == 3)
     process.send_signal(number)
-    _, err = process.communicate(timeout=20)
+    _, err = process.communicate(timeout=60)
     name = f"{signal.Signals(number).name} to a fleet"
     return [compared(name, shown(fleet.command), (runs, process.returncode, b"Traceback" in err, left_in(fleet.folder)), (True, 128 + number, False, []))]
 

@@ -63,7 +63,7 @@ class Watched:
         self.process.stdout.readline()
         self.socket = socket.socket(socket.AF_UNIX, socket.SOCK_DGRAM)
         self.socket.bind(f"{self.path}.0")
-        self.socket.settimeout(10)
+        self.socket.settimeout(60)
 
     def tell(self, reports: Sequence[str]) -> None:
         for report in reports:
@@ -78,7 +78,7 @@ class Watched:
                 return
 
     def end(self) -> tuple[int, str, str]:
-        out, err = self.process.communicate(timeout=20)
+        out, err = self.process.communicate(timeout=60)
         self.socket.close()
         return self.process.returncode, out, err
 

@@ -17,7 +17,7 @@ from places import Place
 
 HERE = pathlib.Path(__file__).resolve().parent
 # Seconds between two looks at the processes, and those that they have to end.
-LOOK, GRACE = 0.02, 10
+LOOK, GRACE = 0.02, 30
 # A watcher that has seen enough has ended after so many seconds.
 SOON = 0.5
 # The longest time after which a robot that was killed is started again.

@@ -7,12 +7,13 @@ import os
 import time
 from typing import Any, Deque
 
+from addresses import Address
+
 try:
     import paho.mqtt.client as mqtt
 except ImportError:
     mqtt = None
 
-Address = tuple[str, int]
 # Seconds after which a broker that says nothing is taken to be gone, and between two tries to reach it.
 KEEPALIVE = 4
 SOONEST, LATEST = 0.2, 1

@@ -2,7 +2,8 @@
 import socket
 from typing import Optional, Sequence
 
-Address = tuple[str, int]
+from addresses import Address
+
 # No datagram is longer.
 LONGEST = 65_535
 

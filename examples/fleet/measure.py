@@ -30,7 +30,7 @@ def read_words(words: Sequence[str]) -> argparse.Namespace:
     parser.add_argument("--losses", default="0,20,50", metavar="PERCENT,..", help="(%(default)s)")
     parser.add_argument("--links", default="udp,mqtt", metavar="LINK,..", help="(%(default)s)")
     parser.add_argument("--seeds", type=int, default=10, metavar="N", help="(%(default)s)")
-    parser.add_argument("--limit", type=int, default=120, metavar="S", help="the longest time of a run (%(default)s seconds)")
+    parser.add_argument("--limit", type=int, default=200, metavar="S", help="the longest time of a run (%(default)s seconds)")
     parser.add_argument("--at-once", type=int, default=2, metavar="N", help="how many runs at the same time (%(default)s)")
     return parser.parse_args(words)
 

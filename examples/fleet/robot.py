@@ -21,13 +21,13 @@ from typing import Optional, Sequence, Union
 HERE = pathlib.Path(__file__).resolve().parent
 sys.dont_write_bytecode = True
 sys.path.append(str(HERE.parent.parent / "tools"))
+from addresses import address, addresses  # noqa: E402
 from agent import STORE_FAILED, Agent, Ended, Lock, Unfit  # noqa: E402
 from drive import Cell, NoWatcher, Wire  # noqa: E402
 from leaving import heed_signals  # noqa: E402
 from link_mqtt import MqttLink, NoBroker, NoClient  # noqa: E402
 from link_udp import UdpLink  # noqa: E402
 
-Address = tuple[str, int]
 Link = Union[UdpLink, MqttLink]
 BAD_LINE, FAILED = 2, 3
 # A longer message has more digits than a line of the agent may have.
@@ -38,17 +38,6 @@ AGAIN, PAUSE = 0.5, 0.05
 
 class Misplaced(Exception):
     """The drive is where the tape doesn't have it."""
-
-
-def address(word: str) -> Address:
-    host, _, port = word.rpartition(":")
-    if not host or not (port.isascii() and port.isdigit() and len(port) < 6 and 0 < int(port) < 65_536):
-        raise argparse.ArgumentTypeError(f"'{word[:60]}' is no HOST:PORT")
-    return host, int(port)
-
-
-def addresses(word: str) -> list[Address]:
-    return [address(it) for it in word.split(",")] if word else []
 
 
 def seconds(word: str) -> float:

@@ -16,6 +16,7 @@ import contextlib
 import itertools
 import pathlib
 import shutil
+import socket
 import subprocess
 import sys
 import tempfile
@@ -26,6 +27,7 @@ HERE = pathlib.Path(__file__).resolve().parent
 sys.dont_write_bytecode = True
 sys.path.append(str(HERE.parent.parent / "tools"))
 import cables as cable_kinds  # noqa: E402
+from addresses import Address, address  # noqa: E402
 from broker import Broker, NoBroker  # noqa: E402
 from fleet_run import Failed, Run, Settings, Wrong  # noqa: E402
 from leaving import heed_signals  # noqa: E402
@@ -34,6 +36,8 @@ from places import Loopback, Namespaces, NoRoom, Place  # noqa: E402
 WRONG, FAILED = 1, 3
 # Where Debian's packages for Python are found, if not by the one that runs this.
 DEBIAN_PYTHON = "/usr/bin/python3"
+# Seconds within which a broker answers.
+PATIENCE = 5
 
 
 def amount(word: str) -> float:
@@ -64,7 +68,7 @@ def read_words(words: Sequence[str]) -> argparse.Namespace:
     parser.add_argument("--limit", type=amount, default=300.0, metavar="S", help="the longest time of a run (%(default)g seconds)")
     parser.add_argument("--seconds", type=amount, default=0.0, metavar="S", help="starts again until so much time is over (0: one run)")
     parser.add_argument("--number", type=plan_number, metavar="N", help="the plan number of the first run; the others count on (the seconds since 1970)")
-    parser.add_argument("--broker", metavar="HOST:PORT", help="a broker that is there (one is started)")
+    parser.add_argument("--broker", type=address, metavar="HOST:PORT", help="a broker that is there (one is started)")
     parser.add_argument("--port", type=int, default=0, metavar="N", help="the first of the ports on this machine (any that are free)")
     parser.add_argument("--keep", type=pathlib.Path, metavar="FOLDER", help="keeps the plan, the log and the replies of each run there")
     parser.add_argument("--map", type=pathlib.Path, default=HERE / "warehouse.map")
@@ -94,9 +98,18 @@ def with_paho() -> str:
     """A Python that has a client of MQTT."""
     for python in (sys.executable, DEBIAN_PYTHON):
         with contextlib.suppress(OSError):
-            if subprocess.run([python, "-c", "import paho.mqtt.client"], stderr=subprocess.DEVNULL, check=False).returncode == 0:
+            # What lies in this folder isn't what a robot finds.
+            if subprocess.run([python, "-c", "import paho.mqtt.client"], cwd="/", stderr=subprocess.DEVNULL, check=False).returncode == 0:
                 return python
     raise Failed("a link by MQTT needs the Python package `paho-mqtt`, as Debian's python3-paho-mqtt: there is none here")
+
+
+def look_for_broker(where: Address) -> None:
+    """Robots wait for a broker that is away; one that was never there is told at once."""
+    try:
+        socket.create_connection(where, PATIENCE).close()
+    except OSError as fault:
+        raise NoBroker(f"no broker answers at {where[0]}:{where[1]}: {fault.strerror or fault}") from None
 
 
 def fresh_numbers(first: Optional[int]) -> Iterator[int]:
@@ -181,7 +194,8 @@ def drive(given: argparse.Namespace) -> int:
     with tempfile.TemporaryDirectory(prefix="mapf-broker-") as folder:
         try:
             if given.broker:
-                place.broker = given.broker
+                place.broker = "{}:{}".format(*given.broker)
+                look_for_broker(given.broker)
             elif has_own_broker:
                 broker = Broker(place.broker, place.broker_words(), pathlib.Path(folder))
             fleet = Fleet(given, settings, courses, place)
