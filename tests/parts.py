@@ -23,6 +23,7 @@ import judging
 import launcher
 import limits
 import refusals
+import robots
 import shipping
 import showing
 import sources
@@ -49,6 +50,7 @@ PARTS: dict[str, tuple[str, Callable[[Harness], Iterator[Outcome]]]] = {
     "show": ("plans and runs as pages in a browser, and as pictures", showing.outcomes),
     "vectors": ("the answers of an independent implementation", vectors.outcomes),
     "fleet": ("robots as processes that are killed at random", fleet.outcomes),
+    "robots": ("robots on a network, over UDP and MQTT", robots.outcomes),
 }
 
 

@@ -1,0 +1,76 @@
+"""A robot's agent: the process `mapf agent` on the robot's tape."""
+import fcntl
+import subprocess
+import sys
+from typing import IO, Optional, Sequence
+
+STORE_FAILED = "refused StoreFailed"
+
+
+class Ended(Exception):
+    """The process has ended, by whatever, and may be started again."""
+
+
+class Unfit(Exception):
+    """The process doesn't start, and has said why. The status is its own."""
+
+    def __init__(self, status: int):
+        super().__init__(f"its agent doesn't start (status {status})")
+        self.status = status
+
+
+class Lock:
+    """Held as long as a robot or its agent lives, since the agent inherits it: no two agents are ever on one tape."""
+
+    def __init__(self, path: str, waits: str):
+        self.file: IO[str] = open(path, "w", encoding="ascii")
+        try:
+            fcntl.flock(self.file, fcntl.LOCK_EX | fcntl.LOCK_NB)
+        except BlockingIOError:
+            print(waits, file=sys.stderr, flush=True)
+            fcntl.flock(self.file, fcntl.LOCK_EX)
+
+    def fileno(self) -> int:
+        return self.file.fileno()
+
+
+class Agent:
+    """The process, which answers each line by one."""
+
+    def __init__(self, words: Sequence[str], lock: Lock):
+        self.process = subprocess.Popen(words, stdin=subprocess.PIPE, stdout=subprocess.PIPE, pass_fds=[lock.fileno()])
+        try:
+            self.first = self._line()
+        except Ended:
+            status = self.end()
+            if status > 0:
+                raise Unfit(status) from None
+            raise
+
+    def _line(self) -> str:
+        line = self.process.stdout.readline() if self.process.stdout else b""
+        if not line.endswith(b"\n"):
+            raise Ended
+        return line[:-1].decode("ascii")
+
+    def fileno(self) -> int:
+        """Is readable, while nothing is asked, where the process has ended."""
+        return self.process.stdout.fileno() if self.process.stdout else -1
+
+    def ask(self, line: str) -> str:
+        """The answer to a line."""
+        try:
+            self.process.stdin.write(f"{line}\n".encode("ascii"))
+            self.process.stdin.flush()
+        except OSError:
+            raise Ended from None
+        return self._line()
+
+    def end(self, seconds: Optional[float] = None) -> int:
+        """Waits until the process has ended, which it does at the end of its input."""
+        try:
+            self.process.stdin.close()
+        except OSError:
+            pass
+        self.process.stdout.close()
+        return self.process.wait(seconds)

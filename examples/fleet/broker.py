@@ -1,0 +1,51 @@
+"""A broker of MQTT beside a fleet: Debian's mosquitto, which keeps nothing on a disk."""
+import pathlib
+import shutil
+import subprocess
+import time
+from typing import Optional, Sequence
+
+CONFIGURATION = """listener {port} {host}
+allow_anonymous true
+persistence false
+set_tcp_nodelay true
+log_type error
+log_dest stderr
+"""
+# Where Debian has it, also where that is on nobody's path.
+PLACES = "/usr/sbin:/usr/local/sbin"
+SOON = 0.3
+
+
+class NoBroker(Exception):
+    """There is no mosquitto, or it doesn't start."""
+
+
+class Broker:
+    def __init__(self, address: str, words: Sequence[str], folder: pathlib.Path):
+        program = shutil.which("mosquitto") or shutil.which("mosquitto", path=PLACES)
+        if not program:
+            raise NoBroker("a broker of MQTT is wanted, as Debian's mosquitto: there is none here")
+        host, _, port = address.rpartition(":")
+        configuration = folder / "mosquitto.conf"
+        configuration.write_text(CONFIGURATION.format(host=host, port=port), encoding="ascii")
+        self.address, self.command = address, [*words, program, "-c", str(configuration)]
+        self.log = folder / "mosquitto.log"
+        self.process: Optional["subprocess.Popen[bytes]"] = None
+        self.start()
+        # One whose port is in use ends at once.
+        time.sleep(SOON)
+        if self.process and self.process.poll() is not None:
+            lines = self.log.read_text(encoding="utf-8", errors="replace").splitlines()
+            raise NoBroker(f"the broker at {address} doesn't start: {lines[-1] if lines else self.process.returncode}")
+
+    def start(self) -> None:
+        if self.process is None:
+            with open(self.log, "wb") as log:
+                self.process = subprocess.Popen(self.command, stdin=subprocess.DEVNULL, stdout=log, stderr=log, start_new_session=True)
+
+    def stop(self) -> None:
+        if self.process is not None:
+            self.process.kill()
+            self.process.wait()
+            self.process = None

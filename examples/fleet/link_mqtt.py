@@ -1,0 +1,101 @@
+"""A link by MQTT: each robot says on a topic of its own, of which the broker keeps the last message for those that come later.
+
+The topics name the run, so that what the broker keeps of another run is never heard in this one.
+"""
+import collections
+import os
+import time
+from typing import Any, Deque
+
+from addresses import Address
+
+try:
+    import paho.mqtt.client as mqtt
+except ImportError:
+    mqtt = None
+
+# Seconds after which a broker that says nothing is taken to be gone, and between two tries to reach it.
+KEEPALIVE = 4
+SOONEST, LATEST = 0.2, 1
+
+
+class NoClient(Exception):
+    """There is no client of MQTT for this Python."""
+
+
+class NoBroker(Exception):
+    """Nobody answers where the broker is to be."""
+
+
+def topic_of(run: int, agent: str) -> str:
+    return f"mapf/{run}/said/{agent}"
+
+
+def new_client(name: str) -> Any:
+    """A client of paho, of whichever version, with a session that begins anew each time."""
+    if mqtt is None:
+        raise NoClient("a link by MQTT needs the Python package `paho-mqtt`, as Debian's python3-paho-mqtt")
+    version = (mqtt.CallbackAPIVersion.VERSION2,) if hasattr(mqtt, "CallbackAPIVersion") else ()
+    return mqtt.Client(*version, client_id=name, clean_session=True)
+
+
+class MqttLink:
+    """A client with a thread of its own, which comes back by itself when the broker was gone."""
+
+    def __init__(self, broker: Address, run: int, agent: int, patience: float):
+        self.run, self.own = run, topic_of(run, str(agent))
+        self.unsent = 0
+        self.waiting: Deque[bytes] = collections.deque()
+        self.woken, self.waker = os.pipe()
+        os.set_blocking(self.woken, False)
+        os.set_blocking(self.waker, False)
+        self.client = new_client(f"mapf-{run}-{agent}")
+        self.client.on_connect, self.client.on_message = self._subscribe, self._take
+        self.client.reconnect_delay_set(SOONEST, LATEST)
+        self._reach(broker, patience)
+        self.client.loop_start()
+
+    def _reach(self, broker: Address, patience: float) -> None:
+        last = time.monotonic() + patience
+        while True:
+            try:
+                self.client.connect(*broker, keepalive=KEEPALIVE)
+                return
+            except OSError as fault:
+                if time.monotonic() > last:
+                    raise NoBroker(f"no broker answers at {broker[0]}:{broker[1]}: {fault.strerror or fault}") from None
+                time.sleep(SOONEST)
+
+    def _subscribe(self, *_: Any) -> None:
+        """After each connection, since the broker has forgotten who was there before."""
+        self.client.subscribe(topic_of(self.run, "+"), qos=0)
+
+    def _take(self, _: Any, __: Any, message: Any) -> None:
+        if message.topic != self.own:
+            self.waiting.append(message.payload)
+            try:
+                os.write(self.waker, b".")
+            except BlockingIOError:
+                # It has been woken often enough.
+                pass
+
+    def fileno(self) -> int:
+        """Is readable where messages wait."""
+        return self.woken
+
+    def send(self, message: bytes) -> None:
+        """Publishes a message. While the broker is gone it is lost."""
+        if self.client.publish(self.own, message, qos=0, retain=True).rc != mqtt.MQTT_ERR_SUCCESS:
+            self.unsent += 1
+
+    def received(self) -> list[bytes]:
+        """The messages that wait."""
+        try:
+            os.read(self.woken, 65_536)
+        except BlockingIOError:
+            pass
+        return [self.waiting.popleft() for _ in range(len(self.waiting))]
+
+    def close(self) -> None:
+        self.client.disconnect()
+        self.client.loop_stop()

@@ -1,0 +1,218 @@
+#!/usr/bin/env python3
+"""Drives one robot of a fleet on a network: a control loop around its `mapf agent`.
+
+Usage: robot.py MAP PLAN ID TAPE --drive SOCKET --listen HOST:PORT (--peers HOST:PORT,.. | --group HOST:PORT) [OPTIONS]
+       robot.py MAP PLAN ID TAPE --drive SOCKET --broker HOST:PORT [OPTIONS]
+
+It knows its own agent, its own drive and a link on which it says what it has finished and hears what others say; it may be killed at any moment
+and started again. What arrives on the link is given to the agent alone: bytes that are no message of the plan are dropped.
+
+Status 1: the map, the plan or the tape has a fault. 2: a bad command line. 3: a file, a socket or a program failed. It ends when it is asked to.
+"""
+import argparse
+import contextlib
+import pathlib
+import random
+import selectors
+import sys
+import time
+from typing import Optional, Sequence, Union
+
+HERE = pathlib.Path(__file__).resolve().parent
+sys.dont_write_bytecode = True
+sys.path.append(str(HERE.parent.parent / "tools"))
+from addresses import address, addresses  # noqa: E402
+from agent import STORE_FAILED, Agent, Ended, Lock, Unfit  # noqa: E402
+from drive import Cell, NoWatcher, Wire  # noqa: E402
+from leaving import heed_signals  # noqa: E402
+from link_mqtt import MqttLink, NoBroker, NoClient  # noqa: E402
+from link_udp import UdpLink  # noqa: E402
+
+Link = Union[UdpLink, MqttLink]
+BAD_LINE, FAILED = 2, 3
+# A longer message has more digits than a line of the agent may have.
+LONGEST_MESSAGE = 65_533
+# Seconds after which the drive is told again where to go, and after which an agent that has ended is started again.
+AGAIN, PAUSE = 0.5, 0.05
+
+
+class Misplaced(Exception):
+    """The drive is where the tape doesn't have it."""
+
+
+def seconds(word: str) -> float:
+    with contextlib.suppress(ValueError):
+        if 0 <= float(word) < 1e6:
+            return float(word)
+    raise argparse.ArgumentTypeError(f"a number of seconds is wanted, and '{word[:40]}' is none")
+
+
+def read_words(words: Sequence[str]) -> argparse.Namespace:
+    parser = argparse.ArgumentParser(prog="robot.py", description=__doc__, formatter_class=argparse.RawDescriptionHelpFormatter)
+    parser.add_argument("map", metavar="MAP")
+    parser.add_argument("plan", metavar="PLAN", help="the plan, with the number of this run, which all robots of the fleet get")
+    parser.add_argument("id", type=int, metavar="ID", help="the agent of the plan that this robot is")
+    parser.add_argument("tape", metavar="TAPE", help="the file of its progress; TAPE.lock beside it is held as long as it or its agent lives")
+    parser.add_argument("--drive", required=True, metavar="SOCKET", help="the watcher's socket, behind which the drive is")
+    parser.add_argument("--listen", type=address, metavar="HOST:PORT", help="a link by UDP: the own address")
+    parser.add_argument("--peers", type=addresses, metavar="HOST:PORT,..", help="the addresses of all others")
+    parser.add_argument("--group", type=address, metavar="HOST:PORT", help="the multicast group, instead of a list of peers")
+    parser.add_argument("--broker", type=address, metavar="HOST:PORT", help="a link by MQTT: where the broker is")
+    parser.add_argument("--patience", type=seconds, default=10.0, metavar="S", help="how long a broker may be away at first (%(default)g)")
+    parser.add_argument("--tell", action="store_true", help="says all that it knows, and not only what it has finished")
+    parser.add_argument("--every", type=seconds, default=0.2, metavar="S", help="says so again after so many seconds (%(default)g)")
+    parser.add_argument("--program", default=str(HERE.parent.parent / "mapf"), metavar="PATH", help="the program mapf (that of this checkout)")
+    given = parser.parse_args(words)
+    if (given.broker is None) == (given.listen is None):
+        parser.error("either --listen or --broker is wanted")
+    if given.listen and (given.peers is None) == (given.group is None):
+        parser.error("--listen goes with either --peers or --group")
+    return given
+
+
+def number_of(plan: str) -> int:
+    """The plan's number, which names the run. Whether the text is a plan is for the agent to say."""
+    with open(plan, encoding="ascii", errors="replace") as file:
+        words = [file.readline(), file.readline()][1].split()
+    return int(words[1]) if len(words) == 2 and words[1].isascii() and words[1].isdigit() else 0
+
+
+def link_of(given: argparse.Namespace) -> Link:
+    if given.broker:
+        return MqttLink(given.broker, number_of(given.plan), given.id, given.patience)
+    return UdpLink(given.listen, given.peers or [], given.group)
+
+
+def cell_of(words: Sequence[str]) -> Cell:
+    return int(words[0]), int(words[1])
+
+
+class Robot:
+    """The loop, from a start of the agent to its end. Each answer of the agent is told to the watcher before anything is done with it."""
+
+    def __init__(self, given: argparse.Namespace, link: Link, wire: Wire, agent: Agent):
+        self.link, self.wire, self.agent = link, wire, agent
+        self.question, self.every = "tell" if given.tell else "say", given.every
+        # Where the drive is to go, and whether something has changed since a start was refused.
+        self.target: Optional[Cell] = None
+        self.may_start = True
+        self.says_at = self.goes_at = 0.0
+
+    def ask(self, line: str) -> list[str]:
+        """The words of an answer, which is reported. An agent whose tape failed has ended."""
+        answer = self.agent.ask(line)
+        self.wire.tell(f"{line} {answer}")
+        if answer == STORE_FAILED:
+            raise Ended
+        return answer.split()
+
+    def begin(self) -> None:
+        """Takes over what the agent's first line says, and looks where the drive is."""
+        self.wire.tell(f"opened {self.agent.first}")
+        first, drive = self.agent.first.split(), self.wire.where()
+        cells = {cell_of(first[1:3])}
+        if first[0] == "between":
+            self.target = cell_of(first[3:5])
+            cells.add(self.target)
+        if not {cell_of(drive[at : at + 2]) for at in range(1, len(drive), 2)} <= cells:
+            raise Misplaced(f"the drive {' '.join(drive)}, and the tape says {self.agent.first}")
+        self.say()
+
+    def say(self) -> None:
+        answer = self.ask(self.question)
+        if answer[0] == "said":
+            self.link.send(bytes.fromhex(answer[1]))
+        # Robots that were started together don't speak together for ever.
+        self.says_at = time.monotonic() + self.every * random.uniform(0.8, 1.2)
+
+    def hear(self, message: bytes) -> None:
+        """Gives a message to the agent. What it refuses is none of this plan, and is dropped."""
+        digits = message.hex()
+        answer = self.agent.ask(f"hear {digits}") if len(message) <= LONGEST_MESSAGE else "refused BadLine"
+        if answer.startswith("heard "):
+            self.wire.tell(f"hear {digits} {answer}")
+            self.may_start = True
+        else:
+            self.wire.tell(f"dropped {answer}")
+
+    def start(self) -> None:
+        self.may_start = False
+        answer = self.ask("start")
+        if answer[0] == "moving":
+            self.target = cell_of(answer[1:3])
+            self.goes_at = 0.0
+
+    def finish(self) -> None:
+        if self.ask("finish")[0] == "arrived":
+            self.target, self.may_start = None, True
+            self.say()
+
+    def heed_drive(self) -> None:
+        for words in self.wire.told():
+            if words[0] == "slipped":
+                self.goes_at = 0.0
+            elif words[0] == "stands" and self.target == cell_of(words[1:3]):
+                self.finish()
+
+    def do_what_is_due(self) -> None:
+        if self.target is None and self.may_start:
+            self.start()
+        now = time.monotonic()
+        if self.target is not None and now >= self.goes_at:
+            self.wire.tell(f"go {self.target[0]} {self.target[1]}")
+            self.goes_at = now + AGAIN
+        if now >= self.says_at:
+            self.say()
+
+    def live(self) -> None:
+        """Until the agent ends, or the robot is asked to."""
+        self.begin()
+        with selectors.DefaultSelector() as selector:
+            for source in (self.agent, self.link, self.wire):
+                selector.register(source.fileno(), selectors.EVENT_READ, source)
+            while True:
+                self.do_what_is_due()
+                due = self.says_at if self.target is None else min(self.says_at, self.goes_at)
+                for key, _ in selector.select(max(0.0, due - time.monotonic())):
+                    if key.data is self.agent:
+                        raise Ended
+                    elif key.data is self.wire:
+                        self.heed_drive()
+                    else:
+                        for message in self.link.received():
+                            self.hear(message)
+
+
+def drive(given: argparse.Namespace) -> None:
+    """One agent after another, each started when the one before has ended."""
+    lock = Lock(f"{given.tape}.lock", f"robot {given.id}: waits until the robot before it and its agent have ended")
+    with contextlib.closing(link_of(given)) as link:
+        wire = Wire(given.drive, given.id)
+        while True:
+            with contextlib.suppress(Ended):
+                agent = Agent([given.program, "agent", given.map, given.plan, str(given.id), given.tape], lock)
+                try:
+                    Robot(given, link, wire, agent).live()
+                finally:
+                    agent.end()
+            time.sleep(PAUSE)
+
+
+def main(words: Sequence[str]) -> int:
+    given = read_words(words)
+    try:
+        drive(given)
+    except Unfit as fault:
+        why, status = str(fault), fault.status
+    except (NoClient, NoBroker, NoWatcher, Misplaced) as fault:
+        why, status = str(fault), FAILED
+    except OSError as fault:
+        where = fault.filename or (given.listen and "{}:{}".format(*given.listen)) or given.tape
+        why, status = f"{where}: {fault.strerror or fault}", FAILED
+    print(f"robot {given.id}: {why}", file=sys.stderr)
+    return status
+
+
+if __name__ == "__main__":
+    heed_signals()
+    sys.exit(main(sys.argv[1:]))
