@@ -102,6 +102,9 @@ fn coordinate(digits: &[u8]) -> Option<u16>
 fn other_place(bytes: &[u8]) -> Option<usize>
     ensures { MatchOption result (IsTrue (list_all is_act bytes.now)) (λ i. (list_all is_act bytes.now ≡ false) × (i ≡ prefix_len is_act bytes.now) × (i < length bytes.now)) }
 {
+    if are_acts(bytes) {
+        return None;
+    }
     for (i, b) in bytes.iter().enumerate() {
         if !is_act(*b) {
             return Some(i);
@@ -110,10 +113,22 @@ fn other_place(bytes: &[u8]) -> Option<usize>
     None
 }
 
+/// Whether all bytes are acts. It goes on behind one that is none, so that many bytes can be judged at once.
+fn are_acts(bytes: &[u8]) -> bool
+    ensures { result ≡ list_all is_act bytes.now }
+{
+    let mut are_acts = true;
+    for b in bytes {
+        are_acts &= is_act(*b);
+    }
+    are_acts
+}
+
+/// Whether the byte is an act. It asks for each act by itself, without a branch.
 fn is_act(b: u8) -> bool
     ensures { result ≡ is_act b }
 {
-    matches!(b, b'n' | b'e' | b's' | b'w' | b'-')
+    (b == b'n') | (b == b'e') | (b == b's') | (b == b'w') | (b == b'-')
 }
 
 /// The acts of characters that each stand for one.
