@@ -3,35 +3,18 @@ use Rattle.std.proofs.Common.{◌≡◌, ℕ, ◌+◌, ◌<◌, ◌≤◌, ◌�
 use Rattle.std.specs.Prelude.{MatchOption, nat_lt, slice_get}
 use Rattle.std.proofs.lemmas.Bool.{cases_lt, cond_both, ltb-true, ltb-false}
 use Rattle.grid.specs.declared.cell.Cell.{Cell}
-use Rattle.grid.specs.Map.{Grid, IsSize, IsStraightStep}
-use Rattle.model.specs.declared.act.Act.{Act}
-use Rattle.model.specs.declared.act.Act.TheVariants.{Wait}
-use Rattle.model.specs.Plan.{Course, position_of, position_at, moved, IsLegal, IsBadMove}
+use Rattle.grid.specs.Map.{Grid, IsSize}
+use Rattle.model.specs.Plan.{Course, position_of, position_at, IsBadMove}
 use Rattle.model.specs.Timetable.{cell_after}
 use Rattle.model.proofs.PlaceLemmas.{same_place}
 use Rattle.plan_text.specs.Limits.{most_acts}
 use Rattle.plan.specs.Code.Standing.{IsOnGrid}
 use Rattle.plan.specs.Code.Tracks.{cells_along}
-use Rattle.plan.specs.Code.Walking.{HasBadMove, IsFirst, IsMoved, LeadsBeside}
+use Rattle.plan.specs.Code.Walking.{HasBadMove, IsFirst}
 use Rattle.plan.proofs.CourseLemmas.{Stays, along-places}
-use Rattle.plan.proofs.WalkingLemmas.{bad_at, bad-has_act, course_from, leads-joined, position-stays, step_from_legal}
+use Rattle.plan.proofs.WalkingLemmas.{bad_at, bad-has_act, course_from, position-stays}
 use Rattle.path_commands.specs.Code.Straying.{GoesItsWay, IsFirstMove, IsLeastMove, sooner_of}
 use Rattle.path_commands.specs.declared.straying.BadMove.{BadMove}
-
--- ---- one step
-
--- where no straight step leads, the act is not legal
-none_legal : (m : Grid) (from to : Cell) (act : Act) → LeadsBeside from act to → (IsStraightStep m from to → ⊥)
-    → IsLegal m (position_of from) (moved act (position_of from)) → ⊥
-none_legal m from to act (inl at) none h = none (step_from_legal m from to (moved act (position_of from)) at h)
-none_legal m from to act (inr apart) none h = apart.0 h.v h.is_to
-
--- where an act that is no wait leads, if a straight step does
-pub moved_by : (m : Grid) (from to : Cell) (act : Act) (answer : Option Cell) → IsSize m.width m.height → (act ≡ Wait → ⊥) → LeadsBeside from act to
-    → MatchOption answer (IsStraightStep m from to → ⊥) (λ cell. (cell ≡ to) × IsStraightStep m from to) → IsMoved m from act answer
-moved_by m from to act None size acts beside none = (acts, none_legal m from to act beside none)
-moved_by m from to act (Some cell) size acts beside there =
-    subst (λ c. IsMoved m from act (Some c)) (sym there.0) (leads-joined m from to act size beside there.1.joined)
 
 -- ---- one agent
 

@@ -5,7 +5,7 @@ ghost use Rattle.grid.specs.Counted.{counted_inner, failures_of};
 ghost use Rattle.grid.specs.Sink.{held_back, Puts, Breaks};
 ghost use Rattle.grid.specs.Writing.{WritesText};
 ghost use Rattle.model.specs.Timetable.{cell_at};
-ghost use Rattle.plan.specs.Code.Tracks.{cell_by, track_along};
+ghost use Rattle.plan.specs.Code.Tracks.{track_along};
 ghost use Rattle.plan.specs.Code.Walking.{start_cells};
 ghost use Rattle.path_commands.specs.PathText.{count_of_times, numbers_of, path_line, path_text};
 ghost use Rattle.path_commands.specs.Code.Numerals.{AreNumerals};
@@ -14,7 +14,7 @@ ghost use Rattle.path_commands.specs.Code.Rows.{AllWalked, IsWalked, row_at, row
 use crate::numerals::{Numeral, Pair};
 use grid::{Cell, Counted, Sink, WriteFault};
 use itoa::Buffer;
-use plan::Act;
+use plan::next_cell;
 use plan_text::Course;
 use std::alloc::{AllocError, Global};
 use std::io::Write;
@@ -160,26 +160,4 @@ fn after(course: &Course, step: usize, cell: Cell) -> Cell
     } else {
         cell
     }
-}
-
-/// The cell to which an act leads. It asks for each act by itself, since which one comes can't be foreseen.
-fn next_cell(cell: Cell, act: Act) -> Cell
-    requires column { (cell_by act cell).x < 65536 }
-    requires row { (cell_by act cell).y < 65536 }
-    ensures { result ≡ cell_by act cell }
-{
-    let mut next = cell;
-    if matches!(act, Act::N) {
-        next.y = cell.y.saturating_sub(1);
-    }
-    if matches!(act, Act::E) {
-        next.x = cell.x + 1;
-    }
-    if matches!(act, Act::S) {
-        next.y = cell.y + 1;
-    }
-    if matches!(act, Act::W) {
-        next.x = cell.x.saturating_sub(1);
-    }
-    next
 }

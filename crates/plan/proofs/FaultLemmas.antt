@@ -1,8 +1,8 @@
 -- The least fault of a time, by the cells of the agents.
-use Rattle.std.proofs.Common.{◌≡◌, ℕ, ◌+◌, ◌<◌, ◌≤◌, ◌⊎◌, List, [], length, get_or, Some, None, arith, refl, sym, ap, subst, inl, inr, ◌∙◌}
-use Rattle.std.specs.Prelude.{MatchOption, Contains}
+use Rattle.std.proofs.Common.{◌≡◌, ℕ, ◌+◌, ◌<◌, ◌≤◌, ◌⊎◌, List, length, get_or, Some, None, arith, refl, sym, ap, subst, inl, inr, ◌∙◌}
+use Rattle.std.specs.Prelude.{MatchOption}
 use Rattle.std.proofs.lemmas.Bool.{cases_lt}
-use Rattle.std.proofs.lemmas.Option.{slice_get_within, slice_get-get_or, get_or_from_slice_get}
+use Rattle.std.proofs.lemmas.Option.{slice_get_within, slice_get-get_or}
 use Rattle.grid.specs.declared.cell.Cell.{Cell}
 use Rattle.grid.specs.Map.{Grid}
 use Rattle.model.specs.declared.plan_fault.PlanFault.{PlanFault}
@@ -12,9 +12,9 @@ use Rattle.model.proofs.Options.{found}
 use Rattle.model.proofs.PlaceLemmas.{same_place}
 use Rattle.plan.specs.declared.meeting.Pair.{Pair}
 use Rattle.plan.specs.Code.Standing.{cell_in, entry_at, AreOnGrid, IsStandingTable, rank_of, AreTogether, AreSwapped, IsLeastPair}
-use Rattle.plan.specs.Code.Walking.{AreAt, IsActive, IsFirst, IsAdvanced, HasBadMove, HasBadStart, ArePassable}
+use Rattle.plan.specs.Code.Walking.{AreAt, IsFirst, IsAdvanced, HasBadMove, HasBadStart, ArePassable}
 use Rattle.plan.specs.Code.Watching.{IsClean}
-use Rattle.plan.proofs.WalkingLemmas.{no_course, may_act, position-stays, course_from, bad-has_act}
+use Rattle.plan.proofs.WalkingLemmas.{no_course, position-stays, course_from, bad-has_act}
 
 -- ---- who is where
 
@@ -194,7 +194,7 @@ least_swap m p step width now next table pair at at_next count clean good entrie
 
 -- ---- no fault of a time
 
-clean_more : (m : Grid) (p : Plan) (t : ℕ) → IsClean m p t → ((fault : PlanFault) → HasPlanFault m p fault → (key_of fault).time ≡ t → ⊥) → IsClean m p (t + 1)
+pub clean_more : (m : Grid) (p : Plan) (t : ℕ) → IsClean m p t → ((fault : PlanFault) → HasPlanFault m p fault → (key_of fault).time ≡ t → ⊥) → IsClean m p (t + 1)
 clean_more m p t clean none fault has less = elim (cases_lt (key_of fault).time t) [
   | inl before ↦ clean fault has before
   | inr after ↦ none fault has (omega (arith, less, after))
@@ -247,31 +247,11 @@ on_map-next m courses step next count ahead i is =
     let there = slice_get-get_or courses i no_course (omega (arith, count, is)) in
     (ahead i (get_or courses i no_course) there).on_map
 
--- an agent without an act in a step stays in its cell in that and each later one
-pub stays_put : (courses : List Course) (begun step : ℕ) (agents : List ℕ) (now next : List Cell) → begun ≤ step → IsActive courses begun agents → AreAt courses step now
-    → AreAt courses (step + 1) next → (i : ℕ) → i < length courses → Contains agents i ⊎ (cell_in next i ≡ cell_in now i)
-stays_put courses begun step agents now next later active at after i is =
-    let there = slice_get-get_or courses i no_course is in
-    let course = get_or courses i no_course in
-    elim (may_act courses begun agents i active is) [
-      | inl acts ↦ inl acts
-      | inr past ↦ inr (same_place (cell_in next i) (cell_in now i)
-          (after.each i course there ∙ position-stays (position_of course.start) course.acts step (step + 1) (omega (arith, past, later)) (omega arith) ∙ sym (at.each i course there)))
-    ]
-
 -- ---- all acts are over
 
-pub valid_at_end : (m : Grid) (p : Plan) (begun step : ℕ) → begun ≤ step → IsClean m p (step + 1) → IsActive p.courses begun [] → IsValid m p
-valid_at_end m p begun step later clean active = valid where
-  over : (i : ℕ) (course : Course) → course_of p i ≡ Some course → length course.acts ≤ step
-  over i course there = elim (may_act p.courses begun [] i active (slice_get_within p.courses i course there)) [
-    | inl some ↦ (let none = some.1 in absurd (omega (arith, none)))
-    | inr past ↦ (
-        let same = get_or_from_slice_get p.courses i course no_course there in
-        let less : length course.acts ≤ begun = subst (λ k. length k.acts ≤ begun) same past in omega (arith, less, later)
-        )
-  ]
-
+pub valid_at_end : (m : Grid) (p : Plan) (step : ℕ) → ((i : ℕ) (course : Course) → course_of p i ≡ Some course → length course.acts ≤ step)
+    → IsClean m p (step + 1) → IsValid m p
+valid_at_end m p step over clean = valid where
   -- where an agent is later it is already
   already : (i t : ℕ) (place : Position) → step ≤ t → IsAt p i t place → IsAt p i step place
   already i t place later is =

@@ -3,10 +3,15 @@ pub mod MeetingLemmas
 pub mod WalkingLemmas
 pub mod FaultLemmas
 pub mod StretchLemmas
-pub mod BlockLemmas
 pub mod RestingLemmas
 pub mod StartLemmas
 pub mod CourseLemmas
 pub mod TimetableLemmas
 pub mod KeptLemmas
 pub mod FitLemmas
+pub mod CrowdLemmas
+pub mod BoardLemmas
+pub mod SquareLemmas
+pub mod RowLemmas
+pub mod AgentLemmas
+pub mod UnderWayLemmas

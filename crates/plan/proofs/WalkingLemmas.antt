@@ -1,12 +1,11 @@
 -- Legal steps, and the acts of a step.
-use Rattle.std.proofs.Common.{◌≡◌, ◌≢◌, ℕ, zero, suc, ◌+◌, ◌*◌, ◌<◌, ◌≤◌, pos, ◌+ℤ◌, ◌-ℤ◌, Bool, true, false, cond, map, List, [], ◌∷◌, ◌++◌, length, get_or, drop, Some, None, arith, refl, sym, ap, subst, inl, inr, ◌∙◌}
-use Rattle.std.specs.Prelude.{Option, ◌⊎◌, MatchOption, Contains, IsTrue, ◌&&◌, ◌||◌, ◌==◌, nat_lt, slice_get}
-use Rattle.std.proofs.lemmas.Bool.{cases_Bool, cases_lt, cond_both, cond-true, cond-false, and_parts, and_from, ltb-true, lt-ltb, false≢true}
-use Rattle.std.proofs.lemmas.List.Elements.{Contains-push_cases, All-weaker, All-get_or, All-from_recursion, filter_passes}
-use Rattle.std.specs.List.{filter}
+use Rattle.std.proofs.Common.{◌≡◌, ◌≢◌, ℕ, zero, suc, ◌+◌, ◌*◌, ◌<◌, ◌≤◌, pos, ◌+ℤ◌, ◌-ℤ◌, Bool, true, false, cond, map, List, [], ◌∷◌, length, get_or, Some, None, arith, refl, sym, ap, subst, inl, inr, ◌∙◌}
+use Rattle.std.specs.Prelude.{Option, MatchOption, IsTrue, ◌&&◌, ◌||◌, ◌==◌, nat_lt, slice_get}
+use Rattle.std.proofs.lemmas.Bool.{cond-true, and_parts, and_from, ltb-true, ltb-false, lt-ltb}
+use Rattle.std.proofs.lemmas.List.Elements.{All-get_or, All-from_recursion}
 use Rattle.std.proofs.lemmas.Int.{ints}
-use Rattle.std.proofs.lemmas.List.{drop_more, get_or-map}
-use Rattle.std.proofs.lemmas.Option.{slice_get_past, slice_get_within, slice_get-get_or}
+use Rattle.std.proofs.lemmas.List.{get_or-map}
+use Rattle.std.proofs.lemmas.Option.{slice_get_past, slice_get_within, slice_get-get_or, get_or_from_slice_get}
 use Rattle.grid.specs.declared.cell.Cell.{Cell}
 use Rattle.grid.specs.declared.terrain.Terrain.{Terrain}
 use Rattle.grid.specs.declared.terrain.Terrain.TheVariants.{Floor, Grass, Void, OutOfBounds, Trees, Swamp, Water}
@@ -19,8 +18,7 @@ use Rattle.model.proofs.PlaceLemmas.{same_place, position_after-end}
 use Rattle.model.proofs.Options.{found}
 use Rattle.plan_text.specs.Limits.{IsCourse, IsPlan}
 use Rattle.plan.specs.Code.Standing.{place_in, IsOnGrid}
-use Rattle.plan.specs.Code.Walking.{IsRising, CanAct, is_within_acts, has_act, IsActive, IsMoved, LeadsBeside, is_land, joins_by, LeadsTo, IsAhead, HasBadMove}
-use Rattle.plan.proofs.MeetingLemmas.{Contains-cases}
+use Rattle.plan.specs.Code.Walking.{is_within_acts, has_act, IsMoved, LeadsBeside, is_land, joins_by, LeadsTo, IsAhead, HasBadMove}
 
 -- ---- legal steps
 
@@ -44,7 +42,7 @@ step_from_legal m from to place at h =
     subst (λ c. IsStraightStep m c to) (same_place h.u from h.is_from)
     (subst (λ c. IsStraightStep m h.u c) (same_place h.v to (h.is_to ∙ sym at)) h.step)
 
-legal_from_step : (m : Grid) (from to : Cell) (place : Position) → position_of to ≡ place → IsStraightStep m from to → IsLegal m (position_of from) place
+pub legal_from_step : (m : Grid) (from to : Cell) (place : Position) → position_of to ≡ place → IsStraightStep m from to → IsLegal m (position_of from) place
 legal_from_step m from to place at step = record { u = from; v = to; is_from = refl; is_to = at; step = step }
 
 leads-wait : (m : Grid) (from to : Cell) (act : Act) → IsOnGrid m from → act ≡ Wait → position_of to ≡ moved act (position_of from) → LeadsTo m from act to
@@ -56,7 +54,7 @@ pub on_map_from_step : (m : Grid) (u v : Cell) → IsStraightStep m u v → IsOn
 on_map_from_step m u v step = on_map_from_terrain m v (λ t. Unit {0}) (joined_to (terrain_at m u) (terrain_at m v) step.joined)
 
 -- an act that is no wait leads to a cell beside
-beside_by : (from to : Cell) (act : Act) → act ≢ Wait → position_of to ≡ moved act (position_of from) → ShareSide from to
+pub beside_by : (from to : Cell) (act : Act) → act ≢ Wait → position_of to ≡ moved act (position_of from) → ShareSide from to
 beside_by from to N other at =
     let x : pos to.x ≡ pos from.x = ap (λ p. p.x) at in
     let y : pos to.y ≡ pos from.y -ℤ pos 1 = ap (λ p. p.y) at in
@@ -152,7 +150,7 @@ joins-characters : (t u : Terrain) → joins_by (character_of t) (character_of u
 joins-characters t u = simp (land-character, water-character) (joins_class (class_of t) (class_of u))
 
 -- the terrain of a cell on the map, and its character
-terrain_on : (m : Grid) (c : Cell) → IsMap m → IsOnGrid m c → place_in m.width c < length m.terrain → terrain_at m c ≡ Some (get_or m.terrain (place_in m.width c) Floor)
+pub terrain_on : (m : Grid) (c : Cell) → IsMap m → IsOnGrid m c → place_in m.width c < length m.terrain → terrain_at m c ≡ Some (get_or m.terrain (place_in m.width c) Floor)
 terrain_on m c is_map on within =
     cond-true (nat_lt c.x m.width && nat_lt c.y m.height) _ _ (and_from (nat_lt c.x m.width) (nat_lt c.y m.height) (lt-ltb c.x m.width on.column) (lt-ltb c.y m.height on.row))
     ∙ slice_get-get_or m.terrain (place_in m.width c) Floor within
@@ -254,96 +252,19 @@ pub course_from : (m : Grid) (courses : List Course) (step i : ℕ) → HasBadMo
     → (course : Course) × (slice_get courses i ≡ Some course) × IsBadMove m course step
 course_from m courses step i bad = found (slice_get courses i) (λ k. IsBadMove m k step) bad
 
--- ---- rising numbers
+-- ---- agents with an act
 
-pub rising-more : (agents : List ℕ) (n : ℕ) → n < length agents → IsRising (drop n agents)
-    → ((j : ℕ) → Contains (drop (n + 1) agents) j → get_or agents n 0 < j) × IsRising (drop (n + 1) agents)
-rising-more agents n less h = subst IsRising (drop_more agents n 0 less) h
+pub has_act-more : (courses : List Course) (step i : ℕ) (course : Course) → has_act courses step i ≡ true → slice_get courses i ≡ Some course → step < length course.acts
+has_act-more courses step i course h there = ltb-true step (length course.acts) (sym (ap (is_within_acts step) there) ∙ h)
 
-pub Contains-cons : (a i : ℕ) (rest : List ℕ) → Contains rest i → Contains (a ∷ rest) i
-Contains-cons a i rest (k, less, is) = (suc k, omega (arith, less), is)
-
-pub rising-push : (agents : List ℕ) (n : ℕ) → IsRising agents → ((j : ℕ) → Contains agents j → j < n) → IsRising (agents ++ n ∷ [])
-rising-push [] n h below = (λ j comes. absurd (let none = comes.1 in omega (arith, none)), tt)
-rising-push (i ∷ agents) n h below = (
-  λ j comes. elim (Contains-push_cases agents n j comes) [
-    | inl there ↦ h.0 j there
-    | inr last ↦ (let less = below i (0, omega arith, refl) in omega (arith, last, less))
-  ],
-  rising-push agents n h.1 (λ j comes. below j (Contains-cons i j agents comes)),
-)
-
--- ---- what a test keeps of rising numbers
-
-pub Contains-filter : (test : ℕ → Bool) (agents : List ℕ) (i : ℕ) → Contains agents i → test i ≡ true → Contains (filter test agents) i
-Contains-filter test [] i h passes = absurd (let none = h.1 in omega (arith, none))
-Contains-filter test (a ∷ agents) i h passes = elim (Contains-cases a i agents h) [
-  | inl same ↦ subst (λ l. Contains l i) (sym (cond-true (test a) _ _ (ap test (sym same) ∙ passes))) (0, omega arith, sym same)
-  | inr later ↦ cond_both (test a) (a ∷ filter test agents) (filter test agents) (λ l. Contains l i)
-      (λ e. Contains-cons a i (filter test agents) (Contains-filter test agents i later passes)) (λ e. Contains-filter test agents i later passes)
-]
-
-pub Contains-from_filter : (test : ℕ → Bool) (agents : List ℕ) (i : ℕ) → Contains (filter test agents) i → Contains agents i
-Contains-from_filter test [] i h = h
-Contains-from_filter test (a ∷ agents) i h = elim (cases_Bool (test a)) [
-  | inl passes ↦ elim (Contains-cases a i (filter test agents) (subst (λ l. Contains l i) (cond-true (test a) _ _ passes) h)) [
-    | inl same ↦ (0, omega arith, sym same)
-    | inr later ↦ Contains-cons a i agents (Contains-from_filter test agents i later)
-  ]
-  | inr fails ↦ Contains-cons a i agents (Contains-from_filter test agents i (subst (λ l. Contains l i) (cond-false (test a) _ _ fails) h))
-]
-
-pub rising-filter : (test : ℕ → Bool) (agents : List ℕ) → IsRising agents → IsRising (filter test agents)
-rising-filter test [] h = h
-rising-filter test (a ∷ agents) h = cond_both (test a) (a ∷ filter test agents) (filter test agents) IsRising
-    (λ e. (λ j comes. h.0 j (Contains-from_filter test agents j comes), rising-filter test agents h.1)) (λ e. rising-filter test agents h.1)
-
-has_act-can : (courses : List Course) (step i : ℕ) → has_act courses step i ≡ true → CanAct courses step i
-has_act-can courses step i h = by_course (slice_get courses i) refl h where
-  by_course : (o : Option Course) → slice_get courses i ≡ o → is_within_acts step o ≡ true → CanAct courses step i
-  by_course None e h = absurd (false≢true h)
-  by_course (Some course) e h = record {
-    is_agent = slice_get_within courses i course e;
-    has_act = λ other is. (let same : course ≡ other = cc in subst (λ k. step < length k.acts) same (ltb-true step (length course.acts) h));
-  }
-
-can-has_act : (courses : List Course) (step i : ℕ) → CanAct courses step i → has_act courses step i ≡ true
-can-has_act courses step i h =
-    let course = get_or courses i no_course in
-    let there = slice_get-get_or courses i no_course h.is_agent in
-    ap (is_within_acts step) there ∙ lt-ltb step (length course.acts) (h.has_act course there)
-
-pub active-filter : (courses : List Course) (step : ℕ) (agents kept : List ℕ) → IsRising agents → ((i : ℕ) → CanAct courses step i → Contains agents i)
-    → kept ≡ filter (has_act courses step) agents → IsActive courses step kept
-active-filter courses step agents kept rising all is = subst (IsActive courses step) (sym is) (record {
-  rising = rising-filter (has_act courses step) agents rising;
-  can_act = All-weaker (λ i. has_act courses step i ≡ true) (CanAct courses step) (has_act-can courses step) (filter (has_act courses step) agents)
-      (filter_passes (has_act courses step) agents);
-  all = λ i can. Contains-filter (has_act courses step) agents i (all i can) (can-has_act courses step i can);
-})
-
--- an agent is one of those that have an act in the step, or its acts are over
-pub may_act : (courses : List Course) (step : ℕ) (agents : List ℕ) (i : ℕ) → IsActive courses step agents → i < length courses
-    → Contains agents i ⊎ (length (get_or courses i no_course).acts ≤ step)
-may_act courses step agents i active is = elim (cases_lt step (length (get_or courses i no_course).acts)) [
-  | inl less ↦ inl (active.all i (record {
-    is_agent = is;
-    has_act = λ other there. (
-        let here = slice_get-get_or courses i no_course is in
-        let same : get_or courses i no_course ≡ other = cc in
-        subst (λ k. step < length k.acts) same less
-        );
-  }))
-  | inr past ↦ inr past
-]
+pub has_act-over : (courses : List Course) (step i : ℕ) (course : Course) → has_act courses step i ≡ false → slice_get courses i ≡ Some course → length course.acts ≤ step
+has_act-over courses step i course h there = ltb-false step (length course.acts) (sym (ap (is_within_acts step) there) ∙ h)
 
 -- where some agent has an act in the step, that is one of the acts that a plan may have
-pub step_limit : (p : Plan) (step : ℕ) (agents : List ℕ) → IsPlan p → IsActive p.courses step agents → 0 < length agents → step < 65535
-step_limit p step agents within active some =
-    let can : CanAct p.courses step (get_or agents 0 0) = All-get_or (CanAct p.courses step) agents 0 0 some active.can_act in
-    let i = get_or agents 0 0 in
-    let course = get_or p.courses i no_course in
-    let is_agent = can.is_agent in
-    let less = can.has_act course (slice_get-get_or p.courses i no_course is_agent) in
-    let most = (All-get_or IsCourse p.courses i no_course is_agent (All-from_recursion IsCourse p.courses within.courses)).acts_limit in
+pub step_limit : (p : Plan) (step i : ℕ) (course : Course) → IsPlan p → has_act p.courses step i ≡ true → slice_get p.courses i ≡ Some course → step < 65535
+step_limit p step i course within h there =
+    let less = has_act-more p.courses step i course h there in
+    let is_agent = slice_get_within p.courses i course there in
+    let same = get_or_from_slice_get p.courses i course no_course there in
+    let most = (subst IsCourse same (All-get_or IsCourse p.courses i no_course is_agent (All-from_recursion IsCourse p.courses within.courses))).acts_limit in
     omega (arith, less, most)

@@ -6,11 +6,17 @@ pub mod Tracks
 pub mod Standing
 -- where the acts of a step lead, and which agents have one
 pub mod Walking
--- blocks of steps, through which each agent is walked at once
-pub mod Blocks
--- what a checker has seen up to a time
-pub mod Watching
 -- a course without what the agent waits at its end
 pub mod Resting
 -- what is answered of an agent and the row of its number
 pub mod Rows
+-- the squares of a board: the cells of a map, and a rim around them
+pub mod Squares
+-- what a step does to walkers, and to the squares among which they go
+pub mod Crowd
+-- which agents of a plan are under way, and where
+pub mod UnderWay
+-- blocks of steps, and who is under way in them
+pub mod Blocks
+-- what a checker has seen up to a time
+pub mod Watching

@@ -5,5 +5,7 @@
 pub mod Checking
 -- when a plan solves the first rows of a scenario, and why not
 pub mod Fitting
+-- where agents may start, and where an act leads
+pub mod Moving
 -- The code's own words, of which no promise speaks.
 pub mod Code

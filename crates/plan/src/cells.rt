@@ -2,8 +2,9 @@
 ghost use Rattle.std.specs.Prelude.{◌≡◌, ◌<◌};
 ghost use Rattle.std.specs.Iterator.{YieldsFirst, item_count};
 ghost use Rattle.model.specs.Timetable.{cell_after};
-ghost use Rattle.plan.specs.Code.Tracks.{cell_by, cells_along, StaysInRange};
+ghost use Rattle.plan.specs.Code.Tracks.{cells_along, StaysInRange};
 
+use crate::moving::next_cell;
 use grid::Cell;
 use model::Act;
 use std::marker::Model;
@@ -72,26 +73,4 @@ pub(crate) fn cell_after(start: Cell, acts: &[Act], time: u32) -> Cell
         cell = next_cell(cell, acts[step]);
     }
     cell
-}
-
-/// The cell to which an act leads. It asks for each act by itself, since which one comes can't be foreseen.
-fn next_cell(cell: Cell, act: Act) -> Cell
-    requires column { (cell_by act cell).x < 65536 }
-    requires row { (cell_by act cell).y < 65536 }
-    ensures { result ≡ cell_by act cell }
-{
-    let mut next = cell;
-    if matches!(act, Act::N) {
-        next.y = cell.y.saturating_sub(1);
-    }
-    if matches!(act, Act::E) {
-        next.x = cell.x + 1;
-    }
-    if matches!(act, Act::S) {
-        next.y = cell.y + 1;
-    }
-    if matches!(act, Act::W) {
-        next.x = cell.x.saturating_sub(1);
-    }
-    next
 }

@@ -3,8 +3,8 @@ ghost use Rattle.std.specs.Prelude.{◌≡◌, ◌<◌, ◌≤◌, ◌↔◌, le
 ghost use Rattle.grid.specs.Map.{terrain_at, AreJoined};
 ghost use Rattle.model.specs.Plan.{IsPassable};
 ghost use Rattle.plan_text.specs.Limits.{most_agents};
-ghost use Rattle.plan.specs.Code.Standing.{IsOnGrid};
-ghost use Rattle.plan.specs.Code.Walking.{LeadsBeside, IsMoved, ArePassable, HasBadStart, IsFirst, is_land, joins_by};
+ghost use Rattle.plan.specs.Moving.{IsOnGrid, IsFirst, ArePassable, HasBadStart, IsMoved, cell_by};
+ghost use Rattle.plan.specs.Code.Walking.{LeadsBeside, is_land, joins_by};
 
 use crate::meeting::place_of;
 use grid::{Cell, Map, Terrain};
@@ -12,7 +12,7 @@ use model::Act;
 use plan_text::Course;
 
 /// The first agent whose start is off the map or blocked.
-pub(crate) fn bad_start(map: &Map, courses: &[Course]) -> Option<u32>
+pub fn bad_start(map: &Map, courses: &[Course]) -> Option<u32>
     requires { length courses.now ≤ most_agents }
     ensures { MatchOption result (ArePassable map.now courses.now) (IsFirst (HasBadStart map.now courses.now)) }
 {
@@ -35,7 +35,7 @@ fn is_passable(map: &Map, cell: Cell) -> bool
 }
 
 /// The cell to which the act leads, if it is a wait or a legal step.
-pub(crate) fn moved(map: &Map, from: Cell, act: Act) -> Option<Cell>
+pub fn moved(map: &Map, from: Cell, act: Act) -> Option<Cell>
     requires { IsOnGrid map.now from }
     ensures { IsMoved map.now from act result }
 {
@@ -101,4 +101,26 @@ fn is_land(character: u8) -> bool
     ensures { result ≡ is_land character }
 {
     matches!(character, b'.' | b'G' | b'S')
+}
+
+/// The cell to which an act leads, on a map that is large enough. It asks for each act by itself, since which one comes can't be foreseen.
+pub fn next_cell(cell: Cell, act: Act) -> Cell
+    requires column { (cell_by act cell).x < 65536 }
+    requires row { (cell_by act cell).y < 65536 }
+    ensures { result ≡ cell_by act cell }
+{
+    let mut next = cell;
+    if matches!(act, Act::N) {
+        next.y = cell.y.saturating_sub(1);
+    }
+    if matches!(act, Act::E) {
+        next.x = cell.x + 1;
+    }
+    if matches!(act, Act::S) {
+        next.y = cell.y + 1;
+    }
+    if matches!(act, Act::W) {
+        next.x = cell.x.saturating_sub(1);
+    }
+    next
 }

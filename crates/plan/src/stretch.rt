@@ -6,7 +6,7 @@ use model::Act;
 use std::marker::Model;
 
 /// So many steps are walked at once.
-pub(crate) const BLOCK: usize = 32;
+pub(crate) const BLOCK: usize = 64;
 
 /// The acts of one agent in a block, with waits behind its last.
 #[derive(Debug, Drop)]

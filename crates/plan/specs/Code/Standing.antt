@@ -3,6 +3,7 @@ use Rattle.std.specs.Prelude.{◌≡◌, ℕ, ◌+◌, ◌*◌, ◌<◌, ◌≤�
 use Rattle.grid.specs.declared.cell.Cell.{Cell}
 use Rattle.grid.specs.Map.{Grid}
 use Rattle.plan.specs.declared.meeting.Pair.{Pair}
+pub use Rattle.plan.specs.Moving.{IsOnGrid}
 
 -- the cell of an agent; where there is no such agent, anything may stand for it
 abbrev pub cell_in : List Cell → ℕ → Cell
@@ -15,11 +16,6 @@ place_in width c = c.y * width + c.x
 -- who was last put in the cell
 abbrev pub entry_at : ℕ → List ℕ → Cell → ℕ
 entry_at width table c = get_or table (place_in width c) 0
-
--- the cell is one of the map
-pub record IsOnGrid (m : Grid) (c : Cell) : Type 0 where
-  pub column : c.x < m.width
-  pub row : c.y < m.height
 
 abbrev pub AreOnGrid : Grid → List Cell → Type 0
 AreOnGrid m cells = (i : ℕ) → i < length cells → IsOnGrid m (cell_in cells i)

@@ -1,21 +1,13 @@
 -- The cells of an agent, one act after another.
-use Rattle.std.specs.Prelude.{◌≡◌, ℕ, ◌+◌, ◌-◌, ◌<◌, ◌≤◌, List, [], ◌∷◌, length, Option, Some, None, MatchOption}
+use Rattle.std.specs.Prelude.{◌≡◌, ℕ, ◌<◌, ◌≤◌, List, [], ◌∷◌, length, Option, Some, None, MatchOption}
 use Rattle.grid.specs.declared.cell.Cell.{Cell}
 use Rattle.model.specs.declared.act.Act.{Act}
-use Rattle.model.specs.declared.act.Act.TheVariants.{N, E, S, W, Wait}
 use Rattle.model.specs.Plan.{Course}
 use Rattle.model.specs.Timetable.{Track, cell_after, track_of}
 use Rattle.model.specs.Costs.{cost}
 use Rattle.plan_text.specs.Limits.{most_acts}
 use Rattle.plan.specs.Checking.{Checked}
-
--- the cell to which an act leads; beyond the west and the north there is none, and anything may stand for it
-abbrev pub cell_by : Act → Cell → Cell
-cell_by N c = record { x = c.x; y = c.y - 1 }
-cell_by E c = record { x = c.x + 1; y = c.y }
-cell_by S c = record { x = c.x; y = c.y + 1 }
-cell_by W c = record { x = c.x - 1; y = c.y }
-cell_by Wait c = c
+pub use Rattle.plan.specs.Moving.{cell_by}
 
 abbrev pub cells_along : Cell → List Act → List Cell
 cells_along c [] = []

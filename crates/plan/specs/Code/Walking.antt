@@ -1,11 +1,11 @@
 -- Where the acts of a step lead, and which agents have one.
-use Rattle.std.specs.Prelude.{◌≡◌, ◌≢◌, ℕ, ◌+◌, ◌<◌, ◌⊎◌, List, [], ◌∷◌, length, map, All, Bool, false, nat_lt, ◌==◌, ◌&&◌, ◌||◌, Contains, Option, Some, None, MatchOption, slice_get}
+use Rattle.std.specs.Prelude.{◌≡◌, ℕ, ◌+◌, ◌<◌, ◌⊎◌, List, length, map, Bool, false, nat_lt, ◌==◌, ◌&&◌, ◌||◌, Option, Some, None, MatchOption, slice_get}
 use Rattle.grid.specs.declared.cell.Cell.{Cell}
 use Rattle.grid.specs.Map.{Grid}
 use Rattle.model.specs.declared.act.Act.{Act}
-use Rattle.model.specs.declared.act.Act.TheVariants.{Wait}
-use Rattle.model.specs.Plan.{Course, position_of, position_at, moved, IsLegal, IsPassable, IsBadMove}
-use Rattle.plan.specs.Code.Standing.{cell_in, IsOnGrid}
+use Rattle.model.specs.Plan.{Course, position_of, position_at, moved, IsBadMove}
+use Rattle.plan.specs.Code.Standing.{cell_in}
+pub use Rattle.plan.specs.Moving.{IsOnGrid, IsFirst, ArePassable, HasBadStart, LeadsTo, IsMoved}
 
 -- the cells are where the agents stand at the time
 pub record AreAt (courses : List Course) (t : ℕ) (cells : List Cell) : Type 0 where
@@ -17,44 +17,22 @@ start_cells courses = map (λ course. course.start) courses
 
 -- ---- the agents that have an act
 
-abbrev pub IsRising : List ℕ → Type 0
-IsRising [] = Unit {0}
-IsRising (i ∷ agents) = ((j : ℕ) → Contains agents j → i < j) × IsRising agents
-
--- there is such an agent, and it has an act in the step
-pub record CanAct (courses : List Course) (step i : ℕ) : Type 0 where
-  pub is_agent : i < length courses
-  pub has_act : (course : Course) → slice_get courses i ≡ Some course → step < length course.acts
-
 abbrev pub is_within_acts : ℕ → Option Course → Bool
 is_within_acts step None = false
 is_within_acts step (Some course) = nat_lt step (length course.acts)
 
--- the test of that
+-- there is such an agent, and it has an act in the step
 abbrev pub has_act : List Course → ℕ → ℕ → Bool
 has_act courses step i = is_within_acts step (slice_get courses i)
 
--- the agents are, in order, those that have an act in the step
-pub record IsActive (courses : List Course) (step : ℕ) (agents : List ℕ) : Type 0 where
-  pub rising : IsRising agents
-  pub can_act : All (CanAct courses step) agents
-  pub all : (i : ℕ) → CanAct courses step i → Contains agents i
-
 -- ---- faults of one agent
-
--- the first number of a kind
-pub record IsFirst (Kind : ℕ → Type 0) (i : ℕ) : Type 0 where
-  pub is_one : Kind i
-  pub first : (j : ℕ) → j < i → Kind j → ⊥
-
-abbrev pub ArePassable : Grid → List Course → Type 0
-ArePassable m courses = (i : ℕ) (course : Course) → slice_get courses i ≡ Some course → IsPassable m course.start
-
-abbrev pub HasBadStart : Grid → List Course → ℕ → Type 0
-HasBadStart m courses i = MatchOption (slice_get courses i) ⊥ (λ course. IsPassable m course.start → ⊥)
 
 abbrev pub HasBadMove : Grid → List Course → ℕ → ℕ → Type 0
 HasBadMove m courses step i = MatchOption (slice_get courses i) ⊥ (λ course. IsBadMove m course step)
+
+-- no move before the step is bad
+abbrev pub HasNoBadMove : Grid → List Course → ℕ → Type 0
+HasNoBadMove m courses step = (i s : ℕ) → s < step → HasBadMove m courses s i → ⊥
 
 -- ---- a step
 
@@ -71,17 +49,6 @@ is_land b = b == 46 || b == 71 || b == 83
 -- a straight step may lead from the terrain of the one character to that of the other
 abbrev pub joins_by : ℕ → ℕ → Bool
 joins_by b c = (is_land b && is_land c) || (b == 87 && c == 87)
-
--- the act leads to a cell of the map, by no step or a legal one
-pub record LeadsTo (m : Grid) (from : Cell) (act : Act) (to : Cell) : Type 0 where
-  pub place : position_of to ≡ moved act (position_of from)
-  pub on_map : IsOnGrid m to
-  pub legal : act ≢ Wait → IsLegal m (position_of from) (moved act (position_of from))
-
--- where the act leads, if it may lead there
-abbrev pub IsMoved : Grid → Cell → Act → Option Cell → Type 0
-IsMoved m from act answer =
-    MatchOption answer ((act ≢ Wait) × (IsLegal m (position_of from) (moved act (position_of from)) → ⊥)) (LeadsTo m from act)
 
 -- the cell is where the agent stands after the step, and the step is no fault
 pub record IsAhead (m : Grid) (course : Course) (step : ℕ) (cell : Cell) : Type 0 where

@@ -5,7 +5,11 @@ use Rattle.grid.specs.Map.{Grid}
 use Rattle.model.specs.declared.plan_fault.PlanFault.{PlanFault}
 use Rattle.model.specs.Plan.{Plan, HasPlanFault, IsValid, key_of, IsLeastFault}
 use Rattle.plan.specs.Code.Standing.{AreOnGrid, IsStandingTable}
+use Rattle.plan.specs.declared.board.Square.{Square}
+use Rattle.plan.specs.declared.crowd.Walker.{Walker}
 use Rattle.plan.specs.Code.Walking.{AreAt}
+use Rattle.plan.specs.Code.Crowd.{walker_at}
+use Rattle.plan.specs.Code.UnderWay.{AreUnderWay}
 
 -- the least fault, if there is one
 abbrev pub IsVerdict : Grid → Plan → Option PlanFault → Type 0
@@ -26,3 +30,24 @@ pub record IsWatched (m : Grid) (p : Plan) (t : ℕ) (cells : List Cell) (entrie
 -- the same at a time, or the least fault
 abbrev pub IsWatchedAt : Grid → Plan → ℕ → List Cell → List ℕ → Option PlanFault → Type 0
 IsWatchedAt m p t cells entries answer = MatchOption answer (IsWatched m p t cells entries) (IsLeastFault m p)
+
+-- there was no fault up to the time, and these are the cells of the time
+pub record IsPast (m : Grid) (p : Plan) (t : ℕ) : Type 0 where
+  pub cells : List Cell
+  pub at : AreAt p.courses t cells
+  pub on_map : AreOnGrid m cells
+  pub clean : IsClean m p (t + 1)
+
+-- there was no fault up to the time, and the agents under way are where they are at the time
+pub record IsSeen (m : Grid) (p : Plan) (t : ℕ) (walkers : List Walker) (squares : List Square) : Type 0 where
+  pub under_way : AreUnderWay m p.courses t walkers squares
+  pub clean : IsClean m p (t + 1)
+
+-- the same, or the least fault
+abbrev pub IsSeenAt : Grid → Plan → ℕ → List Walker → List Square → Option PlanFault → Type 0
+IsSeenAt m p t walkers squares answer = MatchOption answer (IsSeen m p t walkers squares) (IsLeastFault m p)
+
+-- the walkers are the same agents, in the same order
+pub record AreSameAgents (old new : List Walker) : Type 0 where
+  pub count : length new ≡ length old
+  pub each : (k : ℕ) → k < length old → (walker_at new k).agent ≡ (walker_at old k).agent

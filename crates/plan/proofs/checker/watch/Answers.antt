@@ -1,14 +1,13 @@
--- Where an agent has an act, the step is one that a plan may have; where none has, the plan is seen to its end.
-use Rattle.std.proofs.Common.{◌≡◌, ◌<◌, ◌+◌, ◌-◌, [], ℕ, false, eqb, Some, None, arith, sym, subst, ◌∙◌}
+-- Where an agent is under way, the step is one that a plan may have; where none is, the plan is seen to its end.
+use Rattle.std.proofs.Common.{◌≡◌, ◌<◌, ◌+◌, ℕ, false, eqb, length, Some, None, arith, sym, ap, subst, ◌∙◌}
 use Rattle.std.specs.Prelude.{Option, MatchOption, is_some, vec_len}
 use Rattle.std.proofs.lemmas.Bool.{eqb-true, eqb-false, false≢true}
-use Rattle.std.proofs.lemmas.List.{nil_from_length}
-use Rattle.plan.specs.Code.Walking.{AreAt, IsActive}
-use Rattle.plan.specs.Code.Blocks.{block_steps, IsWalked}
-use Rattle.plan.specs.Code.Watching.{IsWatched}
-use Rattle.plan.proofs.BlockLemmas.{IsTurned, turned_each, ready_next}
-use Rattle.plan.proofs.FaultLemmas.{valid_at_end}
-use Rattle.plan.proofs.WalkingLemmas.{step_limit}
+use Rattle.std.proofs.lemmas.List.{nil_from_length, with_items_is}
+use Rattle.plan.specs.Code.Blocks.{block_steps, AreRows, IsHeld, IsLinedUp}
+use Rattle.plan.specs.Code.Crowd.{walker_at}
+use Rattle.plan.specs.Code.UnderWay.{AreUnderWay}
+use Rattle.plan.specs.Code.Watching.{IsSeen, AreSameAgents}
+use Rattle.plan.proofs.UnderWayLemmas.{AreRecent, step_bound, recent-after, are_agents, block-begun, none_under_way}
 use Rattle.plan.proofs.checker.watch.Goals as goal
 
 some_from : (n : ℕ) → eqb n 0 ≡ false → 0 < n
@@ -18,28 +17,56 @@ none_from : {X : Type 0} (o : Option X) (P : Type 0) (Q : X → Type 0) → is_s
 none_from None P Q h at = at
 none_from (Some x) P Q h at = absurd (false≢true (sym h))
 
-pub take_block-fault-requires-clause-step : goal.take_block-fault-requires-clause-step
-take_block-fault-requires-clause-step c =
-    let some = some_from (vec_len c.loop-courses.agents) (sym c.is_empty.ensures ∙ c.loop-courses-test.true) in
-    let count = c.loop-courses.agents.ok.0 in
-    let less = step_limit c.args.plan.now (c.loop-courses.step - block_steps) c.loop-courses.agents.items c.courses-courses.ensures.within c.loop-courses.invariant.ready.active
-    (omega (arith, some, count)) in
+pub turn-requires-clause-agents : goal.turn-requires-clause-agents
+turn-requires-clause-agents c = λ k less.
+    let courses = c.courses-courses.ensures.courses in
+    let lined = subst (λ k. IsLinedUp k c.loop-courses.step c.loop-courses.walkers.items c.line_up.new.walkers.items) courses c.line_up.ensures in
+    let value = c.deref-in-loop-courses.ensures.value in
+    let is_agent = are_agents c.args.map.now c.args.plan.now.courses c.loop-courses.step c.loop-courses.walkers.items c.line_up.new.walkers.items
+    c.loop-courses.invariant.seen.under_way.walkers_are lined k (omega (arith, less, ap length value)) in
+    subst (λ l. (walker_at l k).agent < length c.courses-courses.result.now) (sym value) (omega (arith, is_agent, ap length courses))
+
+pub take_block-requires-clause-step : goal.take_block-requires-clause-step
+take_block-requires-clause-step c =
+    let some = some_from (vec_len c.loop-courses.walkers) (sym c.is_empty.ensures ∙ c.loop-courses-test.true) in
+    let count = c.loop-courses.walkers.ok.0 in
+    let was = c.loop-courses.invariant in
+    let less = step_bound c.args.map.now c.args.plan.now c.loop-courses.step c.loop-courses.walkers.items c.courses-courses.ensures.within was.seen.under_way.walkers_are
+    was.recent (omega (arith, some, count)) in
     omega (arith, less)
+
+pub take_block-requires-clause-seen : goal.take_block-requires-clause-seen
+take_block-requires-clause-seen c =
+    let m = c.args.map.now in
+    let p = c.args.plan.now in
+    let step = c.loop-courses.step in
+    let old = c.loop-courses.walkers.items in
+    let new = c.line_up.new.walkers.items in
+    let courses = c.courses-courses.ensures.courses in
+    let lined = subst (λ k. IsLinedUp k step old new) courses c.line_up.ensures in
+    let held = subst (λ k. IsHeld k step old c.loop-courses.squares c.hold.new.squares) courses
+    (subst (λ l. IsHeld c.courses-courses.result.now step l c.loop-courses.squares c.hold.new.squares) c.deref.ensures.value c.hold.ensures) in
+    subst (λ l. IsSeen m p step l c.hold.new.squares) (sym c.deref_mut.ensures.value) (record {
+      under_way = block-begun m p.courses step old new c.loop-courses.squares c.hold.new.squares c.loop-courses.invariant.seen.under_way held lined;
+      clean = c.loop-courses.invariant.seen.clean;
+    })
 
 pub overflow_add-step : goal.overflow_add-step
 overflow_add-step c =
-    let some = some_from (vec_len c.loop-courses.agents) (sym c.is_empty.ensures ∙ c.loop-courses-test.true) in
-    let count = c.loop-courses.agents.ok.0 in
-    let less = step_limit c.args.plan.now (c.loop-courses.step - block_steps) c.loop-courses.agents.items c.courses-courses.ensures.within c.loop-courses.invariant.ready.active
-    (omega (arith, some, count)) in
+    let some = some_from (vec_len c.loop-courses.walkers) (sym c.is_empty.ensures ∙ c.loop-courses-test.true) in
+    let count = c.loop-courses.walkers.ok.0 in
+    let was = c.loop-courses.invariant in
+    let less = step_bound c.args.map.now c.args.plan.now c.loop-courses.step c.loop-courses.walkers.items c.courses-courses.ensures.within was.seen.under_way.walkers_are
+    was.recent (omega (arith, some, count)) in
     omega (arith, less)
 
 pub loop-courses-smaller : goal.loop-courses-smaller
 loop-courses-smaller c =
-    let some = some_from (vec_len c.loop-courses.agents) (sym c.is_empty.ensures ∙ c.loop-courses-test.true) in
-    let count = c.loop-courses.agents.ok.0 in
-    let less = step_limit c.args.plan.now (c.loop-courses.step - block_steps) c.loop-courses.agents.items c.courses-courses.ensures.within c.loop-courses.invariant.ready.active
-    (omega (arith, some, count)) in
+    let some = some_from (vec_len c.loop-courses.walkers) (sym c.is_empty.ensures ∙ c.loop-courses-test.true) in
+    let count = c.loop-courses.walkers.ok.0 in
+    let was = c.loop-courses.invariant in
+    let less = step_bound c.args.map.now c.args.plan.now c.loop-courses.step c.loop-courses.walkers.items c.courses-courses.ensures.within was.seen.under_way.walkers_are
+    was.recent (omega (arith, some, count)) in
     omega (arith, less)
 
 pub loop-courses-preserved : goal.loop-courses-preserved
@@ -47,30 +74,31 @@ loop-courses-preserved c =
     let m = c.args.map.now in
     let p = c.args.plan.now in
     let step = c.loop-courses.step in
-    let was = c.loop-courses.invariant in
-    let block = c.walk_all-walked.new.block in
-    let turned = c.swap.new.self in
+    let old = c.loop-courses.walkers.items in
+    let lined = c.line_up.new.walkers.items in
+    let courses = c.courses-courses.ensures.courses in
+    let up = subst (λ k. IsLinedUp k step old lined) courses c.line_up.ensures in
+    let fewer = up.fewer in
     let none = sym c.is_some.ensures ∙ c.if-is_some.false in
-    let turns : IsTurned block turned = record {
-      count = c.swap.ensures.len;
-      first = c.swap.ensures.by_index.0 [];
-      each = λ k most. turned_each block turned k most (c.swap.ensures.by_index.0 []) (c.swap.ensures.by_index.1 []) (λ at apart end. c.swap.ensures.by_index.2 at [] apart end);
-    } in
+    let value = c.deref_mut.ensures.value in
+    let same = subst (λ l. AreSameAgents l c.take_block.new.walkers) value c.take_block.ensures.agents in
+    let count = same.count in
+    let room = c.loop-courses.invariant.room in
+    let long = c.line_up.new.walkers.ok.0 in
+    let items = with_items_is c.line_up.new.walkers c.take_block.new.walkers (omega (arith, count, long)) in
     record {
-      watched = subst (λ cells. IsWatched m p (step + block_steps) cells c.take_block-fault.new.table) (sym turns.first)
-          (none_from c.take_block-fault.result _ _ none c.take_block-fault.ensures.seen);
-      ready = ready_next m p.courses step block turned c.keep_active.new.agents.items c.walk_all-walked.result
-          (subst (λ k. IsWalked m k step block c.walk_all-walked.result) c.courses-courses.ensures.courses c.walk_all-walked.ensures.walked)
-          (none_from c.take_block-fault.result _ _ none c.take_block-fault.ensures.whole)
-          (subst (AreAt p.courses step) (sym c.walk_all-walked.ensures.first) was.watched.at)
-          (subst (λ k. IsActive k step c.keep_active.new.agents.items) c.courses-courses.ensures.courses c.keep_active.ensures) turns;
+      seen = subst (λ l. IsSeen m p (step + block_steps) l c.take_block.new.squares) (sym items)
+          (none_from c.in_ok-fault.fault _ _ none c.in_ok-fault.ensures.seen);
+      rows = subst (λ k. AreRows (length k) c.turn.new.rows) courses c.turn.ensures.rows;
+      room = (let size = ap length items in omega (arith, size, count, fewer, room));
+      recent = subst (AreRecent p.courses (step + block_steps)) (sym items) (recent-after p.courses step old lined c.take_block.new.walkers up same);
     }
 
 pub returns : goal.returns
 returns c =
     let was = c.loop-courses.invariant in
-    let none = eqb-true (vec_len c.loop-courses.agents) 0 (sym c.is_empty.ensures ∙ c.loop-courses-test.false) in
-    let count = c.loop-courses.agents.ok.0 in
-    let empty = nil_from_length c.loop-courses.agents.items (omega (arith, none, count)) in
-    valid_at_end c.args.map.now c.args.plan.now (c.loop-courses.step - block_steps) c.loop-courses.step (omega arith) was.watched.clean
-    (subst (IsActive c.args.plan.now.courses (c.loop-courses.step - block_steps)) empty was.ready.active)
+    let none = eqb-true (vec_len c.loop-courses.walkers) 0 (sym c.is_empty.ensures ∙ c.loop-courses-test.false) in
+    let count = c.loop-courses.walkers.ok.0 in
+    let empty = nil_from_length c.loop-courses.walkers.items (omega (arith, none, count)) in
+    none_under_way c.args.map.now c.args.plan.now c.loop-courses.step c.loop-courses.squares
+    (subst (λ l. AreUnderWay c.args.map.now c.args.plan.now.courses c.loop-courses.step l c.loop-courses.squares) empty was.seen.under_way) was.seen.clean

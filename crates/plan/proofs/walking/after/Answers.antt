@@ -1,10 +1,20 @@
--- A course of acts that there are has one in each of its steps.
+-- Past its acts the agent stays.
+use Rattle.std.proofs.Common.{length, get_or, arith, ap, subst}
 use Rattle.std.proofs.lemmas.Option.{slice_get-get_or}
-use Rattle.plan.specs.Code.Blocks.{course_along}
-use Rattle.plan.proofs.WalkingLemmas.{after_act}
+use Rattle.model.specs.declared.act.Act.TheVariants.{N}
+use Rattle.plan.specs.Code.Walking.{IsMoved}
+use Rattle.plan.proofs.WalkingLemmas.{after_act, ahead-past}
 use Rattle.plan.proofs.walking.after.Goals as goal
 
-pub returns : goal.returns
-returns c = λ start at.
-    after_act c.args.map.now (course_along start c.args.acts.now) c.args.taken c.args.from _ c.moved.result
-    (slice_get-get_or c.args.acts.now c.args.taken _ c.requires.act) at c.moved.ensures
+pub returns-then-step-acts : goal.returns-then-step-acts
+returns-then-step-acts c =
+    let acts = c.args.course.now.acts in
+    let less = c.if-step-acts.true in
+    after_act c.args.map.now c.args.course.now c.args.step c.args.from (get_or acts c.args.step N) c.moved.result
+    (slice_get-get_or acts c.args.step N (omega (arith, less, ap length c.acts-acts.ensures))) c.requires.at
+    (subst (λ l. IsMoved c.args.map.now c.args.from (get_or l c.args.step N) c.moved.result) c.acts-acts.ensures c.moved.ensures)
+
+pub returns-else-step-acts : goal.returns-else-step-acts
+returns-else-step-acts c =
+    let past = c.if-step-acts.false in
+    ahead-past c.args.map.now c.args.course.now c.args.step c.args.from (omega (arith, past, ap length c.acts-acts.ensures)) c.requires.at c.requires.on_map

@@ -1,0 +1,33 @@
+-- The square in each column is that of the cell in that column of the row.
+use Rattle.std.proofs.Common.{◌≡◌, ◌+◌, ◌*◌, get_or, set, map, arith, sym, ap, subst, ◌∙◌}
+use Rattle.grid.specs.Terrain.{character_of}
+use Rattle.grid.specs.declared.cell.Cell.{Cell}
+use Rattle.plan.specs.Code.Standing.{IsOnGrid, place_in}
+use Rattle.plan.specs.Code.Squares.{ground_in, ground_by, wide_of, place_on, HasGround, IsBoard}
+use Rattle.plan.proofs.BoardLemmas.{within_board}
+use Rattle.plan.proofs.SquareLemmas.{ground_here, board-laid}
+use Rattle.plan.proofs.board.lay_row.Goals as goal
+
+pub loop-column-preserved : goal.loop-column-preserved
+loop-column-preserved c =
+    let m = c.args.map.now in
+    let row = c.args.row in
+    let column = c.loop-column.column in
+    let width = c.width-width.ensures.width in
+    let less = c.loop-column-test.true in
+    let in_row = c.requires.row in
+    let squares = c.loop-column.squares in
+    let cell : Cell = record { x = column; y = row } in
+    let on : IsOnGrid m cell = record { column = omega (arith, less, width); row = in_row } in
+    let rows : row * (c.width-width.result + 2) ≡ row * wide_of m = ap (λ w. row * (w + 2)) width in
+    let at : place_on m cell ≡ row * (c.width-width.result + 2) + c.width-width.result + 3 + column = omega (arith, rows, width) in
+    let size = c.loop-column.invariant.size in
+    let within = within_board m cell on in
+    let place : row * c.width-width.result + column ≡ place_in m.width cell = ap (λ w. row * w + column) width in
+    let ground : ground_in c.new.result ≡ ground_by (get_or (map character_of m.terrain) (place_in m.width cell) 0) =
+    c.new.ensures.ground ∙ c.ground_by.ensures
+    ∙ ap (λ l. ground_by (get_or l (row * c.width-width.result + column) 0)) c.characters-characters.ensures
+    ∙ ap (λ p. ground_by (get_or (map character_of m.terrain) p 0)) place in
+    subst (λ p. IsBoard m (set squares p c.new.result)) at
+    (board-laid m squares cell c.new.result c.loop-column.invariant (omega (arith, size, within))
+    (subst (HasGround m cell) (sym ground) (ground_here m cell c.width-width.ensures.map on)))

@@ -1,0 +1,40 @@
+-- Where nothing may be wrong all starts differ; else what is looked for says so, or finds the fault.
+use Rattle.std.proofs.Common.{◌+◌, subst}
+use Rattle.model.specs.Plan.{IsLeastFault}
+use Rattle.plan.specs.Code.Squares.{wide_of}
+use Rattle.plan.specs.Code.Crowd.{AreTurns}
+use Rattle.plan.specs.Code.UnderWay.{AreUnderWay}
+use Rattle.plan.specs.Code.Watching.{IsClean, IsSeen}
+use Rattle.plan.proofs.UnderWayLemmas.{all_start, starts_wait, clean_at_start, if_past}
+use Rattle.plan.proofs.checker.take_starts.Goals as goal
+
+pub returns-then-take_step-clause-seen : goal.returns-then-take_step-clause-seen
+returns-then-take_step-clause-seen c =
+    let m = c.args.map.now in
+    let p = c.args.plan.now in
+    let turns = c.new-turns.result in
+    let old = c.args.walkers.now in
+    let new = c.take_step.new.walkers in
+    let squares = c.args.squares.now in
+    let after = c.take_step.new.squares in
+    let h : AreTurns (wide_of m) turns = subst (λ w. AreTurns (w + 2) turns) c.width.ensures.width c.new-turns.ensures.turns in
+    let then : AreUnderWay m p.courses 0 new after = starts_wait m p.courses turns c.args.waits.now old new squares after h c.requires.waits
+    (all_start m p.courses old squares c.requires.board c.requires.walkers c.requires.agents) c.take_step.ensures.led c.take_step.ensures.grounds in
+    if_past c.fault_at_start.result (IsClean m p 1) (IsSeen m p 0 new after) (IsLeastFault m p) (λ clean. record { under_way = then; clean = clean }) c.fault_at_start.ensures
+
+pub returns-else-take_step-clause-seen : goal.returns-else-take_step-clause-seen
+returns-else-take_step-clause-seen c =
+    let m = c.args.map.now in
+    let p = c.args.plan.now in
+    let turns = c.new-turns.result in
+    let old = c.args.walkers.now in
+    let new = c.take_step.new.walkers in
+    let squares = c.args.squares.now in
+    let after = c.take_step.new.squares in
+    let h : AreTurns (wide_of m) turns = subst (λ w. AreTurns (w + 2) turns) c.width.ensures.width c.new-turns.ensures.turns in
+    record {
+      under_way = starts_wait m p.courses turns c.args.waits.now old new squares after h c.requires.waits
+          (all_start m p.courses old squares c.requires.board c.requires.walkers c.requires.agents) c.take_step.ensures.led c.take_step.ensures.grounds;
+      clean = clean_at_start m p turns c.args.waits.now old squares h c.requires.starts c.requires.waits c.requires.walkers c.requires.agents
+          (c.take_step.ensures.allowed c.if-take_step.false);
+    }

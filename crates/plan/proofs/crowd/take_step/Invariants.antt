@@ -1,0 +1,12 @@
+use Rattle.std.proofs.Common.{◌≡◌, false}
+use Rattle.plan.specs.Code.Crowd.{KeepGrounds}
+use Rattle.plan.proofs.CrowdLemmas.{IsPassed, AreLedTo}
+use Rattle.plan.proofs.crowd.take_step.Given as goal
+
+-- those before the place were led, and the others are as they were
+abbrev pub invariant-loop-place : goal.invariant-loop-place
+invariant-loop-place l = record {
+  led : AreLedTo l.turns l.acts l.initial.walkers l.walkers l.place;
+  grounds : KeepGrounds l.initial.squares l.squares;
+  passed : l.may_be_wrong ≡ false → IsPassed l.turns l.acts l.initial.walkers l.initial.squares l.squares l.place;
+}

@@ -1,0 +1,145 @@
+//! Agents under way, and how a step takes them on.
+ghost use Rattle.std.specs.Prelude.{◌≡◌, ◌<◌, ◌≤◌, ◌↔◌, IsTrue, length, false};
+ghost use Rattle.plan.specs.Code.Squares.{IsOfStep};
+ghost use Rattle.plan.specs.Code.Crowd.{turn_by, led_to, AreMarks, AreTurns, IsInside, AreInside, KeepGrounds, IsAllowed, IsMarked, AreLed, AreAllowed};
+
+use crate::board::{NOBODY, Square};
+use model::Act;
+
+/// An agent under way.
+#[derive(Clone, Copy, Debug)]
+pub(crate) struct Walker {
+    /// The square in which it is.
+    pub(crate) place: u32,
+    /// The ground on which it goes.
+    pub(crate) ground: u8,
+    pub(crate) agent: u16,
+}
+
+/// What an act does in a step.
+#[derive(Clone, Copy, Debug)]
+pub(crate) struct Turn {
+    /// The place grows by the one, and falls by the other.
+    ahead: u32,
+    back: u32,
+    /// What is left in the square to which it leads.
+    mark: u8,
+    /// What an act in the opposite direction leaves.
+    against: u8,
+}
+
+/// What each act does in a step, and the least mark of the step.
+#[derive(Clone, Copy, Debug)]
+pub(crate) struct Turns {
+    first: u8,
+    by_act: [Turn; 5],
+}
+
+impl Turns {
+    /// The acts in the steps whose marks begin with the first, over rows that are so wide.
+    pub(crate) fn new(wide: u32, first: u8) -> Turns
+        requires { first < 50 }
+        ensures first { result.first ≡ first }
+        ensures turns { AreTurns wide result }
+    {
+        let stay = Turn {
+            ahead: 0,
+            back: 0,
+            mark: first + 4,
+            // Which none leaves.
+            against: 63,
+        };
+        let north = Turn {
+            back: wide,
+            mark: first,
+            against: first + 2,
+            ..stay
+        };
+        let east = Turn {
+            ahead: 1,
+            mark: first + 1,
+            against: first + 3,
+            ..stay
+        };
+        let south = Turn {
+            ahead: wide,
+            mark: first + 2,
+            against: first,
+            ..stay
+        };
+        let west = Turn {
+            back: 1,
+            mark: first + 3,
+            against: first + 1,
+            ..stay
+        };
+        Turns {
+            first,
+            by_act: [north, east, south, west, stay],
+        }
+    }
+
+    fn of(&self, act: Act) -> Turn
+        ensures { result ≡ turn_by self.now act }
+    {
+        self.by_act[act as usize]
+    }
+
+    /// Whether the mark is one of the step.
+    fn has(&self, mark: u8) -> bool
+        requires { self.now.first < 50 }
+        ensures { IsTrue result ↔ IsOfStep self.now.first mark }
+    {
+        (self.first <= mark) & (mark < self.first + 5)
+    }
+}
+
+/// Takes all walkers a step on, each by the act in its place. Where the answer is no, nothing is wrong in the step.
+pub(crate) fn take_step(
+    turns: &Turns,
+    acts: &[Act],
+    walkers: &mut [Walker],
+    squares: &mut [Square],
+) -> bool
+    requires marks { AreMarks turns.now }
+    requires acts { length walkers.old ≤ length acts.now }
+    requires inside { AreInside turns.now (length squares.old) walkers.old }
+    ensures led { AreLed turns.now acts.now walkers.old walkers.new }
+    ensures grounds { KeepGrounds squares.old squares.new }
+    ensures allowed { result ≡ false → AreAllowed turns.now acts.now walkers.old squares.old (length walkers.old) }
+{
+    let mut may_be_wrong = false;
+    for place in 0..walkers.len() {
+        may_be_wrong |= lead(turns, acts[place], &mut walkers[place], squares);
+    }
+    may_be_wrong
+}
+
+/// Leads a walker by its act, without a branch.
+fn lead(turns: &Turns, act: Act, walker: &mut Walker, squares: &mut [Square]) -> bool
+    requires marks { AreMarks turns.now }
+    requires inside { IsInside turns.now (length squares.old) walker.old.place }
+    ensures led { walker.new ≡ record walker.old { place = led_to turns.now act walker.old.place } }
+    ensures grounds { KeepGrounds squares.old squares.new }
+    ensures marks { IsMarked turns.now act walker.old.place squares.old squares.new }
+    ensures allowed { result ≡ false → IsAllowed turns.now act walker.old squares.old }
+{
+    let turn = turns.of(act);
+    let from = walker.place as usize;
+    let to = walker.place + turn.ahead - turn.back;
+    let left = squares[from];
+    let entered = squares[to as usize];
+    let may_be_wrong = (entered.ground() != walker.ground)
+        | turns.has(entered.mark())
+        | (left.mark() == turn.against);
+    // A mark of this step stays.
+    let kept = if turns.has(left.mark()) {
+        left.mark()
+    } else {
+        NOBODY
+    };
+    squares[from] = Square::new(left.ground(), kept);
+    squares[to as usize] = Square::new(entered.ground(), turn.mark);
+    walker.place = to;
+    may_be_wrong
+}
