@@ -1,5 +1,5 @@
 //! An agent: what it may do next, by its tape and by what it has heard.
-ghost use Rattle.std.specs.Prelude.{◌≡◌, ◌+◌, ◌*◌, ◌<◌, ◌≤◌, ◌++◌, true, false, length, option_map, IfSome, IfOk, IfErr, OnOk, OnErr, MatchOption};
+ghost use Rattle.std.specs.Prelude.{◌≡◌, ◌+◌, ◌*◌, ◌<◌, ◌≤◌, [], ◌++◌, true, false, length, option_map, IfSome, IfOk, IfErr, OnOk, OnErr, MatchOption};
 ghost use Rattle.model.specs.History.{record_length};
 ghost use Rattle.model.specs.Timetable.{Track, moves, track_of};
 ghost use Rattle.agent.specs.States.{message_refusal};
@@ -96,9 +96,16 @@ impl<'g, T: Tape> Agent<'g, T> {
         let records = self.records();
         let plan = self.graph.number();
         read_records(&mut self.tape, plan, self.id, records)?;
+        self.forget();
+        Ok(())
+    }
+
+    /// Forgets what was heard, and that a write failed.
+    fn forget(&mut self)
+        ensures { self.new ≡ record self.old { heard = []; broken = false } }
+    {
         self.counters.clear();
         self.broken = false;
-        Ok(())
     }
 
     /// Which agent of the graph it is.
@@ -384,6 +391,17 @@ impl<'g, T: Scripted> Agent<'g, T> {
         ensures same { self.new ≡ record self.old { tape = self.new.tape } }
     {
         self.tape.arm(tear);
+    }
+
+    /// Opens the agent's own tape again, as `restart` does, without a read: its records are those that are due, and no read of such a tape
+    /// fails. Nothing is armed then.
+    pub fn reopen(&mut self)
+        ensures armed { T.armed self.new.tape ≡ None }
+        ensures state { T.state self.new.tape ≡ T.state self.old.tape }
+        ensures opened { self.new ≡ record self.old { tape = self.new.tape; heard = []; broken = false } }
+    {
+        self.forget();
+        self.tape.arm(None);
     }
 }
 

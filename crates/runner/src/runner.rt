@@ -318,11 +318,9 @@ fn new_agent(alloc: Global, graph: &Graph, id: u16) -> Result<Agent<'_, SimTape>
     }
 }
 
-/// Opens an agent's own tape again, of which nothing is armed then. Its records are those that are due, and no read of it fails.
+/// Opens an agent's own tape again. However many records it has, that takes no more time.
 fn reopen(agent: &mut Agent<'_, SimTape>)
     ensures { Reopens agent.old agent.new }
 {
-    let opened = agent.restart();
-    prove!(opened.is_ok());
-    agent.arm(None);
+    agent.reopen();
 }
