@@ -33,6 +33,12 @@ fn tape_files_that_are_opened(rt: HostRuntime) -> Result<(), Fail> {
         let disk = FakeDisk::new(rt.alloc(), &bytes)?;
         expect(&rt, rt.alloc(), &disk, b"", state);
         assert!(rt; disk.has(&bytes) && disk.is_untouched(), "at {state:?}");
+        // A file with a record was made before, and its name was synced then.
+        assert_eq!(rt;
+            disk.folder_syncs(),
+            u32::from(records.is_empty()),
+            "at {state:?}"
+        );
         let after = disk.after_power_cut(rt.alloc())?;
         expect(&rt, rt.alloc(), &after, b"", state);
     }
@@ -190,6 +196,8 @@ fn failing_disks(rt: HostRuntime) -> Result<(), Fail> {
             (Call::Write, 7),
             (Call::Flush, 4),
             (Call::Sync, 4),
+            (Call::OpenFolder, 2),
+            (Call::SyncFolder, 2),
         ] {
             for calls in 0..most {
                 match disk_fails(&rt, rt.alloc(), &bytes, records.len(), (call, calls))? {

@@ -1,18 +1,18 @@
 //! `mapf agent`: answers for one agent of a plan, by its tape.
-ghost use Rattle.std.specs.Prelude.{◌≡◌, MatchResult};
+ghost use Rattle.std.specs.Prelude.{◌≡◌, IsErrOf, MatchResult};
 ghost use Rattle.text_commands.specs.Telling.{Tells};
 ghost use Rattle.agent_commands.specs.AgentStatus.{agent_status};
 ghost use Rattle.agent_commands.specs.FaultWords.{told_of_agent};
 ghost use Rattle.agent_commands.specs.AgentCommand.{AnswersAgent, Converses, IsOnTape, IsNotOnTape, IsTapeOf, IsNoTape, Serves};
 
 use crate::agent_fault::AgentFault;
-use agent::{Agent, OpenFault};
+use agent::{Agent, OpenFault, Tape};
 use depgraph::Graph;
 use dialogue::talk;
-use file_tape::FileTape;
+use file_tape::{FileTape, FileTapeFault};
 use grid::Counted;
 use plan_commands::read_graph;
-use std::fs::OpenOptions;
+use std::fs::{self, OpenFile, OpenOptions};
 use std::io::{Read, Write};
 use std::rt::Files;
 use text_commands::{Status, report};
@@ -107,7 +107,31 @@ fn open_tape<R: Files + AllocGlobal>(
     let Ok(file) = opened else {
         return Err(AgentFault::OpenFailed);
     };
-    Ok(FileTape::open(rt.alloc(), file, 20 * moves)?)
+    let tape = FileTape::open(rt.alloc(), file, 20 * moves)?;
+    // The file may just have been made, and a power cut could take away a name that isn't synced.
+    let has_record = tape.len() >= 10;
+    if !has_record {
+        keep_name(rt, path)?;
+    }
+    Ok(tape)
+}
+
+/// Syncs the folder of a file, which has the file's name.
+fn keep_name<R: Files>(rt: &R, path: &str) -> Result<(), FileTapeFault>
+    ensures { IsErrOf result FileTapeFault.TooLong → ⊥ }
+{
+    let folder = fs::open(rt, folder_of(path))?;
+    folder.sync_all()?;
+    Ok(())
+}
+
+/// The folder of the file that a path names.
+fn folder_of(path: &str) -> &str {
+    match path.rsplit_once('/') {
+        Some((folder, _)) if folder.is_empty() => "/",
+        Some((folder, _)) => folder,
+        None => ".",
+    }
 }
 
 /// Says why the input was not answered to its end, if it wasn't.

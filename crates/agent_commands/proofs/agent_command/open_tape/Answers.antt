@@ -9,8 +9,14 @@ use Rattle.agent_commands.proofs.agent_command.open_tape.Goals as goal
 pub overflow_mul-moves : goal.overflow_mul-moves
 overflow_mul-moves g c = (let most = told-most _ _ c.in-Some.moves c.in-Some.ensures.within c.in-Some.ensures.moves in omega (arith, most))
 
-pub returns-in_err-open : goal.returns-in_err-open
-returns-in_err-open g c =
+pub returns-in_err-tape : goal.returns-in_err-tape
+returns-in_err-tape g c =
     let p = err_from_is_err_and c.from_residual.result c.from_residual.ensures.1 in
-    rw (p.1, p.2) (no_tape g.R.File.Read.remaining c.args.graph.now c.args.id c.in-Some.moves c.in-Ok.file c.in_err-open.field-0.0
-    (c.in-Some.ensures.moves ∙ ap (λ (i : ℕ). option_map moves (track_of c.args.graph.now i)) c.from.ensures) (λ is. c.in_err-open.ensures.too_long (ap Err is)))
+    rw (p.1, p.2) (no_tape g.R.File.Read.remaining c.args.graph.now c.args.id c.in-Some.moves c.in-Ok.file c.in_err-tape.field-0.0
+    (c.in-Some.ensures.moves ∙ ap (λ (i : ℕ). option_map moves (track_of c.args.graph.now i)) c.from.ensures) (λ is. c.in_err-tape.ensures.too_long (ap Err is)))
+
+pub returns-in_err-keep_name : goal.returns-in_err-keep_name
+returns-in_err-keep_name g c =
+    let p = err_from_is_err_and c.from_residual-in_err-keep_name.result c.from_residual-in_err-keep_name.ensures.1 in
+    rw (p.1, p.2) (no_tape g.R.File.Read.remaining c.args.graph.now c.args.id c.in-Some.moves c.in-Ok.file c.in_err-keep_name.field-0.0
+    (c.in-Some.ensures.moves ∙ ap (λ (i : ℕ). option_map moves (track_of c.args.graph.now i)) c.from.ensures) (λ is. absurd (c.in_err-keep_name.ensures (ap Err is))))
