@@ -283,6 +283,16 @@ def events_text(text, seed, count, mishaps=0.0, version=1):
     return "\n".join([f"mapf-events {version}", *itertools.islice(event_lines(text, seed, mishaps), count), ""])
 
 
+def pacing_plan_text(moves):
+    """The text of a plan of one agent that goes to and fro, so many moves."""
+    return "\n".join(["mapf-plan 1", "number 7", "agents 1", f"agent 0 0 {'ew' * (moves // 2)}", ""])
+
+
+def restarts_text(moves, restarts):
+    """The text of events that bring this agent to its end, and then restart it so often."""
+    return "\n".join(["mapf-events 1", *["start 0", "finish 0"] * moves, *["restart 0"] * restarts, ""])
+
+
 def main():
     parser = argparse.ArgumentParser()
     parser.add_argument("kind", choices=(*sorted({*KINDS, *WALKED_KINDS}), "scen", *PLAN_KINDS))

@@ -149,6 +149,19 @@ def measure_run(programs, name, events, mishaps, folder, rounds, version=1):
     report(f"run {name} {events}", measured, [whole_peak_memory(program, words) for program in programs])
 
 
+def measure_restarts(programs, moves, restarts, folder, rounds):
+    """Measures programs that restart an agent with so many moves done, again and again."""
+    paths = [folder / f"restarts.{kind}" for kind in ("map", "plan", "events")]
+    texts = generate.map_text("open", 2, 1, 1), generate.pacing_plan_text(moves), generate.restarts_text(moves, restarts)
+    for path, text in zip(paths, texts):
+        path.write_text(text)
+    words = ["run", *map(str, paths)]
+    measured, written = measure(programs, words, folder, rounds)
+    if written[0] != written[1]:
+        sys.exit("the two programs wrote other replies for restarts")
+    report(f"run restarts {restarts}", measured, [whole_peak_memory(program, words) for program in programs])
+
+
 def judge(program, words, plan, answer):
     """Runs the events that are said to complete a run from its beginning, and ends this program where they don't. How many there are."""
     header, ends = "mapf-events 1\n", completing.ends_of(plan)
@@ -215,6 +228,8 @@ def main():
                 measure_run(programs, "plain", events, 0.0, folder, given.rounds)
             measure_run(programs, "mishaps", 100_000, 0.2, folder, given.rounds)
             measure_run(programs, "telling", 100_000, 0.0, folder, given.rounds, version=2)
+            for restarts in (1_000, 4_000):
+                measure_restarts(programs, 60_000, restarts, folder, given.rounds)
         if given.only in (None, "complete"):
             measure_complete(programs, folder, given.rounds)
 

@@ -1,5 +1,6 @@
 //! A plain Rust program that does the work of `mapf map`, `mapf scen`, `mapf row`, `mapf check`, `mapf deps` and `mapf run`, to measure it beside: it reads a text, checks it and
 //! writes it in canonical form, with the same faults, or solves a row of a scenario, with no certificate.
+mod check;
 mod deps;
 mod map;
 mod output;
