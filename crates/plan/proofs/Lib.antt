@@ -15,3 +15,4 @@ pub mod SquareLemmas
 pub mod RowLemmas
 pub mod AgentLemmas
 pub mod UnderWayLemmas
+pub mod StrayLemmas

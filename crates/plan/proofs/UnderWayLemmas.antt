@@ -162,7 +162,7 @@ come_allowed m courses step turns acts walkers squares h now are allowed k less 
 
 -- ---- no bad move
 
-no_bad_move : (m : Grid) (courses : List Course) (step : ℕ) (from to : Walker) → (w : IsWalker m courses step from) → (v : IsWalker m courses (step + 1) to)
+pub no_bad_move : (m : Grid) (courses : List Course) (step : ℕ) (from to : Walker) → (w : IsWalker m courses step from) → (v : IsWalker m courses (step + 1) to)
     → from.agent ≡ to.agent → from.ground ≡ to.ground → (course : Course) → slice_get courses from.agent ≡ Some course → IsBadMove m course step → ⊥
 no_bad_move m courses step from to w v agent ground course is bad =
     let one : w.course ≡ course = (let a = w.is_agent in cc) in

@@ -1,10 +1,10 @@
--- Where agents may start, and where an act leads.
-use Rattle.std.specs.Prelude.{◌≡◌, ◌≢◌, ℕ, ◌+◌, ◌-◌, ◌<◌, List, Option, Some, MatchOption, slice_get}
+-- Where agents may start, and where acts lead.
+use Rattle.std.specs.Prelude.{◌≡◌, ◌≢◌, ℕ, ◌+◌, ◌-◌, ◌<◌, List, length, get_or, Option, Some, MatchOption, slice_get}
 use Rattle.grid.specs.declared.cell.Cell.{Cell}
 use Rattle.grid.specs.Map.{Grid}
 use Rattle.model.specs.declared.act.Act.{Act}
 use Rattle.model.specs.declared.act.Act.TheVariants.{N, E, S, W, Wait}
-use Rattle.model.specs.Plan.{Course, position_of, moved, IsLegal, IsPassable}
+use Rattle.model.specs.Plan.{Course, position_of, position_at, moved, IsLegal, IsPassable, IsBadMove}
 
 -- the cell is one of the map
 pub record IsOnGrid (m : Grid) (c : Cell) : Type 0 where
@@ -21,6 +21,15 @@ ArePassable m courses = (i : ℕ) (course : Course) → slice_get courses i ≡ 
 
 abbrev pub HasBadStart : Grid → List Course → ℕ → Type 0
 HasBadStart m courses i = MatchOption (slice_get courses i) ⊥ (λ course. IsPassable m course.start → ⊥)
+
+-- at each time the agent is in a cell of the map, and none of its moves is bad
+pub record KeepsToGround (m : Grid) (course : Course) : Type 0 where
+  pub cells : (t : ℕ) → (c : Cell) × (position_of c ≡ position_at course t) × IsOnGrid m c
+  pub good : (step : ℕ) → IsBadMove m course step → ⊥
+
+-- the same of each agent
+abbrev pub KeepToGround : Grid → List Course → Type 0
+KeepToGround m courses = (i : ℕ) (course : Course) → slice_get courses i ≡ Some course → KeepsToGround m course
 
 -- the act leads to a cell of the map, by no step or a legal one
 pub record LeadsTo (m : Grid) (from : Cell) (act : Act) (to : Cell) : Type 0 where
@@ -40,3 +49,12 @@ cell_by E c = record { x = c.x + 1; y = c.y }
 cell_by S c = record { x = c.x; y = c.y + 1 }
 cell_by W c = record { x = c.x - 1; y = c.y }
 cell_by Wait c = c
+
+-- how many steps a block has
+abbrev pub block_steps : ℕ
+block_steps = 64
+
+-- the acts are those of a block from the step on, with waits behind the last
+pub record IsStretch (acts : List Act) (step : ℕ) (stretch : List Act) : Type 0 where
+  pub count : length stretch ≡ block_steps
+  pub each : (k : ℕ) → k < block_steps → get_or stretch k Wait ≡ get_or acts (step + k) Wait

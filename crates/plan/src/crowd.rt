@@ -20,8 +20,8 @@ pub(crate) struct Walker {
 #[derive(Clone, Copy, Debug)]
 pub(crate) struct Turn {
     /// The place grows by the one, and falls by the other.
-    ahead: u32,
-    back: u32,
+    pub(crate) ahead: u32,
+    pub(crate) back: u32,
     /// What is left in the square to which it leads.
     mark: u8,
     /// What an act in the opposite direction leaves.
@@ -79,7 +79,7 @@ impl Turns {
         }
     }
 
-    fn of(&self, act: Act) -> Turn
+    pub(crate) fn of(&self, act: Act) -> Turn
         ensures { result ≡ turn_by self.now act }
     {
         self.by_act[act as usize]

@@ -103,24 +103,19 @@ fn is_land(character: u8) -> bool
     matches!(character, b'.' | b'G' | b'S')
 }
 
-/// The cell to which an act leads, on a map that is large enough. It asks for each act by itself, since which one comes can't be foreseen.
+/// The cell to which an act leads, on a map that is large enough. It adds and takes away, and asks for no act, since which one comes can't be
+/// foreseen.
 pub fn next_cell(cell: Cell, act: Act) -> Cell
     requires column { (cell_by act cell).x < 65536 }
     requires row { (cell_by act cell).y < 65536 }
     ensures { result ≡ cell_by act cell }
 {
-    let mut next = cell;
-    if matches!(act, Act::N) {
-        next.y = cell.y.saturating_sub(1);
+    let north = u16::from(matches!(act, Act::N));
+    let east = u16::from(matches!(act, Act::E));
+    let south = u16::from(matches!(act, Act::S));
+    let west = u16::from(matches!(act, Act::W));
+    Cell {
+        x: (cell.x + east).saturating_sub(west),
+        y: (cell.y + south).saturating_sub(north),
     }
-    if matches!(act, Act::E) {
-        next.x = cell.x + 1;
-    }
-    if matches!(act, Act::S) {
-        next.y = cell.y + 1;
-    }
-    if matches!(act, Act::W) {
-        next.x = cell.x.saturating_sub(1);
-    }
-    next
 }

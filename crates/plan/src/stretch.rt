@@ -1,23 +1,23 @@
 //! The acts of one agent in a block.
 ghost use Rattle.std.specs.Prelude.{◌≡◌, ◌<◌, ◌^◌, length};
-ghost use Rattle.plan.specs.Code.Blocks.{block_steps, IsStretch};
+ghost use Rattle.plan.specs.Moving.{block_steps, IsStretch};
 
 use model::Act;
 use std::marker::Model;
 
-/// So many steps are walked at once.
-pub(crate) const BLOCK: usize = 64;
+/// So many steps are walked at once: a block.
+pub const BLOCK: usize = 64;
 
 /// The acts of one agent in a block, with waits behind its last.
 #[derive(Debug, Drop)]
-pub(crate) struct Stretch {
+pub struct Stretch {
     acts: [Act; BLOCK],
 }
 
 impl Model for Stretch {
     ghost use Rattle.std.specs.Prelude.{List, ◌≡◌, length};
     ghost use Rattle.model.specs.declared.act.Act.{Act as model_act};
-    ghost use Rattle.plan.specs.Code.Blocks.{block_steps};
+    ghost use Rattle.plan.specs.Moving.{block_steps};
 
     ghost Value = { List model_act };
 
@@ -28,7 +28,7 @@ impl Model for Stretch {
 
 impl Stretch {
     /// Those of the acts that a block from this step on has.
-    pub(crate) fn of(acts: &[Act], step: usize) -> Stretch
+    pub fn of(acts: &[Act], step: usize) -> Stretch
         requires { step < 2 ^ 32 }
         ensures { IsStretch acts.now step result }
     {
@@ -39,7 +39,7 @@ impl Stretch {
         Stretch { acts: stretch }
     }
 
-    pub(crate) fn acts(&self) -> &[Act]
+    pub fn acts(&self) -> &[Act]
         ensures value { result.now ≡ self.now }
         ensures count { length result.now ≡ block_steps }
     {

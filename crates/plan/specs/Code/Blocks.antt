@@ -1,7 +1,6 @@
 -- Blocks of steps: their acts, turned from a row for each agent into a row for each step, and who is under way in them.
 use Rattle.std.specs.Prelude.{◌≡◌, ◌≢◌, ℕ, ◌+◌, ◌<◌, ◌≤◌, ◌⊎◌, List, [], length, get_or, true, false}
 use Rattle.model.specs.declared.act.Act.{Act}
-use Rattle.model.specs.declared.act.Act.TheVariants.{Wait}
 use Rattle.model.specs.Plan.{Course}
 use Rattle.plan.specs.declared.board.Square.{Square}
 use Rattle.plan.specs.declared.crowd.Walker.{Walker}
@@ -9,15 +8,7 @@ use Rattle.plan.specs.Code.Walking.{has_act}
 use Rattle.plan.specs.Code.Squares.{ground_in, square_at}
 use Rattle.plan.specs.Code.Crowd.{act_at, walker_at}
 use Rattle.plan.specs.Code.UnderWay.{AreActs}
-
--- how many steps a block has
-abbrev pub block_steps : ℕ
-block_steps = 64
-
--- the acts are those of a block from the step on, with waits behind the last
-pub record IsStretch (acts : List Act) (step : ℕ) (stretch : List Act) : Type 0 where
-  pub count : length stretch ≡ block_steps
-  pub each : (k : ℕ) → k < block_steps → get_or stretch k Wait ≡ get_or acts (step + k) Wait
+pub use Rattle.plan.specs.Moving.{block_steps, IsStretch}
 
 -- ---- a row for each step
 

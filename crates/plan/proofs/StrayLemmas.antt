@@ -1,0 +1,105 @@
+-- An agent by itself, which keeps to its ground.
+use Rattle.std.proofs.Common.{◌≡◌, ℕ, ◌+◌, ◌*◌, ◌<◌, ◌≤◌, List, [], ◌∷◌, length, Some, arith, refl, sym, ap, subst, inl, inr, ◌∙◌}
+use Rattle.std.specs.Prelude.{slice_get}
+use Rattle.std.proofs.lemmas.Bool.{cases_lt}
+use Rattle.grid.specs.declared.cell.Cell.{Cell}
+use Rattle.grid.specs.Map.{Grid, IsSize}
+use Rattle.model.specs.declared.act.Act.{Act}
+use Rattle.model.specs.Plan.{Course, position_of, moved, position_at, IsPassable, IsBadMove}
+use Rattle.plan.specs.declared.board.Square.{Square}
+use Rattle.plan.specs.declared.crowd.Turns.{Turns}
+use Rattle.plan.specs.Moving.{IsOnGrid, KeepsToGround}
+use Rattle.plan.specs.Code.Squares.{ground_in, square_at, wide_of, place_on, IsOpen, HasGround, IsSquareOf, IsBoard}
+use Rattle.plan.specs.Code.Crowd.{led_to, AreTurns, IsInside}
+use Rattle.plan.specs.Code.UnderWay.{IsWalker}
+use Rattle.plan.proofs.BoardLemmas.{from_place, inside}
+use Rattle.plan.proofs.WalkingLemmas.{bad-has_act, moved-place, position_at-start, position-stays}
+use Rattle.plan.proofs.UnderWayLemmas.{may_start, no_bad_move, starts_as}
+
+-- ---- up to a time
+
+-- up to the time the agent was in cells of the map, and no move was bad
+pub record HasKept (m : Grid) (course : Course) (t : ℕ) : Type 0 where
+  pub cells : (s : ℕ) → s ≤ t → (c : Cell) × (position_of c ≡ position_at course s) × IsOnGrid m c
+  pub good : (s : ℕ) → s < t → IsBadMove m course s → ⊥
+
+pub kept_none : (m : Grid) (course : Course) → IsOnGrid m course.start → HasKept m course 0
+kept_none m course on = record {
+  cells = λ s most. (let first : s ≡ 0 = omega (arith, most) in
+      (course.start, sym (position_at-start (position_of course.start) course.acts) ∙ ap (position_at course) (sym first), on));
+  good = λ s less. absurd (omega (arith, less));
+}
+
+pub kept_next : (m : Grid) (course : Course) (t : ℕ) (c : Cell) → HasKept m course t → position_of c ≡ position_at course (t + 1) → IsOnGrid m c
+    → (IsBadMove m course t → ⊥) → HasKept m course (t + 1)
+kept_next m course t c kept at on good = record {
+  cells = λ s most. elim (cases_lt s (t + 1)) [
+    | inl less ↦ kept.cells s (omega (arith, less))
+    | inr past ↦ (let same : s ≡ t + 1 = omega (arith, most, past) in (c, at ∙ ap (position_at course) (sym same), on))
+  ];
+  good = λ s less. elim (cases_lt s t) [
+    | inl before ↦ kept.good s before
+    | inr last ↦ (let same : t ≡ s = omega (arith, less, last) in subst (λ n. IsBadMove m course n → ⊥) same good)
+  ];
+}
+
+-- past its acts the agent stays
+pub kept_always : (m : Grid) (course : Course) (t : ℕ) → length course.acts ≤ t → HasKept m course t → KeepsToGround m course
+kept_always m course t over kept = record {
+  cells = λ s. elim (cases_lt s t) [
+    | inl less ↦ kept.cells s (omega (arith, less))
+    | inr past ↦ (
+        let last = kept.cells t (omega arith) in
+        (last.0, last.1 ∙ sym (position-stays (position_of course.start) course.acts t s over past), last.2)
+        )
+  ];
+  good = λ s bad. (let within = bad-has_act m course s bad in kept.good s (omega (arith, within, over)) bad);
+}
+
+-- ---- on a board
+
+-- the agent's cell at the time is that of the place, with this ground
+abbrev pub IsAlone : Grid → Course → ℕ → (place ground : ℕ) → Type 0
+IsAlone m course t place ground = IsWalker m (course ∷ []) t (record { place = place; ground = ground; agent = 0 })
+
+pub alone_at_start : (m : Grid) (course : Course) (place ground : ℕ) → IsPassable m course.start → place ≡ place_on m course.start
+    → HasGround m course.start ground → IsAlone m course 0 place ground
+alone_at_start m course place ground passable at has =
+    starts_as m (course ∷ []) course (record { place = place; ground = ground; agent = 0 }) refl at has (may_start m course.start ground passable has)
+
+pub alone_inside : (m : Grid) (course : Course) (t : ℕ) (turns : Turns) (squares : List Square) (place ground : ℕ) → IsSize m.width m.height
+    → AreTurns (wide_of m) turns → IsBoard m squares → IsAlone m course t place ground → IsInside turns (length squares) place
+alone_inside m course t turns squares place ground size h board here =
+    subst (λ n. IsInside turns n place) (sym board.size)
+    (subst (IsInside turns ((m.height + 2) * wide_of m)) (sym here.place) (inside m turns here.cell size h here.ground.on_map))
+
+at_cell : (m : Grid) (course : Course) (t place ground : ℕ) → (here : IsAlone m course t place ground) → position_of here.cell ≡ position_at course t
+at_cell m course t place ground here =
+    let same : here.course ≡ course = (let a = here.is_agent in cc) in
+    here.at ∙ ap (λ k. position_at k t) same
+
+-- an act that leads to the same ground
+pub alone_next : (m : Grid) (course : Course) (step : ℕ) (turns : Turns) (squares : List Square) (act : Act) (place to ground : ℕ) → AreTurns (wide_of m) turns
+    → IsBoard m squares → slice_get course.acts step ≡ Some act → IsAlone m course step place ground → to ≡ led_to turns act place
+    → ground_in (square_at squares to) ≡ ground → IsAlone m course (step + 1) to ground
+alone_next m course step turns squares act place to ground h board acts here leads same =
+    let there = subst (IsSquareOf m to) same (board.cells to (subst IsOpen (sym same) here.may_go)) in
+    let moves : position_of there.cell ≡ moved act (position_of here.cell) =
+    from_place m turns act here.cell there.cell h here.ground.on_map there.ground.on_map (sym there.at ∙ leads ∙ ap (led_to turns act) here.place) in
+    record {
+      course = course;
+      is_agent = refl;
+      cell = there.cell;
+      at = moves ∙ moved-place course step here.cell act acts (at_cell m course step place ground here);
+      place = there.at;
+      ground = there.ground;
+      may_go = here.may_go;
+    }
+
+-- so far the agent kept to its ground, if it is still there
+pub kept_alone : (m : Grid) (course : Course) (step place to ground : ℕ) → HasKept m course step → IsAlone m course step place ground
+    → IsAlone m course (step + 1) to ground → HasKept m course (step + 1)
+kept_alone m course step place to ground kept here there =
+    kept_next m course step there.cell kept (at_cell m course (step + 1) to ground there) there.ground.on_map
+    (no_bad_move m (course ∷ []) step (record { place = place; ground = ground; agent = 0 }) (record { place = to; ground = ground; agent = 0 }) here there refl refl
+    course refl)

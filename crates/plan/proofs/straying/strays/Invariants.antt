@@ -1,0 +1,9 @@
+use Rattle.plan.proofs.StrayLemmas.{HasKept, IsAlone}
+use Rattle.plan.proofs.straying.strays.Given as goal
+
+-- so far the agent kept to its ground, and is in the place
+abbrev pub invariant-loop-act : goal.invariant-loop-act
+invariant-loop-act l = record {
+  here : IsAlone l.map l.course l.act-index l.place l.ground;
+  kept : HasKept l.map l.course l.act-index;
+}
