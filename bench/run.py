@@ -5,7 +5,8 @@ Usage: run.py [--program PATH] [--rounds N] [--side N] [--rows N] [--only COMMAN
 Both programs run in turn over the same texts, many rounds, and at least ten seconds for each text. A line for each text: the
 best time of each in milliseconds, the median of the rounds' ratios, and the most memory that each held, in megabytes. For `row`
 our program finds the lengths and certifies them, and the other one only finds them. What each program
-answers to `complete` is judged by a run of it, since which events it answers with is free; a second line says how many they are.
+answers to `complete` is judged by a run of it, since which events it answers with is free; a second line says how many they are. For `check`
+two more rows have a checker of all pairs of agents, and one in Python, in place of the other program.
 """
 import argparse
 import pathlib
@@ -26,20 +27,20 @@ def build_peer():
     return BENCH / "peer/target/release/peer"
 
 
-def run_once(program, words, output, statuses):
+def run_once(command, output, statuses):
     """The seconds of one run, whose text goes to a file."""
     with open(output, "wb") as out:
         start = time.perf_counter()
-        ended = subprocess.run([program, *words], stdout=out, stderr=subprocess.DEVNULL)
+        ended = subprocess.run(command, stdout=out, stderr=subprocess.DEVNULL)
         seconds = time.perf_counter() - start
     if ended.returncode not in statuses:
-        sys.exit(f"{program} {' '.join(words)} ended with status {ended.returncode}")
+        sys.exit(f"{' '.join(command)} ended with status {ended.returncode}")
     return seconds
 
 
-def peak_memory(program, words, size):
+def peak_memory(command, size):
     """The most kilobytes of memory up to the middle of the text that it writes: all that was read is held then."""
-    child = subprocess.Popen([program, *words], stdout=subprocess.PIPE, stderr=subprocess.DEVNULL)
+    child = subprocess.Popen(command, stdout=subprocess.PIPE, stderr=subprocess.DEVNULL)
     child.stdout.read(size // 2)
     status = pathlib.Path(f"/proc/{child.pid}/status").read_text()
     child.stdout.read()
@@ -47,28 +48,32 @@ def peak_memory(program, words, size):
     return next(int(line.split()[1]) for line in status.splitlines() if line.startswith("VmHWM"))
 
 
-def whole_peak_memory(program, words):
+def whole_peak_memory(command):
     """The most kilobytes of memory in five runs, as it was last seen before each end: one look may come too early for a short run."""
     most = 0
     for _ in range(5):
-        child = subprocess.Popen([program, *words], stdout=subprocess.DEVNULL, stderr=subprocess.DEVNULL)
+        child = subprocess.Popen(command, stdout=subprocess.DEVNULL, stderr=subprocess.DEVNULL)
         while child.poll() is None:
             status = pathlib.Path(f"/proc/{child.pid}/status").read_text()
             most = max([most, *(int(line.split()[1]) for line in status.splitlines() if line.startswith("VmHWM"))])
     return most
 
 
-def measure(programs, words, folder, rounds, statuses=(0,)):
-    """The best time of each program in seconds with the median of the rounds' ratios, and the text that each wrote. A machine may
+def measure(commands, folder, rounds, statuses=(0,)):
+    """The best time of each command in seconds with the median of the rounds' ratios, and the text that each wrote. A machine may
     be slow for seconds at a time: the two runs of a round share that, and short texts get more rounds, until ten seconds are over."""
-    outputs = [folder / f"out{i}" for i in range(len(programs))]
+    outputs = [folder / f"out{i}" for i in range(len(commands))]
     taken = []
     begun = time.perf_counter()
     while len(taken) < rounds or time.perf_counter() - begun < 10:
-        taken.append([run_once(program, words, output, statuses) for program, output in zip(programs, outputs)])
+        taken.append([run_once(command, output, statuses) for command, output in zip(commands, outputs)])
     best = [min(times) for times in zip(*taken)]
     ratio = statistics.median(ours / theirs for ours, theirs in taken)
     return (*best, ratio), [output.read_bytes() for output in outputs]
+
+
+def commands_of(programs, words):
+    return [[program, *words] for program in programs]
 
 
 def report(name, measured, most):
@@ -81,10 +86,10 @@ def measure_text(programs, command, kind, text, folder, rounds):
     path = folder / f"{kind}.{command}"
     path.write_text(text)
     words = [command, str(path)]
-    measured, written = measure(programs, words, folder, rounds)
+    measured, written = measure(commands_of(programs, words), folder, rounds)
     if written[0] != written[1] or written[0] != path.read_bytes():
         sys.exit(f"the two programs wrote other texts for {command} {kind}")
-    report(f"{command} {kind}", measured, [peak_memory(program, words, len(written[0])) for program in programs])
+    report(f"{command} {kind}", measured, [peak_memory(command, len(written[0])) for command in commands_of(programs, words)])
 
 
 def measure_row(programs, kind, side, folder, rounds):
@@ -98,10 +103,10 @@ def measure_row(programs, kind, side, folder, rounds):
     if found[:1] != ["shortest"]:
         sys.exit(f"no walk leads across the map {kind} {side}")
     scen_path.write_text(generate.row_text(kind, side, side, int(found[1]), int(found[2])))
-    measured, written = measure(programs, words, folder, rounds)
+    measured, written = measure(commands_of(programs, words), folder, rounds)
     if written[0] != written[1]:
         sys.exit(f"the two programs wrote other lines for row {kind}")
-    report(f"row {kind} {side}", measured, [whole_peak_memory(program, words) for program in programs])
+    report(f"row {kind} {side}", measured, [whole_peak_memory(command) for command in commands_of(programs, words)])
 
 
 def measure_check(programs, kind, side, agents, acts, folder, rounds):
@@ -112,10 +117,25 @@ def measure_check(programs, kind, side, agents, acts, folder, rounds):
     for name, plan in ((kind, text), (f"{kind}, late fault", generate.with_late_fault(text))):
         plan_path.write_text(plan)
         words = ["check", str(map_path), str(plan_path)]
-        measured, written = measure(programs, words, folder, rounds, statuses=(0, 1))
+        measured, written = measure(commands_of(programs, words), folder, rounds, statuses=(0, 1))
         if written[0] != written[1]:
             sys.exit(f"the two programs wrote other lines for check {name}")
-        report(f"check {name} {acts}", measured, [whole_peak_memory(program, words) for program in programs])
+        report(f"check {name} {acts}", measured, [whole_peak_memory(command) for command in commands_of(programs, words)])
+
+
+def measure_usual_checkers(programs, folder, rounds):
+    """Measures the checkers that one would have otherwise: one that compares all pairs of agents, and one in Python, on a plan that each can do."""
+    map_path, plan_path = folder / "usual.map", folder / "usual.plan"
+    map_path.write_text(generate.map_text("open", 128, 128, 1))
+    plan_path.write_text(generate.plan_text("crowd", 128, 128, 1, 1_000, 400))
+    texts = [str(map_path), str(plan_path)]
+    ours = [programs[0], "check", *texts]
+    for name, other in (("all pairs", [programs[1], "pairs"]), ("in Python", [sys.executable, str(BENCH / "plain_checker.py")])):
+        commands = [ours, [*other, *texts]]
+        measured, written = measure(commands, folder, rounds)
+        if written[0] != written[1]:
+            sys.exit(f"the checker {name} wrote another line")
+        report(f"check crowd 400, {name}", measured, [whole_peak_memory(command) for command in commands])
 
 
 def measure_deps(programs, kind, side, agents, acts, folder, rounds):
@@ -124,10 +144,10 @@ def measure_deps(programs, kind, side, agents, acts, folder, rounds):
     map_path.write_text(generate.map_text("open", side, side, 1))
     plan_path.write_text(generate.plan_text(kind, side, side, 1, agents, acts))
     words = ["deps", str(map_path), str(plan_path)]
-    measured, written = measure(programs, words, folder, rounds)
+    measured, written = measure(commands_of(programs, words), folder, rounds)
     if written[0] != written[1]:
         sys.exit(f"the two programs wrote other lines for deps {kind}")
-    report(f"deps {kind} {acts}", measured, [whole_peak_memory(program, words) for program in programs])
+    report(f"deps {kind} {acts}", measured, [whole_peak_memory(command) for command in commands_of(programs, words)])
 
 
 def write_dense_plan(folder, name):
@@ -143,10 +163,10 @@ def measure_run(programs, name, events, mishaps, folder, rounds, version=1):
     """Measures programs that answer events which bring a dense plan of 1,000 agents to its end, or so many of them."""
     words, plan = write_dense_plan(folder, name)
     pathlib.Path(words[-1]).write_text(generate.events_text(plan, 1, events, mishaps, version))
-    measured, written = measure(programs, words, folder, rounds)
+    measured, written = measure(commands_of(programs, words), folder, rounds)
     if written[0] != written[1]:
         sys.exit(f"the two programs wrote other replies for {name}")
-    report(f"run {name} {events}", measured, [whole_peak_memory(program, words) for program in programs])
+    report(f"run {name} {events}", measured, [whole_peak_memory(command) for command in commands_of(programs, words)])
 
 
 def measure_restarts(programs, moves, restarts, folder, rounds):
@@ -156,10 +176,10 @@ def measure_restarts(programs, moves, restarts, folder, rounds):
     for path, text in zip(paths, texts):
         path.write_text(text)
     words = ["run", *map(str, paths)]
-    measured, written = measure(programs, words, folder, rounds)
+    measured, written = measure(commands_of(programs, words), folder, rounds)
     if written[0] != written[1]:
         sys.exit("the two programs wrote other replies for restarts")
-    report(f"run restarts {restarts}", measured, [whole_peak_memory(program, words) for program in programs])
+    report(f"run restarts {restarts}", measured, [whole_peak_memory(command) for command in commands_of(programs, words)])
 
 
 def judge(program, words, plan, answer):
@@ -181,8 +201,8 @@ def measure_complete(programs, folder, rounds):
     words, plan = write_dense_plan(folder, "complete")
     pathlib.Path(words[-1]).write_text("mapf-events 1\n")
     completing_words = [*words, "--complete"]
-    measured, written = measure(programs, completing_words, folder, rounds)
-    most = [whole_peak_memory(program, completing_words) for program in programs]
+    measured, written = measure(commands_of(programs, completing_words), folder, rounds)
+    most = [whole_peak_memory(command) for command in commands_of(programs, completing_words)]
     # each answer is run by our program
     counts = [judge(programs[0], words, plan, answer) for answer in written]
     report("complete plain", measured, most)
@@ -218,6 +238,7 @@ def main():
                 for kind in ("boxes", "blocks", "trains"):
                     measure_check(programs, kind, given.side, 10_000, acts, folder, given.rounds)
             measure_check(programs, "crowd", 128, 1_000, 400, folder, given.rounds)
+            measure_usual_checkers(programs, folder, given.rounds)
         if given.only in (None, "deps"):
             for acts in (400, 800, 1600):
                 for kind in ("boxes", "blocks", "trains"):

@@ -1,15 +1,13 @@
 //! The checker: a board of one byte a square says whether anything is wrong in a step, and only then it is asked what.
+use crate::crowd::{place_of, Crowd, BLOCK};
 use crate::plan::Plan;
 use std::collections::HashMap;
-
-/// So many steps are prepared at a time.
-const BLOCK: usize = 64;
 
 /// A square has a ground in its two low bits: blocked, land, water, or held by an agent that stays there for ever.
 const GROUND: u8 = 3;
 const HELD: u8 = 3;
 
-fn ground(terrain: u8) -> u8 {
+pub fn ground(terrain: u8) -> u8 {
     let land = (terrain == b'.') | (terrain == b'G') | (terrain == b'S');
     u8::from(land) | u8::from(terrain == b'W') << 1
 }
@@ -54,8 +52,18 @@ struct Walker {
     agent: u16,
 }
 
+impl crate::crowd::Walker for Walker {
+    fn agent(&self) -> usize {
+        self.agent.into()
+    }
+
+    fn place(&self) -> u32 {
+        self.place
+    }
+}
+
 /// Takes all walkers a step on, and says whether something is wrong in it.
-fn take_step(turns: &Turns, acts: &[u8], walkers: &mut [Walker], board: &mut [u8]) -> bool {
+fn take_step(turns: &Turns, (walkers, acts): (&mut [Walker], &[u8]), board: &mut [u8]) -> bool {
     let mut is_wrong = false;
     for (walker, &act) in walkers.iter_mut().zip(acts) {
         let turn = turns.by_act[usize::from(act)];
@@ -89,43 +97,24 @@ pub fn check(width: usize, height: usize, cells: &[u8], plan: &Plan) -> Option<(
         if x >= width || y >= height || ground(cells[y * width + x]) == 0 {
             return Some(("BadStart", vec![agent as u64]));
         }
-        let place = (y + 1) * wide + x + 1;
-        walkers.push(Walker { place: place as u32, ground: board[place], agent: agent as u16 });
+        let place = place_of(plan.starts[agent], wide as u32);
+        walkers.push(Walker { place, ground: board[place as usize], agent: agent as u16 });
     }
-    // An odd number of cache lines keeps the beginnings of rows apart in the cache.
-    let stride = (count.div_ceil(64) | 1) * 64;
-    let mut rows = vec![b'-'; BLOCK * stride];
     let turns = [Turns::new(wide as u32, 1), Turns::new(wide as u32, 6)];
-    if take_step(&turns[1], &rows[..count], &mut walkers, &mut board) {
+    let mut crowd = Crowd::new(plan, walkers);
+    // All wait at their starts first, so that two that share one are seen.
+    if take_step(&turns[1], crowd.step(0), &mut board) {
         return Some(least_fault(width, cells, plan, 0));
     }
     let mut step = 0;
-    while !walkers.is_empty() {
-        walkers.retain(|walker| {
-            let is_over = plan.acts_of(usize::from(walker.agent)).len() <= step;
-            if is_over {
-                board[walker.place as usize] = HELD;
-            }
-            !is_over
-        });
-        walkers.sort_unstable_by_key(|walker| walker.place);
-        for (at, walker) in walkers.iter().enumerate() {
-            let acts = &plan.acts_of(usize::from(walker.agent))[step..];
-            let some = acts.len().min(BLOCK);
-            for (row, &act) in acts[..some].iter().enumerate() {
-                rows[row * stride + at] = act;
-            }
-            for row in some..BLOCK {
-                rows[row * stride + at] = b'-';
-            }
+    while !crowd.is_empty() {
+        if step % BLOCK == 0 {
+            crowd.prepare(step, |walker| board[walker.place as usize] = HELD);
         }
-        for taken in 0..BLOCK {
-            let acts = &rows[taken * stride..][..walkers.len()];
-            if take_step(&turns[taken % 2], acts, &mut walkers, &mut board) {
-                return Some(least_fault(width, cells, plan, step + taken + 1));
-            }
+        if take_step(&turns[step % 2], crowd.step(step % BLOCK), &mut board) {
+            return Some(least_fault(width, cells, plan, step + 1));
         }
-        step += BLOCK;
+        step += 1;
     }
     None
 }

@@ -1,207 +1,194 @@
-//! What the moves of a plan wait for, and its rotations.
+//! What the moves of a plan wait for, and its rotations: in one pass by time over the last visit of each cell.
+use crate::crowd::{leads, place_of, Crowd, Walker, BLOCK};
 use crate::output::Output;
 use crate::plan::{self, Plan};
 use crate::source::Fault;
 use std::fs::File;
 use std::io;
 
-pub const NOBODY: u16 = u16::MAX;
-const FOR_EVER: u32 = u32::MAX;
+/// A visit of a cell: one more than the agent's number, and which cell of its path it is, in the upper and the lower 16 bits. None is 0.
+type Visit = u32;
 
-/// A cell of an agent's path: when the agent comes into it, and when it is in the next.
-#[derive(Clone, Copy)]
-struct Visit {
-    agent: u16,
-    index: u16,
-    time: u32,
-    leaves: u32,
+fn agent_of(visit: Visit) -> u32 {
+    (visit >> 16) - 1
 }
 
-/// The paths of all agents, one after another: their cells, when each is entered, and where each agent's begin.
-pub struct Paths {
-    pub cells: Vec<u32>,
-    times: Vec<u32>,
-    pub begins: Vec<usize>,
-}
-
-impl Paths {
-    fn of(plan: &Plan, width: usize) -> Paths {
-        let room = plan.acts.len() + plan.starts.len();
-        let mut paths = Paths {
-            cells: Vec::with_capacity(room),
-            times: Vec::with_capacity(room),
-            begins: Vec::with_capacity(plan.starts.len() + 1),
-        };
-        paths.begins.push(0);
-        let mut from = 0;
-        for (&(x, y), &end) in plan.starts.iter().zip(&plan.ends) {
-            let mut at = usize::from(y) * width + usize::from(x);
-            paths.cells.push(at as u32);
-            paths.times.push(0);
-            for (step, &act) in plan.acts[from..end].iter().enumerate() {
-                at = match act {
-                    b'n' => at - width,
-                    b's' => at + width,
-                    b'e' => at + 1,
-                    b'w' => at - 1,
-                    _ => continue,
-                };
-                paths.cells.push(at as u32);
-                paths.times.push(step as u32 + 1);
-            }
-            paths.begins.push(paths.cells.len());
-            from = end;
-        }
-        paths
-    }
-}
-
-/// The visits of the cells, a cell's one after another by time. `ends` has where each cell's end, and `order` the cells that are
-/// visited, by first visit.
-struct Visits {
-    visits: Vec<Visit>,
-    ends: Vec<u32>,
-    #[expect(dead_code, reason = "a graph tells its cells in this order")]
-    order: Vec<u32>,
-}
-
-impl Visits {
-    /// The visits along all paths: each cell's stand together, in the order of the map, so that those of one path lie close.
-    fn of(paths: &Paths, cells: usize) -> Visits {
-        let mut ends = vec![0u32; cells];
-        for &cell in &paths.cells {
-            ends[cell as usize] += 1;
-        }
-        let mut total = 0;
-        for entry in &mut ends {
-            total += std::mem::replace(entry, total);
-        }
-        let mut visits = vec![Visit { agent: 0, index: 0, time: 0, leaves: 0 }; paths.cells.len()];
-        for (agent, bounds) in paths.begins.windows(2).enumerate() {
-            let own = bounds[0]..bounds[1];
-            let times = &paths.times[own.clone()];
-            for (index, &cell) in paths.cells[own].iter().enumerate() {
-                let place = &mut ends[cell as usize];
-                visits[*place as usize] = Visit {
-                    agent: agent as u16,
-                    index: index as u16,
-                    time: times[index],
-                    leaves: times.get(index + 1).copied().unwrap_or(FOR_EVER),
-                };
-                *place += 1;
-            }
-        }
-        let mut firsts = Vec::new();
-        let mut from = 0;
-        for (cell, &end) in ends.iter().enumerate() {
-            let own = &mut visits[from..end as usize];
-            if own.len() > 1 {
-                own.sort_unstable_by_key(|visit| visit.time);
-            }
-            if let Some(first) = own.first() {
-                firsts.push((u64::from(first.time) << 48) | (u64::from(first.agent) << 32) | cell as u64);
-            }
-            from = end as usize;
-        }
-        firsts.sort_unstable();
-        let order = firsts.iter().map(|&first| first as u32).collect();
-        Visits { visits, ends, order }
-    }
-}
-
-/// What a move waits for: that an agent, or nobody, has finished so many moves. `is_tight`: with the last of these that agent
-/// leaves the cell in the very step in which the move enters it.
-#[derive(Clone, Copy)]
+/// What a move waits for: that an agent has finished so many moves.
 pub struct Need {
     pub agent: u16,
     pub count: u16,
-    is_tight: bool,
 }
 
 pub struct Graph {
-    pub paths: Paths,
-    #[expect(dead_code, reason = "a graph keeps them")]
-    visits: Visits,
-    /// For each entry of the paths.
-    needs: Vec<Need>,
+    /// Where the moves of each agent begin among all, and behind the last where they end.
+    begins: Vec<u32>,
+    /// For each move the visit of the agent that it waits for, from which that agent's last move is then finished; 0 where it waits for nobody.
+    needs: Vec<Visit>,
+    need_count: usize,
+    /// Whether an agent waits anywhere. Where it doesn't, the memory of its needs is never touched.
+    waits: Vec<bool>,
     rotations: Vec<(u32, Vec<u16>)>,
 }
 
+/// An agent under way.
+#[derive(Clone, Copy)]
+struct Mover {
+    place: u32,
+    /// Its visit of the cell in which it is.
+    visit: Visit,
+    /// Which of all moves is its next one.
+    next: u32,
+}
+
+impl Walker for Mover {
+    fn agent(&self) -> usize {
+        agent_of(self.visit) as usize
+    }
+
+    fn place(&self) -> u32 {
+        self.place
+    }
+}
+
 impl Graph {
+    /// The graph of a valid plan on a map of this size.
     pub fn of(plan: &Plan, width: usize, height: usize) -> Graph {
-        let paths = Paths::of(plan, width);
-        let visits = Visits::of(&paths, width * height);
-        let mut needs = needs(&paths, &visits);
-        let rotations = rotations(&paths, &mut needs);
-        Graph { paths, visits, needs, rotations }
+        let count = plan.starts.len();
+        let mut begins = Vec::with_capacity(count + 1);
+        let mut total = 0;
+        for agent in 0..count {
+            begins.push(total);
+            total += plan.acts_of(agent).iter().map(|&act| u32::from(act != b'-')).sum::<u32>();
+        }
+        begins.push(total);
+        let wide = width as u32 + 2;
+        let mut last: Vec<Visit> = vec![0; wide as usize * (height + 2)];
+        let mut movers = Vec::with_capacity(count);
+        for (agent, &start) in plan.starts.iter().enumerate() {
+            let mover = Mover { place: place_of(start, wide), visit: (agent as u32 + 1) << 16, next: begins[agent] };
+            last[mover.place as usize] = mover.visit;
+            movers.push(mover);
+        }
+        let mut graph = Graph { begins, needs: vec![0; total as usize], need_count: 0, waits: vec![false; count], rotations: Vec::new() };
+        graph.follow(Crowd::new(plan, movers), &mut last, &leads(wide), count);
+        graph
+    }
+
+    /// Follows the agents to their ends.
+    fn follow(&mut self, mut crowd: Crowd<'_, Mover>, last: &mut [Visit], leads: &[u32; 256], count: usize) {
+        let mut rings = Rings::new(count);
+        let mut step = 0;
+        while !crowd.is_empty() {
+            if step % BLOCK == 0 {
+                crowd.prepare(step, |_| {});
+            }
+            let (movers, acts) = crowd.step(step % BLOCK);
+            for (mover, &act) in movers.iter_mut().zip(acts) {
+                if act == b'-' {
+                    continue;
+                }
+                mover.place = mover.place.wrapping_add(leads[usize::from(act)]);
+                let before = std::mem::replace(&mut last[mover.place as usize], mover.visit + 1);
+                if before != 0 && (before ^ mover.visit) >> 16 != 0 {
+                    self.needs[mover.next as usize] = before + 1;
+                    self.need_count += 1;
+                    self.waits[agent_of(mover.visit) as usize] = true;
+                    rings.entered.push((mover.visit, before));
+                }
+                mover.visit += 1;
+                mover.next += 1;
+                rings.newest[agent_of(mover.visit) as usize] = mover.visit;
+            }
+            rings.end_step(step as u32, &mut self.rotations);
+            step += 1;
+        }
     }
 
     pub fn has_rotations(&self) -> bool {
         !self.rotations.is_empty()
     }
 
-    /// The needs of an agent's moves, from the first move on.
-    pub fn needs_of(&self, agent: usize) -> &[Need] {
-        &self.needs[self.paths.begins[agent] + 1..self.paths.begins[agent + 1]]
+    /// How many moves an agent makes.
+    pub fn moves(&self, agent: usize) -> u32 {
+        self.begins[agent + 1] - self.begins[agent]
+    }
+
+    /// What a move of an agent waits for.
+    pub fn need(&self, agent: usize, number: u32) -> Option<Need> {
+        match self.needs[(self.begins[agent] + number) as usize] {
+            0 => None,
+            visit => Some(Need { agent: agent_of(visit) as u16, count: visit as u16 }),
+        }
     }
 }
 
-fn needs(paths: &Paths, visits: &Visits) -> Vec<Need> {
-    let mut needs = vec![Need { agent: NOBODY, count: 0, is_tight: false }; paths.cells.len()];
-    let mut from = 0;
-    for &end in &visits.ends {
-        for pair in visits.visits[from..end as usize].windows(2) {
-            let (before, own) = (pair[0], pair[1]);
-            if before.agent != own.agent {
-                needs[paths.begins[usize::from(own.agent)] + usize::from(own.index)] = Need {
-                    agent: before.agent,
-                    count: before.index + 1,
-                    is_tight: before.leaves == own.time,
-                };
+/// Finds the rotations of each step: agents each of which enters the cell that the next one leaves in it.
+struct Rings {
+    /// Each agent's newest visit.
+    newest: Vec<Visit>,
+    /// Who entered a cell in this step, by its visit before, and the last visit of another there.
+    entered: Vec<(Visit, Visit)>,
+    /// Whom each agent followed last, and in which step.
+    ahead: Vec<(u32, u32)>,
+    /// In which step each agent was last looked at.
+    seen: Vec<u32>,
+}
+
+const NEVER: u32 = u32::MAX;
+
+impl Rings {
+    fn new(count: usize) -> Rings {
+        Rings { newest: vec![0; count], entered: Vec::with_capacity(count), ahead: vec![(NEVER, 0); count], seen: vec![NEVER; count] }
+    }
+
+    fn end_step(&mut self, step: u32, rotations: &mut Vec<(u32, Vec<u16>)>) {
+        // Whoever left the cell earlier rests, and follows nobody in this step.
+        for &(visit, before) in &self.entered {
+            let other = agent_of(before);
+            if self.newest[other as usize] == before + 1 {
+                self.ahead[agent_of(visit) as usize] = (step, other);
             }
         }
-        from = end as usize;
-    }
-    needs
-}
-
-/// The circles of moves each of which enters the cell that the next leaves in the same step. The marks of being so are taken off.
-fn rotations(paths: &Paths, needs: &mut [Need]) -> Vec<(u32, Vec<u16>)> {
-    let mut rotations = Vec::new();
-    let mut round = Vec::new();
-    for agent in 0..paths.begins.len() - 1 {
-        for first in paths.begins[agent] + 1..paths.begins[agent + 1] {
-            // nobody is followed by two, so what leads back to a move leads back to the first
-            round.clear();
-            let (mut entry, mut who) = (first, agent as u16);
-            while std::mem::take(&mut needs[entry].is_tight) {
-                round.push(who);
-                who = needs[entry].agent;
-                entry = paths.begins[usize::from(who)] + usize::from(needs[entry].count);
-                if entry == first {
-                    rotations.push((paths.times[first] - 1, round.clone()));
+        let found = rotations.len();
+        for &(visit, _) in &self.entered {
+            // Nobody is followed by two, so what leads back leads back to the first.
+            let first = agent_of(visit);
+            let mut agent = first;
+            while self.seen[agent as usize] != step && self.ahead[agent as usize].0 == step {
+                self.seen[agent as usize] = step;
+                agent = self.ahead[agent as usize].1;
+                if agent == first {
+                    rotations.push((step, self.ring(first)));
                 }
             }
         }
+        rotations[found..].sort_unstable();
+        self.entered.clear();
     }
-    rotations.sort_unstable();
-    rotations
+
+    /// The agents of a ring, from the least on.
+    fn ring(&self, first: u32) -> Vec<u16> {
+        let next = |agent: &u32| Some(self.ahead[*agent as usize].1).filter(|&next| next != first);
+        let mut agents: Vec<u16> = std::iter::successors(Some(first), next).map(|agent| agent as u16).collect();
+        let least = agents.iter().enumerate().min_by_key(|(_, agent)| **agent).map_or(0, |(at, _)| at);
+        agents.rotate_left(least);
+        agents
+    }
 }
 
 fn write(graph: &Graph, file: File) -> io::Result<()> {
     let mut out = Output::new(file);
-    let agents = graph.paths.begins.len() - 1;
-    let needs = graph.needs.iter().filter(|need| need.agent != NOBODY).count();
+    let agents = graph.waits.len();
     out.put_number(b"agents ", agents as u32);
-    out.put_number(b" moves ", (graph.paths.cells.len() - agents) as u32);
-    out.put_number(b" needs ", needs as u32);
+    out.put_number(b" moves ", graph.needs.len() as u32);
+    out.put_number(b" needs ", graph.need_count as u32);
     out.put_number(b" rotations ", graph.rotations.len() as u32);
     out.end_line()?;
-    for agent in 0..agents {
-        for (k, need) in graph.needs_of(agent).iter().enumerate() {
-            if need.agent != NOBODY {
+    for agent in (0..agents).filter(|&agent| graph.waits[agent]) {
+        for number in 0..graph.moves(agent) {
+            if let Some(need) = graph.need(agent, number) {
                 out.put_number(b"need ", agent as u32);
-                out.put_number(b" ", k as u32);
+                out.put_number(b" ", number);
                 out.put_number(b" ", need.agent.into());
                 out.put_number(b" ", need.count.into());
                 out.end_line()?;

@@ -1,9 +1,11 @@
 //! A plain Rust program that does the work of `mapf map`, `mapf scen`, `mapf row`, `mapf check`, `mapf deps` and `mapf run`, to measure it beside: it reads a text, checks it and
 //! writes it in canonical form, with the same faults, or solves a row of a scenario, with no certificate.
 mod check;
+mod crowd;
 mod deps;
 mod map;
 mod output;
+mod pairs;
 mod plan;
 mod row;
 mod run;
@@ -45,8 +47,9 @@ fn run(words: &[&str]) -> Result<Option<bool>, Fault> {
             writeln!(output().map_err(failed)?, "{line}").map_err(failed)?;
             Ok(Some(good))
         }
-        ["check", map, plan] => {
-            let (line, good) = plan::judge(open(map)?, open(plan)?)?;
+        [command @ ("check" | "pairs"), map, plan] => {
+            let checker = if command == "check" { check::check } else { pairs::check };
+            let (line, good) = plan::judge(open(map)?, open(plan)?, checker)?;
             writeln!(output().map_err(failed)?, "{line}").map_err(failed)?;
             Ok(Some(good))
         }
@@ -67,7 +70,7 @@ fn main() -> ExitCode {
         Ok(Some(true)) => ExitCode::SUCCESS,
         Ok(Some(false)) => ExitCode::from(1),
         Ok(None) => {
-            eprintln!("usage: peer map FILE | peer scen FILE | peer row MAP SCEN N | peer check MAP PLAN | peer deps MAP PLAN | peer run MAP PLAN EVENTS [--complete]");
+            eprintln!("usage: peer map FILE | peer scen FILE | peer row MAP SCEN N | peer check MAP PLAN | peer pairs MAP PLAN | peer deps MAP PLAN | peer run MAP PLAN EVENTS [--complete]");
             ExitCode::from(2)
         }
         Err(Fault::Text(text)) => {

@@ -3,15 +3,15 @@ use crate::source::PIECE;
 use std::fs::File;
 use std::io::{self, Write};
 
-/// Two digits for each number below 100.
-const PAIRS: [[u8; 2]; 100] = {
-    let mut pairs = [[0; 2]; 100];
+/// The four digits of each number below 10,000.
+static FOUR: [[u8; 4]; 10_000] = {
+    let mut four = [[0; 4]; 10_000];
     let mut n = 0;
-    while n < 100 {
-        pairs[n] = [b'0' + (n / 10) as u8, b'0' + (n % 10) as u8];
+    while n < 10_000 {
+        four[n] = [b'0' + (n / 1000) as u8, b'0' + (n / 100 % 10) as u8, b'0' + (n / 10 % 10) as u8, b'0' + (n % 10) as u8];
         n += 1;
     }
-    pairs
+    four
 };
 
 /// Collects text for a file.
@@ -29,19 +29,26 @@ impl Output {
         self.text.extend_from_slice(bytes);
     }
 
-    pub fn put_number(&mut self, word: &[u8], mut number: u32) {
+    pub fn put_number(&mut self, word: &[u8], number: u32) {
         self.put(word);
-        let mut digits = [0; 10];
-        let mut at = digits.len();
-        while number >= 100 {
-            at -= 2;
-            digits[at..at + 2].copy_from_slice(&PAIRS[(number % 100) as usize]);
-            number /= 100;
+        if number < 10_000 {
+            return self.put_first(number);
         }
-        at -= 2;
-        digits[at..at + 2].copy_from_slice(&PAIRS[number as usize]);
-        at += usize::from(number < 10);
-        self.put(&digits[at..]);
+        if number < 100_000_000 {
+            self.put_first(number / 10_000);
+        } else {
+            self.put_first(number / 100_000_000);
+            self.put(&FOUR[(number / 10_000 % 10_000) as usize]);
+        }
+        self.put(&FOUR[(number % 10_000) as usize]);
+    }
+
+    /// A number below 10,000. Four bytes are put at once, and those too many taken back: that asks for no length.
+    fn put_first(&mut self, number: u32) {
+        let zeros = usize::from(number < 10) + usize::from(number < 100) + usize::from(number < 1000);
+        let digits = u32::from_le_bytes(FOUR[number as usize]) >> (8 * zeros);
+        self.put(&digits.to_le_bytes());
+        self.text.truncate(self.text.len() - zeros);
     }
 
     /// The same of a number that may be longer.

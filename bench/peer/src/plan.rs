@@ -141,12 +141,15 @@ pub fn read_checked(map: File, plan: File) -> Result<(usize, usize, Plan), Fault
     }
 }
 
+/// What finds a plan's fault, by the map's width, height and cells.
+pub type Checker = fn(usize, usize, &[u8], &Plan) -> Option<(&'static str, Vec<u64>)>;
+
 /// The line of a plan's verdict, and whether it is accepted.
-pub fn judge(map: File, plan: File) -> Result<(String, bool), Fault> {
+pub fn judge(map: File, plan: File, checker: Checker) -> Result<(String, bool), Fault> {
     let (width, height, cells) = map::read_map(map)?;
     let plan = read_plan(plan)?;
     let (width, height) = (width as usize, height as usize);
-    if let Some((name, numbers)) = check(width, height, &cells, &plan) {
+    if let Some((name, numbers)) = checker(width, height, &cells, &plan) {
         let numbers: String = numbers.iter().map(|n| format!(" {n}")).collect();
         return Ok((format!("rejected {name}{numbers}"), false));
     }

@@ -1,7 +1,7 @@
 //! Runs of agents over a plan's graph: events in, replies out.
-use crate::deps::{Graph, NOBODY};
+use crate::deps::Graph;
 use crate::output::Output;
-use crate::plan;
+use crate::plan::{self, Plan};
 use crate::source::{fault, Fault, Source};
 use std::fs::File;
 use std::io;
@@ -11,12 +11,15 @@ mod complete;
 const LONGEST_LINE: usize = 64;
 const RECORD: u32 = 10;
 
-/// An agent: how many records its tape has, what it heard, and how its next write ends.
+/// An agent: how many records its tape has, what it heard, how its next write ends, and where it is.
 struct Agent {
     records: u32,
     heard: Vec<(u16, u32)>,
     broken: bool,
     armed: Option<u32>,
+    /// The cell that it has reached, and which of its acts come behind.
+    cell: u32,
+    next_act: u32,
 }
 
 impl Agent {
@@ -95,6 +98,19 @@ impl Agent {
             }
         }
     }
+
+    /// The cell of its next move, and which acts come behind that.
+    fn ahead(&self, acts: &[u8], width: u32) -> (u32, u32) {
+        let rest = &acts[self.next_act as usize..];
+        let waits = rest.iter().take_while(|&&act| act == b'-').count();
+        let cell = match rest[waits] {
+            b'n' => self.cell - width,
+            b's' => self.cell + width,
+            b'e' => self.cell + 1,
+            _ => self.cell - 1,
+        };
+        (cell, self.next_act + waits as u32 + 1)
+    }
 }
 
 /// A message: its sender, and what that one had finished, or where its entries begin and how many there are.
@@ -106,7 +122,7 @@ struct Message {
 
 struct Runner<'g> {
     graph: &'g Graph,
-    number: u32,
+    plan: &'g Plan,
     width: u32,
     agents: Vec<Agent>,
     /// Whether messages have all that their sender knows (version 2).
@@ -118,35 +134,54 @@ struct Runner<'g> {
     out: Output,
 }
 
-/// What stands behind a word and a space, up to the next space or the end, as a number below a limit.
-fn numbers<const N: usize>(rest: &[u8], limits: [u64; N]) -> Option<[u64; N]> {
-    let mut found = [0; N];
-    let mut parts = rest.split(|&b| b == b' ');
-    for (place, limit) in found.iter_mut().zip(limits) {
-        let digits = parts.next()?;
-        if digits.is_empty() || (digits.len() > 1 && digits[0] == b'0') {
-            return None;
-        }
-        let mut value = 0u64;
-        for b in digits {
-            if !b.is_ascii_digit() {
-                return None;
-            }
-            value = value.checked_mul(10)?.checked_add(u64::from(b - b'0'))?;
-        }
-        if value > limit {
-            return None;
-        }
-        *place = value;
+/// Takes a numeral of at most so much, and the space behind it if there is one.
+fn take_number(text: &mut &[u8], most: u64) -> Option<u64> {
+    let mut value = 0u64;
+    let mut at = 0;
+    while let Some(digit) = text.get(at).map(|b| b.wrapping_sub(b'0')).filter(|&digit| digit < 10) {
+        // Below this no product and no sum is too large.
+        value = if at < 18 { value * 10 + u64::from(digit) } else { value.checked_mul(10)?.checked_add(digit.into())? };
+        at += 1;
     }
-    parts.next().is_none().then_some(found)
+    if at == 0 || (at > 1 && text[0] == b'0') || value > most {
+        return None;
+    }
+    let is_last = at == text.len();
+    if !is_last && (text[at] != b' ' || at + 1 == text.len()) {
+        return None;
+    }
+    *text = &text[(at + usize::from(!is_last))..];
+    Some(value)
+}
+
+/// What stands behind a word, as numbers below limits, and nothing else.
+fn numbers<const N: usize>(mut rest: &[u8], limits: [u64; N]) -> Option<[u64; N]> {
+    let mut found = [0; N];
+    for (place, limit) in found.iter_mut().zip(limits) {
+        *place = take_number(&mut rest, limit)?;
+    }
+    rest.is_empty().then_some(found)
 }
 
 const MOST: u64 = u32::MAX as u64;
 
 impl Runner<'_> {
-    fn cell(&mut self, agent: usize, index: u32) {
-        let cell = self.graph.paths.cells[self.graph.paths.begins[agent] + index as usize];
+    /// The cell of an agent's next move.
+    fn ahead(&self, i: usize) -> (u32, u32) {
+        self.agents[i].ahead(self.plan.acts_of(i), self.width)
+    }
+
+    /// Stores that a move has begun or ended; false where that fails.
+    fn store(&mut self, i: usize) -> bool {
+        let done = self.agents[i].done();
+        let is_stored = self.agents[i].store();
+        if self.agents[i].done() > done {
+            (self.agents[i].cell, self.agents[i].next_act) = self.ahead(i);
+        }
+        is_stored
+    }
+
+    fn put_cell(&mut self, cell: u32) {
         self.out.put_number(b" ", cell % self.width);
         self.out.put_number(b" ", cell / self.width);
     }
@@ -158,22 +193,30 @@ impl Runner<'_> {
 
     /// Answers the event of a line; false where it is none.
     fn answer(&mut self, line: &[u8]) -> bool {
-        if let Some([agent]) = line.strip_prefix(b"start ").and_then(|rest| numbers(rest, [MOST])) {
+        self.answer_event(line).is_some()
+    }
+
+    fn answer_event(&mut self, line: &[u8]) -> Option<()> {
+        if let Some(rest) = line.strip_prefix(b"start ") {
+            let [agent] = numbers(rest, [MOST])?;
             self.with(agent, Runner::start);
-        } else if let Some([agent]) = line.strip_prefix(b"finish ").and_then(|rest| numbers(rest, [MOST])) {
+        } else if let Some(rest) = line.strip_prefix(b"finish ") {
+            let [agent] = numbers(rest, [MOST])?;
             self.with(agent, Runner::finish);
-        } else if let Some([agent]) = line.strip_prefix(b"say ").and_then(|rest| numbers(rest, [MOST])) {
+        } else if let Some(rest) = line.strip_prefix(b"say ") {
+            let [agent] = numbers(rest, [MOST])?;
             self.with(agent, Runner::say);
-        } else if let Some([agent, message]) = line.strip_prefix(b"deliver ").and_then(|rest| numbers(rest, [MOST, u64::MAX])) {
+        } else if let Some(rest) = line.strip_prefix(b"deliver ") {
+            let [agent, message] = numbers(rest, [MOST, u64::MAX])?;
             self.with(agent, |runner, agent| runner.deliver(agent, message));
-        } else if let Some([agent]) = line.strip_prefix(b"restart ").and_then(|rest| numbers(rest, [MOST])) {
+        } else if let Some(rest) = line.strip_prefix(b"restart ") {
+            let [agent] = numbers(rest, [MOST])?;
             self.with(agent, Runner::restart);
-        } else if let Some([agent, stored]) = line.strip_prefix(b"tear ").and_then(|rest| numbers(rest, [MOST, MOST])) {
-            self.with(agent, |runner, agent| runner.tear(agent, stored as u32));
         } else {
-            return false;
+            let [agent, stored] = numbers(line.strip_prefix(b"tear ")?, [MOST, MOST])?;
+            self.with(agent, |runner, agent| runner.tear(agent, stored as u32));
         }
-        true
+        Some(())
     }
 
     fn with(&mut self, agent: u64, act: impl FnOnce(&mut Self, usize)) {
@@ -193,35 +236,36 @@ impl Runner<'_> {
         if agent.is_moving() {
             return self.refuse("AlreadyMoving");
         }
-        let needs = self.graph.needs_of(i);
-        if done as usize == needs.len() {
+        if done == self.graph.moves(i) {
             return self.refuse("AtEnd");
         }
-        let need = needs[done as usize];
-        if need.agent != NOBODY && agent.known(need.agent) < u32::from(need.count) {
-            self.refuse("Waits");
-            self.out.put_number(b" ", need.agent.into());
-            self.out.put_number(b" ", need.count.into());
-        } else if self.agents[i].store() {
+        if let Some(need) = self.graph.need(i, done) {
+            if agent.known(need.agent) < u32::from(need.count) {
+                self.refuse("Waits");
+                self.out.put_number(b" ", need.agent.into());
+                return self.out.put_number(b" ", need.count.into());
+            }
+        }
+        if self.store(i) {
             self.out.put(b"moving");
-            self.cell(i, done + 1);
+            let (cell, _) = self.ahead(i);
+            self.put_cell(cell);
         } else {
             self.refuse("StoreFailed");
         }
     }
 
     fn finish(&mut self, i: usize) {
-        let agent = &mut self.agents[i];
+        let agent = &self.agents[i];
         if agent.broken {
             return self.refuse("Broken");
         }
         if !agent.is_moving() {
             return self.refuse("NotMoving");
         }
-        let done = agent.done();
-        if agent.store() {
+        if self.store(i) {
             self.out.put(b"arrived");
-            self.cell(i, done + 1);
+            self.put_cell(self.agents[i].cell);
         } else {
             self.refuse("StoreFailed");
         }
@@ -240,7 +284,7 @@ impl Runner<'_> {
         }
         let mut bytes = [0x46, 1, 0, 0, 0, 0, 0, 0, 0, 0, 0, 0];
         bytes[2..4].copy_from_slice(&(i as u16).to_be_bytes());
-        bytes[4..8].copy_from_slice(&self.number.to_be_bytes());
+        bytes[4..8].copy_from_slice(&self.plan.number.to_be_bytes());
         bytes[8..].copy_from_slice(&done.to_be_bytes());
         put_digits(&mut self.out, &bytes);
         self.messages.push(Message { sender: i as u16, count: done, first: 0 });
@@ -259,7 +303,7 @@ impl Runner<'_> {
         let count = entries.len() as u16;
         let mut head = [0x46, 2, 0, 0, 0, 0, 0, 0, 0, 0];
         head[2..4].copy_from_slice(&id.to_be_bytes());
-        head[4..8].copy_from_slice(&self.number.to_be_bytes());
+        head[4..8].copy_from_slice(&self.plan.number.to_be_bytes());
         head[8..].copy_from_slice(&count.to_be_bytes());
         put_digits(&mut self.out, &head);
         for &(agent, done) in entries {
@@ -293,14 +337,12 @@ impl Runner<'_> {
         agent.heard.clear();
         agent.broken = false;
         agent.armed = None;
-        let done = agent.done();
-        if agent.is_moving() {
-            self.out.put(b"between");
-            self.cell(i, done);
-            self.cell(i, done + 1);
-        } else {
-            self.out.put(b"at");
-            self.cell(i, done);
+        let (done, is_moving, cell) = (agent.done(), agent.is_moving(), agent.cell);
+        self.out.put(if is_moving { b"between" } else { b"at" });
+        self.put_cell(cell);
+        if is_moving {
+            let (ahead, _) = self.ahead(i);
+            self.put_cell(ahead);
         }
         self.out.put_number(b" done ", done);
     }
@@ -378,12 +420,12 @@ fn answer_all(runner: &mut Runner<'_>, events: File) -> Result<(), Fault> {
 pub fn replay(map: File, plan: File, events: File, complete: bool, output: impl FnOnce() -> io::Result<File>) -> Result<bool, Fault> {
     let (width, height, plan) = plan::read_checked(map, plan)?;
     let graph = Graph::of(&plan, width, height);
-    let agents = plan.starts.iter().map(|_| Agent { records: 0, heard: Vec::new(), broken: false, armed: None }).collect();
-    let number = plan.number;
-    drop(plan);
+    let cell_of = |&(x, y): &(u16, u16)| u32::from(y) * width as u32 + u32::from(x);
+    let agent_at = |start| Agent { records: 0, heard: Vec::new(), broken: false, armed: None, cell: cell_of(start), next_act: 0 };
+    let agents = plan.starts.iter().map(agent_at).collect();
     let file = output().map_err(|_| Fault::Device("WriteFailed"))?;
     let out = Output::new(file);
-    let mut runner = Runner { graph: &graph, number, width: width as u32, agents, tells: false, messages: Vec::new(), entries: Vec::new(), out };
+    let mut runner = Runner { graph: &graph, plan: &plan, width: width as u32, agents, tells: false, messages: Vec::new(), entries: Vec::new(), out };
     let failed = |_| Fault::Device("WriteFailed");
     let mut ended = answer_all(&mut runner, events).map(|()| true);
     if complete && ended.is_ok() {

@@ -1,6 +1,5 @@
 //! How a run goes on to its end: each agent in turn is driven there, after what its moves need.
 use super::Runner;
-use crate::deps::NOBODY;
 use std::io;
 
 /// A message that was said: its number, and how many moves its sender had finished.
@@ -67,14 +66,14 @@ impl Completion<'_, '_> {
                 return None;
             }
             if !agent.is_moving() {
-                let need = self.runner.graph.needs_of(i)[done as usize];
-                let count = u32::from(need.count);
-                if need.agent != NOBODY && agent.known(need.agent) < count {
-                    let other = usize::from(need.agent);
-                    if self.runner.agents[other].done() < count {
-                        return Some((other, count));
+                if let Some(need) = self.runner.graph.need(i, done) {
+                    let (other, count) = (usize::from(need.agent), u32::from(need.count));
+                    if agent.known(need.agent) < count {
+                        if self.runner.agents[other].done() < count {
+                            return Some((other, count));
+                        }
+                        self.bring(i, other, count);
                     }
-                    self.bring(i, other, count);
                 }
                 self.put(b"start ", i);
             }
@@ -85,7 +84,7 @@ impl Completion<'_, '_> {
 
     /// Drives an agent to its end, and before each move the agents that it needs, as far as it needs them.
     fn drive_to_end(&mut self, i: usize, waiting: &mut Vec<(usize, u32)>) {
-        waiting.push((i, self.runner.graph.needs_of(i).len() as u32));
+        waiting.push((i, self.runner.graph.moves(i)));
         while let Some(&(agent, due)) = waiting.last() {
             match self.drive(agent, due) {
                 Some(before) => waiting.push(before),
