@@ -12,6 +12,7 @@ from typing import Callable, Iterator
 import answers
 import beginnings
 import command_lines
+import completions
 import converting
 import devices
 import documents
@@ -37,6 +38,7 @@ PARTS: dict[str, tuple[str, Callable[[Harness], Iterator[Outcome]]]] = {
     "launcher": ("./mapf, also where the program of dist/ does not start", launcher.outcomes),
     "documents": ("the commands that README and docs/ show, with their answers", documents.outcomes),
     "lines": ("command lines, statuses and help", command_lines.outcomes),
+    "tab": ("what bash offers where Tab is pressed", completions.outcomes),
     "formats": ("the texts of maps, scenarios, plans and events", formats.outcomes),
     "beginnings": ("every beginning of texts and of messages", beginnings.outcomes),
     "limits": ("sizes up to the limits, with answers that are known by how they are made", limits.outcomes),

@@ -1,0 +1,29 @@
+# What bash offers where Tab is pressed behind `mapf`. `source` this file, or put it as ~/.local/share/bash-completion/completions/mapf.
+
+_mapf() {
+    local commands='map scen row check deps path run agent help' word=${COMP_WORDS[COMP_CWORD]} before=${COMP_WORDS[COMP_CWORD - 1]}
+    local command='' offers='' at
+    COMPREPLY=()
+    for ((at = 1; at < COMP_CWORD; at++)); do
+        # Behind this each word is a file or a number.
+        [[ ${COMP_WORDS[at]} == -- ]] && return 0
+        [[ -z $command && ${COMP_WORDS[at]} != -* ]] && command=${COMP_WORDS[at]}
+    done
+    case $command:$before in
+        check:--scen | deps:--cell | path:--agent) return 0 ;;
+        help:*) offers=$commands ;;
+        :*) offers="$commands -h --help -V --version" ;;
+        check:*) offers='--scen --json -h --help' ;;
+        deps:*) offers='--cell -h --help' ;;
+        path:*) offers='--agent -h --help' ;;
+        run:*) offers='--complete -h --help' ;;
+        *) offers='-h --help' ;;
+    esac
+    # Where a file is due, options are offered to those alone who begin one.
+    if [[ $word == -* || -z $command || $command == help ]]; then
+        mapfile -t COMPREPLY < <(compgen -W "$offers" -- "$word")
+    fi
+}
+
+# Where nothing is offered, bash offers files.
+complete -o default -F _mapf mapf
