@@ -2,48 +2,24 @@
 use Rattle.std.proofs.Common.{◌≡◌, ℕ, ◌+◌, ◌<◌, ◌≤◌, ◌⊎◌, List, length, Option, None, Some, arith, sym, ap, subst, inl, inr, ◌∙◌}
 use Rattle.std.specs.Prelude.{MatchOption, nat_lt, slice_get}
 use Rattle.std.proofs.lemmas.Bool.{cases_lt, cond_both, ltb-true, ltb-false}
-use Rattle.grid.specs.declared.cell.Cell.{Cell}
 use Rattle.grid.specs.Map.{Grid, IsSize}
-use Rattle.model.specs.Plan.{Course, position_of, position_at, IsBadMove}
+use Rattle.model.specs.Plan.{Course, IsBadMove}
 use Rattle.model.specs.Timetable.{cell_after}
 use Rattle.model.proofs.PlaceLemmas.{same_place}
 use Rattle.plan_text.specs.Limits.{most_acts}
-use Rattle.plan.specs.Code.Standing.{IsOnGrid}
+use Rattle.plan.specs.Moving.{KeepsToGround, KeepToGround}
 use Rattle.plan.specs.Code.Tracks.{cells_along}
 use Rattle.plan.specs.Code.Walking.{HasBadMove, IsFirst}
 use Rattle.plan.proofs.CourseLemmas.{Stays, along-places}
-use Rattle.plan.proofs.WalkingLemmas.{bad_at, bad-has_act, course_from, position-stays}
-use Rattle.path_commands.specs.Code.Straying.{GoesItsWay, IsFirstMove, IsLeastMove, sooner_of}
+use Rattle.plan.proofs.WalkingLemmas.{bad_at, course_from}
+use Rattle.path_commands.specs.Code.Straying.{AllHaveFewActs, GoesItsWay, IsFirstMove, IsLeastMove, sooner_of}
 use Rattle.path_commands.specs.declared.straying.BadMove.{BadMove}
 
 -- ---- one agent
 
--- at each time up to this the agent is in a cell of the map
-abbrev pub HasBeen : Grid → Course → ℕ → Type 0
-HasBeen m course step = (t : ℕ) → t ≤ step → (d : Cell) × (position_of d ≡ position_at course t) × IsOnGrid m d
-
-pub been_next : (m : Grid) (course : Course) (step : ℕ) (d : Cell) → HasBeen m course step → position_of d ≡ position_at course (step + 1) → IsOnGrid m d
-    → HasBeen m course (step + 1)
-been_next m course step d been at on t most = elim (cases_lt t (step + 1)) [
-  | inl less ↦ been t (omega (arith, less))
-  | inr past ↦ (let same : t ≡ step + 1 = omega (arith, most, past) in (d, at ∙ ap (position_at course) (sym same), on))
-]
-
--- past its acts it stays there
-been_always : (m : Grid) (course : Course) (step : ℕ) → length course.acts ≤ step → HasBeen m course step → (t : ℕ)
-    → (d : Cell) × (position_of d ≡ position_at course t) × IsOnGrid m d
-been_always m course step over been t = elim (cases_lt t step) [
-  | inl less ↦ been t (omega (arith, less))
-  | inr past ↦ (
-      let last = been step (omega arith) in
-      (last.0, last.1 ∙ sym (position-stays (position_of course.start) course.acts step t over past), last.2)
-      )
-]
-
-pub goes_its_way : (m : Grid) (course : Course) (step : ℕ) → IsSize m.width m.height → length course.acts ≤ most_acts → length course.acts ≤ step
-    → HasBeen m course step → ((s : ℕ) → s < step → IsBadMove m course s → ⊥) → GoesItsWay m course
-goes_its_way m course step size few over been good =
-    let at = been_always m course step over been in
+pub goes_its_way : (m : Grid) (course : Course) → IsSize m.width m.height → length course.acts ≤ most_acts → KeepsToGround m course → GoesItsWay m course
+goes_its_way m course size few kept =
+    let at = kept.cells in
     let stays : Stays course.start course.acts = λ t. ((at t).0, (at t).1) in
     let places = along-places course.start course.acts stays in
     let same : (t : ℕ) → cell_after course.start (cells_along course.start course.acts) t ≡ (at t).0
@@ -51,7 +27,7 @@ goes_its_way m course step size few over been good =
     let width = size.width_limit in
     let height = size.height_limit in
     record {
-      good = λ s bad. (let within = bad-has_act m course s bad in good s (omega (arith, within, over)) bad);
+      good = kept.good;
       walked = record {
         in_range = λ t. subst (λ c. (c.x < 65536) × (c.y < 65536)) (sym (same t))
             (let column = (at t).2.column in let row = (at t).2.row in (omega (arith, column, width), omega (arith, row, height)));
@@ -61,6 +37,11 @@ goes_its_way m course step size few over been good =
     }
 
 -- ---- all agents
+
+-- agents that keep to their ground have no bad move
+pub none_strays : (m : Grid) (courses : List Course) (agents : ℕ) → IsSize m.width m.height → AllHaveFewActs courses → KeepToGround m courses
+    → IsLeastMove m courses agents None
+none_strays m courses agents size few keep agent course less there = goes_its_way m course size (few agent course there) (keep agent course there)
 
 not_sooner : (m : Grid) (course : Course) (s step : ℕ) → IsFirst (IsBadMove m course) s → IsBadMove m course step → s ≤ step
 not_sooner m course s step first bad = elim (cases_lt step s) [

@@ -50,7 +50,7 @@ fn read_walkable<M: Read, P: Read>(
 {
     let map = read_map(alloc, map)?;
     let plan = read_plan(alloc, plan)?;
-    match fault_of_one_agent(&map, &plan) {
+    match fault_of_one_agent(alloc, &map, &plan) {
         None => Ok(plan),
         Some(fault) => Err(CheckFault::Rejected(Rejection::Invalid(fault))),
     }

@@ -8,8 +8,9 @@ ghost use Rattle.path_commands.specs.Walkable.{IsLeastOfOneAgent};
 ghost use Rattle.path_commands.specs.Code.Straying.{AllHaveFewActs, GoesItsWay, GoTheirWays, IsLeastMove, sooner_of};
 
 use grid::Map;
-use plan::{Plan, PlanFault, bad_start, moved};
+use plan::{Plan, PlanFault, bad_start, may_stray, moved};
 use plan_text::Course;
+use std::alloc::Global;
 
 /// A move that is none: whose it is, and its step.
 #[derive(Clone, Copy, Debug)]
@@ -19,7 +20,7 @@ pub(crate) struct BadMove {
 }
 
 /// The least fault that an agent has by itself, by its time and then by agent.
-pub(crate) fn fault_of_one_agent(map: &Map, plan: &Plan) -> Option<PlanFault>
+pub(crate) fn fault_of_one_agent(alloc: Global, map: &Map, plan: &Plan) -> Option<PlanFault>
     ensures { MatchOption result (GoTheirWays map.now plan.now) (IsLeastOfOneAgent map.now plan.now) }
 {
     // A map is narrow enough for one cell more.
@@ -28,13 +29,28 @@ pub(crate) fn fault_of_one_agent(map: &Map, plan: &Plan) -> Option<PlanFault>
     if let Some(agent) = bad_start(map, courses) {
         return Some(PlanFault::BadStart(agent));
     }
-    match bad_move(map, courses) {
+    match find_bad_move(alloc, map, courses) {
         Some(first) => Some(PlanFault::BadMove(first.agent, first.step)),
         None => None,
     }
 }
 
-/// The bad move with the least step, and then of the least agent.
+/// The bad move with the least step, and then of the least agent. It is looked for only where there may be one, or where memory was refused to
+/// what tells that faster.
+fn find_bad_move(alloc: Global, map: &Map, courses: &[Course]) -> Option<BadMove>
+    requires size { IsSize map.now.width map.now.height }
+    requires starts { ArePassable map.now courses.now }
+    requires agents { length courses.now ≤ most_agents }
+    requires acts { AllHaveFewActs courses.now }
+    ensures { IsLeastMove map.now courses.now (length courses.now) result }
+{
+    match may_stray(alloc, map, courses) {
+        Ok(false) => None,
+        _ => bad_move(map, courses),
+    }
+}
+
+/// The bad move with the least step, and then of the least agent, by each act of each agent.
 fn bad_move(map: &Map, courses: &[Course]) -> Option<BadMove>
     requires size { IsSize map.now.width map.now.height }
     requires starts { ArePassable map.now courses.now }

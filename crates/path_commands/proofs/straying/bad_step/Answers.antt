@@ -1,24 +1,23 @@
 -- Each act leads on, or is the first that does not.
-use Rattle.std.proofs.Common.{◌≡◌, length, ap, arith, inl, inr, sym, subst, ◌∙◌}
+use Rattle.std.proofs.Common.{length, ap, arith, sym, subst, ◌∙◌}
 use Rattle.std.specs.Prelude.{slice_get}
-use Rattle.std.proofs.lemmas.Bool.{cases_lt}
 use Rattle.std.proofs.lemmas.Option.{slice_get-get_or}
-use Rattle.model.specs.Plan.{position_of, position_at, IsBadMove}
+use Rattle.model.specs.Plan.{position_of}
 use Rattle.plan.specs.Code.Standing.{IsOnGrid}
+use Rattle.plan.proofs.StrayLemmas.{kept_none, kept_next, kept_always}
 use Rattle.plan.proofs.WalkingLemmas.{ahead-moved, bad-moved, on_map_from_terrain, position_at-start}
-use Rattle.path_commands.proofs.StrayLemmas.{been_next, goes_its_way}
+use Rattle.path_commands.proofs.StrayLemmas.{goes_its_way}
 use Rattle.path_commands.proofs.straying.bad_step.Goals as goal
 
 pub loop-step-init : goal.loop-step-init
 loop-step-init c =
+    let m = c.args.map.now in
     let course = c.args.course.now in
-    let at : position_of c.start-cell.result ≡ position_at course 0 = ap position_of c.start-cell.ensures ∙ sym (position_at-start (position_of course.start) course.acts) in
-    let on : IsOnGrid c.args.map.now c.start-cell.result = subst (IsOnGrid c.args.map.now) (sym c.start-cell.ensures) (on_map_from_terrain c.args.map.now course.start _ c.requires.start) in
+    let on = on_map_from_terrain m course.start _ c.requires.start in
     record {
-      at = at;
-      on_map = on;
-      been = λ t most. (let first : t ≡ 0 = omega (arith, most) in (c.start-cell.result, at ∙ ap (position_at course) (sym first), on));
-      good = λ step less. absurd (omega (arith, less));
+      at = ap position_of c.start-cell.ensures ∙ sym (position_at-start (position_of course.start) course.acts);
+      on_map = subst (IsOnGrid m) (sym c.start-cell.ensures) on;
+      kept = kept_none m course on;
     }
 
 pub returns-in-None : goal.returns-in-None
@@ -28,7 +27,7 @@ returns-in-None c =
     record {
       is_one = bad-moved c.args.map.now c.args.course.now step c.loop-step.cell _ (sym there ∙ slice_get-get_or c.acts-acts.result.now step _ c.loop-step-test.true)
           c.loop-step.invariant.at c.in-None.ensures.0 c.in-None.ensures.1;
-      first = λ before less. c.loop-step.invariant.good before less;
+      first = λ before less. c.loop-step.invariant.kept.good before less;
     }
 
 pub loop-step-preserved : goal.loop-step-preserved
@@ -40,16 +39,12 @@ loop-step-preserved c =
     record {
       at = ahead.place;
       on_map = ahead.on_map;
-      been = been_next c.args.map.now c.args.course.now step c.in-Some.to c.loop-step.invariant.been ahead.place ahead.on_map;
-      good = λ other less. elim (cases_lt other step) [
-        | inl before ↦ c.loop-step.invariant.good other before
-        | inr last ↦ (let same : step ≡ other = omega (arith, less, last) in subst (λ s. IsBadMove c.args.map.now c.args.course.now s → ⊥) same ahead.good)
-      ];
+      kept = kept_next c.args.map.now c.args.course.now step c.in-Some.to c.loop-step.invariant.kept ahead.place ahead.on_map ahead.good;
     }
 
 pub returns : goal.returns
 returns c =
     let over = c.loop-step-test.false in
     let acts = ap length c.acts-acts.ensures in
-    goes_its_way c.args.map.now c.args.course.now c.loop-step.step c.requires.size c.requires.acts (omega (arith, over, acts)) c.loop-step.invariant.been
-    c.loop-step.invariant.good
+    goes_its_way c.args.map.now c.args.course.now c.requires.size c.requires.acts
+    (kept_always c.args.map.now c.args.course.now c.loop-step.step (omega (arith, over, acts)) c.loop-step.invariant.kept)

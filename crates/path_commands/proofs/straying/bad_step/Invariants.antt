@@ -1,7 +1,7 @@
-use Rattle.std.proofs.Common.{◌≡◌, ◌<◌, ℕ}
-use Rattle.model.specs.Plan.{position_of, position_at, IsBadMove}
+use Rattle.std.proofs.Common.{◌≡◌}
+use Rattle.model.specs.Plan.{position_of, position_at}
 use Rattle.plan.specs.Code.Standing.{IsOnGrid}
-use Rattle.path_commands.proofs.StrayLemmas.{HasBeen}
+use Rattle.plan.proofs.StrayLemmas.{HasKept}
 use Rattle.path_commands.proofs.straying.bad_step.Given as goal
 
 -- the agent came so far without a bad move, and was in cells of the map
@@ -9,6 +9,5 @@ abbrev pub invariant-loop-step : goal.invariant-loop-step
 invariant-loop-step l = record {
   at : position_of l.cell ≡ position_at l.course l.step;
   on_map : IsOnGrid l.map l.cell;
-  been : HasBeen l.map l.course l.step;
-  good : (step : ℕ) → step < l.step → IsBadMove l.map l.course step → ⊥;
+  kept : HasKept l.map l.course l.step;
 }
