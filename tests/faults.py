@@ -112,6 +112,7 @@ CASES = [
     Case("deps M P --cell 1 0", answer(0, "visit 0 0 0\nvisit 1 1 1\n")),
     Case("path M P", answer(0, "0 1 0 0 0\n1 2 0 1 0\n2 2 0 1 0\n")),
     Case("path M X", answer(0, "0 0 0 1 0\n1 1 0 0 0\n")),
+    Case("path Q P", answer(1, "BadMove 0 0")),
     Case("path M P --agent 1", answer(0, "0 0 0\n1 1 0\n")),
     Case("path M P --agent 2", answer(1, "NoSuchAgent")),
     Case("run M P E", answer(0, REPLIES)),
