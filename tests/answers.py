@@ -1,5 +1,5 @@
 """Whole commands on texts, files and tapes: what each answers, and its status."""
-from typing import Iterator, Mapping, Sequence
+from typing import Iterator, Mapping, Optional, Sequence
 
 from harness import Ended, Harness, Outcome, compared, ended_as, shown
 from texts import (
@@ -634,6 +634,40 @@ def beginnings_of_events(harness: Harness) -> Iterator[Outcome]:
         yield asked(harness, "run M P E", {"M": LANE, "P": BEHIND, "E": text[:length]}, due, f"run, the first {length} bytes of events")
 
 
+# What is claimed of a tape, the bytes of its file or None where there is none, and what is told, or where the agent is. A file is made of a new tape alone.
+CLAIMED: list[tuple[str, Optional[bytes], Ended]] = [
+    ("new", None, Ended(0, b"at 1 0 done 0\n", b"")),
+    ("new", b"", Ended(0, b"at 1 0 done 0\n", b"")),
+    ("new", NOISE[:9], Ended(0, b"at 1 0 done 0\n", b"")),
+    ("new", MOVING, Ended(1, b"", b"mapf: TapeExists\n")),
+    ("new", MOVING + STANDING + NOISE[:9], Ended(1, b"", b"mapf: TapeExists\n")),
+    ("new", NOISE, Ended(1, b"", b"mapf: TapeExists\n")),
+    ("new", OTHER_AGENT, Ended(1, b"", b"mapf: TapeExists\n")),
+    ("new", MOVING + STANDING + NOISE, Ended(1, b"", b"mapf: TooLong\n")),
+    ("kept", None, Ended(1, b"", b"mapf: NoTape\n")),
+    ("kept", b"", Ended(0, b"at 1 0 done 0\n", b"")),
+    ("kept", NOISE[:9], Ended(0, b"at 1 0 done 0\n", b"")),
+    ("kept", MOVING, Ended(0, b"between 1 0 2 0 done 0\n", b"")),
+    ("kept", NOISE, Ended(1, b"", b"mapf: Damaged 0\n")),
+]
+
+
+def of_claims(harness: Harness) -> Iterator[Outcome]:
+    """A tape that has to be new, or kept."""
+    for claim, tape, due in CLAIMED:
+        folder = harness.folder({"M": LANE.encode(), "P": BEHIND.encode(), **({} if tape is None else {"T": tape})})
+        words = ["agent", "M", "P", "0", "T", "--tape", claim]
+        name = f"a tape that is {claim}, and {'not there' if tape is None else tape.hex() or 'empty'}"
+        ended = harness.mapf(words, folder=folder)
+        left = (folder / "T").read_bytes() if (folder / "T").exists() else None
+        yield compared(name, shown(["mapf", *words]), (ended, left), (due, b"" if (claim, tape) == ("new", None) else tape))
+        # Nor is a file touched before the agent is known.
+        words[3] = "2"
+        ended = harness.mapf(words, folder=folder)
+        now = (folder / "T").read_bytes() if (folder / "T").exists() else None
+        yield compared(f"{name}, of no agent", shown(["mapf", *words]), (ended, now), (Ended(1, b"", b"mapf: NoSuchAgent\n"), left))
+
+
 def talked(harness: Harness, agent: int, tape: bytes, given: bytes, due: Ended, left: bytes) -> Outcome:
     """Runs an agent of the plan BEHIND over a tape file, and compares all that it did, and what the file has then."""
     folder = harness.folder({"M": LANE.encode(), "P": BEHIND.encode(), "T": tape})
@@ -718,3 +752,4 @@ def outcomes(harness: Harness) -> Iterator[Outcome]:
     yield from of_checks(harness)
     yield from of_graphs_and_runs(harness)
     yield from of_agents(harness)
+    yield from of_claims(harness)

@@ -92,6 +92,9 @@ COMMANDS = [
     ("agent M P 0 T", "at 1 0 done 0\n"),
     ("agent M P 0001 T", "at 0 0 done 0\n"),
     ("agent -- M P 1 T", "at 0 0 done 0\n"),
+    ("agent M P 0 T --tape new", "at 1 0 done 0\n"),
+    ("agent --tape=new M P 0 T", "at 1 0 done 0\n"),
+    ("agent M P --tape new 0 T", "at 1 0 done 0\n"),
 ]
 
 # Files in another order than the command has them, or one that is not there, and the fault that shows which was read as what.
@@ -155,6 +158,12 @@ OTHER_FILES = [
     ("agent M P 0 no/T", 3, "OpenFailed"),
     ("agent M P 0 .", 3, "OpenFailed"),
     ("agent M P 2 no/T", 1, "NoSuchAgent"),
+    ("agent M P 0 T --tape kept", 1, "NoTape"),
+    ("agent M P 0 no/T --tape kept", 1, "NoTape"),
+    ("agent M P 0 no/T --tape new", 3, "OpenFailed"),
+    ("agent M P 0 . --tape kept", 3, "OpenFailed"),
+    ("agent M P 2 T --tape kept", 1, "NoSuchAgent"),
+    ("agent M P 0 /dev/null", 3, "OpenFailed"),
 ]
 
 # Words that are no command, each with what is named as wrong or missing, and how the command is used.
@@ -260,12 +269,18 @@ BAD = [
     ("check M P --complete", "'--complete'", "Usage: mapf check"),
     ("deps M P --complete", "'--complete'", "Usage: mapf deps"),
     ("agent M P 0 T --complete", "'--complete'", "Usage: mapf agent"),
-    ("agent", "<map>", "Usage: mapf agent <map> <plan> <id> <tape>"),
-    ("agent M P 0", "<tape>", "Usage: mapf agent <map> <plan> <id> <tape>"),
-    ("agent M P 0 T X", "'X'", "Usage: mapf agent <map> <plan> <id> <tape>"),
-    ("agent M P T 0", "'T'", "Usage: mapf agent <map> <plan> <id> <tape>"),
+    ("agent", "<map>", "Usage: mapf agent <map> <plan> <id> <file>"),
+    ("agent M P 0", "<file>", "Usage: mapf agent <map> <plan> <id> <file>"),
+    ("agent M P 0 T X", "'X'", "Usage: mapf agent [OPTIONS] <map> <plan> <id> <file>"),
+    ("agent M P T 0", "'T'", "Usage: mapf agent [OPTIONS] <map> <plan> <id> <file>"),
     ("agent M P 0 T --json", "'--json'", "Usage: mapf agent"),
-    ("agent M P 65536 T", "'65536' for '<id>'", "Usage: mapf agent <map> <plan> <id> <tape>"),
+    ("agent M P 65536 T", "'65536' for '<id>'", "Usage: mapf agent [OPTIONS] <map> <plan> <id> <file>"),
+    ("agent M P 0 T --tape", "'--tape <tape>'", "--help"),
+    ("agent M P 0 T --tape old", "'--tape <tape>'", "new or kept"),
+    ("agent M P 0 T --tape New", "'--tape <tape>'", "new or kept"),
+    ("agent M P 0 T --tape new --tape kept", "--tape", "Usage: mapf agent"),
+    ("agent M P 0 T --new", "'--new'", "Usage: mapf agent"),
+    ("run M P E --tape new", "'--tape'", "Usage: mapf run"),
     ("agent M P 131072 T", "'131072'", "from 0 to 65535"),
     ("agent M P 4294967296 T", "'4294967296'", "from 0 to 65535"),
     ("agent M P 1x T", "'1x'", "from 0 to 65535"),
@@ -298,8 +313,9 @@ WHOLE = {
         "invalid value for '--agent <agent>': the number of an agent, from 0 to 65535, is wanted, in digits alone", "path [OPTIONS] <map> <plan>"
     ),
     "agent M P 65536 T": refusal(
-        "invalid value '65536' for '<id>': the number of an agent, from 0 to 65535, is wanted, in digits alone", "agent <map> <plan> <id> <tape>"
+        "invalid value '65536' for '<id>': the number of an agent, from 0 to 65535, is wanted, in digits alone", "agent [OPTIONS] <map> <plan> <id> <file>"
     ),
+    "agent M P 0 T --tape old": refusal("invalid value for '--tape <tape>': new or kept is wanted", "agent [OPTIONS] <map> <plan> <id> <file>"),
 }
 
 # Words that hold blanks or nothing where that is no command, and more words than any command has.
@@ -315,6 +331,8 @@ ODD = [
     ["path", "M", "P", "--agent", " 0"],
     ["agent", "M", "P", "", "T"],
     ["agent", "M", "P", "0 ", "T"],
+    ["agent", "M", "P", "0", "T", "--tape", ""],
+    ["agent", "M", "P", "0", "T", "--tape", "new "],
     [" map", "M"],
     ["map ", "M"],
     ["map", "M", ""],

@@ -315,6 +315,52 @@ def stores_that_fail(harness: Harness) -> Iterator[Outcome]:
         yield ended_as(f"{name}, opened again", command, again, Ended(0, state.encode(), b""))
 
 
+# How an agent may ask for its tape.
+CLAIMS = [[], ["--tape", "new"], ["--tape", "kept"]]
+# A file that may be read and not written, by anybody.
+READ_ONLY = "/sys/kernel/notes"
+
+
+def tapes_in_use(harness: Harness) -> Iterator[Outcome]:
+    """One process holds a tape until it ends, by itself or killed; another one leaves the file alone."""
+    moving = bytes.fromhex("50010000000700000000")
+    for claim in CLAIMS:
+        folder, words = harness.folder(FILES), ["agent", "M", "P", "0", "T"]
+        how = {"cwd": folder, "stdin": subprocess.PIPE, "stdout": subprocess.PIPE}
+        with subprocess.Popen([str(harness.program), *words], **how) as process:
+            told = [process.stdout.readline()]
+            process.stdin.write(b"start\n")
+            process.stdin.flush()
+            told.append(process.stdout.readline())
+            others = [harness.mapf([*words, *claim], b"start\n", folder), (folder / "T").read_bytes()]
+            process.stdin.write(b"held\n")
+            process.stdin.flush()
+            told.append(process.stdout.readline())
+            process.kill()
+        command = f"mapf {' '.join([*words, *claim])}  while another process is on T"
+        yield compared(f"a tape in use {claim}", command, others, [Ended(3, b"", b"mapf: TapeInUse\n"), moving])
+        due = [b"at 1 0 done 0\n", b"moving 2 0\n", b"between 1 0 2 0 done 0\n"]
+        yield compared(f"a tape in use {claim}, the process that holds it", command, told, due)
+        again = harness.mapf([*words, "--tape", "kept"], folder=folder)
+        yield ended_as(f"a tape {claim} that was in use", f"{command}, killed", again, Ended(0, due[2], b""))
+
+
+def tapes_that_are_no_files(harness: Harness) -> Iterator[Outcome]:
+    """Pipes, devices, folders and files that can't be written are refused at once, before the first line."""
+    for claim in CLAIMS:
+        folder = harness.folder(FILES)
+        os.mkfifo(folder / "pipe")
+        os.symlink("/dev/zero", folder / "link")
+        for name in ["pipe", "link", "/dev/null", "/dev/full", "/dev", ".", *([READ_ONLY] if os.path.isfile(READ_ONLY) else [])]:
+            words = ["agent", "M", "P", "0", name, *claim]
+            ended = harness.mapf(words, b"start\n", folder)
+            yield ended_as(" ".join(words), f"mapf {' '.join(words)}", ended, Ended(3, b"", b"mapf: OpenFailed\n"))
+        os.symlink("real", folder / "other")
+        words = ["agent", "M", "P", "0", "other", "--tape", "new"]
+        yield ended_as("a link to a tape", f"mapf {' '.join(words)}", harness.mapf(words, folder=folder), Ended(0, b"at 1 0 done 0\n", b""))
+        yield compared("a link to a tape, looked at", f"mapf {' '.join(words)}", (folder / "real").read_bytes(), b"")
+
+
 def outcomes(harness: Harness) -> Iterator[Outcome]:
     yield from outputs_that_end(harness)
     yield from outputs_that_are_full(harness)
@@ -324,3 +370,5 @@ def outcomes(harness: Harness) -> Iterator[Outcome]:
     yield from order_of_files(harness)
     yield from order_of_outputs(harness)
     yield from stores_that_fail(harness)
+    yield from tapes_in_use(harness)
+    yield from tapes_that_are_no_files(harness)

@@ -1,7 +1,7 @@
 // Makes calls of the C library fail, for faults.py, in a program that is started with LD_PRELOAD.
 //
-// FAULT_CALL is which kind of call: alloc, open, read, write, sync, seek or truncate. FAULT_AT is which of them fails, counted from 1, or 0 for
-// each. FAULT_KIND is how: `error`, `on` (and so does each that follows), `none` (a write takes nothing), `short` (one byte passes, without an error), or
+// FAULT_CALL is which kind of call: alloc, open, look, lock, read, write, sync, seek or truncate. FAULT_AT is which of them fails, counted from 1, or
+// 0 for each. FAULT_KIND is how: `error`, `on` (and so does each that follows), `none` (a write takes nothing), `short` (one byte passes, without an error), or
 // `count` (none fails). The file FAULT_MET is made when a call is met, and has the name of the call's file, or of the stream; of calls that are counted it is
 // made at the program's end, and has their number.
 #define _GNU_SOURCE
@@ -11,6 +11,7 @@
 #include <stdio.h>
 #include <stdlib.h>
 #include <string.h>
+#include <sys/stat.h>
 #include <sys/syscall.h>
 #include <sys/types.h>
 #include <unistd.h>
@@ -119,6 +120,11 @@ int open(const char *name, int flags, ...) {
     va_end(more);
     return openat(AT_FDCWD, name, flags, mode);
 }
+
+int statx(int fd, const char *restrict name, int flags, unsigned mask, struct statx *restrict to) {
+    return (int)(fails_on("look", fd) ? failed(EIO) : syscall(SYS_statx, fd, name, flags, mask, to));
+}
+int flock(int fd, int how) { return (int)(fails_on("lock", fd) ? failed(ENOLCK) : syscall(SYS_flock, fd, how)); }
 
 // Syncs that are counted aren't made: there may be many.
 static int is_counted(void) { return call && !strcmp(call, "sync") && !strcmp(kind, "count"); }

@@ -1,5 +1,5 @@
-"""Calls of the system that fail: each allocation, open, read, write, sync, seek and truncation that a command makes fails in turn, until a run
-meets none. What failed is told, nothing else is blamed, and a tape goes on from what it has. Besides, it is counted how often memory is taken.
+"""Calls of the system that fail: each allocation, open, look at a file, lock, read, write, sync, seek and truncation that a command makes fails in turn,
+until a run meets none. What failed is told, nothing else is blamed, and a tape goes on from what it has. Besides, it is counted how often memory is taken.
 
 A small library in C that is loaded before the C library makes the calls fail: it is built here, and without `cc` this part is skipped."""
 import dataclasses
@@ -59,6 +59,8 @@ FILES = {
 }
 # The tape is no file of the table: it is put there before each run.
 TAPE = "T"
+# The words by which a tape has to be a new one.
+NEW = " --tape new"
 # The folder of a tape, which is opened to be synced where the tape has no record.
 FOLDER = "."
 REPLIES = "refused Waits 0 1\nmoving 2 0\narrived 2 0\nsaid 0 460100000000000700000001\nheard 0 1\nmoving 1 0\narrived 1 0\n"
@@ -152,6 +154,9 @@ CASES = [
     ),
     Case("agent M P 0 T", Ended(0, lines("between 1 0 2 0 done 0", "arrived 2 0", "refused AtEnd"), b""), b"finish\nstart", MOVING + STANDING[:9]),
     Case("agent M P 0 T", Ended(0, lines("at 2 0 done 1", "said 460100000000000700000001"), b""), b"say\n", MOVING + STANDING),
+    Case("agent M P 0 T --tape new", Ended(0, lines("at 1 0 done 0", "moving 2 0"), b""), b"start\n", b""),
+    Case("agent M P 0 T --tape new", answer(1, "TapeExists"), b"start\n", MOVING + NOISE[:9]),
+    Case("agent M P 0 T --tape kept", Ended(0, lines("between 1 0 2 0 done 0", "arrived 2 0"), b""), b"finish\n", MOVING),
     Case("agent M P 0 T", answer(1, "WrongAgent 0"), b"start\n", OTHER_AGENT),
     Case("agent M P 0 T", answer(1, "Damaged 1"), b"start\n", MOVING + NOISE),
     Case("agent M P 0 T", answer(1, "TooLong"), b"start\n", MOVING + STANDING + NOISE),
@@ -169,6 +174,8 @@ COMPLETED = "run M P L --complete"
 KINDS = {
     "alloc": ["error"],
     "open": ["error"],
+    "look": ["error"],
+    "lock": ["error"],
     "read": ["error", "short"],
     "write": ["error", "on", "none", "short"],
     "sync": ["error"],
@@ -264,7 +271,7 @@ def is_allowed(case: Case, call: str, kind: str, met: str, ended: Ended) -> bool
         return ended == due
     if call == "alloc":
         return ended == due or (is_fault(ended, "OutOfMemory") and begins(case.early, ended.out)) or is_refused_once(case, ended)
-    if call == "open":
+    if call in ("open", "look"):
         return is_fault(ended, "TapeFailed" if met == FOLDER else "OpenFailed") and not ended.out
     if kind == "on" and call == "write":
         # What would tell of the failure fails too.
@@ -291,7 +298,7 @@ def judged_tape(library: Library, case: Case, folder: pathlib.Path, out: bytes, 
     if not b"".join(RECORDS[agent]).startswith(records) or len(records) // 10 not in (told, told + 1):
         return f"the tape was to have {told} records, or perhaps one more, and has {left.hex()}"
     if left not in seen:
-        seen[left] = library.harness.mapf(case.words.split(), folder=folder)
+        seen[left] = library.harness.mapf(case.words.replace(NEW, "").split(), folder=folder)
     due = Ended(0, f"{STATES[agent][len(records) // 10]}\n".encode(), b"")
     return "" if seen[left] == due else f"opened again it says {seen[left]}, and due was {due}"
 
@@ -331,7 +338,10 @@ def names_due(case: Case, call: str) -> set[str]:
     if call == "write":
         stores = {TAPE} if b"start\n" in case.given and not case.due.err else set()
         return stores | ({"output"} if case.due.out else set()) | ({"error output"} if case.due.err else set())
-    return {TAPE} if call == "sync" and len(case.tape or b"") >= 10 and not case.due.err else set()
+    if call in ("look", "lock"):
+        return {TAPE} & case.files - ({TAPE} if case.due.err in (b"mapf: NoSuchAgent\n", b"mapf: Swap 0 1 0\n") else set())
+    is_synced = len(case.tape or b"") >= 10 or case.words.endswith(NEW)
+    return {TAPE} if call == "sync" and is_synced and not case.due.err else set()
 
 
 def completed(harness: Harness) -> tuple[Case, Outcome]:
@@ -361,8 +371,8 @@ def growths(library: Library) -> Iterator[Outcome]:
 
 
 def syncs(library: Library) -> Iterator[Outcome]:
-    """A tape is synced once where it is opened with a record, its folder where it is opened without one, and a tape once behind each record that is
-    written to it."""
+    """A tape is synced once where it is opened with a record, its folder where it is opened without one, the tape too where it has to be a new one, and a
+    tape once behind each record that is written to it."""
     for moves in (1, MOST_MOVES):
         files = {"M": LANE.encode(), "P": plan(f"0 0 {'ew' * (moves // 2)}e").encode()}
         tape = b"".join(struct.pack(">BBIHH", 0x50, 1 + r % 2, 7, 0, (r + 1) // 2) for r in range(2 * moves))
@@ -375,6 +385,9 @@ def syncs(library: Library) -> Iterator[Outcome]:
             ran = f"mapf agent M P 0 T  with {records} records on the tape, and the lines start and finish {written} times in all"
             due = (Ended(0, b"", b""), str(written + 1), True)
             yield compared(name, ran, (ended, count, (folder / TAPE).read_bytes() == tape), due)
+    folder = library.harness.folder({name: FILES[name].encode() for name in "MP"})
+    counted = library.count(f"agent M P 0 T{NEW}", folder, "sync", "out")
+    yield compared("syncs of a new tape", f"mapf agent M P 0 T{NEW}", (counted, (folder / TAPE).exists()), ((Ended(0, b"", b""), "2"), True))
 
 
 def outcomes(harness: Harness) -> Iterator[Outcome]:

@@ -228,19 +228,20 @@ Example:
     "agent": """\
 Checks a plan on a map, and answers for one of its agents
 
-Usage: mapf agent <map> <plan> <id> <tape>
+Usage: mapf agent [OPTIONS] <map> <plan> <id> <file>
 
 Arguments:
   <map>   The file of the map
   <plan>  The file of the plan
   <id>    The number of the agent, counted from 0
-  <tape>  The file of the agent's tape, made where there is none
+  <file>  The file of the agent's tape, made where there is none
 
 Options:
-  -h, --help  Print help
+      --tape <tape>  What the tape has to be: new or kept
+  -h, --help         Print help
 
-The tape keeps how far the agent has come. The first line of standard output is
-the state of the agent:
+The tape keeps how far the agent has come. No other process may hold it. The
+first line of standard output is the state of the agent:
   at X Y done N            it stands in this cell, with N moves finished
   between X Y U V done N   it is moving from the one cell to the other
 Then each line of standard input is answered by one line:
@@ -252,13 +253,19 @@ Then each line of standard input is answered by one line:
   held       the state of the agent, as at first
   any other  refused BadLine
 
+Start a robot once with --tape new, and from then on with --tape kept: then a
+tape that was lost is no new one.
+  --tape new    refuses a file that has a record
+  --tape kept   refuses a file that is not there
+
 Status:
   0  the input ended
   1  a text or the plan has a fault, there is no such agent, or the tape is
      refused: one line on standard error
   2  a bad command line
-  3  a file can't be opened, a device failed, memory was refused, or the answer
-     was `refused StoreFailed`: start the agent again
+  3  a file can't be opened, a device failed, another process holds the tape,
+     memory was refused, or the answer was `refused StoreFailed`: start the
+     agent again
 
 Example:
   mapf agent examples/plain.map examples/behind.plan 0 robot0.tape

@@ -1,10 +1,11 @@
 //! A plan of two agents, the records of one, and calls of `mapf agent` over a disk, that the tests share.
-use agent_commands::agent_cmd;
+use agent_commands::{agent_claim_cmd, agent_cmd};
 use fakes::{DiskFiles, FakeDisk, Keeper};
 use grid::Counted;
 use std::alloc::{AllocError, Global};
 use std::io::Write;
 use std::process::Abort;
+use tape_claim::TapeClaim;
 
 /// A map of a row of three free cells.
 pub const LANE: &str = "type octile\nheight 1\nwidth 3\nmap\n...\n";
@@ -51,6 +52,36 @@ pub fn answer<W: Write, E: Write>(
         &mut Counted::new(out),
         &mut Counted::new(err),
     )
+}
+
+/// Answers for agent 0 by a tape of which something is claimed, and compares the status and what it wrote.
+pub fn expect_claim(
+    rt: &impl Abort,
+    alloc: Global,
+    disk: &FakeDisk,
+    claim: TapeClaim,
+    (status, answers, fault): (u8, &str, &str),
+) {
+    let disks = [(TAPE, disk)];
+    let (mut out, mut err) = (Keeper::of_size(256), Keeper::of_size(256));
+    let ended = agent_claim_cmd(
+        &DiskFiles::new(alloc, &disks),
+        &mut Counted::new(LANE.as_bytes()),
+        &mut Counted::new(BEHIND.as_bytes()),
+        0,
+        TAPE,
+        claim,
+        &mut Counted::new(b"".as_slice()),
+        &mut Counted::new(&mut out),
+        &mut Counted::new(&mut err),
+    );
+    assert_eq!(rt; ended, status, "at {claim:?} {fault:?}");
+    assert!(rt; out.kept() == answers.as_bytes(), "at {claim:?} {fault:?}");
+    assert!(rt; err.kept() == fault.as_bytes(), "at {claim:?} {fault:?}");
+    assert!(rt;
+        disk.is_untouched() && disk.was_used_as_expected(),
+        "at {claim:?} {fault:?}"
+    );
 }
 
 /// Answers for agent 0 to the end of the input, and compares what it wrote.

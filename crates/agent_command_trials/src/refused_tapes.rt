@@ -49,8 +49,10 @@ fn refused_tapes_stay(rt: HostRuntime) -> Result<(), Fail> {
 }
 
 /// Calls that fail while a tape of two records is opened, each after so many of its kind, and the line of the fault.
-static FAILING: [(Call, u32, &str); 5] = [
+static FAILING: [(Call, u32, &str); 7] = [
     (Call::Open, 0, "mapf: OpenFailed\n"),
+    (Call::Metadata, 0, "mapf: OpenFailed\n"),
+    (Call::Lock, 0, "mapf: TapeFailed\n"),
     (Call::Read, 0, "mapf: TapeFailed\n"),
     (Call::Read, 4, "mapf: TapeFailed\n"),
     (Call::Flush, 0, "mapf: TapeFailed\n"),

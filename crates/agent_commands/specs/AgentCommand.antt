@@ -1,5 +1,5 @@
 -- What `mapf agent` does and answers.
-use Rattle.std.specs.Prelude.{◌≡◌, ℕ, ◌+◌, ◌*◌, ◌≤◌, ◌⊎◌, List, length, Option, None, Some, IfSome, Result, Ok, Err, MatchResult}
+use Rattle.std.specs.Prelude.{◌≡◌, ℕ, ◌+◌, ◌*◌, ◌<◌, ◌≤◌, ◌⊎◌, true, List, length, Option, None, Some, IfSome, Result, Ok, Err, MatchResult}
 use Rattle.grid.specs.declared.counted.Counted.{Counted}
 use Rattle.model.specs.History.{record_length}
 use Rattle.model.specs.Timetable.{Track, Timetable, moves, track_of}
@@ -15,11 +15,13 @@ use Rattle.file_tape.specs.declared.file_tape.FileTape.{FileTape}
 use Rattle.file_tape.specs.declared.file_tape.FileTapeFault.TheVariants.{TooLong}
 use Rattle.plan_commands.specs.DepsCommand.{ReadsTimetable}
 use Rattle.plan_commands.specs.declared.check_fault.CheckFault.{CheckFault}
+use Rattle.tape_claim.specs.declared.TapeClaim.{TapeClaim}
+use Rattle.tape_claim.specs.declared.TapeClaim.TheVariants.{New, Kept}
 use Rattle.text_commands.specs.Status.{code_of}
 use Rattle.agent_commands.specs.AgentStatus.{agent_status}
 use Rattle.agent_commands.specs.FaultWords.{told_of_agent}
 use Rattle.agent_commands.specs.declared.agent_fault.AgentFault.{AgentFault}
-use Rattle.agent_commands.specs.declared.agent_fault.AgentFault.TheVariants.{Texts, OpenFailed, File, Tape, Dialogue}
+use Rattle.agent_commands.specs.declared.agent_fault.AgentFault.TheVariants.{Texts, OpenFailed, TapeExists, NoTape, File, Tape, Dialogue}
 
 -- how long a tape file of an agent may be: two records a move
 abbrev pub room_of : Track → ℕ
@@ -30,35 +32,46 @@ abbrev pub IsTapeOf : {F : Type 0} → (F → Option (List ℕ)) → Timetable �
 IsTapeOf {F} remaining tt i tape =
     (track : Track) × (track_of tt i ≡ Some track) × ((file : F) × IsImage remaining file (room_of track) tape)
 
+-- what is claimed of a tape: a new one has no whole record, and its file is synced
+abbrev pub IsClaimed : {F : Type 0} → TapeClaim → FileTape F → Type 0
+IsClaimed New tape = (length (file_state tape).contents < record_length) × (tape.disk.synced ≡ true)
+IsClaimed _ tape = Unit {0}
+
 -- the timetable has the agent
 abbrev pub HasAgent : Timetable → ℕ → Type 0
 HasAgent tt i = (track : Track) × (track_of tt i ≡ Some track)
 
--- Why there is no tape. Only a file with ten bytes or more behind the room is too long.
-abbrev pub IsNoTape : {F : Type 0} → (F → Option (List ℕ)) → Timetable → ℕ → AgentFault → Type 0
-IsNoTape {F} remaining tt i (Tape NoSuchAgent) = track_of tt i ≡ None
-IsNoTape {F} remaining tt i OpenFailed = HasAgent tt i
-IsNoTape {F} remaining tt i (File TooLong) =
+-- Why there is no tape. Only a file with ten bytes or more behind the room is too long; only a new tape must have no whole record, and only one
+-- that was kept must be there.
+abbrev pub IsNoTape : {F : Type 0} → (F → Option (List ℕ)) → TapeClaim → Timetable → ℕ → AgentFault → Type 0
+IsNoTape {F} remaining claim tt i (Tape NoSuchAgent) = track_of tt i ≡ None
+IsNoTape {F} remaining claim tt i OpenFailed = HasAgent tt i
+IsNoTape {F} remaining claim tt i TapeExists =
+    (claim ≡ New) × ((tape : FileTape F) × IsTapeOf remaining tt i tape × (record_length ≤ length (file_state tape).contents))
+IsNoTape {F} remaining claim tt i NoTape = (claim ≡ Kept) × HasAgent tt i
+IsNoTape {F} remaining claim tt i (File TooLong) =
     (track : Track) × (track_of tt i ≡ Some track) × ((file : F) × IfSome (remaining file) (λ bytes. room_of track + record_length ≤ length bytes))
-IsNoTape {F} remaining tt i (File fault) = HasAgent tt i
-IsNoTape {F} remaining tt i _ = ⊥
+IsNoTape {F} remaining claim tt i (File fault) = HasAgent tt i
+IsNoTape {F} remaining claim tt i _ = ⊥
 
--- the agent was opened on such a tape
-abbrev pub IsOnTape : {F : Type 0} → (F → Option (List ℕ)) → Timetable → ℕ → AgentOn (FileTape F) → Type 0
-IsOnTape {F} remaining tt i agent = (tape : FileTape F) × IsTapeOf remaining tt i tape × IsOpened file_state IsFileRead tt i tape agent
+-- the agent was opened on such a tape, of which the claim holds
+abbrev pub IsOnTape : {F : Type 0} → (F → Option (List ℕ)) → TapeClaim → Timetable → ℕ → AgentOn (FileTape F) → Type 0
+IsOnTape {F} remaining claim tt i agent =
+    (tape : FileTape F) × IsTapeOf remaining tt i tape × IsClaimed claim tape × IsOpened file_state IsFileRead tt i tape agent
 
--- A tape was opened, and was refused for this fault, with what it had.
-pub record IsRefusedTape {F : Type 0} (remaining : F → Option (List ℕ)) (tt : Timetable) (i : ℕ) (fault : OpenFault) : Type 0 where
+-- A tape was opened of which the claim holds, and was refused for this fault, with what it had.
+pub record IsRefusedTape {F : Type 0} (remaining : F → Option (List ℕ)) (claim : TapeClaim) (tt : Timetable) (i : ℕ) (fault : OpenFault) : Type 0 where
   pub tape : FileTape F
   pub is_tape : IsTapeOf remaining tt i tape
+  pub claimed : IsClaimed claim tape
   pub after : FileTape F
   pub refused : IsRefused file_state IsFileRead tt i tape after fault
   pub kept : IsKept (file_state tape) (file_state after)
 
 -- why the agent was not opened: there is no tape, or it was refused
-abbrev pub IsNotOnTape : {F : Type 0} → (F → Option (List ℕ)) → Timetable → ℕ → AgentFault → Type 0
-IsNotOnTape remaining tt i fault =
-    IsNoTape remaining tt i fault ⊎ ((refusal : OpenFault) × (fault ≡ Tape refusal) × IsRefusedTape remaining tt i refusal)
+abbrev pub IsNotOnTape : {F : Type 0} → (F → Option (List ℕ)) → TapeClaim → Timetable → ℕ → AgentFault → Type 0
+IsNotOnTape remaining claim tt i fault =
+    IsNoTape remaining claim tt i fault ⊎ ((refusal : OpenFault) × (fault ≡ Tape refusal) × IsRefusedTape remaining claim tt i refusal)
 
 -- what a dialogue comes to
 abbrev pub told : Result Unit TalkFault → Result Unit AgentFault
@@ -68,9 +81,9 @@ told (Err fault) = Err (Dialogue fault)
 -- The agent was opened on its tape and then led a dialogue, or it was not opened, and then neither input nor output were touched.
 pub record Converses
     {F I W : Type 0} (remaining : F → Option (List ℕ)) (input_left : I → Option (List ℕ)) (contents : W → Option (List ℕ))
-    (tt : Timetable) (i : ℕ) (old_in new_in : Counted I) (old_out new_out : Counted W) (result : Result Unit AgentFault) : Type 0 where
+    (claim : TapeClaim) (tt : Timetable) (i : ℕ) (old_in new_in : Counted I) (old_out new_out : Counted W) (result : Result Unit AgentFault) : Type 0 where
   pub opened : Result (AgentOn (FileTape F)) AgentFault
-  pub opens : MatchResult opened (IsOnTape remaining tt i) (IsNotOnTape remaining tt i)
+  pub opens : MatchResult opened (IsOnTape remaining claim tt i) (IsNotOnTape remaining claim tt i)
   pub ends : MatchResult opened
       (λ agent. (answer : Result Unit TalkFault) × (after : AgentOn (FileTape F))
       × Talks input_left contents file_state old_in new_in old_out new_out agent after answer × (result ≡ told answer))
@@ -80,20 +93,20 @@ pub record Converses
 -- were touched.
 pub record Serves
     {F M P I W : Type 0} (remaining : F → Option (List ℕ)) (map_left : M → Option (List ℕ)) (plan_left : P → Option (List ℕ))
-    (input_left : I → Option (List ℕ)) (contents : W → Option (List ℕ)) (i : ℕ) (old_map new_map : Counted M) (old_plan new_plan : Counted P)
+    (input_left : I → Option (List ℕ)) (contents : W → Option (List ℕ)) (claim : TapeClaim) (i : ℕ) (old_map new_map : Counted M) (old_plan new_plan : Counted P)
     (old_in new_in : Counted I) (old_out new_out : Counted W) (result : Result Unit AgentFault) : Type 0 where
   pub read : Result Timetable CheckFault
   pub reads : ReadsTimetable map_left plan_left old_map new_map old_plan new_plan read
   pub ends : MatchResult read
-      (λ tt. Converses remaining input_left contents tt i old_in new_in old_out new_out result)
+      (λ tt. Converses remaining input_left contents claim tt i old_in new_in old_out new_out result)
       (λ fault. (result ≡ Err (Texts fault)) × (new_in ≡ old_in) × (new_out ≡ old_out))
 
 -- The texts were read and the agent answered, and the status and the fault that was told are by what that came to.
 pub record AnswersAgent
     {F M P I W : Type 0} (remaining : F → Option (List ℕ)) (map_left : M → Option (List ℕ)) (plan_left : P → Option (List ℕ))
-    (input_left : I → Option (List ℕ)) (contents : W → Option (List ℕ)) (Told : Option (List (List ℕ)) → Type 0) (i : ℕ)
+    (input_left : I → Option (List ℕ)) (contents : W → Option (List ℕ)) (Told : Option (List (List ℕ)) → Type 0) (claim : TapeClaim) (i : ℕ)
     (old_map new_map : Counted M) (old_plan new_plan : Counted P) (old_in new_in : Counted I) (old_out new_out : Counted W) (code : ℕ) : Type 0 where
   pub answer : Result Unit AgentFault
-  pub serves : Serves remaining map_left plan_left input_left contents i old_map new_map old_plan new_plan old_in new_in old_out new_out answer
+  pub serves : Serves remaining map_left plan_left input_left contents claim i old_map new_map old_plan new_plan old_in new_in old_out new_out answer
   pub is_code : code ≡ code_of (agent_status answer)
   pub tells : Told (told_of_agent answer)

@@ -8,9 +8,9 @@ use Rattle.plan_commands.specs.CheckStatus.{check_fault_status}
 use Rattle.text_commands.specs.declared.status.Status.{Status}
 use Rattle.text_commands.specs.declared.status.Status.TheVariants.{Done, Fault, Failure}
 use Rattle.agent_commands.specs.declared.agent_fault.AgentFault.{AgentFault}
-use Rattle.agent_commands.specs.declared.agent_fault.AgentFault.TheVariants.{Texts, OpenFailed, File, Tape, Dialogue}
+use Rattle.agent_commands.specs.declared.agent_fault.AgentFault.TheVariants.{Texts, OpenFailed, TapeExists, NoTape, File, Tape, Dialogue}
 
--- a file that is too long, or one that could not be read, or memory that was refused
+-- a file that is too long, or one that another process holds or that could not be read, or memory that was refused
 abbrev pub file_fault_status : FileTapeFault → Status
 file_fault_status file_fault.TooLong = Fault
 file_fault_status _ = Failure
@@ -23,6 +23,8 @@ tape_fault_status _ = Fault
 abbrev pub agent_fault_status : AgentFault → Status
 agent_fault_status (Texts f) = check_fault_status f
 agent_fault_status OpenFailed = Failure
+agent_fault_status TapeExists = Fault
+agent_fault_status NoTape = Fault
 agent_fault_status (File f) = file_fault_status f
 agent_fault_status (Tape f) = tape_fault_status f
 agent_fault_status (Dialogue f) = Failure

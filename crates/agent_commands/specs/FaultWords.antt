@@ -6,12 +6,14 @@ use Rattle.dialogue.specs.declared.talk_fault.TalkFault.TheVariants as talk_faul
 use Rattle.file_tape.specs.FaultWords.{file_tape_fault_words}
 use Rattle.plan_commands.specs.FaultWords.{check_fault_words}
 use Rattle.agent_commands.specs.declared.agent_fault.AgentFault.{AgentFault}
-use Rattle.agent_commands.specs.declared.agent_fault.AgentFault.TheVariants.{Texts, OpenFailed, File, Tape, Dialogue}
+use Rattle.agent_commands.specs.declared.agent_fault.AgentFault.TheVariants.{Texts, OpenFailed, TapeExists, NoTape, File, Tape, Dialogue}
 
 -- those of the fault of the texts, of the tape or of the dialogue
 abbrev pub agent_fault_words : AgentFault → List (List ℕ)
 agent_fault_words (Texts f) = check_fault_words f
 agent_fault_words OpenFailed = codes "OpenFailed" ∷ []
+agent_fault_words TapeExists = codes "TapeExists" ∷ []
+agent_fault_words NoTape = codes "NoTape" ∷ []
 agent_fault_words (File f) = file_tape_fault_words f
 agent_fault_words (Tape f) = open_fault_words f
 agent_fault_words (Dialogue f) = talk_fault_words f

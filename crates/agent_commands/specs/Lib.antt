@@ -7,3 +7,5 @@ pub mod AgentStatus
 pub mod FaultWords
 -- what `mapf agent` does and answers
 pub mod AgentCommand
+-- The code's own words, of which no promise speaks.
+pub mod Code

@@ -1,9 +1,12 @@
 //! `mapf agent`: answers for one agent of a plan, by its tape.
-ghost use Rattle.std.specs.Prelude.{◌≡◌, IsErrOf, MatchResult};
+ghost use Rattle.std.specs.Prelude.{◌≡◌, IfErr, IfOk, MatchResult};
 ghost use Rattle.text_commands.specs.Telling.{Tells};
 ghost use Rattle.agent_commands.specs.AgentStatus.{agent_status};
 ghost use Rattle.agent_commands.specs.FaultWords.{told_of_agent};
-ghost use Rattle.agent_commands.specs.AgentCommand.{AnswersAgent, Converses, IsOnTape, IsNotOnTape, IsTapeOf, IsNoTape, Serves};
+ghost use Rattle.agent_commands.specs.AgentCommand.{AnswersAgent, Converses, IsClaimed, IsNoTape, IsNotOnTape, IsOnTape, IsTapeOf, Serves};
+ghost use Rattle.agent_commands.specs.declared.agent_fault.AgentFault.TheVariants.{File};
+ghost use Rattle.file_tape.specs.declared.file_tape.FileTapeFault.TheVariants.{TapeFailed};
+ghost use Rattle.agent_commands.specs.Code.Parts.{IsNotOpened, IsNotTaken, IsSameTape};
 
 use crate::agent_fault::AgentFault;
 use agent::{Agent, OpenFault, Tape};
@@ -13,14 +16,16 @@ use file_tape::{FileTape, FileTapeFault};
 use grid::Counted;
 use plan_commands::read_graph;
 use std::fs::{self, OpenFile, OpenOptions};
-use std::io::{Read, Write};
+use std::io::{ErrorKind, Read, Write};
 use std::rt::Files;
+use tape_claim::{LockFile, TapeClaim};
 use text_commands::{Status, report};
 
 /// Reads a map from `map` and a plan from `plan`, checks the plan on the map, and opens the tape file at `path` for the agent with
 /// this number. Then it answers the lines of `input` on `out`, each before the next is waited for. A fault's line goes to `err`, but
 /// none where the tape failed in the dialogue, which that answered. The tape file is made where there is none, and is not touched before
-/// the plan is known to have the agent. The answer is the exit status, which stays where `err` fails.
+/// the plan is known to have the agent. It is held until the end, and no other process may hold it. The answer is the exit status, which
+/// stays where `err` fails.
 pub fn agent_cmd<R: Files + AllocGlobal, M: Read, P: Read, I: Read, W: Write, E: Write>(
     rt: &R,
     map: &mut Counted<M>,
@@ -31,10 +36,33 @@ pub fn agent_cmd<R: Files + AllocGlobal, M: Read, P: Read, I: Read, W: Write, E:
     out: &mut Counted<W>,
     err: &mut Counted<E>,
 ) -> u8
-    ensures { AnswersAgent R.File.remaining M.remaining P.remaining I.remaining W.contents (Tells E.contents err.old err.new) id map.old map.new plan.old plan.new
-        input.old input.new out.old out.new result }
+where
+    R::File: LockFile,
+    ensures { AnswersAgent R.File.remaining M.remaining P.remaining I.remaining W.contents (Tells E.contents err.old err.new) TapeClaim.Any id map.old map.new
+        plan.old plan.new input.old input.new out.old out.new result }
 {
-    let answer = serve(rt, map, plan, id, path, input, out);
+    agent_claim_cmd(rt, map, plan, id, path, TapeClaim::Any, input, out, err)
+}
+
+/// The same on a tape of which something is claimed. A new one was made, and synced with its folder, before the first answer is out; a file
+/// that has a whole record is refused. Of one that was kept no file is made.
+pub fn agent_claim_cmd<R: Files + AllocGlobal, M: Read, P: Read, I: Read, W: Write, E: Write>(
+    rt: &R,
+    map: &mut Counted<M>,
+    plan: &mut Counted<P>,
+    id: u16,
+    path: &str,
+    claim: TapeClaim,
+    input: &mut Counted<I>,
+    out: &mut Counted<W>,
+    err: &mut Counted<E>,
+) -> u8
+where
+    R::File: LockFile,
+    ensures { AnswersAgent R.File.remaining M.remaining P.remaining I.remaining W.contents (Tells E.contents err.old err.new) claim id map.old map.new
+        plan.old plan.new input.old input.new out.old out.new result }
+{
+    let answer = serve(rt, map, plan, id, path, claim, input, out);
     conclude(answer, err).code()
 }
 
@@ -45,14 +73,17 @@ fn serve<R: Files + AllocGlobal, M: Read, P: Read, I: Read, W: Write>(
     plan: &mut Counted<P>,
     id: u16,
     path: &str,
+    claim: TapeClaim,
     input: &mut Counted<I>,
     out: &mut Counted<W>,
 ) -> Result<(), AgentFault>
-    ensures { Serves R.File.remaining M.remaining P.remaining I.remaining W.contents id map.old map.new plan.old plan.new input.old input.new out.old out.new
+where
+    R::File: LockFile,
+    ensures { Serves R.File.remaining M.remaining P.remaining I.remaining W.contents claim id map.old map.new plan.old plan.new input.old input.new out.old out.new
         result }
 {
     let graph = read_graph(rt.alloc(), map, plan)?;
-    converse(rt, &graph, id, path, input, out)
+    converse(rt, &graph, id, path, claim, input, out)
 }
 
 /// Answers for an agent of the graph.
@@ -61,12 +92,15 @@ fn converse<R: Files + AllocGlobal, I: Read, W: Write>(
     graph: &Graph,
     id: u16,
     path: &str,
+    claim: TapeClaim,
     input: &mut Counted<I>,
     out: &mut Counted<W>,
 ) -> Result<(), AgentFault>
-    ensures { Converses R.File.remaining I.remaining W.contents graph.now id input.old input.new out.old out.new result }
+where
+    R::File: LockFile,
+    ensures { Converses R.File.remaining I.remaining W.contents claim graph.now id input.old input.new out.old out.new result }
 {
-    let mut agent = open_agent(rt, graph, id, path)?;
+    let mut agent = open_agent(rt, graph, id, path, claim)?;
     talk(rt.alloc(), &mut agent, input, out)?;
     Ok(())
 }
@@ -77,10 +111,13 @@ fn open_agent<'g, R: Files + AllocGlobal>(
     graph: &'g Graph,
     id: u16,
     path: &str,
+    claim: TapeClaim,
 ) -> Result<Agent<'g, FileTape<R::File>>, AgentFault>
-    ensures { MatchResult result (IsOnTape R.File.remaining graph.now id) (IsNotOnTape R.File.remaining graph.now id) }
+where
+    R::File: LockFile,
+    ensures { MatchResult result (IsOnTape R.File.remaining claim graph.now id) (IsNotOnTape R.File.remaining claim graph.now id) }
 {
-    let tape = open_tape(rt, graph, id, path)?;
+    let tape = open_tape(rt, graph, id, path, claim)?;
     match Agent::open(rt.alloc(), graph, id, tape) {
         Ok(agent) => Ok(agent),
         Err((fault, _)) => Err(AgentFault::Tape(fault)),
@@ -93,24 +130,89 @@ fn open_tape<R: Files + AllocGlobal>(
     graph: &Graph,
     id: u16,
     path: &str,
+    claim: TapeClaim,
 ) -> Result<FileTape<R::File>, AgentFault>
-    ensures { MatchResult result (IsTapeOf R.File.remaining graph.now id) (IsNoTape R.File.remaining graph.now id) }
+where
+    R::File: LockFile,
+    ensures { MatchResult result (λ tape. IsTapeOf R.File.remaining graph.now id tape × IsClaimed claim tape) (IsNoTape R.File.remaining claim graph.now id) }
 {
     let Some(moves) = graph.moves(u32::from(id)) else {
         return Err(AgentFault::Tape(OpenFault::NoSuchAgent));
     };
+    let file = open_file(rt, path, claim)?;
+    let tape = FileTape::open(rt.alloc(), file, 20 * moves)?;
+    take_tape(rt, path, tape, claim)
+}
+
+/// Opens a tape file, which is made where there is none, unless it was to be kept.
+fn open_file<R: Files>(rt: &R, path: &str, claim: TapeClaim) -> Result<R::File, AgentFault>
+    ensures { IfErr result (IsNotOpened claim) }
+{
+    let makes = !matches!(claim, TapeClaim::Kept);
     let opened = OpenOptions::new()
         .read(true)
         .write(true)
-        .create(true)
+        .create(makes)
         .open(rt, path);
-    let Ok(file) = opened else {
-        return Err(AgentFault::OpenFailed);
-    };
-    let tape = FileTape::open(rt.alloc(), file, 20 * moves)?;
-    // The file may just have been made, and a power cut could take away a name that isn't synced.
-    let has_record = tape.len() >= 10;
-    if !has_record {
+    match opened {
+        Ok(file) if is_regular(&file) => Ok(file),
+        Err(error) if !makes && error.kind() == ErrorKind::NotFound => Err(AgentFault::NoTape),
+        _ => Err(AgentFault::OpenFailed),
+    }
+}
+
+/// Whether it is a file like others. Reading a device or a pipe might wait for ever, and what was written there could not be read back.
+fn is_regular<F: OpenFile>(file: &F) -> bool {
+    match file.metadata() {
+        Ok(metadata) => metadata.is_file(),
+        Err(_) => false,
+    }
+}
+
+/// Takes the tape of a file that was opened, if what is claimed of it holds.
+fn take_tape<R: Files>(
+    rt: &R,
+    path: &str,
+    tape: FileTape<R::File>,
+    claim: TapeClaim,
+) -> Result<FileTape<R::File>, AgentFault>
+    ensures ok { IfOk result (λ taken. IsSameTape tape taken × IsClaimed claim taken) }
+    ensures err { IfErr result (IsNotTaken claim tape) }
+{
+    match claim {
+        TapeClaim::New => take_new_tape(rt, path, tape),
+        TapeClaim::Any | TapeClaim::Kept => take_any_tape(rt, path, tape),
+    }
+}
+
+/// Takes a tape without a record, and syncs it and its folder.
+fn take_new_tape<R: Files>(
+    rt: &R,
+    path: &str,
+    mut tape: FileTape<R::File>,
+) -> Result<FileTape<R::File>, AgentFault>
+    ensures ok { IfOk result (λ taken. IsSameTape tape taken × IsClaimed TapeClaim.New taken) }
+    ensures err { IfErr result (IsNotTaken TapeClaim.New tape) }
+{
+    if tape.len() >= 10 {
+        return Err(AgentFault::TapeExists);
+    }
+    tape.sync()?;
+    keep_name(rt, path)?;
+    Ok(tape)
+}
+
+/// Takes a tape, and syncs its folder if it has no record: the file may just have been made, and a power cut could take away a name that
+/// isn't synced.
+fn take_any_tape<R: Files>(
+    rt: &R,
+    path: &str,
+    tape: FileTape<R::File>,
+) -> Result<FileTape<R::File>, AgentFault>
+    ensures ok { IfOk result (λ taken. taken ≡ tape) }
+    ensures err { IfErr result (λ fault. fault ≡ File TapeFailed) }
+{
+    if tape.len() < 10 {
         keep_name(rt, path)?;
     }
     Ok(tape)
@@ -118,7 +220,7 @@ fn open_tape<R: Files + AllocGlobal>(
 
 /// Syncs the folder of a file, which has the file's name.
 fn keep_name<R: Files>(rt: &R, path: &str) -> Result<(), FileTapeFault>
-    ensures { IsErrOf result FileTapeFault.TooLong → ⊥ }
+    ensures { IfErr result (λ fault. fault ≡ FileTapeFault.TapeFailed) }
 {
     let folder = fs::open(rt, folder_of(path))?;
     folder.sync_all()?;

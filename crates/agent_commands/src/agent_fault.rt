@@ -19,8 +19,12 @@ use thiserror::Error;
 pub(crate) enum AgentFault {
     /// The map or the plan could not be read, or the plan is rejected.
     Texts(CheckFault),
-    /// The tape file could not be opened or made.
+    /// The tape file could not be opened or made, or is no file like others.
     OpenFailed,
+    /// A tape was to be new, and has a record.
+    TapeExists,
+    /// A tape was to be there, and is not.
+    NoTape,
     /// The tape file could not be taken for a tape.
     File(FileTapeFault),
     /// There is no such agent, or the tape is not the agent's.
@@ -37,6 +41,7 @@ impl AgentFault {
         match self {
             AgentFault::Texts(fault) => fault.status(),
             AgentFault::OpenFailed | AgentFault::Dialogue(_) => Status::Failure,
+            AgentFault::TapeExists | AgentFault::NoTape => Status::Fault,
             AgentFault::File(fault) => file_fault_status(fault),
             AgentFault::Tape(fault) => tape_fault_status(fault),
         }
@@ -56,6 +61,8 @@ impl AgentFault {
         match self {
             AgentFault::Texts(fault) => fault.words(),
             AgentFault::OpenFailed => FaultWords::new("OpenFailed", &[]),
+            AgentFault::TapeExists => FaultWords::new("TapeExists", &[]),
+            AgentFault::NoTape => FaultWords::new("NoTape", &[]),
             AgentFault::File(fault) => fault.words(),
             AgentFault::Tape(fault) => fault.words(),
             AgentFault::Dialogue(fault) => fault.words(),
@@ -77,7 +84,9 @@ fn file_fault_status(fault: FileTapeFault) -> Status
 {
     match fault {
         FileTapeFault::TooLong => Status::Fault,
-        FileTapeFault::TapeFailed | FileTapeFault::OutOfMemory => Status::Failure,
+        FileTapeFault::InUse | FileTapeFault::TapeFailed | FileTapeFault::OutOfMemory => {
+            Status::Failure
+        }
     }
 }
 

@@ -4,4 +4,4 @@
 mod agent_command;
 mod agent_fault;
 
-pub use agent_command::agent_cmd;
+pub use agent_command::{agent_claim_cmd, agent_cmd};

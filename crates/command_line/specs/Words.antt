@@ -8,6 +8,8 @@ use Rattle.clap.specs.Words.{App, fault_of, Row, Rule, Text, all_of, first_of, n
 use Rattle.clap.specs.declared.builder.action.ArgAction.TheVariants.{SetTrue}
 use Rattle.clap.specs.declared.error.kind.ErrorKind.{ErrorKind}
 use Rattle.clap.specs.declared.error.kind.ErrorKind.TheVariants as kind
+use Rattle.tape_claim.specs.declared.TapeClaim.{TapeClaim}
+use Rattle.tape_claim.specs.declared.TapeClaim.TheVariants.{Any, New, Kept}
 use Rattle.command_line.specs.declared.command_line.Line.{Line}
 use Rattle.command_line.specs.declared.command_line.Line.TheVariants.{Map, Scen, Row as row_line, Check, Deps, Path, Run, Agent}
 use Rattle.command_line.specs.declared.command_line.LineFault.{LineFault}
@@ -91,8 +93,8 @@ run_command = record {
 abbrev pub agent_command : Usage
 agent_command = record {
   name = codes "agent";
-  required = codes "map" ∷ codes "plan" ∷ codes "id" ∷ codes "tape" ∷ [];
-  options = [];
+  required = codes "map" ∷ codes "plan" ∷ codes "id" ∷ codes "file" ∷ [];
+  options = codes "tape" ∷ [];
   cells = [];
   flags = [];
 }
@@ -165,16 +167,32 @@ abbrev pub GivesCells : Text → List Row → Type 0
 GivesCells option rows =
     (values : List Text) → all_of option rows ≡ Some values → (cell : Cell) × (cell.x < 2 ^ 16) × (cell.y < 2 ^ 16) × SpellsCell cell values
 
--- the numbers that the command with this name wants, if it wants some, are spelled: that of a row below 2^32, that of an agent below 2^16,
--- and those of a cell, or of one agent, where one is given
-abbrev pub HasNumbers : Text → List Row → Type 0
-HasNumbers name rows =
+-- the word claims this of a tape
+abbrev pub SaysClaim : TapeClaim → Text → Type 0
+SaysClaim Any word = ⊥
+SaysClaim New word = word ≡ codes "new"
+SaysClaim Kept word = word ≡ codes "kept"
+
+-- the rows claim this of a tape by this option, or it is left out
+abbrev pub MakesClaim : Text → List Row → TapeClaim → Type 0
+MakesClaim option rows Any = first_of option rows ≡ None
+MakesClaim option rows claim = (word : Text) × (first_of option rows ≡ Some word) × SaysClaim claim word
+
+-- where the rows give this option a value, it claims something of a tape
+abbrev pub GivesClaim : Text → List Row → Type 0
+GivesClaim option rows = (word : Text) → first_of option rows ≡ Some word → (claim : TapeClaim) × SaysClaim claim word
+
+-- The values that the command with this name wants, if it wants some, are such: the number of a row is spelled, and is below 2^32, that of an
+-- agent below 2^16, and those of a cell, or of one agent, where one is given; and what is claimed of a tape is said.
+abbrev pub HasValues : Text → List Row → Type 0
+HasValues name rows =
     (name ≡ codes "row" → GivesNumberBelow (2 ^ 32) (codes "row") rows) × (name ≡ codes "agent" → GivesNumberBelow (2 ^ 16) (codes "id") rows)
     × (name ≡ codes "deps" → GivesCells (codes "cell") rows) × (name ≡ codes "path" → GivesNumbers (2 ^ 16) (codes "agent") rows)
+    × (name ≡ codes "agent" → GivesClaim (codes "tape") rows)
 
 -- the same of the words of the command line
-abbrev pub GiveNumbers : List Text → Type 0
-GiveNumbers words = (name : Text) (rows : List Row) → subcommand_of program_app words ≡ Some (name, rows) → HasNumbers name rows
+abbrev pub GiveValues : List Text → Type 0
+GiveValues words = (name : Text) (rows : List Row) → subcommand_of program_app words ≡ Some (name, rows) → HasValues name rows
 
 -- the rows show this flag as given: clap puts down `true` where it is, and `false` where it is not
 abbrev pub IsFlagGiven : Text → List Row → Type 0
@@ -201,17 +219,17 @@ IsCommand name rows (Run map_file plan_file events_file complete) =
     (name ≡ codes "run") × (first_of (codes "map") rows ≡ Some (string_bytes map_file))
     × (first_of (codes "plan") rows ≡ Some (string_bytes plan_file)) × (first_of (codes "events") rows ≡ Some (string_bytes events_file))
     × (complete ≡ true ↔ IsFlagGiven (codes "complete") rows)
-IsCommand name rows (Agent map_file plan_file id tape_file) =
+IsCommand name rows (Agent map_file plan_file id tape_file claim) =
     (name ≡ codes "agent") × (first_of (codes "map") rows ≡ Some (string_bytes map_file))
     × (first_of (codes "plan") rows ≡ Some (string_bytes plan_file)) × GivesNumber (codes "id") rows id
-    × (first_of (codes "tape") rows ≡ Some (string_bytes tape_file))
+    × (first_of (codes "file") rows ≡ Some (string_bytes tape_file)) × MakesClaim (codes "tape") rows claim
 
 -- the line is the command that clap's definition of the program gives for the words
 abbrev pub IsLineOf : List Text → Line → Type 0
 IsLineOf words line = (name : Text) × (rows : List Row) × (subcommand_of program_app words ≡ Some (name, rows)) × IsCommand name rows line
 
 -- Why the words are no command: memory was refused; or clap refuses them, and this is what its kind of refusal comes to; or it takes
--- them, and a number is none.
+-- them, and a number is none, or a claim.
 abbrev pub IsFaultOf : List Text → LineFault → Type 0
 IsFaultOf words fault =
     (fault ≡ OutOfMemory)

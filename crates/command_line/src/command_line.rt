@@ -7,6 +7,7 @@ ghost use Rattle.command_line.specs.declared.command_line.LineFault.TheVariants.
 use clap::error::{Error as ClapError, ErrorKind};
 use grid::Cell;
 use std::alloc::{AllocError, Global};
+use tape_claim::TapeClaim;
 use thiserror::Error;
 
 /// A command with what its words say.
@@ -52,12 +53,13 @@ pub enum Line {
         events: String,
         complete: bool,
     },
-    /// Answers for one agent of a plan, by its tape.
+    /// Answers for one agent of a plan, by its tape, of which something may be claimed.
     Agent {
         map: String,
         plan: String,
         id: u16,
         tape: String,
+        claim: TapeClaim,
     },
 }
 

@@ -208,8 +208,8 @@ pub(crate) const AGENT: CommandText<'static> = CommandText {
     name: "agent",
     about: "Checks a plan on a map, and answers for one of its agents",
     after_help: "\
-The tape keeps how far the agent has come. The first line of standard output is
-the state of the agent:
+The tape keeps how far the agent has come. No other process may hold it. The
+first line of standard output is the state of the agent:
   at X Y done N            it stands in this cell, with N moves finished
   between X Y U V done N   it is moving from the one cell to the other
 Then each line of standard input is answered by one line:
@@ -221,13 +221,19 @@ Then each line of standard input is answered by one line:
   held       the state of the agent, as at first
   any other  refused BadLine
 
+Start a robot once with --tape new, and from then on with --tape kept: then a
+tape that was lost is no new one.
+  --tape new    refuses a file that has a record
+  --tape kept   refuses a file that is not there
+
 Status:
   0  the input ended
   1  a text or the plan has a fault, there is no such agent, or the tape is
      refused: one line on standard error
   2  a bad command line
-  3  a file can't be opened, a device failed, memory was refused, or the answer
-     was `refused StoreFailed`: start the agent again
+  3  a file can't be opened, a device failed, another process holds the tape,
+     memory was refused, or the answer was `refused StoreFailed`: start the
+     agent again
 
 Example:
   mapf agent examples/plain.map examples/behind.plan 0 robot0.tape",
@@ -236,9 +242,10 @@ Example:
         Required("plan", "The file of the plan"),
         Required("id", "The number of the agent, counted from 0"),
         Required(
-            "tape",
+            "file",
             "The file of the agent's tape, made where there is none",
         ),
+        Named("tape", "What the tape has to be: new or kept"),
     ],
 };
 
@@ -255,7 +262,7 @@ pub(crate) const ROW_NUMBER: NumberText = NumberText {
 
 pub(crate) const AGENT_ID: NumberText = NumberText {
     wanted: "the number of an agent, from 0 to 65535, is wanted",
-    usage: "mapf agent <map> <plan> <id> <tape>",
+    usage: "mapf agent [OPTIONS] <map> <plan> <id> <file>",
 };
 
 /// What is said of a word that is no number of an agent.
@@ -263,6 +270,14 @@ pub(crate) const NO_AGENT_NUMBER: &str =
     "error: invalid value for '--agent <agent>': the number of an agent, from 0 to 65535, is wanted, in digits alone
 
 Usage: mapf path [OPTIONS] <map> <plan>
+
+For more information, try '--help'.
+";
+
+/// What is said of a word that makes no claim of a tape.
+pub(crate) const NO_CLAIM: &str = "error: invalid value for '--tape <tape>': new or kept is wanted
+
+Usage: mapf agent [OPTIONS] <map> <plan> <id> <file>
 
 For more information, try '--help'.
 ";

@@ -5,7 +5,8 @@ ghost use Rattle.std.specs.List.{list_all};
 ghost use Rattle.clap.specs.Words.{app_of, with_subcommand, first_of, found_of, rows_of, rule_of, takes, fault_of};
 ghost use Rattle.grid.specs.declared.cell.Cell.{Cell};
 ghost use Rattle.grid.specs.Text.{SpellsNumber};
-ghost use Rattle.command_line.specs.Words.{program_app, IsFlagGiven, HasNumbers, GivesNumber, GivesNumberBelow, GiveNumbers, SpellsCell, MayGiveCell, GivesCells, MayGiveNumber, GivesNumbers, IsCommand, IsLineOf, IsFaultOf};
+ghost use Rattle.tape_claim.specs.declared.TapeClaim.{TapeClaim};
+ghost use Rattle.command_line.specs.Words.{program_app, IsFlagGiven, HasValues, GivesNumber, GivesNumberBelow, GiveValues, SpellsCell, MayGiveCell, GivesCells, GivesClaim, MakesClaim, SaysClaim, MayGiveNumber, GivesNumbers, IsCommand, IsLineOf, IsFaultOf};
 ghost use Rattle.command_line.specs.Code.Parts.{HasWords, IsRefusal, rule_of_word, shape_of_text};
 
 use crate::command_line::refused;
@@ -14,13 +15,14 @@ use crate::{Line, LineFault};
 use clap::{Arg, ArgAction, ArgMatches, Command};
 use grid::Cell;
 use std::alloc::{AllocError, Global};
+use tape_claim::TapeClaim;
 
 /// Reads the words of the command line, the program's name first.
 pub fn line(alloc: Global, words: &[String]) -> Result<Line, LineFault>
     ensures command { IfOk result (IsLineOf (map string_bytes words.now)) }
     ensures taken { OnOk result (fault_of program_app (map string_bytes words.now) ≡ []) }
     ensures refused { IfErr result (λ e. takes program_app (map string_bytes words.now) ≡ true
-        → GiveNumbers (map string_bytes words.now) → e ≡ LineFault.OutOfMemory) }
+        → GiveValues (map string_bytes words.now) → e ≡ LineFault.OutOfMemory) }
     ensures fault { IfErr result (IsFaultOf (map string_bytes words.now)) }
 {
     let program = program(alloc)?;
@@ -93,7 +95,7 @@ fn argument<'a>(alloc: Global, word: &Word<'a>) -> Arg<'a>
 /// Reads the command with this name, by the words that it was given.
 fn read_command(alloc: Global, name: &str, given: &ArgMatches<'_>) -> Result<Line, LineFault>
     ensures ok { IfOk result (IsCommand name.now (rows_of (found_of given.now))) }
-    ensures err { IfErr result (λ e. HasWords name.now (rows_of (found_of given.now)) → HasNumbers name.now (rows_of (found_of given.now))
+    ensures err { IfErr result (λ e. HasWords name.now (rows_of (found_of given.now)) → HasValues name.now (rows_of (found_of given.now))
         → e ≡ LineFault.OutOfMemory) }
     ensures refusal { IfErr result IsRefusal }
 {
@@ -135,7 +137,7 @@ fn read_check(alloc: Global, given: &ArgMatches<'_>) -> Result<Line, LineFault>
 /// Reads `deps` by the words that it was given.
 fn read_deps(alloc: Global, given: &ArgMatches<'_>) -> Result<Line, LineFault>
     ensures ok { IfOk result (IsCommand (codes "deps") (rows_of (found_of given.now))) }
-    ensures err { IfErr result (λ e. HasWords (codes "deps") (rows_of (found_of given.now)) → HasNumbers (codes "deps") (rows_of (found_of given.now))
+    ensures err { IfErr result (λ e. HasWords (codes "deps") (rows_of (found_of given.now)) → HasValues (codes "deps") (rows_of (found_of given.now))
         → e ≡ LineFault.OutOfMemory) }
     ensures refusal { IfErr result IsRefusal }
 {
@@ -149,7 +151,7 @@ fn read_deps(alloc: Global, given: &ArgMatches<'_>) -> Result<Line, LineFault>
 /// Reads `path` by the words that it was given.
 fn read_path(alloc: Global, given: &ArgMatches<'_>) -> Result<Line, LineFault>
     ensures ok { IfOk result (IsCommand (codes "path") (rows_of (found_of given.now))) }
-    ensures err { IfErr result (λ e. HasWords (codes "path") (rows_of (found_of given.now)) → HasNumbers (codes "path") (rows_of (found_of given.now))
+    ensures err { IfErr result (λ e. HasWords (codes "path") (rows_of (found_of given.now)) → HasValues (codes "path") (rows_of (found_of given.now))
         → e ≡ LineFault.OutOfMemory) }
     ensures refusal { IfErr result IsRefusal }
 {
@@ -177,7 +179,7 @@ fn read_run(alloc: Global, given: &ArgMatches<'_>) -> Result<Line, LineFault>
 /// Reads `agent` by the words that it was given.
 fn read_agent(alloc: Global, given: &ArgMatches<'_>) -> Result<Line, LineFault>
     ensures ok { IfOk result (IsCommand (codes "agent") (rows_of (found_of given.now))) }
-    ensures err { IfErr result (λ e. HasWords (codes "agent") (rows_of (found_of given.now)) → HasNumbers (codes "agent") (rows_of (found_of given.now))
+    ensures err { IfErr result (λ e. HasWords (codes "agent") (rows_of (found_of given.now)) → HasValues (codes "agent") (rows_of (found_of given.now))
         → e ≡ LineFault.OutOfMemory) }
     ensures refusal { IfErr result IsRefusal }
 {
@@ -185,7 +187,8 @@ fn read_agent(alloc: Global, given: &ArgMatches<'_>) -> Result<Line, LineFault>
         map: word(alloc, given, "map")?,
         plan: word(alloc, given, "plan")?,
         id: agent_id(alloc, given)?,
-        tape: word(alloc, given, "tape")?,
+        tape: word(alloc, given, "file")?,
+        claim: tape_claim(alloc, given)?,
     })
 }
 
@@ -225,6 +228,32 @@ fn optional_agent(alloc: Global, given: &ArgMatches<'_>) -> Result<Option<u16>, 
     match spelled_short(digits) {
         Some(agent) => Ok(Some(agent)),
         None => Err(LineFault::bad_command(alloc, help::NO_AGENT_NUMBER)),
+    }
+}
+
+/// What is claimed of a tape, if something is.
+fn tape_claim(alloc: Global, given: &ArgMatches<'_>) -> Result<TapeClaim, LineFault>
+    ensures ok { IfOk result (MakesClaim (codes "tape") (rows_of (found_of given.now))) }
+    ensures none { OnErr result (GivesClaim (codes "tape") (rows_of (found_of given.now)) → ⊥) }
+    ensures err { IfErr result IsRefusal }
+{
+    let Some(word) = given.get_str("tape") else {
+        return Ok(TapeClaim::Any);
+    };
+    match claim_of(word) {
+        Some(claim) => Ok(claim),
+        None => Err(LineFault::bad_command(alloc, help::NO_CLAIM)),
+    }
+}
+
+/// The claim that a word makes, if it makes one.
+fn claim_of(word: &str) -> Option<TapeClaim>
+    ensures { MatchOption result ((claim : TapeClaim) → SaysClaim claim word.now → ⊥) (λ claim. SaysClaim claim word.now) }
+{
+    match word {
+        "new" => Some(TapeClaim::New),
+        "kept" => Some(TapeClaim::Kept),
+        _ => None,
     }
 }
 

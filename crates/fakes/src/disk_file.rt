@@ -1,8 +1,9 @@
 //! The file of a disk, or its folder, as it is opened.
 use crate::fake_disk::{Call, FakeDisk};
-use std::fs::{Metadata, OpenFile, Permissions};
+use std::fs::{Metadata, OpenFile, Permissions, TryLockError};
 use std::io;
 use std::io::{Read, Seek, SeekFrom, Write};
+use tape_claim::LockFile;
 
 /// How many bytes a read or a write takes at the most.
 const PIECE: usize = 4;
@@ -59,7 +60,7 @@ impl<'a> DiskFile<'a> {
 
 impl Read for DiskFile<'_> {
     fn read(&mut self, buf: &mut [u8]) -> io::Result<usize> {
-        if self.state == State::Folder {
+        if self.state == State::Folder || !self.disk.may_read() {
             return Err(self.disk.unexpected());
         }
         self.disk.answer(Call::Read)?;
@@ -105,7 +106,10 @@ impl Seek for DiskFile<'_> {
 
 impl OpenFile for DiskFile<'_> {
     fn metadata(&self) -> io::Result<Metadata> {
-        Err(self.disk.unexpected())
+        if !self.is_tape() {
+            return Err(self.disk.unexpected());
+        }
+        self.disk.metadata()
     }
 
     fn set_len(&self, size: u64) -> io::Result<()> {
@@ -137,5 +141,14 @@ impl OpenFile for DiskFile<'_> {
 
     fn set_permissions(&self, _perm: Permissions) -> io::Result<()> {
         Err(self.disk.unexpected())
+    }
+}
+
+impl LockFile for DiskFile<'_> {
+    fn try_lock(&self) -> Result<(), TryLockError> {
+        if !self.is_tape() {
+            return Err(TryLockError::Error(self.disk.unexpected()));
+        }
+        self.disk.try_lock()
     }
 }

@@ -4,7 +4,7 @@ ghost use Rattle.std.specs.Prelude.{◌≤◌, length, IfOk};
 use crate::disk_file::DiskFile;
 use std::alloc::{AllocError, Global};
 use std::cell::{Cell, RefCell};
-use std::fs::OpenOptions;
+use std::fs::{Metadata, OpenOptions, TryLockError};
 use std::io;
 use std::io::ErrorKind;
 
@@ -15,6 +15,8 @@ const ROOM: usize = 256;
 #[derive(Clone, Copy, Debug, PartialEq, Eq)]
 pub enum Call {
     Open,
+    Metadata,
+    Lock,
     Read,
     Seek,
     Write,
@@ -41,8 +43,16 @@ pub struct FakeDisk {
     bytes: RefCell<Vec<u8>>,
     /// The file as it was synced last: so many bytes as it had when it was synced with its length.
     synced: RefCell<Vec<u8>>,
+    /// Whether the file is there.
+    is_made: Cell<bool>,
     /// Whether the folder was synced since the file was made.
     is_named: Cell<bool>,
+    /// Whether it is a file like others, and no device.
+    is_regular: Cell<bool>,
+    /// Whether the file was locked since it was opened.
+    is_locked: Cell<bool>,
+    /// Whether another process holds the file.
+    is_held: Cell<bool>,
     fails: Cell<Option<(Call, u32)>>,
     failures: Cell<u64>,
     changes: Cell<u32>,
@@ -77,7 +87,11 @@ impl FakeDisk {
             kind,
             bytes: RefCell::new(with_room(alloc, bytes)?),
             synced: RefCell::new(with_room(alloc, &[])?),
+            is_made: Cell::new(is_named),
             is_named: Cell::new(is_named),
+            is_regular: Cell::new(true),
+            is_locked: Cell::new(false),
+            is_held: Cell::new(false),
             fails: Cell::new(None),
             failures: Cell::new(0),
             changes: Cell::new(0),
@@ -88,7 +102,18 @@ impl FakeDisk {
 
     /// The file, at its beginning, as it is opened to be read, and a tape to be written too.
     pub fn file(&self) -> DiskFile<'_> {
+        self.is_locked.set(false);
         DiskFile::new(self)
+    }
+
+    /// Another process holds the file from now on.
+    pub fn hold(&self) {
+        self.is_held.set(true);
+    }
+
+    /// The file is no file like others from now on.
+    pub fn make_irregular(&self) {
+        self.is_regular.set(false);
     }
 
     /// So many calls of this kind succeed from now on, and the next one fails.
@@ -144,6 +169,11 @@ impl FakeDisk {
         self.changes.get() == 0
     }
 
+    /// Whether there is a file.
+    pub fn has_file(&self) -> bool {
+        self.is_made.get()
+    }
+
     /// How often the folder of the file was synced.
     pub fn folder_syncs(&self) -> u32 {
         self.folder_syncs.get()
@@ -160,7 +190,7 @@ impl FakeDisk {
         unsupported()
     }
 
-    /// Opens the file by a path. A tape is read and written, with what it has, and made where there is none; a text is read.
+    /// Opens the file by a path. A tape is read and written, with what it has, and perhaps made where there is none; a text is read.
     pub(crate) fn open(&self, how: &OpenOptions) -> io::Result<DiskFile<'_>> {
         let is_expected = match self.kind {
             Kind::Tape => goes_on(how),
@@ -170,7 +200,38 @@ impl FakeDisk {
             return Err(self.unexpected());
         }
         self.answer(Call::Open)?;
+        if !self.is_made.get() && !how.asks_create() {
+            return Err(io::Error::from(ErrorKind::NotFound));
+        }
+        self.is_made.set(true);
         Ok(self.file())
+    }
+
+    /// What kind of file it is.
+    pub(crate) fn metadata(&self) -> io::Result<Metadata> {
+        self.answer(Call::Metadata)?;
+        if self.is_regular.get() {
+            Ok(Metadata::of_file(0))
+        } else {
+            Ok(Metadata::of_dir())
+        }
+    }
+
+    /// Locks the file, unless another process holds it.
+    pub(crate) fn try_lock(&self) -> Result<(), TryLockError> {
+        if let Err(error) = self.answer(Call::Lock) {
+            return Err(TryLockError::Error(error));
+        }
+        if self.is_held.get() {
+            return Err(TryLockError::WouldBlock);
+        }
+        self.is_locked.set(true);
+        Ok(())
+    }
+
+    /// Whether what the file has may be read: a tape once it is locked.
+    pub(crate) fn may_read(&self) -> bool {
+        self.kind == Kind::Text || self.is_locked.get()
     }
 
     /// Opens the folder of the file.
@@ -293,9 +354,9 @@ fn raise(count: &Cell<u32>) {
     count.set(count.get().saturating_add(1));
 }
 
-/// Whether a file is to be read and written, with what it has, and made where there is none.
+/// Whether a file is to be read and written, with what it has.
 fn goes_on(how: &OpenOptions) -> bool {
-    let asks = how.asks_read() && how.asks_write() && how.asks_create();
+    let asks = how.asks_read() && how.asks_write();
     asks && !how.asks_append() && !how.asks_truncate() && !how.asks_create_new()
 }
 

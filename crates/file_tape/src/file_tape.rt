@@ -1,5 +1,5 @@
 //! A tape in a file, behind an image of it in memory.
-ghost use Rattle.std.specs.Prelude.{◌≡◌, ◌+◌, ◌<◌, ◌≤◌, length, Some, IfOk, IfSome, IsErrOf};
+ghost use Rattle.std.specs.Prelude.{◌≡◌, ◌+◌, ◌<◌, ◌≤◌, true, length, Some, IfOk, IfErr, IfSome, IsErrOf, OnOk};
 ghost use Rattle.grid.specs.FaultWords.{words_of, words_text};
 ghost use Rattle.file_tape.specs.FaultWords.{file_tape_fault_words};
 ghost use Rattle.file_tape.specs.declared.file_tape.FileTapeFault.TheVariants.{TapeFailed as tape_failed, OutOfMemory as out_of_memory};
@@ -9,9 +9,10 @@ use crate::disk::{Disk, read_up_to};
 use agent::{MemTape, Tape, TapeError, TapeMakeFault};
 use grid::FaultWords;
 use std::alloc::{AllocError, Global};
-use std::fs::OpenFile;
+use std::fs::{OpenFile, TryLockError};
 use std::io::{Read, Seek, Write};
 use std::{fmt, io};
+use tape_claim::LockFile;
 use thiserror::Error;
 
 /// How many bytes at the most stand behind the whole records of a file.
@@ -22,7 +23,9 @@ const TAIL: usize = 9;
 pub enum FileTapeFault {
     /// Behind the room there are ten bytes or more.
     TooLong,
-    /// The file could not be read or synced.
+    /// Another process holds the file.
+    InUse,
+    /// The file could not be locked, read or synced.
     TapeFailed,
     OutOfMemory,
 }
@@ -34,6 +37,7 @@ impl FileTapeFault {
     {
         match self {
             FileTapeFault::TooLong => FaultWords::new("TooLong", &[]),
+            FileTapeFault::InUse => FaultWords::new("TapeInUse", &[]),
             FileTapeFault::TapeFailed => FaultWords::new("TapeFailed", &[]),
             FileTapeFault::OutOfMemory => FaultWords::new("OutOfMemory", &[]),
         }
@@ -87,16 +91,17 @@ pub struct FileTape<F> {
     failures: u64,
 }
 
-impl<F: Read + Write + Seek + OpenFile + Drop> FileTape<F> {
+impl<F: Read + Write + Seek + OpenFile + LockFile + Drop> FileTape<F> {
     ghost use Rattle.file_tape.specs.FileTape.{IsImage};
 
     /// Opens a file as a tape with room for so many bytes. The file was just opened by the caller, to be read and written, and made where
-    /// there was none. Fewer than ten bytes behind the room count as nothing. Nothing is written to it here: a tail of fewer than ten bytes
-    /// stays until a record is written over it.
+    /// there was none. It is locked before anything of it is read, and stays so until it is closed. Fewer than ten bytes behind the room count
+    /// as nothing. Nothing is written to it here: a tail of fewer than ten bytes stays until a record is written over it.
     pub fn open(alloc: Global, mut file: F, room: u32) -> Result<FileTape<F>, FileTapeFault>
         ensures image { IfOk result (IsImage F.remaining file room) }
         ensures too_long { IsErrOf result FileTapeFault.TooLong → IfSome (F.remaining file) (λ bytes. room + 10 ≤ length bytes) }
     {
+        lock(&file)?;
         let room_len = room as usize;
         let mut bytes = vec![in alloc; 0u8; room_len + TAIL + 1]?;
         let len = read_up_to(&mut file, &mut bytes)?;
@@ -115,6 +120,31 @@ impl<F: Read + Write + Seek + OpenFile + Drop> FileTape<F> {
             image,
             failures: 0,
         })
+    }
+}
+
+impl<F: Write + OpenFile> FileTape<F> {
+    ghost use Rattle.file_tape.specs.FileTape.{file_state};
+
+    /// Syncs the file as it is.
+    pub fn sync(&mut self) -> Result<(), FileTapeFault>
+        ensures state { file_state self.new ≡ file_state self.old }
+        ensures synced { OnOk result (self.new.disk.synced ≡ true) }
+        ensures err { IfErr result (λ fault. fault ≡ FileTapeFault.TapeFailed) }
+    {
+        self.disk.sync()?;
+        Ok(())
+    }
+}
+
+/// Locks a file that no other process holds.
+fn lock<F: LockFile>(file: &F) -> Result<(), FileTapeFault>
+    ensures { IsErrOf result FileTapeFault.TooLong → ⊥ }
+{
+    match file.try_lock() {
+        Ok(()) => Ok(()),
+        Err(TryLockError::WouldBlock) => Err(FileTapeFault::InUse),
+        Err(TryLockError::Error(_)) => Err(FileTapeFault::TapeFailed),
     }
 }
 

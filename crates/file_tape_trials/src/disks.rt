@@ -121,7 +121,7 @@ fn folders(rt: HostRuntime) -> Result<(), Fail> {
 }
 
 /// How many ways to use a disk it does not expect.
-const MISUSES: u32 = 10;
+const MISUSES: u32 = 11;
 
 /// Uses a disk as it does not expect.
 fn misuse(files: &DiskFiles<'_>, disk: &FakeDisk, number: u32) -> io::Result<()> {
@@ -140,6 +140,7 @@ fn misuse(files: &DiskFiles<'_>, disk: &FakeDisk, number: u32) -> io::Result<()>
             .map(|_| ()),
         7 => disk.file().set_len(0),
         8 => disk.file().write(b"abcd").map(|_| ()),
+        9 => disk.file().read(&mut [0]).map(|_| ()),
         _ => files.open_dir("tapes")?.read(&mut [0]).map(|_| ()),
     }
 }

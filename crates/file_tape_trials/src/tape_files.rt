@@ -101,6 +101,7 @@ fn file_without_a_record_is_not_synced(rt: HostRuntime) -> Result<(), Fail> {
 fn files_that_fail_to_open(rt: HostRuntime) -> Result<(), Fail> {
     let bytes = bytes_of(&rt, &[MOVING, STANDING], &[])?;
     for (call, calls) in [
+        (Call::Lock, 0),
         (Call::Read, 0),
         (Call::Read, 3),
         (Call::Flush, 0),
@@ -112,6 +113,33 @@ fn files_that_fail_to_open(rt: HostRuntime) -> Result<(), Fail> {
         assert_eq!(rt; opened, Err(FileTapeFault::TapeFailed), "{call:?}");
         assert!(rt; is_left(&disk, &bytes) && disk.failures() == 1);
     }
+    Ok(())
+}
+
+/// A file that another process holds is not read.
+#[test]
+fn files_in_use(rt: HostRuntime) -> Result<(), Fail> {
+    let bytes = bytes_of(&rt, &[MOVING, STANDING], &[])?;
+    let disk = FakeDisk::new(rt.alloc(), &bytes)?;
+    disk.hold();
+    disk.fail(Call::Read, 0);
+    let opened = FileTape::open(rt.alloc(), disk.file(), 20).map(|tape| tape.len());
+    assert_eq!(rt; opened, Err(FileTapeFault::InUse));
+    assert!(rt; is_left(&disk, &bytes) && disk.failures() == 0);
+    Ok(())
+}
+
+/// A tape without a record is synced where that is asked for.
+#[test]
+fn tapes_that_are_synced(rt: HostRuntime) -> Result<(), Fail> {
+    let bytes = [0xff; 9];
+    let disk = FakeDisk::new(rt.alloc(), &bytes)?;
+    let mut tape = opened(rt.alloc(), &disk)?;
+    disk.fail(Call::Sync, 0);
+    assert_eq!(rt; tape.sync(), Err(FileTapeFault::TapeFailed));
+    assert!(rt; !disk.keeps(&bytes));
+    tape.sync()?;
+    assert!(rt; is_left(&disk, &bytes) && disk.keeps(&bytes) && tape.len() == 9);
     Ok(())
 }
 

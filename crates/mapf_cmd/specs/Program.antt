@@ -55,8 +55,8 @@ PerformsOn {F} remaining input_left contents Told (Path map_file plan_file agent
 PerformsOn {F} remaining input_left contents Told (Run map_file plan_file events_file complete) old_in new_in old new code =
     (m n : Counted F) × (p q : Counted F) × (s t : Counted F)
     × AnswersRun remaining remaining remaining contents Told m n p q s t complete old new code × (new_in ≡ old_in)
-PerformsOn {F} remaining input_left contents Told (Agent map_file plan_file id tape_file) old_in new_in old new code =
-    (m n : Counted F) × (p q : Counted F) × AnswersAgent remaining remaining remaining input_left contents Told id m n p q old_in new_in old new code
+PerformsOn {F} remaining input_left contents Told (Agent map_file plan_file id tape_file claim) old_in new_in old new code =
+    (m n : Counted F) × (p q : Counted F) × AnswersAgent remaining remaining remaining input_left contents Told claim id m n p q old_in new_in old new code
 
 -- the command was performed, or a file of it could not be opened, and nothing was read or written but that
 abbrev pub Performs

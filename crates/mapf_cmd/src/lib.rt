@@ -3,10 +3,11 @@
 
 mod program;
 
-pub use agent_commands::agent_cmd;
+pub use agent_commands::{agent_claim_cmd, agent_cmd};
 pub use command_line::{Line, LineFault, line};
 pub use path_commands::path_cmd;
 pub use plan_commands::{Verdict, check_cmd, check_fit_cmd, deps_cell_cmd, deps_cmd, verdict_json};
 pub use program::{refuse, run};
 pub use run_commands::run_cmd;
+pub use tape_claim::{LockFile, TapeClaim};
 pub use text_commands::{Status, map_cmd, report, row_cmd, scen_cmd};

@@ -4,7 +4,7 @@ ghost use Rattle.grid.specs.FaultWords.{words_of, words_text};
 ghost use Rattle.text_commands.specs.Telling.{Tells};
 ghost use Rattle.mapf_cmd.specs.Program.{program_fault_words, PerformsOn, Performs, EndsRefused, AnswersWords};
 
-use agent_commands::agent_cmd;
+use agent_commands::agent_claim_cmd;
 use command_line::{Line, LineFault, line};
 use grid::{Counted, FaultWords};
 use path_commands::path_cmd;
@@ -13,6 +13,7 @@ use run_commands::run_cmd;
 use std::io::{Read, Write};
 use std::rt::Files;
 use std::{fmt, fs, io};
+use tape_claim::LockFile;
 use text_commands::{Status, finish, map_cmd, report, row_cmd, scen_cmd, write_text};
 use thiserror::Error;
 
@@ -52,6 +53,8 @@ pub fn run<R: Files + AllocGlobal, I: Read, W: Write, E: Write>(
     out: &mut Counted<W>,
     err: &mut Counted<E>,
 ) -> u8
+where
+    R::File: LockFile,
     ensures { AnswersWords R.File.remaining I.remaining W.contents E.contents (map string_bytes words.now) input.old input.new out.old out.new err.old err.new result }
 {
     match line(rt.alloc(), words) {
@@ -68,6 +71,8 @@ fn perform<R: Files + AllocGlobal, I: Read, W: Write, E: Write>(
     out: &mut Counted<W>,
     err: &mut Counted<E>,
 ) -> u8
+where
+    R::File: LockFile,
     ensures { Performs R.File.remaining I.remaining W.contents (Tells E.contents err.old err.new) line input.old input.new out.old out.new result }
 {
     match perform_on_files(rt, line, input, out, err) {
@@ -87,6 +92,8 @@ fn perform_on_files<R: Files + AllocGlobal, I: Read, W: Write, E: Write>(
     out: &mut Counted<W>,
     err: &mut Counted<E>,
 ) -> io::Result<u8>
+where
+    R::File: LockFile,
     ensures { MatchResult result (PerformsOn R.File.remaining I.remaining W.contents (Tells E.contents err.old err.new) line input.old input.new out.old out.new)
         (λ _. (input.new ≡ input.old) × (out.new ≡ out.old) × (err.new ≡ err.old)) }
 {
@@ -157,10 +164,11 @@ fn perform_on_files<R: Files + AllocGlobal, I: Read, W: Write, E: Write>(
             plan,
             id,
             tape,
+            claim,
         } => {
             let mut map = Counted::new(fs::open(rt, &map)?);
             let mut plan = Counted::new(fs::open(rt, &plan)?);
-            Ok(agent_cmd(rt, &mut map, &mut plan, id, &tape, input, out, err))
+            Ok(agent_claim_cmd(rt, &mut map, &mut plan, id, &tape, claim, input, out, err))
         }
     }
 }

@@ -7,7 +7,8 @@ returns g c = inr (
   refl,
   record {
     tape = c.in_ok-tape.tape;
-    is_tape = c.in_ok-tape.ensures;
+    is_tape = c.in_ok-tape.ensures.0;
+    claimed = c.in_ok-tape.ensures.1;
     after = c.in-Err.field-0-1;
     refused = c.in-Err.ensures.refused;
     kept = c.in-Err.ensures.kept;

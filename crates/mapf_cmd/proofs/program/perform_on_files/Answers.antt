@@ -78,11 +78,11 @@ returns-in-Run g c =
 
 pub returns : goal.returns
 returns g c =
-    let Ends : Line → Type 0 = λ line. PerformsOn g.R.File.Read.remaining g.I.Read.remaining g.W.Write.contents (Tells g.E.Write.contents c.args.err.now c.agent_cmd.new.err) line c.args.input.now c.agent_cmd.new.input c.args.out.now c.agent_cmd.new.out c.agent_cmd.result in
+    let Ends : Line → Type 0 = λ line. PerformsOn g.R.File.Read.remaining g.I.Read.remaining g.W.Write.contents (Tells g.E.Write.contents c.args.err.now c.agent_claim_cmd.new.err) line c.args.input.now c.agent_claim_cmd.new.input c.args.out.now c.agent_claim_cmd.new.out c.agent_claim_cmd.result in
     subst Ends (sym c.in-Agent.is) (
       c.new-map-in-Agent.result,
-      c.agent_cmd.new.map,
+      c.agent_claim_cmd.new.map,
       c.new-plan-in-Agent.result,
-      c.agent_cmd.new.plan,
-      c.agent_cmd.ensures,
+      c.agent_claim_cmd.new.plan,
+      c.agent_claim_cmd.ensures,
     )

@@ -1,0 +1,4 @@
+-- The code's own words: what bodies and proofs speak of, and no promise.
+
+-- what the parts of the opening of a tape file owe each other
+pub mod Parts

@@ -1,0 +1,27 @@
+-- What the parts of the opening of a tape file owe each other.
+use Rattle.std.specs.Prelude.{◌≡◌, ◌≤◌, true, length}
+use Rattle.model.specs.History.{record_length}
+use Rattle.agent_commands.specs.declared.agent_fault.AgentFault.{AgentFault}
+use Rattle.agent_commands.specs.declared.agent_fault.AgentFault.TheVariants.{OpenFailed, TapeExists, NoTape, File}
+use Rattle.file_tape.specs.FileTape.{file_state}
+use Rattle.file_tape.specs.declared.file_tape.FileTape.{FileTape}
+use Rattle.file_tape.specs.declared.file_tape.FileTapeFault.TheVariants.{TapeFailed}
+use Rattle.tape_claim.specs.declared.TapeClaim.{TapeClaim}
+use Rattle.tape_claim.specs.declared.TapeClaim.TheVariants.{New, Kept}
+
+-- why a tape file was not opened
+abbrev pub IsNotOpened : TapeClaim → AgentFault → Type 0
+IsNotOpened claim OpenFailed = Unit {0}
+IsNotOpened claim NoTape = claim ≡ Kept
+IsNotOpened claim _ = ⊥
+
+-- the same tape, which may have been synced since
+pub record IsSameTape {F : Type 0} (old new : FileTape F) : Type 0 where
+  pub state : file_state new ≡ file_state old
+  pub synced : old.disk.synced ≡ true → new.disk.synced ≡ true
+
+-- why a tape that was opened is not taken
+abbrev pub IsNotTaken : {F : Type 0} → TapeClaim → FileTape F → AgentFault → Type 0
+IsNotTaken claim tape TapeExists = (claim ≡ New) × (record_length ≤ length (file_state tape).contents)
+IsNotTaken claim tape (File TapeFailed) = Unit {0}
+IsNotTaken claim tape _ = ⊥
