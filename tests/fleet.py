@@ -1,4 +1,4 @@
-"""The fleet of examples/fleet: robots as processes, over links that lose messages, killed at random. Each run is watched from outside."""
+"""The fleet of examples/fleet: robots as processes, over links that lose messages, killed at random. Each run is watched from outside. And what a fleet says that can't be driven."""
 import functools
 import sys
 from typing import Iterator
@@ -7,12 +7,13 @@ from harness import ROOT, Harness, Outcome, compared, shown, side_by_side
 
 # The seeds of a short test and of a long one, how often a message is lost, and how often a question ends in a kill.
 SHORT, LONG = range(1, 5), range(1, 21)
+FLEET = ROOT / "examples" / "fleet" / "fleet.py"
 RATES = ((0.2, 0.02), (0.5, 0.1))
 
 
 def drive(harness: Harness, seed: int, loss: float, kills: float, more: list[str]) -> list[Outcome]:
     words = [*more, "--seed", str(seed), "--loss", str(loss), "--kills", str(kills), "--quiet", "--program", str(harness.program)]
-    command = [sys.executable, str(ROOT / "examples" / "fleet" / "fleet.py"), *words]
+    command = [sys.executable, str(FLEET), *words]
     ended = harness.run(command)
     arrived = ended.status == 0 and ended.out.startswith(f"seed {seed}: 12 robots arrived".encode())
     wrote = (ended.status, ended.out[-2000:], ended.err[-2000:])
@@ -20,6 +21,73 @@ def drive(harness: Harness, seed: int, loss: float, kills: float, more: list[str
     return [compared(" ".join([f"seed {seed}, {loss} lost, {kills} killed", *more]), shown(command), wrote, due)]
 
 
+def bad_calls(harness: Harness) -> Iterator[Outcome]:
+    """One clear line and a status, whatever is wrong."""
+    turn = ["--map", str(ROOT / "examples" / "turn.map"), "--plan", str(ROOT / "examples" / "turn.plan")]
+    torn = harness.folder({"plan": b"\xff\n"}) / "plan"
+    for name, words, status, told in (
+        ("no agents", ["--agents", "0"], 2, "a number from 1 to 65535 is wanted, and '0' is none"),
+        ("fewer than no agents", ["--agents", "-1"], 2, "a number from 1 to 65535 is wanted, and '-1' is none"),
+        ("all is lost", ["--loss", "1"], 2, "a rate from 0 to below 1 is wanted, and '1' is none"),
+        ("all are killed", ["--kills", "nan"], 2, "a rate from 0 to below 1 is wanted, and 'nan' is none"),
+        ("no map", ["--map", "no"], 3, "fleet: no: No such file or directory"),
+        ("no plan", ["--plan", "no"], 3, "fleet: no: No such file or directory"),
+        ("no program", ["--program", "./no"], 3, "fleet: ./no: No such file or directory"),
+        ("no folder", ["--folder", "no"], 3, "No such file or directory"),
+        ("a plan that is none", ["--plan", str(torn)], 1, "`mapf run --complete` says 'mapf: BadHeader 1'"),
+        ("a rotation", turn, 1, "`mapf run --complete` says 'blocked 0'"),
+    ):
+        command = [sys.executable, str(FLEET), "--program", str(harness.program), *words, "--quiet"]
+        ended = harness.run(command, folder=harness.folder())
+        last = ended.err.decode(errors="replace").splitlines()[-1:]
+        wrote = (ended.status, told in "".join(last), b"Traceback" in ended.err, ended.out)
+        yield compared(name, f"{shown(command)}, which told {ended.err[-500:]!r}", wrote, (status, True, False, b""))
+
+
+# A program whose agents say at times that a record wasn't stored, whether it was or not, and at times don't start at first, as on a full disk.
+FULL = """#!{python}
+import os, random, subprocess, sys
+program = {program!r}
+if sys.argv[1] == "agent" and random.random() < 0.1:
+    print("mapf: TapeFailed", file=sys.stderr)
+    sys.exit(3)
+if sys.argv[1] != "agent":
+    os.execv(program, [program, *sys.argv[1:]])
+agent = subprocess.Popen([program, *sys.argv[1:]], stdin=subprocess.PIPE, stdout=subprocess.PIPE)
+first = agent.stdout.readline()
+if not first:
+    sys.exit(agent.wait())
+sys.stdout.buffer.write(first)
+sys.stdout.flush()
+for line in sys.stdin.buffer:
+    agent.stdin.write(line)
+    agent.stdin.flush()
+    answer = agent.stdout.readline()
+    if answer.startswith((b"moving", b"arrived")) and random.random() < 0.1:
+        agent.stdin.close()
+        agent.wait()
+        if random.random() < 0.5:
+            os.truncate(sys.argv[5], os.path.getsize(sys.argv[5]) - 10)
+        print("refused StoreFailed", flush=True)
+        sys.exit(3)
+    sys.stdout.buffer.write(answer)
+    sys.stdout.flush()
+"""
+
+
+def full_disk(harness: Harness) -> Iterator[Outcome]:
+    """Whatever isn't stored is waited out, and then all arrive."""
+    program = harness.folder() / "mapf"
+    program.write_text(FULL.format(python=sys.executable, program=str(harness.program)), encoding="ascii")
+    program.chmod(0o755)
+    command = [sys.executable, str(FLEET), "--agents", "3", "--kills", "0", "--quiet", "--program", str(program)]
+    ended = harness.run(command)
+    wrote = (ended.status, ended.out.startswith(b"seed 1: 3 robots arrived"), b": failed, and is started again\n" in ended.err)
+    yield compared("a disk that fails at times", f"{shown(command)}, which told {ended.err[-500:]!r}", wrote, (0, True, True))
+
+
 def outcomes(harness: Harness) -> Iterator[Outcome]:
+    yield from bad_calls(harness)
+    yield from full_disk(harness)
     runs = [(seed, *rates, more) for seed in (LONG if harness.is_long else SHORT) for rates in RATES for more in ([], ["--tell"])]
     yield from side_by_side(functools.partial(drive, harness, *run) for run in runs)

@@ -306,6 +306,7 @@ def of_one_tape(harness: Harness) -> list[Outcome]:
     watched = watching.Watched(harness)
     watched.socket.close()
     os.unlink(f"{watched.path}.0")
+    (watched.folder / "tape").touch()
     words = robot_words(harness, "--listen", f"127.0.0.1:{free_port()}", "--peers", "127.0.0.1:9")
     said = watched.folder / "said"
     with open(said, "wb") as err:
@@ -332,7 +333,7 @@ def of_one_tape(harness: Harness) -> list[Outcome]:
 def of_bad_calls(harness: Harness) -> list[Outcome]:
     """One clear line and a status, whatever is wrong."""
     outcomes = []
-    folder = harness.folder({"paho.py": b"raise ImportError\n", "torn": b"x" * 10})
+    folder = harness.folder({"paho.py": b"raise ImportError\n", "tape": b"", "torn": b"x" * 10})
     taken = free_port()
     link = ["--listen", f"127.0.0.1:{taken}", "--peers", "127.0.0.1:9"]
     free = ["--listen", f"127.0.0.1:{taken + 1}", "--peers", "127.0.0.1:9"]
@@ -348,6 +349,7 @@ def of_bad_calls(harness: Harness) -> list[Outcome]:
         ("no program", [*robot(*free), "--program", "./no"], 3, "robot 0: ./no: No such file or directory"),
         ("no agent", [word if word != "0" else "2" for word in robot(*free)], 1, "robot 2: its agent doesn't start (status 1)"),
         ("a tape that is none", [word if word != "tape" else "torn" for word in robot(*free)], 1, "robot 0: its agent doesn't start (status 1)"),
+        ("a tape that was lost", [word if word != "tape" else "lost" for word in robot(*free)], 1, "robot 0: its agent doesn't start (status 1)"),
         ("no client of MQTT", robot(*broker), 3, "a link by MQTT needs the Python package"),
         ("a rotation", [*robots, "--map", str(ROOT / "examples/turn.map"), "--plan", str(ROOT / "examples/turn.plan")], 1, "'blocked 0'"),
         ("no plan file", [*robots, "--plan", "no"], 3, "robots: no: No such file or directory"),

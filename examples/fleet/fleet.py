@@ -5,11 +5,15 @@ Usage: fleet.py [--agents N] [--seed N] [--loss RATE] [--kills RATE] [--tell] [-
 
 Each robot asks its own process when it may go on, and says to the others what it has finished, or with `--tell` all that it knows of
 anyone. The link between them loses messages, repeats them and lets them overtake one another; drives take their time; and at any moment
-a process may be killed (`kill -9`) and started again on its tape. What the robots hold is watched from outside: the run ends with status 1
-as soon as two of them hold a common cell, and with status 0 once all have arrived and each tape, opened once more, says so. The same seed
-gives the same run, but for what a kill interrupts.
+a process may be killed (`kill -9`) and started again on its tape, which is a new one until the process has said its first line, and was kept
+from then on. Where a tape fails, as on a full disk, the process is started again until it doesn't. What the robots hold is watched from outside.
+The same seed gives the same run, but for what a kill interrupts.
+
+Status 0: all have arrived, and each tape, opened once more, says so. 1: two robots held a common cell, the plan can't be driven to its end, or a
+process doesn't start. 2: a bad command line. 3: a file is not there.
 """
 import argparse
+import contextlib
 import pathlib
 import random
 import subprocess
@@ -23,11 +27,14 @@ NAMES = "0123456789abcdefghijklmnopqrstuvwxyz"
 LONGEST_DRIVE = 4
 LONGEST_DELAY = 8
 SAY_EACH = 5
+# The status of a process that failed, and may be started again, and the seconds until then.
+FAILED = 3
+PAUSE = 0.5
 
 
 def read_courses(plan):
     """The first lines of a plan, and each agent's line."""
-    lines = plan.read_text().splitlines()
+    lines = plan.read_text(encoding="ascii", errors="replace").splitlines()
     return lines[:2], lines[3:]
 
 
@@ -39,7 +46,11 @@ def goal_of(line):
 
 
 class Killed(Exception):
-    """The process was killed before its answer was read."""
+    """The process has ended before its answer was read, and was started again."""
+
+
+class Unfit(Exception):
+    """The fleet can't be driven."""
 
 
 class Robot:
@@ -52,41 +63,54 @@ class Robot:
         self.done = 0
         self.drives = 0
         self.deaths = 0
-        self.start()
+        self.start("new")
 
-    def start(self):
+    def start(self, tape):
         """Starts the process on the robot's tape. Its first line says where the robot is by what was stored."""
-        self.process = subprocess.Popen(self.words, stdin=subprocess.PIPE, stdout=subprocess.PIPE, text=True)
-        self.stand(self.process.stdout.readline().split())
+        while True:
+            self.process = subprocess.Popen([*self.words, "--tape", tape], stdin=subprocess.PIPE, stdout=subprocess.PIPE, text=True)
+            answer = self.process.stdout.readline().split()
+            if answer:
+                return self.stand(answer)
+            self.wait_out()
+
+    def wait_out(self):
+        """Whatever failed, a process that says so may be started again a little later."""
+        self.process.communicate()
+        if self.process.returncode != FAILED:
+            raise Unfit(f"{' '.join(self.words)}: ended with status {self.process.returncode}")
+        print(f"{' '.join(self.words)}: failed, and is started again", file=sys.stderr, flush=True)
+        time.sleep(PAUSE)
 
     def stand(self, answer):
         """Takes over what an `at` or a `between` line says. Between two cells the drive goes on."""
-        if answer[:1] == ["at"]:
+        if answer[0] == "at":
             self.held, self.done = (cell_of(answer[1:3]),), int(answer[4])
-        elif answer[:1] == ["between"]:
+        else:
             self.held, self.done = (cell_of(answer[1:3]), cell_of(answer[3:5])), int(answer[6])
             self.drives = self.rng.randint(1, LONGEST_DRIVE)
-        else:
-            sys.exit(f"{' '.join(self.words)}: {' '.join(answer) or 'ended without a word'}")
 
     def die(self):
         """The process is killed, wherever it is just now, and started again."""
         self.process.kill()
         self.process.communicate()
         self.deaths += 1
-        self.start()
+        self.start("kept")
 
     def ask(self, line):
         """The words of the answer to a line."""
-        self.process.stdin.write(line + "\n")
-        self.process.stdin.flush()
+        with contextlib.suppress(BrokenPipeError):
+            self.process.stdin.write(line + "\n")
+            self.process.stdin.flush()
         if self.rng.random() < self.kills:
             time.sleep(self.rng.random() / 500)
             self.die()
             raise Killed
         answer = self.process.stdout.readline().split()
         if answer in ([], ["refused", "StoreFailed"]):
-            sys.exit(f"{' '.join(self.words)}: the tape failed")
+            self.wait_out()
+            self.start("kept")
+            raise Killed
         return answer
 
     def go_on(self):
@@ -108,7 +132,7 @@ class Robot:
     def is_home(self):
         """Whether the tape, opened once more, says that the robot stands where its course ends."""
         self.process.communicate()
-        self.start()
+        self.start("kept")
         self.process.communicate()
         return self.held == (self.goal,)
 
@@ -163,13 +187,24 @@ def picture(rows, robots, step):
     return "\n".join([f"step {step}", *("".join(row) for row in shown), ""])
 
 
+def check_plan(given, plan, nothing):
+    """A plan that can't be driven to its end is not driven at all."""
+    nothing.write_text("mapf-events 1\n")
+    words = [given.program, "run", str(given.map), str(plan), str(nothing), "--complete"]
+    ended = subprocess.run(words, stdin=subprocess.DEVNULL, stdout=subprocess.PIPE, stderr=subprocess.PIPE, text=True, check=False)
+    said = (ended.stdout or ended.stderr).partition("\n")[0]
+    if not said.startswith("complete "):
+        raise Unfit(f"{given.plan}: `mapf run --complete` says '{said}'")
+
+
 def run(given, folder):
     rng = random.Random(given.seed)
     head, courses = read_courses(given.plan)
     courses = courses[:given.agents]
     plan = folder / "fleet.plan"
     plan.write_text("\n".join([*head, f"agents {len(courses)}", *courses, ""]))
-    rows = given.map.read_text().splitlines()[4:]
+    rows = given.map.read_text(encoding="ascii", errors="replace").splitlines()[4:]
+    check_plan(given, plan, folder / "none.events")
     robots = [
         Robot([given.program, "agent", str(given.map), str(plan), str(n), str(folder / f"{n}.tape")], goal_of(line), given.kills, rng)
         for n, line in enumerate(courses)
@@ -212,20 +247,42 @@ def run(given, folder):
     return 0
 
 
+def count(word):
+    if not word.isascii() or not word.isdigit() or not 1 <= int(word[:20]) < 1 << 16:
+        raise argparse.ArgumentTypeError(f"a number from 1 to 65535 is wanted, and '{word[:40]}' is none")
+    return int(word)
+
+
+def rate(word):
+    """With a rate of 1 nothing would ever come through."""
+    with contextlib.suppress(ValueError):
+        if 0 <= float(word) < 1:
+            return float(word)
+    raise argparse.ArgumentTypeError(f"a rate from 0 to below 1 is wanted, and '{word[:40]}' is none")
+
+
 def main():
     parser = argparse.ArgumentParser(description="Drives a fleet: one process `mapf agent` for each agent of a plan.")
-    parser.add_argument("--agents", type=int, default=12, help="how many of the plan's agents drive (12)")
+    parser.add_argument("--agents", type=count, default=12, help="how many of the plan's agents drive (12)")
     parser.add_argument("--seed", type=int, default=1, help="the seed of all chances (1)")
-    parser.add_argument("--loss", type=float, default=0.2, help="how many messages are lost, and how many come twice (0.2)")
-    parser.add_argument("--kills", type=float, default=0.02, help="how many questions end in a kill of the process (0.02)")
+    parser.add_argument("--loss", type=rate, default=0.2, help="how many messages are lost, and how many come twice (0.2)")
+    parser.add_argument("--kills", type=rate, default=0.02, help="how many questions end in a kill of the process (0.02)")
     parser.add_argument("--tell", action="store_true", help="each message has all that its sender knows, and not only what it has finished itself")
     parser.add_argument("--quiet", action="store_true", help="shows no map, only how it ended")
     parser.add_argument("--program", default=str(HERE.parent.parent / "mapf"), help="the program `mapf`")
     parser.add_argument("--map", type=pathlib.Path, default=HERE / "warehouse.map")
     parser.add_argument("--plan", type=pathlib.Path, default=HERE / "warehouse.plan")
+    parser.add_argument("--folder", type=pathlib.Path, help="where a folder for the tapes is made, as on a disk that is full (where temporary files are)")
     given = parser.parse_args()
-    with tempfile.TemporaryDirectory() as folder:
-        return run(given, pathlib.Path(folder))
+    try:
+        with tempfile.TemporaryDirectory(dir=given.folder) as folder:
+            return run(given, pathlib.Path(folder))
+    except Unfit as fault:
+        print(f"fleet: {fault}", file=sys.stderr)
+        return 1
+    except OSError as fault:
+        print(f"fleet: {fault.filename}: {fault.strerror}", file=sys.stderr)
+        return FAILED
 
 
 if __name__ == "__main__":

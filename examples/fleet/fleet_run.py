@@ -76,14 +76,15 @@ class Run:
         return self.folder / f"{robot}.tape"
 
     def _make_tapes(self) -> None:
-        """Their names are on the disk before a robot starts."""
+        """Each is a new one once, before its robot starts: from then on it was kept."""
         for robot in range(self.settings.robots):
-            self.tape(robot).touch()
-        folder = os.open(self.folder, os.O_RDONLY)
-        try:
-            os.fsync(folder)
-        finally:
-            os.close(folder)
+            ended = subprocess.run([*self.agent_words(robot), "--tape", "new"], stdin=subprocess.DEVNULL, stdout=subprocess.DEVNULL, check=False)
+            if ended.returncode:
+                raise Failed(f"the tape of robot {robot} isn't made (status {ended.returncode})")
+
+    def agent_words(self, robot: int) -> list[str]:
+        settings = self.settings
+        return [settings.program, "agent", str(settings.map), str(self.plan), str(robot), str(self.tape(robot))]
 
     def _start_watcher(self) -> "subprocess.Popen[bytes]":
         settings = self.settings
@@ -242,9 +243,7 @@ class Run:
             self.hold_tape(robot)
 
     def hold_tape(self, robot: int) -> None:
-        settings = self.settings
-        words = [settings.program, "agent", str(settings.map), str(self.plan), str(robot), str(self.tape(robot))]
-        ended = subprocess.run(words, input=b"start\n", stdout=subprocess.PIPE, check=False)
+        ended = subprocess.run([*self.agent_words(robot), "--tape", "kept"], input=b"start\n", stdout=subprocess.PIPE, check=False)
         if not ended.stdout.endswith(b"\nrefused AtEnd\n"):
             raise Wrong(f"the tape of robot {robot} isn't at its end: {ended.stdout!r}")
 

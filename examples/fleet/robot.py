@@ -5,7 +5,8 @@ Usage: robot.py MAP PLAN ID TAPE --drive SOCKET --listen HOST:PORT (--peers HOST
        robot.py MAP PLAN ID TAPE --drive SOCKET --broker HOST:PORT [OPTIONS]
 
 It knows its own agent, its own drive and a link on which it says what it has finished and hears what others say; it may be killed at any moment
-and started again. What arrives on the link is given to the agent alone: bytes that are no message of the plan are dropped.
+and started again. Its tape was made before, once, by `mapf agent MAP PLAN ID TAPE --tape new`. What arrives on the link is given to the agent alone:
+bytes that are no message of the plan are dropped.
 
 Status 1: the map, the plan or the tape has a fault. 2: a bad command line. 3: a file, a socket or a program failed. It ends when it is asked to.
 """
@@ -190,7 +191,7 @@ def drive(given: argparse.Namespace) -> None:
         wire = Wire(given.drive, given.id)
         while True:
             with contextlib.suppress(Ended):
-                agent = Agent([given.program, "agent", given.map, given.plan, str(given.id), given.tape], lock)
+                agent = Agent([given.program, "agent", given.map, given.plan, str(given.id), given.tape, "--tape", "kept"], lock)
                 try:
                     Robot(given, link, wire, agent).live()
                 finally:
