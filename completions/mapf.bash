@@ -11,12 +11,14 @@ _mapf() {
     done
     case $command:$before in
         check:--scen | deps:--cell | path:--agent) return 0 ;;
+        agent:--tape) mapfile -t COMPREPLY < <(compgen -W 'new kept' -- "$word"); return ;;
         help:*) offers=$commands ;;
         :*) offers="$commands -h --help -V --version" ;;
         check:*) offers='--scen --json -h --help' ;;
         deps:*) offers='--cell -h --help' ;;
         path:*) offers='--agent -h --help' ;;
         run:*) offers='--complete -h --help' ;;
+        agent:*) offers='--tape -h --help' ;;
         *) offers='-h --help' ;;
     esac
     # Where a file is due, options are offered to those alone who begin one.

@@ -57,5 +57,7 @@ def outcomes(harness: Harness) -> Iterator[Outcome]:
         # A file is due, also behind `--`, where no word is an option.
         for words in (f"{command} ", f"{command} M", f"{command} -- -"):
             yield offers(words, [])
+    yield offers("agent M P 0 T --tape ", ["kept", "new"])
+    yield offers("agent --tape n", ["new"])
     for words in ("check M P --scen ", "check M P --scen -", "deps M P --cell ", "path M P --agent "):
         yield offers(words, [])
