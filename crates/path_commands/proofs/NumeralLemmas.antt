@@ -1,6 +1,8 @@
 -- Numerals, one after another.
-use Rattle.std.proofs.Common.{◌≡◌, ℕ, zero, suc, ◌+◌, List, [], ◌∷◌, ◌++◌, length, Some, arith, ap, ap₂, sym, ◌∙◌, append-nil}
+use Rattle.std.proofs.Common.{◌≡◌, ℕ, zero, suc, ◌+◌, ◌≤◌, List, [], ◌∷◌, ◌++◌, length, take, Some, arith, ap, ap₂, sym, ◌∙◌, append-nil}
 use Rattle.std.specs.Prelude.{slice_get}
+use Rattle.std.proofs.lemmas.List.{take-append-le}
+use Rattle.std.proofs.Math.Seq.{take-append-add}
 use Rattle.grid.specs.Text.{spaced_numbers}
 use Rattle.path_commands.specs.Code.Numerals.{AreFrom, AreNumerals, spaced}
 
@@ -22,6 +24,14 @@ from_get n zero (other ∷ texts) text h is =
 from_get n (suc k) (other ∷ texts) text h is =
     let at : n + 1 + k ≡ n + suc k = omega arith in
     from_get (n + 1) k texts text h.1 is ∙ ap spaced at
+
+-- the first bytes after one is written behind the text before
+pub written : (at n len : ℕ) (before inside rest bytes text : List ℕ) → length before ≡ at → n ≡ len → len ≤ length inside → inside ≡ bytes → take len bytes ≡ text
+    → take (at + n) (before ++ (inside ++ rest)) ≡ before ++ text
+written at n len before inside rest bytes text count is within same view =
+    ap (λ k. take (k + n) (before ++ (inside ++ rest))) (sym count)
+    ∙ take-append-add before (inside ++ rest) n
+    ∙ ap (λ l. before ++ l) (take-append-le n inside rest (omega (arith, within, is)) ∙ ap (λ k. take k inside) is ∙ ap (take len) same ∙ view)
 
 -- two of them are the numbers of a cell
 pub both : (texts : List (List ℕ)) (x y : ℕ) (first second text : List ℕ) → AreNumerals texts → slice_get texts x ≡ Some first → slice_get texts y ≡ Some second

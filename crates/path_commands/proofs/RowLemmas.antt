@@ -81,6 +81,10 @@ longest_few (course ∷ courses) h =
     let rest = longest_few courses (λ i other there. h (suc i) other there) in
     omega (arith, first, rest)
 
+pub count_few : (courses : List Course) → AllWalked courses → count_of_times courses ≤ most_acts + 1
+count_few [] h = omega arith
+count_few (course ∷ courses) h = let most = longest_few (course ∷ courses) h in omega (arith, most)
+
 pub count_some : (courses : List Course) → 0 < length courses → count_of_times courses ≡ longest_of courses + 1
 count_some [] some = absurd (omega (arith, some))
 count_some (course ∷ courses) some = refl

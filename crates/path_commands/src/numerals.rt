@@ -1,5 +1,5 @@
 //! The numbers of cells as they are written: each with a space before it.
-ghost use Rattle.std.specs.Prelude.{◌≡◌, ◌≤◌, ◌++◌, take, IfOk};
+ghost use Rattle.std.specs.Prelude.{◌≡◌, ◌≤◌, ◌+◌, ◌++◌, length, take, IfOk};
 ghost use Rattle.path_commands.specs.Code.Numerals.{AreNumerals, spaced};
 
 use itoa::Buffer;
@@ -9,10 +9,13 @@ use std::marker::Model;
 /// The numbers below this are kept as numerals: they are those of the cells of most maps.
 const KEPT: u16 = 4096;
 
+/// A numeral is written into so many bytes.
+pub(crate) const MOST_BYTES: usize = 7;
+
 /// A number with a space before it: the first bytes, so many. All bytes are copied at once, which takes no call.
 #[derive(Debug, Drop)]
 pub(crate) struct Numeral {
-    bytes: [u8; 7],
+    bytes: [u8; MOST_BYTES],
     len: u8,
 }
 
@@ -33,12 +36,23 @@ impl Numeral {
     {
         let mut buffer = Buffer::new();
         let digits = buffer.format(number).as_bytes();
-        let mut bytes = [b' '; 7];
+        let mut bytes = [b' '; MOST_BYTES];
         bytes[1..1 + digits.len()].copy_from_slice(digits);
         Numeral {
             bytes,
             len: 1 + digits.len() as u8,
         }
+    }
+
+    /// Writes the numeral from a place on, and answers where it ends. What stands behind that is overwritten too.
+    pub(crate) fn write(&self, at: usize, bytes: &mut [u8]) -> usize
+        requires { at + 7 ≤ length bytes.old }
+        ensures count { length bytes.new ≡ length bytes.old }
+        ensures text { take result bytes.new ≡ take at bytes.old ++ self.now }
+        ensures end { result ≤ at + 7 }
+    {
+        bytes[at..at + MOST_BYTES].copy_from_slice(&self.bytes);
+        at + usize::from(self.len)
     }
 }
 
@@ -51,34 +65,4 @@ pub(crate) fn numerals(alloc: Global) -> Result<Vec<Numeral>, AllocError>
         numerals.push(Numeral::of(number))?;
     }
     Ok(numerals)
-}
-
-/// Two numerals, one behind the other: the first bytes, so many.
-#[derive(Clone, Copy, Debug)]
-pub(crate) struct Pair {
-    bytes: [u8; 14],
-    len: usize,
-    ghost in_room: { len ≤ 14 },
-}
-
-impl Pair {
-    /// The first, and the second behind it.
-    pub(crate) fn of(first: &Numeral, second: &Numeral) -> Pair
-        ensures { take result.len result.bytes ≡ first.now ++ second.now }
-    {
-        let at = usize::from(first.len);
-        let mut bytes = [0; 14];
-        bytes[..7].copy_from_slice(&first.bytes);
-        bytes[at..at + 7].copy_from_slice(&second.bytes);
-        Pair {
-            bytes,
-            len: at + usize::from(second.len),
-        }
-    }
-
-    pub(crate) fn as_slice(&self) -> &[u8]
-        ensures { result.now ≡ take self.now.len self.now.bytes }
-    {
-        &self.bytes[..self.len]
-    }
 }

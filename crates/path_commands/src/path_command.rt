@@ -8,13 +8,15 @@ ghost use Rattle.path_commands.specs.PathText.{AreAsked};
 ghost use Rattle.plan.specs.Code.Walking.{start_cells};
 ghost use Rattle.path_commands.specs.Code.Numerals.{AreNumerals};
 ghost use Rattle.path_commands.specs.Code.Rows.{AllWalked, EndsByRows, IsNoAgent};
+ghost use Rattle.path_commands.specs.Code.Walks.{AreStretches};
 
 use crate::numerals::{Numeral, numerals};
 use crate::path_fault::PathFault;
-use crate::path_text::{starts, write_rows};
+use crate::path_text::write_rows;
 use crate::straying::fault_of_one_agent;
+use crate::walk::{first_stretches, starts};
 use grid::{Cell, Counted, read_map};
-use plan::{Plan, read_plan};
+use plan::{Plan, Stretch, read_plan};
 use plan_commands::{CheckFault, Rejection};
 use plan_text::Course;
 use std::alloc::{AllocError, Global};
@@ -72,7 +74,13 @@ fn show<W: Write, E: Write>(
     };
     match prepare(alloc, courses) {
         Ok(mut prepared) => {
-            let written = write_rows(courses, &mut prepared.cells, &prepared.numerals, out);
+            let written = write_rows(
+                courses,
+                &mut prepared.cells,
+                &mut prepared.stretches,
+                &prepared.numerals,
+                out,
+            );
             finish(written, Status::Done, out, err).code()
         }
         Err(_) => give_up(PathFault::Texts(CheckFault::OutOfMemory), err),
@@ -83,16 +91,19 @@ fn show<W: Write, E: Write>(
 #[derive(Debug, Drop)]
 struct Prepared {
     cells: Vec<Cell>,
+    stretches: Vec<Stretch>,
     numerals: Vec<Numeral>,
 }
 
-/// The agents' starts, and the numerals of numbers.
+/// The agents' starts, their first acts, and the numerals of numbers.
 fn prepare(alloc: Global, courses: &[Course]) -> Result<Prepared, AllocError>
     ensures cells { IfOk result (λ p. p.cells.items ≡ start_cells courses.now) }
+    ensures stretches { IfOk result (λ p. AreStretches courses.now 0 p.stretches.items) }
     ensures numerals { IfOk result (λ p. AreNumerals p.numerals.items) }
 {
     Ok(Prepared {
         cells: starts(alloc, courses)?,
+        stretches: first_stretches(alloc, courses)?,
         numerals: numerals(alloc)?,
     })
 }

@@ -5,7 +5,7 @@ use Rattle.grid.specs.Text.{line_feed, ended}
 use Rattle.scen.proofs.PutLemmas.{Leaves, Leaves-all, Leaves-less, Leaves-broken, Puts-last, Breaks-last}
 use Rattle.path_commands.specs.PathText.{count_of_times, path_line, path_lines}
 use Rattle.path_commands.specs.Code.Rows.{row_at, rows_from}
-use Rattle.path_commands.proofs.RowLemmas.{rows_next, rows_over, start_row}
+use Rattle.path_commands.proofs.RowLemmas.{count_few, rows_next, rows_over, start_row}
 use Rattle.path_commands.proofs.path_text.put_rows.Goals as goal
 
 pub loop-time-init : goal.loop-time-init
@@ -15,6 +15,7 @@ loop-time-init g c =
     record {
       left = Leaves-all g.W.Write.contents _ _ _ (ap (λ n. ended (path_lines 0 (rows_from courses 0 n))) all);
       cells = c.requires.starts ∙ start_row courses;
+      stretches = c.requires.stretches;
     }
 
 pub returns-in_err-put_row-clause-err : goal.returns-in_err-put_row-clause-err
@@ -29,6 +30,13 @@ returns-in_err-put_row-clause-err g c =
     let next = subst (Leaves g.W.Write.contents _ _ _) (rows_next courses time (count_of_times courses) (omega (arith, less, end))) c.loop-time.invariant.left in
     rw p.1 (Leaves-broken g.W.Write.contents _ _ _ _ line left _ next (ap (λ cells. path_line time cells ++ line_feed ∷ []) c.loop-time.invariant.cells) c.in_err-put_row.ensures.err)
 
+pub go_on-requires-clause-step : goal.go_on-requires-clause-step
+go_on-requires-clause-step g c =
+    let few = count_few c.args.courses.now c.requires.walked in
+    let end = c.count_of_times-time-end.ensures in
+    let less = c.loop-time-test.true in
+    omega (arith, few, end, less)
+
 pub loop-time-preserved : goal.loop-time-preserved
 loop-time-preserved g c =
     let courses = c.args.courses.now in
@@ -40,7 +48,8 @@ loop-time-preserved g c =
     let next = subst (Leaves g.W.Write.contents _ _ _) (rows_next courses time (count_of_times courses) (omega (arith, less, end))) c.loop-time.invariant.left in
     record {
       left = Leaves-less g.W.Write.contents _ _ _ _ line left _ next (ap (λ cells. path_line time cells ++ line_feed ∷ []) c.loop-time.invariant.cells) c.in_ok-put_row.ensures.ok;
-      cells = c.walk_on.ensures;
+      cells = c.go_on.ensures.cells;
+      stretches = c.go_on.ensures.stretches;
     }
 
 pub returns-clause-ok : goal.returns-clause-ok

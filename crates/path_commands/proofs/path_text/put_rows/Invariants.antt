@@ -4,6 +4,7 @@ use Rattle.grid.specs.Text.{ended}
 use Rattle.scen.proofs.PutLemmas.{Leaves}
 use Rattle.path_commands.specs.PathText.{count_of_times, path_lines, path_text}
 use Rattle.path_commands.specs.Code.Rows.{row_at, rows_from, rows_of}
+use Rattle.path_commands.specs.Code.Walks.{AreStretches, begun}
 use Rattle.path_commands.proofs.path_text.put_rows.Given as goal
 
 abbrev pub invariant-loop-time : goal.invariant-loop-time
@@ -11,4 +12,5 @@ invariant-loop-time g l = record {
   left : Leaves g.W.Write.contents l.fn.sink l.sink (path_text (rows_of l.courses))
       (ended (path_lines l.time (rows_from l.courses l.time (count_of_times l.courses - l.time))));
   cells : l.cells ≡ row_at l.courses l.time;
+  stretches : AreStretches l.courses (begun l.time) l.stretches;
 }

@@ -3,7 +3,7 @@ use Rattle.std.proofs.Common.{drop}
 use Rattle.grid.specs.Text.{spaced_numbers}
 use Rattle.scen.proofs.PutLemmas.{Leaves}
 use Rattle.path_commands.specs.PathText.{numbers_of}
-use Rattle.path_commands.proofs.path_text.put_cells.Given as goal
+use Rattle.path_commands.proofs.cell_text.put_far_cells.Given as goal
 
 abbrev pub invariant-loop-cell : goal.invariant-loop-cell
 invariant-loop-cell g l =

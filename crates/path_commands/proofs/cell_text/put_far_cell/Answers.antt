@@ -4,7 +4,7 @@ use Rattle.std.specs.Prelude.{codes, decimal}
 use Rattle.std.proofs.lemmas.Result.{err_from_is_err_and}
 use Rattle.grid.specs.Text.{spaced_numbers}
 use Rattle.scen.proofs.PutLemmas.{Leaves-all, Leaves-less, Leaves-broken, Puts-last, Breaks-last}
-use Rattle.path_commands.proofs.path_text.put_far_cell.Goals as goal
+use Rattle.path_commands.proofs.cell_text.put_far_cell.Goals as goal
 
 pub returns-in_err-put_number_after-clause-err : goal.returns-in_err-put_number_after-clause-err
 returns-in_err-put_number_after-clause-err g c =
