@@ -191,7 +191,7 @@ fn failing_disks(rt: HostRuntime) -> Result<(), Fail> {
     ] {
         let bytes = bytes_of(rt.alloc(), records, tail)?;
         for (call, most) in [
-            (Call::Lock, 2),
+            (Call::Lock, 1),
             (Call::Read, 9),
             (Call::Seek, 3),
             (Call::Write, 7),
