@@ -326,20 +326,27 @@ def calls_of(library: Library, case: Case, call: str, kind: str) -> list[Outcome
     return outcomes
 
 
+def opened(case: Case) -> set[str]:
+    """The files that a command opens: none where its words are none, and no tape where there is no agent for it."""
+    if case.due.status == 2:
+        return set()
+    return case.files - ({TAPE} if case.due.err in (b"mapf: NoSuchAgent\n", b"mapf: Swap 0 1 0\n") else set())
+
+
 def names_due(case: Case, call: str) -> set[str]:
     """Files and streams that a command at least has to do with by such a call."""
     if call == "alloc":
         return {"memory"}
-    if call == "open" and case.due.status != 2:
+    if call == "open":
         folder = {FOLDER} if case.words.startswith("agent ") and len(case.tape or b"") < 10 and not case.due.err else set()
-        return folder | case.files - ({TAPE} if case.due.err in (b"mapf: NoSuchAgent\n", b"mapf: Swap 0 1 0\n") else set())
+        return folder | opened(case)
     if call == "read" and not case.due.err:
         return case.files | ({"input"} if case.given else set())
     if call == "write":
         stores = {TAPE} if b"start\n" in case.given and not case.due.err else set()
         return stores | ({"output"} if case.due.out else set()) | ({"error output"} if case.due.err else set())
     if call in ("look", "lock"):
-        return {TAPE} & case.files - ({TAPE} if case.due.err in (b"mapf: NoSuchAgent\n", b"mapf: Swap 0 1 0\n") else set())
+        return {TAPE} & opened(case)
     is_synced = len(case.tape or b"") >= 10 or case.words.endswith(NEW)
     return {TAPE} if call == "sync" and is_synced and not case.due.err else set()
 
