@@ -36,6 +36,7 @@ def children(pid: int) -> list[int]:
 
 def wait_until(is_so: Callable[[], object], limit: float = 60) -> bool:
     last = time.monotonic() + limit
-    while not is_so() and time.monotonic() < last:
+    # What was so once may be over when it is asked again.
+    while not (found := bool(is_so())) and time.monotonic() < last:
         time.sleep(0.01)
-    return bool(is_so())
+    return found
