@@ -7,7 +7,6 @@ ghost use Rattle.depgraph.specs.Routes.{IsRouteOf, need_at};
 ghost use Rattle.depgraph.specs.Visits.{Visited, IsVisitTo, AreVisitsTo, AreAllVisits};
 ghost use Rattle.depgraph.specs.Code.Keeping.{route_in};
 
-use crate::cell_hash::CellHashing;
 use crate::entries::{begin_in, entry_at};
 use crate::numbering::cell_at;
 use crate::order::{numbered_cells, order_of};
@@ -40,7 +39,7 @@ pub struct Graph {
     /// The visits of each cell stand together. Where those of the cell with each number end.
     visit_ends: Vec<u32>,
     /// The number of each visited cell, in order of first visit.
-    cells: IndexMap<Cell, u32, CellHashing>,
+    cells: IndexMap<Cell, u32>,
     rotations: Vec<Rotation>,
 }
 
@@ -80,7 +79,7 @@ impl Graph {
         let needs = waits_of(alloc, &ends, &visits, &next.next)?;
         let rotations = find_rotations(alloc, plan, &times, &ends, &needs)?;
         let order = order_of(alloc, &visits, &next.next)?;
-        let cells = numbered_cells(alloc, plan.width(), &names, &order)?;
+        let cells = numbered_cells(alloc, &names, &order)?;
         Ok(Graph {
             number,
             numbers,
