@@ -3,6 +3,7 @@ import functools
 import sys
 from typing import Iterator
 
+from failing_agents import Chances, failing_program
 from harness import ROOT, Harness, Outcome, compared, shown, side_by_side
 
 # The seeds of a short test and of a long one, how often a message is lost, and how often a question ends in a kill.
@@ -44,42 +45,9 @@ def bad_calls(harness: Harness) -> Iterator[Outcome]:
         yield compared(name, f"{shown(command)}, which told {ended.err[-500:]!r}", wrote, (status, True, False, b""))
 
 
-# A program whose agents say at times that a record wasn't stored, whether it was or not, and at times don't start at first, as on a full disk.
-FULL = """#!{python}
-import os, random, subprocess, sys
-program = {program!r}
-if sys.argv[1] == "agent" and random.random() < 0.1:
-    print("mapf: TapeFailed", file=sys.stderr)
-    sys.exit(3)
-if sys.argv[1] != "agent":
-    os.execv(program, [program, *sys.argv[1:]])
-agent = subprocess.Popen([program, *sys.argv[1:]], stdin=subprocess.PIPE, stdout=subprocess.PIPE)
-first = agent.stdout.readline()
-if not first:
-    sys.exit(agent.wait())
-sys.stdout.buffer.write(first)
-sys.stdout.flush()
-for line in sys.stdin.buffer:
-    agent.stdin.write(line)
-    agent.stdin.flush()
-    answer = agent.stdout.readline()
-    if answer.startswith((b"moving", b"arrived")) and random.random() < 0.1:
-        agent.stdin.close()
-        agent.wait()
-        if random.random() < 0.5:
-            os.truncate(sys.argv[5], os.path.getsize(sys.argv[5]) - 10)
-        print("refused StoreFailed", flush=True)
-        sys.exit(3)
-    sys.stdout.buffer.write(answer)
-    sys.stdout.flush()
-"""
-
-
 def full_disk(harness: Harness) -> Iterator[Outcome]:
     """Whatever isn't stored is waited out, and then all arrive."""
-    program = harness.folder() / "mapf"
-    program.write_text(FULL.format(python=sys.executable, program=str(harness.program)), encoding="ascii")
-    program.chmod(0o755)
+    program = failing_program(harness, Chances(unopened=0.1, lost=0.05, stored=0.05))
     command = [sys.executable, str(FLEET), "--agents", "3", "--kills", "0", "--quiet", "--program", str(program)]
     ended = harness.run(command)
     wrote = (ended.status, ended.out.startswith(b"seed 1: 3 robots arrived"), b": failed, and is started again\n" in ended.err)

@@ -15,6 +15,7 @@ from typing import Callable, Iterator, Optional, Sequence
 
 import networking
 import watching
+from failing_agents import Chances, failing_program
 from harness import ROOT, Ended, Harness, Outcome, compared, shown, side_by_side
 from processes import children, heeding, left_in, processes_of, wait_until
 
@@ -117,40 +118,10 @@ def of_numbers(harness: Harness) -> list[Outcome]:
 # Tapes that fail
 
 
-FAILING = """#!{python}
-import os, random, subprocess, sys
-program = {program!r}
-if sys.argv[1] != "agent":
-    sys.exit(subprocess.run([program, *sys.argv[1:]]).returncode)
-agent = subprocess.Popen([program, *sys.argv[1:]], stdin=subprocess.PIPE, stdout=subprocess.PIPE, close_fds=False)
-sys.stdout.buffer.write(agent.stdout.readline())
-sys.stdout.flush()
-for line in sys.stdin.buffer:
-    agent.stdin.write(line)
-    agent.stdin.flush()
-    answer, chance = agent.stdout.readline(), random.random()
-    if answer.startswith((b"moving", b"arrived")) and chance < 0.4:
-        agent.stdin.close()
-        agent.wait()
-        if chance < 0.1:
-            os.kill(os.getppid(), 9)
-        if chance < 0.2:
-            os.kill(os.getpid(), 9)
-        if chance < 0.3:
-            os.truncate(sys.argv[5], os.path.getsize(sys.argv[5]) - 10)
-        print("refused StoreFailed", flush=True)
-        sys.exit(3)
-    sys.stdout.buffer.write(answer)
-    sys.stdout.flush()
-"""
-
-
 def of_failing_tapes(harness: Harness) -> list[Outcome]:
     """A program whose agents end at times behind a record: killed, with their robots or without, before anybody is told of it; or they say that it
     wasn't stored, whether it was or not."""
-    program = harness.folder() / "mapf"
-    program.write_text(FAILING.format(python=sys.executable, program=str(harness.program)), encoding="ascii")
-    program.chmod(0o755)
+    program = failing_program(harness, Chances(both=0.1, killed=0.1, lost=0.1, stored=0.1))
     fleet = Fleet(harness, ["--robots", "3"], program=str(program))
     outcomes = fleet.judged("tapes that fail", 3, restarts=2, unreported=1)
     kinds = {line.split()[2] for line in fleet.text().splitlines() if line.startswith("tear ")}

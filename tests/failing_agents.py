@@ -1,0 +1,60 @@
+"""A program in place of mapf whose agents fail at times, as on a disk that is full or where processes are killed."""
+import dataclasses
+import pathlib
+import sys
+
+from harness import Harness
+
+PROGRAM = """#!{python}
+import os, random, subprocess, sys
+program = {program!r}
+if sys.argv[1] != "agent":
+    os.execv(program, [program, *sys.argv[1:]])
+if random.random() < {unopened}:
+    print("mapf: TapeFailed", file=sys.stderr)
+    sys.exit(3)
+# A robot's lock is the agent's too.
+agent = subprocess.Popen([program, *sys.argv[1:]], stdin=subprocess.PIPE, stdout=subprocess.PIPE, close_fds=False)
+first = agent.stdout.readline()
+if not first:
+    sys.exit(agent.wait())
+sys.stdout.buffer.write(first)
+sys.stdout.flush()
+for line in sys.stdin.buffer:
+    agent.stdin.write(line)
+    agent.stdin.flush()
+    answer, chance = agent.stdout.readline(), random.random()
+    if answer.startswith((b"moving", b"arrived")) and chance < {both} + {killed} + {lost} + {stored}:
+        agent.stdin.close()
+        agent.wait()
+        if chance < {both}:
+            os.kill(os.getppid(), 9)
+        if chance < {both} + {killed}:
+            os.kill(os.getpid(), 9)
+        if chance < {both} + {killed} + {lost}:
+            os.truncate(sys.argv[5], os.path.getsize(sys.argv[5]) - 10)
+        print("refused StoreFailed", flush=True)
+        sys.exit(3)
+    sys.stdout.buffer.write(answer)
+    sys.stdout.flush()
+"""
+
+
+@dataclasses.dataclass(frozen=True)
+class Chances:
+    """How often an agent fails: its tape isn't opened; and behind a record, before anybody is told of it, it is killed, with its robot or without, or it says
+    that the record wasn't stored, which is so or not."""
+
+    unopened: float = 0
+    both: float = 0
+    killed: float = 0
+    lost: float = 0
+    stored: float = 0
+
+
+def failing_program(harness: Harness, chances: Chances) -> pathlib.Path:
+    program = harness.folder() / "mapf"
+    words = {"python": sys.executable, "program": str(harness.program), **dataclasses.asdict(chances)}
+    program.write_text(PROGRAM.format(**words), encoding="ascii")
+    program.chmod(0o755)
+    return program
