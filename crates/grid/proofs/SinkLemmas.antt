@@ -1,10 +1,12 @@
 -- What calls on a sink hand on, one after another.
-use Rattle.std.proofs.Common.{◌≡◌, ℕ, ◌-◌, Bool, true, false, eqb, List, [], ◌++◌, length, take, drop, Result, Ok, Err, OnOk, OnErr, is_ok, refl, sym, ap, subst, ◌∙◌, append_assoc, append-nil, take-append-drop, arith, length-drop}
+use Rattle.std.proofs.Common.{◌≡◌, ℕ, ◌+◌, ◌-◌, ◌≤◌, Bool, true, false, eqb, List, [], ◌++◌, length, take, drop, Result, Ok, Err, OnOk, OnErr, is_ok, refl, sym, ap, subst, ◌∙◌, append_assoc, append-nil, take-append-drop, arith, length-append, length-drop}
 use Rattle.std.proofs.lemmas.Bool.{ne_eqb}
-use Rattle.std.proofs.lemmas.List.{take_all}
+use Rattle.std.proofs.lemmas.List.{nil_from_length, take_all}
+use Rattle.std.proofs.lemmas.Slice.{take-put_mid}
 use Rattle.std.proofs.lemmas.Result.{on_ok_weaker, on_err_weaker}
 use Rattle.std.specs.Prelude.{Option, ◌&&◌}
 use Rattle.std.proofs.KnownBytes.{Appends-nil, Appends-trans}
+use borrow.Rule.Slice.PartMut.{put_mid}
 use Rattle.grid.specs.declared.sink.Sink.{Sink}
 use Rattle.grid.specs.Counted.{Rises}
 use Rattle.grid.specs.Sink.{held_back, sink_writer, Puts, Breaks}
@@ -17,6 +19,16 @@ take-drop-all xs n = take_all (length xs - n) (drop n xs) (omega (arith, length-
 -- all that a write did not take is what follows
 pub rest_after : (all sent rest : List ℕ) (n : ℕ) → all ≡ sent ++ rest → all ≡ (sent ++ take n rest) ++ drop n rest
 rest_after all sent rest n e = e ∙ ap (λ l. sent ++ l) (sym (take-append-drop n rest)) ∙ sym (append_assoc sent (take n rest) (drop n rest))
+
+-- what was written in its place follows what stood before
+pub written_in_place : (at n from k : ℕ) (old inside text rest : List ℕ) → at ≤ length old → n ≡ length text → from + length text ≡ n
+    → drop from inside ≡ text ++ rest → length inside ≡ n → take (at + n) (put_mid at k old inside) ≡ take at old ++ text
+written_in_place at n from k old inside text rest there count start written long =
+    let none : from ≡ 0 = omega (arith, count, start) in
+    let all : inside ≡ text ++ rest = ap (λ f. drop f inside) (sym none) ∙ written in
+    let empty : length rest ≡ 0 = omega (arith, long, count, ap length all, length-append text rest) in
+    take-put_mid at k old inside (at + n) (ap (λ m. at + m) (sym long)) there
+    ∙ ap (λ l. take at old ++ l) (all ∙ ap (λ l. text ++ l) (nil_from_length rest empty) ∙ append-nil text)
 
 -- a count that is not 0 fails a test for 0
 pub not_zero_and : (n : ℕ) (b : Bool) → (n ≡ 0 → ⊥) → (eqb n 0 && b) ≡ false

@@ -37,6 +37,13 @@ impl<T> Counted<T> {
         self.failures
     }
 
+    /// The reader or the writer inside.
+    pub fn inner(&self) -> &T
+        ensures { result.now ≡ counted_inner self.now }
+    {
+        &self.inner
+    }
+
     /// Counts a call, and fails where no more can be counted.
     fn count_call(&mut self) -> io::Result<()>
         ensures inner { counted_inner self.new ≡ counted_inner self.old }

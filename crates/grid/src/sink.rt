@@ -1,11 +1,11 @@
 //! Bytes for a writer, handed on a piece at a time.
-ghost use Rattle.std.specs.Prelude.{◌≡◌, ◌+◌, ◌<◌, ◌≤◌, [], ◌∷◌, ◌++◌, length, take, Some, OnOk, OnErr, is_ok};
+ghost use Rattle.std.specs.Prelude.{◌≡◌, ◌+◌, ◌<◌, ◌≤◌, [], ◌∷◌, ◌++◌, decimal, length, take, Some, OnOk, OnErr, is_ok};
 ghost use Rattle.grid.specs.Counted.{counted_inner, failures_of};
 ghost use Rattle.grid.specs.FaultWords.{words_of, words_text, write_fault_words};
 ghost use Rattle.grid.specs.Writing.{WritesText};
 
 use crate::{Counted, FaultWords};
-use itoa::{Buffer, Integer};
+use itoa::{Buffer, write_digits};
 use std::fmt;
 use std::io::Write;
 use thiserror::Error;
@@ -62,6 +62,8 @@ impl Piece {
         self.len = 0;
     }
 
+    /// Where the bytes are known, so is their number, and then they are copied without a call.
+    #[inline(always)]
     fn append(&mut self, bytes: &[u8])
         requires { self.old.len + length bytes.now ≤ 65536 }
         ensures { take self.new.len self.new.bytes ≡ take self.old.len self.old.bytes ++ bytes.now }
@@ -78,6 +80,46 @@ impl Piece {
     {
         self.bytes[self.len] = byte;
         self.len += 1;
+    }
+
+    /// Writes the digits of a number where they are to stand.
+    fn push_number(&mut self, number: u64)
+        requires { self.old.len + 20 ≤ 65536 }
+        ensures { take self.new.len self.new.bytes ≡ take self.old.len self.old.bytes ++ decimal number }
+    {
+        let count = count_of_digits(number);
+        let end = self.len + count;
+        write_digits(number, &mut self.bytes[self.len..end], count);
+        self.len = end;
+    }
+}
+
+/// With how many digits a number is written.
+fn count_of_digits(number: u64) -> usize
+    ensures { result ≡ length (decimal number) }
+{
+    let mut count = 0;
+    let mut left = number;
+    while left >= 10_000 {
+        left /= 10_000;
+        count += 4;
+    }
+    count + count_of_few(left)
+}
+
+/// The same of a number of at most four digits.
+fn count_of_few(number: u64) -> usize
+    requires { number < 10000 }
+    ensures { result ≡ length (decimal number) }
+{
+    if number < 10 {
+        1
+    } else if number < 100 {
+        2
+    } else if number < 1000 {
+        3
+    } else {
+        4
     }
 }
 
@@ -117,6 +159,7 @@ impl<'a, W: Write> Sink<'a, W> {
     }
 
     /// Puts bytes behind those that were put before.
+    #[inline(always)]
     pub fn put(&mut self, bytes: &[u8]) -> Result<(), WriteFault>
         ensures ok { OnOk result (Puts W.contents self.old self.new bytes.now) }
         ensures err { OnErr result (Breaks W.contents self.old self.new bytes.now) }
@@ -177,14 +220,25 @@ impl<'a, W: Write> Sink<'a, W> {
         self.put(bytes)
     }
 
-    /// Puts a byte that separates, and a number behind it.
-    pub fn put_number_after<I: Integer>(
-        &mut self,
-        separator: u8,
-        number: I,
-    ) -> Result<(), WriteFault>
-        ensures ok { OnOk result (Puts W.contents self.old self.new (separator ∷ I.text number)) }
-        ensures err { OnErr result (Breaks W.contents self.old self.new (separator ∷ I.text number)) }
+    /// Puts a byte that separates, and a number behind it, whose digits are written in their place.
+    pub fn put_number_after(&mut self, separator: u8, number: u64) -> Result<(), WriteFault>
+        ensures ok { OnOk result (Puts W.contents self.old self.new (separator ∷ decimal number)) }
+        ensures err { OnErr result (Breaks W.contents self.old self.new (separator ∷ decimal number)) }
+    {
+        // A byte and at most twenty digits.
+        if self.piece.room() < 21 {
+            return self.put_number_apart(separator, number);
+        }
+        self.piece.push(separator);
+        self.piece.push_number(number);
+        Ok(())
+    }
+
+    /// Puts them where the piece may have no room for both.
+    #[cold]
+    fn put_number_apart(&mut self, separator: u8, number: u64) -> Result<(), WriteFault>
+        ensures ok { OnOk result (Puts W.contents self.old self.new (separator ∷ decimal number)) }
+        ensures err { OnErr result (Breaks W.contents self.old self.new (separator ∷ decimal number)) }
     {
         self.put_after(separator, Buffer::new().format(number).as_bytes())
     }

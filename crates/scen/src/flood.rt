@@ -1,7 +1,7 @@
-//! The lengths of all shortest walks from a cell.
+//! The lengths of the shortest walks from a cell, up to that of the goal.
 ghost use Rattle.std.specs.Prelude.{◌^◌, ◌<◌};
 
-use crate::keys::{DIAGONAL, STRAIGHT};
+use crate::keys::{CLOSED, DIAGONAL, STRAIGHT};
 use crate::layout::Layout;
 use crate::wave::Wave;
 use std::alloc::{AllocError, Global};
@@ -9,18 +9,24 @@ use std::alloc::{AllocError, Global};
 /// No shortest walk within the limits of a map leads through more buckets.
 const MOST_BUCKETS: u64 = 8_388_608;
 
-/// Lowers the keys from the start on, until each is that of a shortest walk.
+/// Lowers the keys from the start on, until that of the goal is the key of a shortest walk: then each key that is not greater is one too, and no
+/// greater key will fall below it.
 pub(crate) fn flood(
     alloc: Global,
     keys: &mut [u64],
     layout: Layout,
     start: usize,
+    goal: usize,
 ) -> Result<(), AllocError> {
     let mut wave = Wave::from_start(alloc, start)?;
     let mut now = Vec::new(alloc);
     for bucket in 1..MOST_BUCKETS {
         let from = bucket * STRAIGHT;
-        if wave.advance(&mut now, from + 2 * STRAIGHT) {
+        // No step leads into a bucket that is over.
+        let is_reached = keys
+            .get(goal)
+            .is_some_and(|key| *key != CLOSED && *key < from);
+        if is_reached || wave.advance(&mut now, from + 2 * STRAIGHT) {
             break;
         }
         for place in &now {

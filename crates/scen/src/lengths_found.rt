@@ -53,20 +53,37 @@ fn add_closed(keys: &mut Vec<u64>, count: usize) -> Result<(), AllocError> {
     Ok(())
 }
 
-/// The length of each cell, row by row, none where no walk leads.
+/// The length of each cell, row by row, none where no walk leads. Beyond the goal it is that of the goal: no step improves the lesser of two lengths
+/// that none improves, so the keys of those cells need not be known.
 pub(crate) fn table_of(
     alloc: Global,
     keys: &[u64],
     layout: Layout,
+    goal: usize,
 ) -> Result<Vec<Option<Length>>, AllocError> {
+    let farthest = farthest_key(keys, goal);
+    let farthest_length = length_of(farthest);
     let height = (keys.len() / layout.stride).saturating_sub(2);
     let mut table = Vec::with_capacity(alloc, height * (layout.stride - 2))?;
     for row in keys.chunks_exact(layout.stride).skip(1).take(height) {
         if let [_, cells @ .., _] = row {
             for key in cells {
-                table.push(length_of(*key)).map_err(AllocError::from)?;
+                let length = if *key < farthest {
+                    length_of(*key)
+                } else {
+                    farthest_length
+                };
+                table.push(length).map_err(AllocError::from)?;
             }
         }
     }
     Ok(table)
+}
+
+/// The key of the goal, or that of no walk where none leads there.
+fn farthest_key(keys: &[u64], goal: usize) -> u64 {
+    match keys.get(goal) {
+        Some(key) if *key != CLOSED => *key,
+        _ => UNREACHED,
+    }
 }

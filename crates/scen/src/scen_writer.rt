@@ -54,12 +54,12 @@ fn put_row<W: Write>(sink: &mut Sink<'_, W>, row: &Row) -> Result<(), WriteFault
     put_numbers(
         sink,
         &[
-            row.width(),
-            row.height(),
-            u32::from(start.x),
-            u32::from(start.y),
-            u32::from(goal.x),
-            u32::from(goal.y),
+            u64::from(row.width()),
+            u64::from(row.height()),
+            u64::from(start.x),
+            u64::from(start.y),
+            u64::from(goal.x),
+            u64::from(goal.y),
         ],
     )?;
     sink.put_byte(b'\t')?;
@@ -68,7 +68,7 @@ fn put_row<W: Write>(sink: &mut Sink<'_, W>, row: &Row) -> Result<(), WriteFault
 }
 
 /// Puts each number behind a tab.
-fn put_numbers<W: Write>(sink: &mut Sink<'_, W>, numbers: &[u32]) -> Result<(), WriteFault>
+fn put_numbers<W: Write>(sink: &mut Sink<'_, W>, numbers: &[u64]) -> Result<(), WriteFault>
     ensures ok { OnOk result (Puts W.contents sink.old sink.new (flat_map (λ n. tab ∷ decimal n) numbers.now)) }
     ensures err { OnErr result (Breaks W.contents sink.old sink.new (flat_map (λ n. tab ∷ decimal n) numbers.now)) }
 {

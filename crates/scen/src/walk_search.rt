@@ -11,7 +11,7 @@ use grid::{Cell, Map};
 use std::alloc::{AllocError, Global};
 
 /// A walk from one cell to another that should be shortest, empty where no walk leads there, and a table of what should be the
-/// shortest lengths from the first to each cell. Whether they are is for the certificate to say.
+/// shortest lengths from the first to each cell, or that of the walk where they are greater. Whether they are is for the certificate to say.
 pub fn search(alloc: Global, map: &Map, start: Cell, goal: Cell) -> Result<Proposal, SearchFault>
     ensures { FailsSearch map.now start goal result }
 {
@@ -23,10 +23,11 @@ pub fn search(alloc: Global, map: &Map, start: Cell, goal: Cell) -> Result<Propo
 
 fn propose(alloc: Global, map: &Map, start: Cell, goal: Cell) -> Result<Proposal, AllocError> {
     let layout = Layout::of(map);
+    let goal = layout.place(goal);
     let mut keys = first_keys(alloc, map, layout, start)?;
-    flood(alloc, &mut keys, layout, layout.place(start))?;
+    flood(alloc, &mut keys, layout, layout.place(start), goal)?;
     Ok(Proposal {
-        walk: walk_back(alloc, &keys, layout, layout.place(goal))?,
-        table: table_of(alloc, &keys, layout)?,
+        walk: walk_back(alloc, &keys, layout, goal)?,
+        table: table_of(alloc, &keys, layout, goal)?,
     })
 }

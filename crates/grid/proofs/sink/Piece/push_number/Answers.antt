@@ -1,0 +1,27 @@
+-- The digits end where the piece is to end, so they begin where it ended.
+use Rattle.std.proofs.Common.{◌≤◌, ◌≡◌, length, arith, lit<, rules}
+use Rattle.std.specs.Prelude.{decimal}
+use Rattle.std.proofs.lemmas.Fmt.{length-decimal-le}
+use Rattle.grid.proofs.SinkLemmas.{written_in_place}
+use Rattle.grid.proofs.sink.Piece.push_number.Goals as goal
+
+pub overflow_add-end : goal.overflow_add-end
+overflow_add-end c =
+    let most = length-decimal-le 20 c.args.number (lit< tt) (omega (arith, c.ranges.number.fits)) c.ranges.number.fits in
+    let count = c.count_of_digits-count.ensures in
+    let room = c.requires in
+    omega (arith, most, count, room)
+
+pub slice_bounds-write_digits-end : goal.slice_bounds-write_digits-end
+slice_bounds-write_digits-end c =
+    let most = length-decimal-le 20 c.args.number (lit< tt) (omega (arith, c.ranges.number.fits)) c.ranges.number.fits in
+    let count = c.count_of_digits-count.ensures in
+    let room = c.requires in
+    omega (arith, most, count, room)
+
+pub returns : goal.returns
+returns c =
+    let all : c.args.self.now.len ≤ length c.args.self.now.bytes = search rules in
+    let own : length c.write_digits.new.buf ≡ c.count_of_digits-count.result = search rules in
+    written_in_place c.args.self.now.len c.count_of_digits-count.result c.write_digits.result _ c.args.self.now.bytes c.write_digits.new.buf (decimal c.args.number) _
+    all c.count_of_digits-count.ensures c.write_digits.ensures.start c.write_digits.ensures.written own
