@@ -14,6 +14,8 @@ pub mod Entries
 pub mod Schedules
 -- numbers of cells
 pub mod Numbers
+-- how they are hashed
+pub mod CellHashes
 -- where they stand
 pub mod Tiles
 -- cells that are kept as numbers

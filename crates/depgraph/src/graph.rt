@@ -7,6 +7,7 @@ ghost use Rattle.depgraph.specs.Routes.{IsRouteOf, need_at};
 ghost use Rattle.depgraph.specs.Visits.{Visited, IsVisitTo, AreVisitsTo, AreAllVisits};
 ghost use Rattle.depgraph.specs.Code.Keeping.{route_in};
 
+use crate::cell_hash::CellHashing;
 use crate::entries::{begin_in, entry_at};
 use crate::numbering::cell_at;
 use crate::order::{numbered_cells, order_of};
@@ -39,7 +40,7 @@ pub struct Graph {
     /// The visits of each cell stand together. Where those of the cell with each number end.
     visit_ends: Vec<u32>,
     /// The number of each visited cell, in order of first visit.
-    cells: IndexMap<Cell, u32>,
+    cells: IndexMap<Cell, u32, CellHashing>,
     rotations: Vec<Rotation>,
 }
 

@@ -1,6 +1,7 @@
 //! The dependency graph of a checked plan: which move waits for which.
 #![tactic(auto)]
 
+mod cell_hash;
 mod cycles;
 mod entries;
 mod graph;

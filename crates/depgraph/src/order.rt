@@ -1,10 +1,11 @@
 //! The visited cells in order of first visit.
 ghost use Rattle.std.specs.Prelude.{◌≡◌, ◌+◌, ◌*◌, ◌%◌, ◌<◌, ◌≤◌, ◌^◌, ℕ, length, get_or, slice_get, Some, IfOk};
 ghost use Rattle.depgraph.specs.Code.Entries.{begin_in};
-ghost use Rattle.depgraph.specs.Code.Numbers.{AreDistinct};
+ghost use Rattle.depgraph.specs.Code.Numbers.{cells_by, AreDistinct, AreKnown};
 ghost use Rattle.depgraph.specs.Code.Orders.{AreByFirst, numbered};
 ghost use Rattle.depgraph.specs.Code.Waits.{no_visit};
 
+use crate::cell_hash::CellHashing;
 use grid::Cell;
 use indexmap::IndexMap;
 use model::Visit;
@@ -44,15 +45,29 @@ pub(crate) fn numbered_cells(
     alloc: Global,
     names: &[Cell],
     order: &[u32],
-) -> Result<IndexMap<Cell, u32>, AllocError>
+) -> Result<IndexMap<Cell, u32, CellHashing>, AllocError>
     requires distinct { AreDistinct names.now }
     requires known { (m : ℕ) → m < length order.now → get_or order.now m 0 < length names.now }
     requires different { (m l n : ℕ) → slice_get order.now m ≡ Some n → slice_get order.now l ≡ Some n → m ≡ l }
     ensures { IfOk result (λ cells. cells.entries ≡ numbered names.now order.now) }
 {
-    let mut cells = IndexMap::with_capacity(alloc, order.len())?;
-    for number in order {
-        cells.insert(names[*number as usize], *number)?;
+    let listed = cells_by(alloc, names, order)?;
+    let listed = listed.as_slice();
+    let mut cells = IndexMap::with_capacity_and_hasher(alloc, order.len(), CellHashing)?;
+    for m in 0..order.len() {
+        cells.insert(listed[m], order[m])?;
+    }
+    Ok(cells)
+}
+
+/// The cells with these numbers, in this order. They are looked up by themselves, so that the look-ups wait for memory together.
+fn cells_by(alloc: Global, names: &[Cell], numbers: &[u32]) -> Result<Vec<Cell>, AllocError>
+    requires { AreKnown names.now numbers.now }
+    ensures { IfOk result (λ v. v.items ≡ cells_by names.now numbers.now) }
+{
+    let mut cells = Vec::with_capacity(alloc, numbers.len())?;
+    for number in numbers {
+        cells.push(names[*number as usize])?;
     }
     Ok(cells)
 }
