@@ -88,6 +88,6 @@ fn put_far_cell<W: Write>(sink: &mut Sink<'_, W>, cell: Cell) -> Result<(), Writ
     ensures ok { OnOk result (Puts W.contents sink.old sink.new (spaced_numbers (cell.x ∷ cell.y ∷ []))) }
     ensures err { OnErr result (Breaks W.contents sink.old sink.new (spaced_numbers (cell.x ∷ cell.y ∷ []))) }
 {
-    sink.put_number_after(b' ', cell.x)?;
-    sink.put_number_after(b' ', cell.y)
+    sink.put_number_after(b' ', cell.x as u64)?;
+    sink.put_number_after(b' ', cell.y as u64)
 }

@@ -1,5 +1,5 @@
 //! The text of a plan's dependencies.
-ghost use Rattle.std.specs.Prelude.{◌≡◌, ◌<◌, [], ◌∷◌, ◌++◌, List, Some, length, map, sum_by, count_by, is_some, is_ok, OnOk, OnErr};
+ghost use Rattle.std.specs.Prelude.{◌≡◌, ◌<◌, [], ◌∷◌, ◌++◌, codes, decimal, List, Some, length, map, sum_by, count_by, is_some, is_ok, OnOk, OnErr};
 ghost use Rattle.grid.specs.Text.{line_feed, ended, spaced_numbers};
 ghost use Rattle.grid.specs.Counted.{counted_inner, failures_of};
 ghost use Rattle.grid.specs.Sink.{held_back, Puts, Breaks};
@@ -11,7 +11,6 @@ ghost use Rattle.plan_commands.specs.Code.Dependencies.{HasNeedsOf, need_text};
 
 use depgraph::{Graph, Rotation, Route};
 use grid::{Counted, Sink, WriteFault};
-use itoa::{Buffer, Integer};
 use std::io::Write;
 
 /// Writes what the moves of a plan wait for, and its rotations. The writer is not flushed.
@@ -113,10 +112,10 @@ fn put_counts<W: Write>(
     ensures ok { OnOk result (Puts W.contents sink.old sink.new (counts_line agents counts.now.moves counts.now.needs rotations ++ line_feed ∷ [])) }
     ensures err { OnErr result (Breaks W.contents sink.old sink.new (counts_line agents counts.now.moves counts.now.needs rotations ++ line_feed ∷ [])) }
 {
-    put_number(sink, b"agents ", agents)?;
-    put_number(sink, b" moves ", counts.moves)?;
-    put_number(sink, b" needs ", counts.needs)?;
-    put_number(sink, b" rotations ", rotations)?;
+    put_number(sink, b"agents", agents as u64)?;
+    put_number(sink, b" moves", counts.moves as u64)?;
+    put_number(sink, b" needs", counts.needs as u64)?;
+    put_number(sink, b" rotations", rotations as u64)?;
     sink.put_byte(b'\n')
 }
 
@@ -161,10 +160,10 @@ fn put_need<W: Write>(
     let Some((other, count)) = need else {
         return Ok(());
     };
-    put_number(sink, b"need ", agent)?;
-    sink.put_number_after(b' ', k)?;
-    sink.put_number_after(b' ', other)?;
-    sink.put_number_after(b' ', count)?;
+    put_number(sink, b"need", agent as u64)?;
+    sink.put_number_after(b' ', k as u64)?;
+    sink.put_number_after(b' ', other as u64)?;
+    sink.put_number_after(b' ', count as u64)?;
     sink.put_byte(b'\n')
 }
 
@@ -188,7 +187,7 @@ fn put_rotation<W: Write>(
     ensures ok { OnOk result (Puts W.contents sink.old sink.new (rotation_line (record { step = step; agents = agents.now }) ++ line_feed ∷ [])) }
     ensures err { OnErr result (Breaks W.contents sink.old sink.new (rotation_line (record { step = step; agents = agents.now }) ++ line_feed ∷ [])) }
 {
-    put_number(sink, b"rotation ", step)?;
+    put_number(sink, b"rotation", step as u64)?;
     put_agents(sink, agents)?;
     sink.put_byte(b'\n')
 }
@@ -199,20 +198,21 @@ fn put_agents<W: Write>(sink: &mut Sink<'_, W>, agents: &[u16]) -> Result<(), Wr
     ensures err { OnErr result (Breaks W.contents sink.old sink.new (spaced_numbers agents.now)) }
 {
     for agent in agents {
-        sink.put_number_after(b' ', *agent)?;
+        sink.put_number_after(b' ', *agent as u64)?;
     }
     Ok(())
 }
 
-/// Puts a number behind a word.
-fn put_number<I: Integer, W: Write>(
+/// Puts a word, and a number behind a space.
+#[inline(always)]
+pub fn put_number<W: Write>(
     sink: &mut Sink<'_, W>,
     word: &[u8],
-    number: I,
+    number: u64,
 ) -> Result<(), WriteFault>
-    ensures ok { OnOk result (Puts W.contents sink.old sink.new (word.now ++ I.text number)) }
-    ensures err { OnErr result (Breaks W.contents sink.old sink.new (word.now ++ I.text number)) }
+    ensures ok { OnOk result (Puts W.contents sink.old sink.new (word.now ++ codes " " ++ decimal number)) }
+    ensures err { OnErr result (Breaks W.contents sink.old sink.new (word.now ++ codes " " ++ decimal number)) }
 {
     sink.put(word)?;
-    sink.put(Buffer::new().format(number).as_bytes())
+    sink.put_number_after(b' ', number)
 }

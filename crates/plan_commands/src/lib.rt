@@ -15,5 +15,6 @@ pub use check_command::{check_cmd, check_fit_cmd};
 pub use check_fault::{CheckFault, plan_text_fault_status};
 pub use deps_cell_command::deps_cell_cmd;
 pub use deps_command::{deps_cmd, read_graph};
+pub use deps_text::put_number;
 pub use rejection::Rejection;
 pub use verdict::{Verdict, verdict_json};

@@ -39,8 +39,8 @@ fn put_visit<W: Write>(sink: &mut Sink<'_, W>, visit: Visit) -> Result<(), Write
     ensures err { OnErr result (Breaks W.contents sink.old sink.new (visit_line visit ++ line_feed ∷ [])) }
 {
     sink.put(b"visit")?;
-    sink.put_number_after(b' ', visit.agent)?;
-    sink.put_number_after(b' ', visit.index)?;
-    sink.put_number_after(b' ', visit.time)?;
+    sink.put_number_after(b' ', visit.agent as u64)?;
+    sink.put_number_after(b' ', visit.index as u64)?;
+    sink.put_number_after(b' ', visit.time as u64)?;
     sink.put_byte(b'\n')
 }
