@@ -2,3 +2,5 @@
 
 -- what the parts of the opening of a tape file owe each other
 pub mod Parts
+-- and of `mapf tape`
+pub mod Reports

@@ -7,5 +7,7 @@ pub mod AgentStatus
 pub mod FaultWords
 -- what `mapf agent` does and answers
 pub mod AgentCommand
+-- what `mapf tape` does and answers
+pub mod TapeCommand
 -- The code's own words, of which no promise speaks.
 pub mod Code

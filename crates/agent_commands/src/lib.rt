@@ -1,7 +1,10 @@
-//! The command that is one agent of a plan.
+//! The commands of one agent of a plan.
 #![tactic(auto)]
 
 mod agent_command;
 mod agent_fault;
+mod tape_command;
+mod tape_report;
 
 pub use agent_command::{agent_claim_cmd, agent_cmd};
+pub use tape_command::tape_cmd;

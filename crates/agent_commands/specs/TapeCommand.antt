@@ -1,0 +1,113 @@
+-- What `mapf tape` does and answers.
+use Rattle.std.specs.Prelude.{◌≡◌, ℕ, ◌+◌, ◌-◌, ◌*◌, ◌≤◌, List, [], ◌∷◌, ◌++◌, length, take, codes, decimal, Option, None, Some, Result, Ok, Err, MatchResult}
+use Rattle.std.specs.Io.KnownBytes.{Consumes, IsAtEnd}
+use Rattle.grid.specs.declared.counted.Counted.{Counted}
+use Rattle.grid.specs.Counted.{counted_inner, failures_of, Rises}
+use Rattle.grid.specs.Text.{ended}
+use Rattle.model.specs.History.{record_length}
+use Rattle.model.specs.Timetable.{Track, Timetable, track_of}
+use Rattle.agent.specs.declared.mem_tape.MemTape.{MemTape}
+use Rattle.agent.specs.declared.refusal.OpenFault.TheVariants.{NoSuchAgent}
+use Rattle.agent.specs.Agents.{AgentOn, state_of}
+use Rattle.agent.specs.MemTape.{mem_state, mem_reads}
+use Rattle.agent.specs.Opening.{IsOpened, IsRefused}
+use Rattle.agent.specs.States.{State}
+use Rattle.agent.specs.Tape.{TapeState}
+use Rattle.dialogue.specs.Turns.{state_line}
+use Rattle.file_tape.specs.declared.file_tape.FileTapeFault.{FileTapeFault}
+use Rattle.file_tape.specs.declared.file_tape.FileTapeFault.TheVariants.{TooLong, TapeFailed, OutOfMemory}
+use Rattle.plan_commands.specs.DepsCommand.{ReadsTimetable}
+use Rattle.plan_commands.specs.declared.check_fault.CheckFault.{CheckFault}
+use Rattle.text_commands.specs.declared.status.Status.TheVariants.{Done}
+use Rattle.text_commands.specs.Rewriting.{EndsWriting}
+use Rattle.text_commands.specs.Status.{code_of}
+use Rattle.agent_commands.specs.AgentCommand.{HasAgent, room_of}
+use Rattle.agent_commands.specs.AgentStatus.{agent_fault_status}
+use Rattle.agent_commands.specs.FaultWords.{agent_fault_words}
+use Rattle.agent_commands.specs.declared.agent_fault.AgentFault.{AgentFault}
+use Rattle.agent_commands.specs.declared.agent_fault.AgentFault.TheVariants.{Texts, File, Tape}
+
+-- the tape that an agent finds in a file of these bytes: what stands past its room, fewer than ten bytes, is left out
+abbrev pub tape_of_bytes : ℕ → List ℕ → TapeState
+tape_of_bytes room bytes = record { contents = take room bytes; room = room; failures = 0 }
+
+-- how many whole records there are, and how many bytes behind them, which count as nothing
+abbrev pub records_line : (records torn : ℕ) → List ℕ
+records_line records torn = (codes "records " ++ decimal records) ++ (codes " torn " ++ decimal torn)
+
+-- what is written of a tape of these bytes, on which an agent comes to this state
+abbrev pub tape_text : Track → State → List ℕ → List ℕ
+tape_text track s bytes = ended (state_line track s ∷ records_line s.records (length bytes - record_length * s.records) ∷ [])
+
+-- the bytes are all that the reader had, and no call of it failed
+pub record IsReadWhole {T : Type 0} (remaining : T → Option (List ℕ)) (old new : Counted T) (bytes : List ℕ) : Type 0 where
+  pub consumed : Consumes (remaining (counted_inner old)) (remaining (counted_inner new)) bytes
+  pub is_end : IsAtEnd (remaining (counted_inner new))
+  pub failures : failures_of new ≡ failures_of old
+
+-- The file was read whole, and an agent is opened on its bytes, as it would be to go on: the text says where it is.
+pub record IsShown {T : Type 0} (remaining : T → Option (List ℕ)) (tt : Timetable) (i : ℕ) (old new : Counted T) (text : List ℕ) : Type 0 where
+  pub track : Track
+  pub is_track : track_of tt i ≡ Some track
+  pub bytes : List ℕ
+  pub whole : IsReadWhole remaining old new bytes
+  pub image : MemTape
+  pub is_image : mem_state image ≡ tape_of_bytes (room_of track) bytes
+  pub agent : AgentOn MemTape
+  pub opened : IsOpened mem_state mem_reads tt i image agent
+  pub is_text : text ≡ tape_text track (state_of mem_state agent) bytes
+
+-- the file was read whole, and no agent is opened on its bytes
+pub record IsRefusedImage {T : Type 0} (remaining : T → Option (List ℕ)) (tt : Timetable) (i : ℕ) (old new : Counted T) (Refused : MemTape → MemTape → Type 0) : Type 0 where
+  pub track : Track
+  pub is_track : track_of tt i ≡ Some track
+  pub bytes : List ℕ
+  pub whole : IsReadWhole remaining old new bytes
+  pub image : MemTape
+  pub is_image : mem_state image ≡ tape_of_bytes (room_of track) bytes
+  pub after : MemTape
+  pub refused : Refused image after
+
+-- the file has ten bytes or more behind the room of the agent's tape
+pub record IsTooLong {T : Type 0} (remaining : T → Option (List ℕ)) (tt : Timetable) (i : ℕ) (old new : Counted T) : Type 0 where
+  pub track : Track
+  pub is_track : track_of tt i ≡ Some track
+  pub bytes : List ℕ
+  pub consumed : Consumes (remaining (counted_inner old)) (remaining (counted_inner new)) bytes
+  pub longer : room_of track + record_length ≤ length bytes
+
+-- why nothing is shown of a file
+abbrev pub IsNotShown : {T : Type 0} → (T → Option (List ℕ)) → Timetable → ℕ → Counted T → Counted T → AgentFault → Type 0
+IsNotShown remaining tt i old new (Tape NoSuchAgent) = (track_of tt i ≡ None) × (new ≡ old)
+IsNotShown remaining tt i old new (Tape refusal) =
+    IsRefusedImage remaining tt i old new (λ image after. IsRefused mem_state mem_reads tt i image after refusal)
+IsNotShown remaining tt i old new (File TooLong) = IsTooLong remaining tt i old new
+IsNotShown remaining tt i old new (File TapeFailed) = HasAgent tt i × Rises (failures_of old) (failures_of new)
+IsNotShown remaining tt i old new (File OutOfMemory) = HasAgent tt i
+IsNotShown remaining tt i old new _ = ⊥
+
+-- The map and the plan were read and the plan was checked; where it is valid, the file was read, and else it was left alone.
+pub record Inspects
+    {M P T : Type 0} (map_left : M → Option (List ℕ)) (plan_left : P → Option (List ℕ)) (tape_left : T → Option (List ℕ)) (i : ℕ)
+    (old_map new_map : Counted M) (old_plan new_plan : Counted P) (old_tape new_tape : Counted T) (result : Result (List ℕ) AgentFault) : Type 0 where
+  pub read : Result Timetable CheckFault
+  pub reads : ReadsTimetable map_left plan_left old_map new_map old_plan new_plan read
+  pub ends : MatchResult read
+      (λ tt. MatchResult result (IsShown tape_left tt i old_tape new_tape) (IsNotShown tape_left tt i old_tape new_tape))
+      (λ fault. (result ≡ Err (Texts fault)) × (new_tape ≡ old_tape))
+
+-- the exit status, what the output got and which fault was told
+abbrev pub EndsByTape
+    : {W : Type 0} → (W → Option (List ℕ)) → (Told : Option (List (List ℕ)) → Type 0) → Counted W → Counted W → ℕ → Result (List ℕ) AgentFault → Type 0
+EndsByTape contents Told old new code (Ok text) = EndsWriting contents Told old new code Done text
+EndsByTape contents Told old new code (Err fault) =
+    (code ≡ code_of (agent_fault_status fault)) × (new ≡ old) × Told (Some (agent_fault_words fault))
+
+-- the texts and the tape were read, and the command ended by that
+pub record AnswersTape
+    {M P T W : Type 0} (map_left : M → Option (List ℕ)) (plan_left : P → Option (List ℕ)) (tape_left : T → Option (List ℕ)) (contents : W → Option (List ℕ))
+    (Told : Option (List (List ℕ)) → Type 0) (i : ℕ) (old_map new_map : Counted M) (old_plan new_plan : Counted P) (old_tape new_tape : Counted T)
+    (old_out new_out : Counted W) (code : ℕ) : Type 0 where
+  pub answer : Result (List ℕ) AgentFault
+  pub inspects : Inspects map_left plan_left tape_left i old_map new_map old_plan new_plan old_tape new_tape answer
+  pub ends : EndsByTape contents Told old_out new_out code answer

@@ -1,0 +1,66 @@
+//! `mapf tape`: says what the tape of an agent keeps.
+ghost use Rattle.std.specs.Prelude.{◌≡◌, MatchResult};
+ghost use Rattle.text_commands.specs.Telling.{Tells};
+ghost use Rattle.agent_commands.specs.TapeCommand.{AnswersTape, EndsByTape, Inspects};
+ghost use Rattle.agent_commands.specs.Code.Reports.{IsReported, outcome_of};
+
+use crate::agent_fault::AgentFault;
+use crate::tape_report::{TapeReport, read_report, write_report};
+use grid::Counted;
+use plan_commands::read_graph;
+use std::alloc::Global;
+use std::io::{Read, Write};
+use text_commands::{Status, finish, report};
+
+/// Reads a map from `map` and a plan from `plan`, checks the plan on the map, and then reads the file of a tape from `tape`. It writes to `out` where
+/// the agent with this number is by it, and how many whole records it has, as `agent_cmd` would find them. A fault's line goes to `err`. Nothing is
+/// locked or written, so it may be asked beside an agent that holds the file. The answer is the exit status, which stays where `err` fails.
+pub fn tape_cmd<M: Read, P: Read, T: Read, W: Write, E: Write>(
+    alloc: Global,
+    map: &mut Counted<M>,
+    plan: &mut Counted<P>,
+    id: u16,
+    tape: &mut Counted<T>,
+    out: &mut Counted<W>,
+    err: &mut Counted<E>,
+) -> u8
+    ensures { AnswersTape M.remaining P.remaining T.remaining W.contents (Tells E.contents err.old err.new) id map.old map.new plan.old plan.new
+        tape.old tape.new out.old out.new result }
+{
+    let answer = inspect(alloc, map, plan, id, tape);
+    conclude(answer, out, err)
+}
+
+/// Reads the map, the plan and the tape.
+fn inspect<M: Read, P: Read, T: Read>(
+    alloc: Global,
+    map: &mut Counted<M>,
+    plan: &mut Counted<P>,
+    id: u16,
+    tape: &mut Counted<T>,
+) -> Result<TapeReport, AgentFault>
+    ensures { Inspects M.remaining P.remaining T.remaining id map.old map.new plan.old plan.new tape.old tape.new (outcome_of result) }
+{
+    let graph = read_graph(alloc, map, plan)?;
+    read_report(alloc, &graph, id, tape)
+}
+
+/// Writes what the tape keeps, or says why it can't be shown. The answer is the exit status.
+fn conclude<W: Write, E: Write>(
+    answer: Result<TapeReport, AgentFault>,
+    out: &mut Counted<W>,
+    err: &mut Counted<E>,
+) -> u8
+    ensures { EndsByTape W.contents (Tells E.contents err.old err.new) out.old out.new result (outcome_of answer) }
+{
+    match answer {
+        Ok(kept) => {
+            let written = write_report(kept, out);
+            finish(written, Status::Done, out, err).code()
+        }
+        Err(fault) => {
+            report(err, fault.words());
+            fault.status().code()
+        }
+    }
+}
