@@ -1,7 +1,7 @@
 # What bash offers where Tab is pressed behind `mapf`. `source` this file, or put it as ~/.local/share/bash-completion/completions/mapf.
 
 _mapf() {
-    local commands='map scen row check deps path run agent help' word=${COMP_WORDS[COMP_CWORD]} before=${COMP_WORDS[COMP_CWORD - 1]}
+    local commands='map scen row check deps path run agent tape help' word=${COMP_WORDS[COMP_CWORD]} before=${COMP_WORDS[COMP_CWORD - 1]}
     local command='' offers='' at
     COMPREPLY=()
     for ((at = 1; at < COMP_CWORD; at++)); do
@@ -12,14 +12,14 @@ _mapf() {
     case $command:$before in
         check:--scen | deps:--cell | path:--agent) return 0 ;;
         agent:--tape) mapfile -t COMPREPLY < <(compgen -W 'new kept' -- "$word"); return ;;
-        help:*) offers=$commands ;;
+        help:*) offers="$commands faults" ;;
         :*) offers="$commands -h --help -V --version" ;;
-        check:*) offers='--scen --json -h --help' ;;
-        deps:*) offers='--cell -h --help' ;;
-        path:*) offers='--agent -h --help' ;;
-        run:*) offers='--complete -h --help' ;;
-        agent:*) offers='--tape -h --help' ;;
-        *) offers='-h --help' ;;
+        check:*) offers='--scen --json --explain -h --help' ;;
+        deps:*) offers='--cell --explain -h --help' ;;
+        path:*) offers='--agent --explain -h --help' ;;
+        run:*) offers='--complete --explain -h --help' ;;
+        agent:*) offers='--tape --explain -h --help' ;;
+        *) offers='--explain -h --help' ;;
     esac
     # Where a file is due, options are offered to those alone who begin one.
     if [[ $word == -* || -z $command || $command == help ]]; then

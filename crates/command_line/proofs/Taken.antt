@@ -5,7 +5,7 @@ use Rattle.clap.specs.Simple.{App, argument_words, built, entered, is_simple, na
 use Rattle.clap.specs.Takes.{built_takes, entered_passes, level_passes, takes}
 use Rattle.clap.specs.Walk.{Row, Text, finished, nothing_held, walk, walk_from}
 use Rattle.clap.proofs.WalkLemmas.{both}
-use Rattle.command_line.specs.Words.{agent_command, check_command, deps_command, map_command, path_command, program_app, row_command, run_command, scen_command}
+use Rattle.command_line.specs.Words.{agent_command, check_command, deps_command, map_command, path_command, program_app, row_command, run_command, scen_command, tape_command}
 use Rattle.command_line.specs.Code.Parts.{HasWords}
 use Rattle.command_line.proofs.Commands.{command_given, level_parts, valid_parts}
 use Rattle.command_line.proofs.Stops.{AreNamed, StopsAt, walk_stays}
@@ -36,7 +36,10 @@ commands_give = (
             λ other words. command_given path_command words (search rules),
             (
               λ other words. command_given run_command words (search rules),
-              (λ other words. command_given agent_command words (search rules), (λ other. let bad : true ≡ false = other in cc, tt)),
+              (
+                λ other words. command_given agent_command words (search rules),
+                (λ other words. command_given tape_command words (search rules), (λ other. let bad : true ≡ false = other in cc, tt)),
+              ),
             ),
           ),
         ),

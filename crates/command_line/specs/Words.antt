@@ -1,5 +1,5 @@
 -- The command line of `mapf`, in the words of clap.
-use Rattle.std.specs.Prelude.{◌≡◌, ◌↔◌, ℕ, ◌^◌, ◌<◌, ◌⊎◌, true, List, [], ◌∷◌, ◌++◌, map, option_map, fold, codes, Option, None, Some, String, string_bytes}
+use Rattle.std.specs.Prelude.{◌≡◌, ◌↔◌, ℕ, ◌^◌, ◌<◌, ◌⊎◌, Bool, true, List, [], ◌∷◌, ◌++◌, map, option_map, fold, codes, Option, None, Some, String, string_bytes}
 use Rattle.std.specs.Global.{Global}
 use Rattle.grid.specs.declared.cell.Cell.{Cell}
 use Rattle.grid.specs.Text.{SpellsNumber}
@@ -11,7 +11,7 @@ use Rattle.clap.specs.declared.error.kind.ErrorKind.TheVariants as kind
 use Rattle.tape_claim.specs.declared.TapeClaim.{TapeClaim}
 use Rattle.tape_claim.specs.declared.TapeClaim.TheVariants.{Any, New, Kept}
 use Rattle.command_line.specs.declared.command_line.Line.{Line}
-use Rattle.command_line.specs.declared.command_line.Line.TheVariants.{Map, Scen, Row as row_line, Check, Deps, Path, Run, Agent}
+use Rattle.command_line.specs.declared.command_line.Line.TheVariants.{Map, Scen, Row as row_line, Check, Deps, Path, Run, Agent, Tape}
 use Rattle.command_line.specs.declared.command_line.LineFault.{LineFault}
 use Rattle.command_line.specs.declared.command_line.LineFault.TheVariants.{Help, BadCommand, OutOfMemory}
 
@@ -35,9 +35,13 @@ pub record Usage : Type 0 where
   pub cells : List Text
   pub flags : List Text
 
+-- the flag of each command that asks for an explanation of a fault
+abbrev pub explain_flag : Text
+explain_flag = codes "explain"
+
 -- the command with this name that takes a file
 abbrev pub file_command : Text → Usage
-file_command name = record { name = name; required = codes "file" ∷ []; options = []; cells = []; flags = [] }
+file_command name = record { name = name; required = codes "file" ∷ []; options = []; cells = []; flags = explain_flag ∷ [] }
 
 abbrev pub map_command : Usage
 map_command = file_command (codes "map")
@@ -51,7 +55,7 @@ row_command = record {
   required = codes "map" ∷ codes "scen" ∷ codes "row" ∷ [];
   options = [];
   cells = [];
-  flags = [];
+  flags = explain_flag ∷ [];
 }
 
 abbrev pub check_command : Usage
@@ -60,7 +64,7 @@ check_command = record {
   required = codes "map" ∷ codes "plan" ∷ [];
   options = codes "scen" ∷ [];
   cells = [];
-  flags = codes "json" ∷ [];
+  flags = codes "json" ∷ explain_flag ∷ [];
 }
 
 abbrev pub deps_command : Usage
@@ -69,7 +73,7 @@ deps_command = record {
   required = codes "map" ∷ codes "plan" ∷ [];
   options = [];
   cells = codes "cell" ∷ [];
-  flags = [];
+  flags = explain_flag ∷ [];
 }
 
 abbrev pub path_command : Usage
@@ -78,7 +82,7 @@ path_command = record {
   required = codes "map" ∷ codes "plan" ∷ [];
   options = codes "agent" ∷ [];
   cells = [];
-  flags = [];
+  flags = explain_flag ∷ [];
 }
 
 abbrev pub run_command : Usage
@@ -87,7 +91,7 @@ run_command = record {
   required = codes "map" ∷ codes "plan" ∷ codes "events" ∷ [];
   options = [];
   cells = [];
-  flags = codes "complete" ∷ [];
+  flags = codes "complete" ∷ explain_flag ∷ [];
 }
 
 abbrev pub agent_command : Usage
@@ -96,12 +100,22 @@ agent_command = record {
   required = codes "map" ∷ codes "plan" ∷ codes "id" ∷ codes "file" ∷ [];
   options = codes "tape" ∷ [];
   cells = [];
-  flags = [];
+  flags = explain_flag ∷ [];
+}
+
+abbrev pub tape_command : Usage
+tape_command = record {
+  name = codes "tape";
+  required = codes "map" ∷ codes "plan" ∷ codes "id" ∷ codes "file" ∷ [];
+  options = [];
+  cells = [];
+  flags = explain_flag ∷ [];
 }
 
 -- all commands
 abbrev pub commands : List Usage
-commands = map_command ∷ scen_command ∷ row_command ∷ check_command ∷ deps_command ∷ path_command ∷ run_command ∷ agent_command ∷ []
+commands =
+    map_command ∷ scen_command ∷ row_command ∷ check_command ∷ deps_command ∷ path_command ∷ run_command ∷ agent_command ∷ tape_command ∷ []
 
 -- one required word
 abbrev pub required_word : Text → Rule
@@ -183,12 +197,12 @@ abbrev pub GivesClaim : Text → List Row → Type 0
 GivesClaim option rows = (word : Text) → first_of option rows ≡ Some word → (claim : TapeClaim) × SaysClaim claim word
 
 -- The values that the command with this name wants, if it wants some, are such: the number of a row is spelled, and is below 2^32, that of an
--- agent below 2^16, and those of a cell, or of one agent, where one is given; and what is claimed of a tape is said.
+-- agent, with its tape too, below 2^16, and those of a cell, or of one agent, where one is given; and what is claimed of a tape is said.
 abbrev pub HasValues : Text → List Row → Type 0
 HasValues name rows =
     (name ≡ codes "row" → GivesNumberBelow (2 ^ 32) (codes "row") rows) × (name ≡ codes "agent" → GivesNumberBelow (2 ^ 16) (codes "id") rows)
     × (name ≡ codes "deps" → GivesCells (codes "cell") rows) × (name ≡ codes "path" → GivesNumbers (2 ^ 16) (codes "agent") rows)
-    × (name ≡ codes "agent" → GivesClaim (codes "tape") rows)
+    × (name ≡ codes "agent" → GivesClaim (codes "tape") rows) × (name ≡ codes "tape" → GivesNumberBelow (2 ^ 16) (codes "id") rows)
 
 -- the same of the words of the command line
 abbrev pub GiveValues : List Text → Type 0
@@ -198,31 +212,41 @@ GiveValues words = (name : Text) (rows : List Row) → subcommand_of program_app
 abbrev pub IsFlagGiven : Text → List Row → Type 0
 IsFlagGiven flag rows = one_of flag rows ≡ Some (codes "true")
 
+-- an explanation is asked for exactly where the rows show its flag as given
+abbrev pub AsksToExplain : List Row → Bool → Type 0
+AsksToExplain rows explain = explain ≡ true ↔ IsFlagGiven explain_flag rows
+
 -- the line is the command with this name, and its words have the values that the rows give
 abbrev pub IsCommand : Text → List Row → Line → Type 0
-IsCommand name rows (Map file) = (name ≡ codes "map") × (first_of (codes "file") rows ≡ Some (string_bytes file))
-IsCommand name rows (Scen file) = (name ≡ codes "scen") × (first_of (codes "file") rows ≡ Some (string_bytes file))
-IsCommand name rows (row_line map_file scen_file row) =
+IsCommand name rows (Map file explain) =
+    (name ≡ codes "map") × (first_of (codes "file") rows ≡ Some (string_bytes file)) × AsksToExplain rows explain
+IsCommand name rows (Scen file explain) =
+    (name ≡ codes "scen") × (first_of (codes "file") rows ≡ Some (string_bytes file)) × AsksToExplain rows explain
+IsCommand name rows (row_line map_file scen_file row explain) =
     (name ≡ codes "row") × (first_of (codes "map") rows ≡ Some (string_bytes map_file))
-    × (first_of (codes "scen") rows ≡ Some (string_bytes scen_file)) × GivesNumber (codes "row") rows row
-IsCommand name rows (Check map_file plan_file scen_file json) =
+    × (first_of (codes "scen") rows ≡ Some (string_bytes scen_file)) × GivesNumber (codes "row") rows row × AsksToExplain rows explain
+IsCommand name rows (Check map_file plan_file scen_file json explain) =
     (name ≡ codes "check") × (first_of (codes "map") rows ≡ Some (string_bytes map_file))
     × (first_of (codes "plan") rows ≡ Some (string_bytes plan_file)) × (first_of (codes "scen") rows ≡ option_map string_bytes scen_file)
-    × (json ≡ true ↔ IsFlagGiven (codes "json") rows)
-IsCommand name rows (Deps map_file plan_file cell) =
+    × (json ≡ true ↔ IsFlagGiven (codes "json") rows) × AsksToExplain rows explain
+IsCommand name rows (Deps map_file plan_file cell explain) =
     (name ≡ codes "deps") × (first_of (codes "map") rows ≡ Some (string_bytes map_file))
-    × (first_of (codes "plan") rows ≡ Some (string_bytes plan_file)) × MayGiveCell (codes "cell") rows cell
-IsCommand name rows (Path map_file plan_file agent) =
+    × (first_of (codes "plan") rows ≡ Some (string_bytes plan_file)) × MayGiveCell (codes "cell") rows cell × AsksToExplain rows explain
+IsCommand name rows (Path map_file plan_file agent explain) =
     (name ≡ codes "path") × (first_of (codes "map") rows ≡ Some (string_bytes map_file))
-    × (first_of (codes "plan") rows ≡ Some (string_bytes plan_file)) × MayGiveNumber (codes "agent") rows agent
-IsCommand name rows (Run map_file plan_file events_file complete) =
+    × (first_of (codes "plan") rows ≡ Some (string_bytes plan_file)) × MayGiveNumber (codes "agent") rows agent × AsksToExplain rows explain
+IsCommand name rows (Run map_file plan_file events_file complete explain) =
     (name ≡ codes "run") × (first_of (codes "map") rows ≡ Some (string_bytes map_file))
     × (first_of (codes "plan") rows ≡ Some (string_bytes plan_file)) × (first_of (codes "events") rows ≡ Some (string_bytes events_file))
-    × (complete ≡ true ↔ IsFlagGiven (codes "complete") rows)
-IsCommand name rows (Agent map_file plan_file id tape_file claim) =
+    × (complete ≡ true ↔ IsFlagGiven (codes "complete") rows) × AsksToExplain rows explain
+IsCommand name rows (Agent map_file plan_file id tape_file claim explain) =
     (name ≡ codes "agent") × (first_of (codes "map") rows ≡ Some (string_bytes map_file))
     × (first_of (codes "plan") rows ≡ Some (string_bytes plan_file)) × GivesNumber (codes "id") rows id
-    × (first_of (codes "file") rows ≡ Some (string_bytes tape_file)) × MakesClaim (codes "tape") rows claim
+    × (first_of (codes "file") rows ≡ Some (string_bytes tape_file)) × MakesClaim (codes "tape") rows claim × AsksToExplain rows explain
+IsCommand name rows (Tape map_file plan_file id tape_file explain) =
+    (name ≡ codes "tape") × (first_of (codes "map") rows ≡ Some (string_bytes map_file))
+    × (first_of (codes "plan") rows ≡ Some (string_bytes plan_file)) × GivesNumber (codes "id") rows id
+    × (first_of (codes "file") rows ≡ Some (string_bytes tape_file)) × AsksToExplain rows explain
 
 -- the line is the command that clap's definition of the program gives for the words
 abbrev pub IsLineOf : List Text → Line → Type 0

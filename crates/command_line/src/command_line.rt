@@ -4,28 +4,32 @@ ghost use Rattle.clap.specs.Words.{kind_of};
 ghost use Rattle.command_line.specs.Words.{ComesTo, SaysBad};
 ghost use Rattle.command_line.specs.declared.command_line.LineFault.TheVariants.{OutOfMemory as out_of_memory};
 
+use crate::refusal::refusal_text;
 use clap::error::{Error as ClapError, ErrorKind};
 use grid::Cell;
 use std::alloc::{AllocError, Global};
 use tape_claim::TapeClaim;
 use thiserror::Error;
 
-/// A command with what its words say.
+/// A command with what its words say. Each has `explain`, which asks for more about a fault than its line.
 #[derive(Debug, Drop, PartialEq, Eq)]
 pub enum Line {
     /// Reads a map and writes it in canonical form.
     Map {
         file: String,
+        explain: bool,
     },
     /// Reads a scenario and writes it in canonical form.
     Scen {
         file: String,
+        explain: bool,
     },
     /// Judges the listed length of a scenario's row, counted from 0, on a map.
     Row {
         map: String,
         scen: String,
         row: u32,
+        explain: bool,
     },
     /// Checks a plan on a map, and perhaps that it solves the first rows of a scenario; `json` asks for the answer as JSON.
     Check {
@@ -33,18 +37,21 @@ pub enum Line {
         plan: String,
         scen: Option<String>,
         json: bool,
+        explain: bool,
     },
     /// Says which moves of a plan wait for which, or, of a cell, who comes into it.
     Deps {
         map: String,
         plan: String,
         cell: Option<Cell>,
+        explain: bool,
     },
     /// Writes where the agents of a plan are at each time, or where one of them is.
     Path {
         map: String,
         plan: String,
         agent: Option<u16>,
+        explain: bool,
     },
     /// Runs a plan on the events of a text; `complete` asks for how the run ends too.
     Run {
@@ -52,6 +59,7 @@ pub enum Line {
         plan: String,
         events: String,
         complete: bool,
+        explain: bool,
     },
     /// Answers for one agent of a plan, by its tape, of which something may be claimed.
     Agent {
@@ -60,6 +68,15 @@ pub enum Line {
         id: u16,
         tape: String,
         claim: TapeClaim,
+        explain: bool,
+    },
+    /// Says what the tape of an agent of a plan keeps.
+    Tape {
+        map: String,
+        plan: String,
+        id: u16,
+        tape: String,
+        explain: bool,
     },
 }
 
@@ -97,11 +114,11 @@ impl From<AllocError> for LineFault {
     }
 }
 
-/// What a refusal of `clap` comes to, with its own text.
-pub(crate) fn refused(alloc: Global, error: &ClapError) -> LineFault
+/// What the refusal of these words by `clap` comes to.
+pub(crate) fn refused(alloc: Global, words: &[String], error: &ClapError) -> LineFault
     ensures { (result ≡ LineFault.OutOfMemory) ⊎ ComesTo (kind_of error.now) result }
 {
-    let Ok(text) = format!(in alloc; "{error}") else {
+    let Ok(text) = refusal_text(alloc, words, error) else {
         return LineFault::OutOfMemory;
     };
     match error.kind() {

@@ -14,6 +14,9 @@ pub(crate) enum Word<'a> {
 
 use Word::{Cell, Flag, Named, Required};
 
+/// The flag that each command has.
+const EXPLAIN: Word<'static> = Flag("explain", "Explains a fault, behind its line");
+
 /// A command with its words. `about` is one line, and `after_help` stands below the words.
 pub(crate) struct CommandText<'a> {
     pub(crate) name: &'a str,
@@ -21,6 +24,10 @@ pub(crate) struct CommandText<'a> {
     pub(crate) after_help: &'a str,
     pub(crate) words: &'a [Word<'a>],
 }
+
+/// The version, and in a second line the kit that proved it, as `tools/dist.py` finds it.
+pub(crate) const VERSION: &str = "0.1.0
+proved by rattle-kit-13b logic dac8208d650f15bf";
 
 pub(crate) const PROGRAM_ABOUT: &str =
     "Reads maps, scenarios and plans, answers what they hold, and runs plans";
@@ -34,13 +41,15 @@ Status:
   2  a bad command line
   3  a file can't be opened, a device failed, or memory was refused
 
-`mapf help COMMAND` shows the answer, the statuses and an example of a command.";
+`mapf help COMMAND` shows the answer, the statuses and an example of a command.
+`mapf help faults` lists all faults, and `mapf help FAULT` shows one. With
+--explain a command says more about its fault than the line.";
 
 pub(crate) const MAP: CommandText<'static> = CommandText {
     name: "map",
     about: "Reads a map and writes it in canonical form",
     after_help: "\
-Standard output is the canonical text of the map.
+Standard output is the canonical text of the map. The file - is standard input.
 
 Status:
   0  the text is written
@@ -50,14 +59,15 @@ Status:
 
 Example:
   mapf map examples/corner.map",
-    words: &[Required("file", "The file of the map")],
+    words: &[Required("file", "The file of the map"), EXPLAIN],
 };
 
 pub(crate) const SCEN: CommandText<'static> = CommandText {
     name: "scen",
     about: "Reads a scenario and writes it in canonical form",
     after_help: "\
-Standard output is the canonical text of the scenario.
+Standard output is the canonical text of the scenario. The file - is standard
+input.
 
 Status:
   0  the text is written
@@ -67,7 +77,7 @@ Status:
 
 Example:
   mapf scen examples/corner.scen",
-    words: &[Required("file", "The file of the scenario")],
+    words: &[Required("file", "The file of the scenario"), EXPLAIN],
 };
 
 pub(crate) const ROW: CommandText<'static> = CommandText {
@@ -93,6 +103,7 @@ Example:
         Required("map", "The file of the map"),
         Required("scen", "The file of the scenario"),
         Required("row", "The number of the row, counted from 0"),
+        EXPLAIN,
     ],
 };
 
@@ -118,6 +129,7 @@ Example:
         Required("plan", "The file of the plan"),
         Named("scen", "The file of a scenario that the plan is to solve"),
         Flag("json", "Writes the answer as JSON"),
+        EXPLAIN,
     ],
 };
 
@@ -146,6 +158,7 @@ Example:
         Required("map", "The file of the map"),
         Required("plan", "The file of the plan"),
         Cell("cell", "Writes who comes into this cell, and when"),
+        EXPLAIN,
     ],
 };
 
@@ -172,6 +185,7 @@ Example:
         Required("map", "The file of the map"),
         Required("plan", "The file of the plan"),
         Named("agent", "The number of the one agent to write, from 0"),
+        EXPLAIN,
     ],
 };
 
@@ -201,6 +215,7 @@ Example:
         Required("plan", "The file of the plan"),
         Required("events", "The file of the events"),
         Flag("complete", "Writes how the run ends too"),
+        EXPLAIN,
     ],
 };
 
@@ -246,6 +261,38 @@ Example:
             "The file of the agent's tape, made where there is none",
         ),
         Named("tape", "What the tape has to be: new or kept"),
+        EXPLAIN,
+    ],
+};
+
+pub(crate) const TAPE: CommandText<'static> = CommandText {
+    name: "tape",
+    about: "Checks a plan on a map, and says what the tape of an agent keeps",
+    after_help: "\
+Standard output is two lines. The first is the state of the agent:
+  at X Y done N            it stands in this cell, with N moves finished
+  between X Y U V done N   it is moving from the one cell to the other
+The second is of the file:
+  records R torn T         R whole records, and T bytes behind them that count
+                           as nothing
+Nothing is written to the tape, and it may be read beside the agent that holds
+it.
+
+Status:
+  0  the lines are written
+  1  a text or the plan has a fault, there is no such agent, or the tape is
+     refused: one line on standard error
+  2  a bad command line
+  3  a file can't be opened, a device failed, or memory was refused
+
+Example:
+  mapf tape examples/plain.map examples/behind.plan 0 robot0.tape",
+    words: &[
+        Required("map", "The file of the map"),
+        Required("plan", "The file of the plan"),
+        Required("id", "The number of the agent, counted from 0"),
+        Required("file", "The file of the agent's tape"),
+        EXPLAIN,
     ],
 };
 
@@ -257,12 +304,19 @@ pub(crate) struct NumberText {
 
 pub(crate) const ROW_NUMBER: NumberText = NumberText {
     wanted: "a number from 0 to 4294967295 is wanted",
-    usage: "mapf row <map> <scen> <row>",
+    usage: "mapf row [OPTIONS] <map> <scen> <row>",
 };
 
+const AGENT_WANTED: &str = "the number of an agent, from 0 to 65535, is wanted";
+
 pub(crate) const AGENT_ID: NumberText = NumberText {
-    wanted: "the number of an agent, from 0 to 65535, is wanted",
+    wanted: AGENT_WANTED,
     usage: "mapf agent [OPTIONS] <map> <plan> <id> <file>",
+};
+
+pub(crate) const TAPE_ID: NumberText = NumberText {
+    wanted: AGENT_WANTED,
+    usage: "mapf tape [OPTIONS] <map> <plan> <id> <file>",
 };
 
 /// What is said of a word that is no number of an agent.
@@ -294,3 +348,8 @@ For more information, try '--help'.
 /// For words that `clap` takes and that are no command: there are none.
 pub(crate) const NO_COMMAND: &str =
     "error: the words are no command\n\nFor more information, try '--help'.\n";
+
+/// The names of all commands.
+pub(crate) static COMMANDS: [&str; 10] = [
+    "map", "scen", "row", "check", "deps", "path", "run", "agent", "tape", "help",
+];

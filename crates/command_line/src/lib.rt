@@ -3,6 +3,7 @@
 
 mod command_line;
 mod help;
+mod refusal;
 mod words;
 
 pub use command_line::{Line, LineFault};

@@ -6,11 +6,12 @@ ghost use Rattle.clap.specs.Words.{app_of, with_subcommand, first_of, found_of, 
 ghost use Rattle.grid.specs.declared.cell.Cell.{Cell};
 ghost use Rattle.grid.specs.Text.{SpellsNumber};
 ghost use Rattle.tape_claim.specs.declared.TapeClaim.{TapeClaim};
-ghost use Rattle.command_line.specs.Words.{program_app, IsFlagGiven, HasValues, GivesNumber, GivesNumberBelow, GiveValues, SpellsCell, MayGiveCell, GivesCells, GivesClaim, MakesClaim, SaysClaim, MayGiveNumber, GivesNumbers, IsCommand, IsLineOf, IsFaultOf};
+ghost use Rattle.command_line.specs.Words.{program_app, AsksToExplain, IsFlagGiven, HasValues, GivesNumber, GivesNumberBelow, GiveValues, SpellsCell, MayGiveCell, GivesCells, GivesClaim, MakesClaim, SaysClaim, MayGiveNumber, GivesNumbers, IsCommand, IsLineOf, IsFaultOf};
 ghost use Rattle.command_line.specs.Code.Parts.{HasWords, IsRefusal, rule_of_word, shape_of_text};
 
 use crate::command_line::refused;
 use crate::help::{self, CommandText, NumberText, Word};
+use crate::refusal::shown;
 use crate::{Line, LineFault};
 use clap::{Arg, ArgAction, ArgMatches, Command};
 use grid::Cell;
@@ -28,7 +29,7 @@ pub fn line(alloc: Global, words: &[String]) -> Result<Line, LineFault>
     let program = program(alloc)?;
     let matches = match program.try_get_matches_from(words) {
         Ok(matches) => matches,
-        Err(error) => return Err(refused(alloc, &error)),
+        Err(error) => return Err(refused(alloc, words, &error)),
     };
     match matches.subcommand() {
         Some((name, given)) => read_command(alloc, name, given),
@@ -37,11 +38,11 @@ pub fn line(alloc: Global, words: &[String]) -> Result<Line, LineFault>
 }
 
 /// All commands, as `clap` takes them.
-fn program<'a>(alloc: Global) -> Result<Command<'a>, AllocError>
+pub(crate) fn program<'a>(alloc: Global) -> Result<Command<'a>, AllocError>
     ensures { IfOk result (λ c. app_of c ≡ program_app) }
 {
     let program = Command::new(alloc, "mapf")
-        .version("0.1.0")
+        .version(help::VERSION)
         .about(help::PROGRAM_ABOUT)
         .after_help(help::PROGRAM_AFTER_HELP)
         .subcommand_required(true);
@@ -52,7 +53,8 @@ fn program<'a>(alloc: Global) -> Result<Command<'a>, AllocError>
     let program = with_command(alloc, program, &help::DEPS)?;
     let program = with_command(alloc, program, &help::PATH)?;
     let program = with_command(alloc, program, &help::RUN)?;
-    with_command(alloc, program, &help::AGENT)
+    let program = with_command(alloc, program, &help::AGENT)?;
+    with_command(alloc, program, &help::TAPE)
 }
 
 /// The program with one more command.
@@ -102,22 +104,36 @@ fn read_command(alloc: Global, name: &str, given: &ArgMatches<'_>) -> Result<Lin
     match name {
         "map" => Ok(Line::Map {
             file: word(alloc, given, "file")?,
+            explain: asks_to_explain(given),
         }),
         "scen" => Ok(Line::Scen {
             file: word(alloc, given, "file")?,
+            explain: asks_to_explain(given),
         }),
-        "row" => Ok(Line::Row {
-            map: word(alloc, given, "map")?,
-            scen: word(alloc, given, "scen")?,
-            row: row_number(alloc, given)?,
-        }),
+        "row" => read_row(alloc, given),
         "check" => read_check(alloc, given),
         "deps" => read_deps(alloc, given),
         "path" => read_path(alloc, given),
         "run" => read_run(alloc, given),
         "agent" => read_agent(alloc, given),
+        "tape" => read_tape(alloc, given),
         _ => Err(no_command(alloc)),
     }
+}
+
+/// Reads `row` by the words that it was given.
+fn read_row(alloc: Global, given: &ArgMatches<'_>) -> Result<Line, LineFault>
+    ensures ok { IfOk result (IsCommand (codes "row") (rows_of (found_of given.now))) }
+    ensures err { IfErr result (λ e. HasWords (codes "row") (rows_of (found_of given.now)) → HasValues (codes "row") (rows_of (found_of given.now))
+        → e ≡ LineFault.OutOfMemory) }
+    ensures refusal { IfErr result IsRefusal }
+{
+    Ok(Line::Row {
+        map: word(alloc, given, "map")?,
+        scen: word(alloc, given, "scen")?,
+        row: row_number(alloc, given)?,
+        explain: asks_to_explain(given),
+    })
 }
 
 /// Reads `check` by the words that it was given.
@@ -131,6 +147,7 @@ fn read_check(alloc: Global, given: &ArgMatches<'_>) -> Result<Line, LineFault>
         plan: word(alloc, given, "plan")?,
         scen: optional_word(alloc, given, "scen")?,
         json: has_flag(given, "json"),
+        explain: asks_to_explain(given),
     })
 }
 
@@ -145,6 +162,7 @@ fn read_deps(alloc: Global, given: &ArgMatches<'_>) -> Result<Line, LineFault>
         map: word(alloc, given, "map")?,
         plan: word(alloc, given, "plan")?,
         cell: optional_cell(alloc, given)?,
+        explain: asks_to_explain(given),
     })
 }
 
@@ -159,6 +177,7 @@ fn read_path(alloc: Global, given: &ArgMatches<'_>) -> Result<Line, LineFault>
         map: word(alloc, given, "map")?,
         plan: word(alloc, given, "plan")?,
         agent: optional_agent(alloc, given)?,
+        explain: asks_to_explain(given),
     })
 }
 
@@ -173,6 +192,7 @@ fn read_run(alloc: Global, given: &ArgMatches<'_>) -> Result<Line, LineFault>
         plan: word(alloc, given, "plan")?,
         events: word(alloc, given, "events")?,
         complete: has_flag(given, "complete"),
+        explain: asks_to_explain(given),
     })
 }
 
@@ -186,9 +206,26 @@ fn read_agent(alloc: Global, given: &ArgMatches<'_>) -> Result<Line, LineFault>
     Ok(Line::Agent {
         map: word(alloc, given, "map")?,
         plan: word(alloc, given, "plan")?,
-        id: agent_id(alloc, given)?,
+        id: agent_id(alloc, given, &help::AGENT_ID)?,
         tape: word(alloc, given, "file")?,
         claim: tape_claim(alloc, given)?,
+        explain: asks_to_explain(given),
+    })
+}
+
+/// Reads `tape` by the words that it was given.
+fn read_tape(alloc: Global, given: &ArgMatches<'_>) -> Result<Line, LineFault>
+    ensures ok { IfOk result (IsCommand (codes "tape") (rows_of (found_of given.now))) }
+    ensures err { IfErr result (λ e. HasWords (codes "tape") (rows_of (found_of given.now)) → HasValues (codes "tape") (rows_of (found_of given.now))
+        → e ≡ LineFault.OutOfMemory) }
+    ensures refusal { IfErr result IsRefusal }
+{
+    Ok(Line::Tape {
+        map: word(alloc, given, "map")?,
+        plan: word(alloc, given, "plan")?,
+        id: agent_id(alloc, given, &help::TAPE_ID)?,
+        tape: word(alloc, given, "file")?,
+        explain: asks_to_explain(given),
     })
 }
 
@@ -205,14 +242,14 @@ fn row_number(alloc: Global, given: &ArgMatches<'_>) -> Result<u32, LineFault>
 }
 
 /// The number of the agent that was given.
-fn agent_id(alloc: Global, given: &ArgMatches<'_>) -> Result<u16, LineFault>
+fn agent_id(alloc: Global, given: &ArgMatches<'_>, text: &NumberText) -> Result<u16, LineFault>
     ensures ok { IfOk result (GivesNumber (codes "id") (rows_of (found_of given.now))) }
     ensures none { OnErr result (GivesNumberBelow (2 ^ 16) (codes "id") (rows_of (found_of given.now)) → ⊥) }
     ensures err { IfErr result IsRefusal }
 {
     match short_number(given, "id") {
         Some(id) => Ok(id),
-        None => Err(no_number(alloc, given, "id", &help::AGENT_ID)),
+        None => Err(no_number(alloc, given, "id", text)),
     }
 }
 
@@ -290,7 +327,9 @@ fn cell_of(values: &[&str]) -> Option<Cell>
 fn no_number(alloc: Global, given: &ArgMatches<'_>, name: &str, text: &NumberText) -> LineFault
     ensures { IsRefusal result }
 {
-    let word = given.get_str(name).unwrap_or("");
+    let Ok(word) = shown(alloc, given.get_str(name).unwrap_or("")) else {
+        return LineFault::OutOfMemory;
+    };
     let wanted = text.wanted;
     let usage = text.usage;
     match format!(in alloc;
@@ -372,6 +411,13 @@ fn optional_word(
         Some(text) => Ok(Some(String::from_str(alloc, text)?)),
         None => Ok(None),
     }
+}
+
+/// Whether an explanation is asked for.
+fn asks_to_explain(given: &ArgMatches<'_>) -> bool
+    ensures { AsksToExplain (rows_of (found_of given.now)) result }
+{
+    has_flag(given, "explain")
 }
 
 /// Whether a flag was given.

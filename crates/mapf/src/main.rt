@@ -2,9 +2,10 @@
 #![tactic(auto)]
 
 use grid::Counted;
-use mapf_cmd::{LineFault, refuse, run};
+use mapf_cmd::{LineFault, Remembering, Style, refuse, run};
 use std::alloc::Global;
-use std::io::ErrorKind;
+use std::env::VarError;
+use std::io::{ErrorKind, IsTerminal};
 use std::process::ExitCode;
 use std::{env, io};
 
@@ -13,10 +14,17 @@ const NOT_TEXT: &str =
 
 fn main(rt: HostRuntime) -> ExitCode {
     let mut input = Counted::new(rt.stdin());
-    let mut out = Counted::new(rt.stdout());
-    let mut err = Counted::new(rt.stderr());
+    let mut out = Counted::new(Remembering::new(rt.stdout()));
+    let mut err = Counted::new(Remembering::new(rt.stderr()));
     let status = match words(&rt) {
-        Ok(words) => run(&rt, words.as_slice(), &mut input, &mut out, &mut err),
+        Ok(words) => run(
+            &rt,
+            words.as_slice(),
+            style(&rt),
+            &mut input,
+            &mut out,
+            &mut err,
+        ),
         Err(fault) => refuse(fault, &mut out, &mut err),
     };
     ExitCode::from(status)
@@ -28,6 +36,24 @@ fn words(rt: &HostRuntime) -> Result<Vec<String>, LineFault> {
         Ok(words) => Ok(words.collect(rt.alloc())?),
         Err(e) => Err(fault_of(rt.alloc(), e)),
     }
+}
+
+/// Colour is for terminals that can show it, and for people who did not ask for none.
+fn style(rt: &HostRuntime) -> Style {
+    if rt.stderr().is_terminal() && !is_colour_refused(rt) {
+        Style::Coloured
+    } else {
+        Style::Plain
+    }
+}
+
+/// Whether `NO_COLOR` is set to anything but nothing, or `TERM` names a terminal that shows none.
+fn is_colour_refused(rt: &HostRuntime) -> bool {
+    let is_unwanted = match env::var(rt, "NO_COLOR") {
+        Ok(value) => !value.is_empty(),
+        Err(fault) => fault != VarError::NotPresent,
+    };
+    is_unwanted || matches!(env::var(rt, "TERM"), Ok(term) if term.as_str() == "dumb")
 }
 
 fn fault_of(alloc: Global, e: io::Error) -> LineFault {

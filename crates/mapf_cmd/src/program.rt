@@ -1,79 +1,188 @@
-//! The program over its words: chooses the command, and opens its files.
-ghost use Rattle.std.specs.Prelude.{◌≡◌, Some, MatchResult, map, string_bytes};
-ghost use Rattle.grid.specs.FaultWords.{words_of, words_text};
+//! The program over its words: chooses the command, and explains its fault.
+ghost use Rattle.std.specs.Prelude.{◌≡◌, MatchResult, map, string_bytes};
+ghost use Rattle.explain.specs.Explaining.{GoesOn};
+ghost use Rattle.grid.specs.Counted.{counted_inner};
 ghost use Rattle.text_commands.specs.Telling.{Tells};
-ghost use Rattle.mapf_cmd.specs.Program.{program_fault_words, PerformsOn, Performs, EndsRefused, AnswersWords};
+ghost use Rattle.mapf_cmd.specs.Program.{AnswersLine, AnswersWords, Performs, PerformsOn, is_explained};
+ghost use Rattle.mapf_cmd.specs.Remembering.{contents_inside};
 
-use agent_commands::agent_claim_cmd;
-use command_line::{Line, LineFault, line};
-use grid::{Counted, FaultWords};
-use path_commands::path_cmd;
-use plan_commands::{check_cmd, check_fit_cmd, deps_cell_cmd, deps_cmd};
-use run_commands::run_cmd;
+use crate::Remembering;
+use crate::fault_line::FaultLine;
+use crate::on_files::{
+    agent_on_files, check_on_files, deps_on_files, map_on_file, path_on_files, row_on_files,
+    run_on_files, scen_on_file, tape_on_files,
+};
+use crate::program_fault::ProgramFault;
+use crate::unperformed::end_unperformed;
+use command_line::{Line, line};
+use explain::{FileKind, NamedFile, Style, explain};
+use grid::Counted;
+use std::io;
 use std::io::{Read, Write};
 use std::rt::Files;
-use std::{fmt, fs, io};
 use tape_claim::LockFile;
-use text_commands::{Status, finish, map_cmd, report, row_cmd, scen_cmd, write_text};
-use thiserror::Error;
-
-/// Why there is no command to perform, or none was performed.
-#[derive(Clone, Copy, Debug, PartialEq, Eq, Error)]
-enum ProgramFault {
-    OpenFailed,
-    OutOfMemory,
-}
-
-impl ProgramFault {
-    /// The words in which it is told.
-    fn words(self) -> FaultWords
-        ensures { words_of result ≡ program_fault_words self }
-    {
-        match self {
-            ProgramFault::OpenFailed => FaultWords::new("OpenFailed", &[]),
-            ProgramFault::OutOfMemory => FaultWords::new("OutOfMemory", &[]),
-        }
-    }
-}
-
-impl fmt::Display for ProgramFault {
-    ghost output = { λ fault. Some (words_text (program_fault_words fault)) };
-
-    fn fmt<W: fmt::Write>(&self, f: &mut fmt::Formatter<W>) -> fmt::Result {
-        self.words().fmt(f)
-    }
-}
+use text_commands::{Status, report};
 
 /// Answers the words of the command line, the program's name first, over the files of `rt`: what a command writes goes to `out`, and
-/// the line of a fault to `err`. Only an agent reads `input`. The answer is the exit status.
+/// the line of a fault to `err`, with an explanation behind it in this style, where one is asked for. An agent reads `input`, and so do `map`
+/// and `scen` where their file is `-`. The answer is the exit status.
 pub fn run<R: Files + AllocGlobal, I: Read, W: Write, E: Write>(
     rt: &R,
     words: &[String],
+    style: Style,
     input: &mut Counted<I>,
-    out: &mut Counted<W>,
-    err: &mut Counted<E>,
+    out: &mut Counted<Remembering<W>>,
+    err: &mut Counted<Remembering<E>>,
 ) -> u8
 where
     R::File: LockFile,
-    ensures { AnswersWords R.File.remaining I.remaining W.contents E.contents (map string_bytes words.now) input.old input.new out.old out.new err.old err.new result }
+    ensures { AnswersWords R.File.remaining I.remaining (contents_inside W.contents) (contents_inside E.contents) (map string_bytes words.now) input.old input.new out.old out.new err.old err.new result }
 {
     match line(rt.alloc(), words) {
-        Ok(line) => perform(rt, line, input, out, err),
-        Err(fault) => refuse(fault, out, err),
+        Ok(line) => answer(rt, &line, style, input, out, err),
+        Err(fault) => end_unperformed(words, fault, out, err),
     }
+}
+
+/// Performs a command on its files, and explains its fault, where that is asked for.
+fn answer<R: Files + AllocGlobal, I: Read, W: Write, E: Write>(
+    rt: &R,
+    line: &Line,
+    style: Style,
+    input: &mut Counted<I>,
+    out: &mut Counted<Remembering<W>>,
+    err: &mut Counted<Remembering<E>>,
+) -> u8
+where
+    R::File: LockFile,
+    ensures { AnswersLine R.File.remaining I.remaining (contents_inside W.contents) (contents_inside E.contents) line.now input.old input.new out.old out.new err.old err.new result }
+{
+    let status = perform(rt, line, input, out, err);
+    if asks_to_explain(line) {
+        let told = FaultLine::of(out.inner().remembered(), err.inner().remembered());
+        explain_fault(rt, line, told.as_slice(), style, err);
+    }
+    status
+}
+
+/// Whether an explanation is asked for.
+fn asks_to_explain(line: &Line) -> bool
+    ensures { result ≡ is_explained line.now }
+{
+    match line {
+        Line::Map { explain, .. }
+        | Line::Scen { explain, .. }
+        | Line::Row { explain, .. }
+        | Line::Check { explain, .. }
+        | Line::Deps { explain, .. }
+        | Line::Path { explain, .. }
+        | Line::Run { explain, .. }
+        | Line::Agent { explain, .. }
+        | Line::Tape { explain, .. } => *explain,
+    }
+}
+
+/// Explains what was told of a command, by its files in the order in which it opens them.
+fn explain_fault<R: Files + AllocGlobal, E: Write>(
+    rt: &R,
+    line: &Line,
+    told: &[u8],
+    style: Style,
+    err: &mut Counted<Remembering<E>>,
+)
+    ensures { GoesOn (contents_inside E.contents (counted_inner err.old)) (contents_inside E.contents (counted_inner err.new)) }
+{
+    match line {
+        Line::Map { file, .. } => explain(rt, &[map_file(file)], told, style, err),
+        Line::Scen { file, .. } => explain(rt, &[scen_file(file)], told, style, err),
+        Line::Row { map, scen, .. } => {
+            explain(rt, &[map_file(map), scen_file(scen)], told, style, err);
+        }
+        Line::Check {
+            map,
+            plan,
+            scen: Some(scen),
+            ..
+        } => explain(
+            rt,
+            &[map_file(map), plan_file(plan), scen_file(scen)],
+            told,
+            style,
+            err,
+        ),
+        Line::Check { map, plan, .. }
+        | Line::Deps { map, plan, .. }
+        | Line::Path { map, plan, .. } => {
+            explain(rt, &[map_file(map), plan_file(plan)], told, style, err);
+        }
+        Line::Run {
+            map,
+            plan,
+            events,
+            ..
+        } => explain(
+            rt,
+            &[
+                map_file(map),
+                plan_file(plan),
+                file_of(FileKind::Events, events),
+            ],
+            told,
+            style,
+            err,
+        ),
+        Line::Agent {
+            map,
+            plan,
+            tape,
+            ..
+        }
+        | Line::Tape {
+            map,
+            plan,
+            tape,
+            ..
+        } => explain(
+            rt,
+            &[
+                map_file(map),
+                plan_file(plan),
+                file_of(FileKind::Tape, tape),
+            ],
+            told,
+            style,
+            err,
+        ),
+    }
+}
+
+fn map_file(path: &str) -> NamedFile<'_> {
+    file_of(FileKind::Map, path)
+}
+
+fn scen_file(path: &str) -> NamedFile<'_> {
+    file_of(FileKind::Scenario, path)
+}
+
+fn plan_file(path: &str) -> NamedFile<'_> {
+    file_of(FileKind::Plan, path)
+}
+
+fn file_of(kind: FileKind, path: &str) -> NamedFile<'_> {
+    NamedFile { kind, path }
 }
 
 /// Performs a command on its files.
 fn perform<R: Files + AllocGlobal, I: Read, W: Write, E: Write>(
     rt: &R,
-    line: Line,
+    line: &Line,
     input: &mut Counted<I>,
     out: &mut Counted<W>,
     err: &mut Counted<E>,
 ) -> u8
 where
     R::File: LockFile,
-    ensures { Performs R.File.remaining I.remaining W.contents (Tells E.contents err.old err.new) line input.old input.new out.old out.new result }
+    ensures { Performs R.File.remaining I.remaining W.contents (Tells E.contents err.old err.new) line.now input.old input.new out.old out.new result }
 {
     match perform_on_files(rt, line, input, out, err) {
         Ok(status) => status,
@@ -84,115 +193,63 @@ where
     }
 }
 
-/// Opens the files of a command, in the order of its words, and performs it. An error is that of a file that can't be opened.
+/// Performs a command on its files, opened in the order of its words. An error is that of a file that can't be opened.
 fn perform_on_files<R: Files + AllocGlobal, I: Read, W: Write, E: Write>(
     rt: &R,
-    line: Line,
+    line: &Line,
     input: &mut Counted<I>,
     out: &mut Counted<W>,
     err: &mut Counted<E>,
 ) -> io::Result<u8>
 where
     R::File: LockFile,
-    ensures { MatchResult result (PerformsOn R.File.remaining I.remaining W.contents (Tells E.contents err.old err.new) line input.old input.new out.old out.new)
+    ensures { MatchResult result (PerformsOn R.File.remaining I.remaining W.contents (Tells E.contents err.old err.new) line.now input.old input.new out.old out.new)
         (λ _. (input.new ≡ input.old) × (out.new ≡ out.old) × (err.new ≡ err.old)) }
 {
     match line {
-        Line::Map { file } => {
-            let mut map = Counted::new(fs::open(rt, &file)?);
-            Ok(map_cmd(rt.alloc(), &mut map, out, err))
-        }
-        Line::Scen { file } => {
-            let mut scen = Counted::new(fs::open(rt, &file)?);
-            Ok(scen_cmd(rt.alloc(), &mut scen, out, err))
-        }
-        Line::Row { map, scen, row } => {
-            let mut map = Counted::new(fs::open(rt, &map)?);
-            let mut scen = Counted::new(fs::open(rt, &scen)?);
-            Ok(row_cmd(rt.alloc(), &mut map, &mut scen, row, out, err))
-        }
+        Line::Map { file, .. } => map_on_file(rt, file, input, out, err),
+        Line::Scen { file, .. } => scen_on_file(rt, file, input, out, err),
+        Line::Row { map, scen, row, .. } => row_on_files(rt, map, scen, *row, out, err),
         Line::Check {
             map,
             plan,
             scen,
             json,
-        } => {
-            let mut map = Counted::new(fs::open(rt, &map)?);
-            let mut plan = Counted::new(fs::open(rt, &plan)?);
-            match scen {
-                None => Ok(check_cmd(rt.alloc(), &mut map, &mut plan, json, out, err)),
-                Some(scen) => {
-                    let mut scen = Counted::new(fs::open(rt, &scen)?);
-                    Ok(check_fit_cmd(rt.alloc(), &mut map, &mut plan, &mut scen, json, out, err))
-                }
-            }
-        }
-        Line::Deps { map, plan, cell } => {
-            let mut map = Counted::new(fs::open(rt, &map)?);
-            let mut plan = Counted::new(fs::open(rt, &plan)?);
-            match cell {
-                None => Ok(deps_cmd(rt.alloc(), &mut map, &mut plan, out, err)),
-                Some(cell) => Ok(deps_cell_cmd(rt.alloc(), &mut map, &mut plan, cell, out, err)),
-            }
-        }
-        Line::Path { map, plan, agent } => {
-            let mut map = Counted::new(fs::open(rt, &map)?);
-            let mut plan = Counted::new(fs::open(rt, &plan)?);
-            Ok(path_cmd(rt.alloc(), &mut map, &mut plan, agent, out, err))
-        }
+            ..
+        } => check_on_files(rt, map, plan, scen, *json, out, err),
+        Line::Deps {
+            map,
+            plan,
+            cell,
+            ..
+        } => deps_on_files(rt, map, plan, *cell, out, err),
+        Line::Path {
+            map,
+            plan,
+            agent,
+            ..
+        } => path_on_files(rt, map, plan, *agent, out, err),
         Line::Run {
             map,
             plan,
             events,
             complete,
-        } => {
-            let mut map = Counted::new(fs::open(rt, &map)?);
-            let mut plan = Counted::new(fs::open(rt, &plan)?);
-            let mut events = Counted::new(fs::open(rt, &events)?);
-            Ok(run_cmd(
-                rt.alloc(),
-                &mut map,
-                &mut plan,
-                &mut events,
-                complete,
-                out,
-                err,
-            ))
-        }
+            ..
+        } => run_on_files(rt, map, plan, events, *complete, out, err),
         Line::Agent {
             map,
             plan,
             id,
             tape,
             claim,
-        } => {
-            let mut map = Counted::new(fs::open(rt, &map)?);
-            let mut plan = Counted::new(fs::open(rt, &plan)?);
-            Ok(agent_claim_cmd(rt, &mut map, &mut plan, id, &tape, claim, input, out, err))
-        }
-    }
-}
-
-/// Shows the help that was asked for, or says why the words are no command. The answer is the exit status.
-pub fn refuse<W: Write, E: Write>(
-    fault: LineFault,
-    out: &mut Counted<W>,
-    err: &mut Counted<E>,
-) -> u8
-    ensures { EndsRefused W.contents E.contents fault out.old out.new err.old err.new result }
-{
-    match fault {
-        LineFault::Help(text) => {
-            let written = write_text(text.as_bytes(), out);
-            finish(written, Status::Done, out, err).code()
-        }
-        LineFault::BadCommand(text) => {
-            let _ = write_text(text.as_bytes(), err);
-            Status::BadCommand.code()
-        }
-        LineFault::OutOfMemory => {
-            report(err, ProgramFault::OutOfMemory.words());
-            Status::Failure.code()
-        }
+            ..
+        } => agent_on_files(rt, map, plan, *id, tape, *claim, input, out, err),
+        Line::Tape {
+            map,
+            plan,
+            id,
+            tape,
+            ..
+        } => tape_on_files(rt, map, plan, *id, tape, out, err),
     }
 }

@@ -2,7 +2,7 @@ use Rattle.std.proofs.Common.{◌≡◌, ◌∙◌, ap, true}
 use Rattle.std.proofs.lemmas.Result.{IfOk-weaker}
 use Rattle.clap.specs.Simple.{app_of_fields, on_top}
 use Rattle.clap.specs.Words.{App, app_of, with_subcommand}
-use Rattle.command_line.specs.Words.{Usage, agent_command, bare_program, check_command, command_of, deps_command, map_command, path_command, row_command, run_command, scen_command}
+use Rattle.command_line.specs.Words.{Usage, agent_command, bare_program, check_command, command_of, deps_command, map_command, path_command, row_command, run_command, scen_command, tape_command}
 use Rattle.command_line.proofs.words.program.Goals as goal
 
 abbrev with_usage : App → Usage → App
@@ -30,4 +30,5 @@ returns c =
     let fifth = c.in_ok-program-5.ensures ∙ ap (λ a. with_usage a deps_command) fourth in
     let sixth = c.in_ok-program-6.ensures ∙ ap (λ a. with_usage a path_command) fifth in
     let seventh = c.in_ok-program-7.ensures ∙ ap (λ a. with_usage a run_command) sixth in
-    IfOk-weaker c.with_command-8.result _ _ (λ r last. last ∙ ap (λ a. with_usage a agent_command) seventh) c.with_command-8.ensures
+    let eighth = c.in_ok-program-8.ensures ∙ ap (λ a. with_usage a agent_command) seventh in
+    IfOk-weaker c.with_command-9.result _ _ (λ r last. last ∙ ap (λ a. with_usage a tape_command) eighth) c.with_command-9.ensures

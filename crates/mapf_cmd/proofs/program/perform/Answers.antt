@@ -2,7 +2,7 @@
 use Rattle.std.proofs.Common.{ℕ, List, Some, inr, subst}
 use Rattle.text_commands.specs.Telling.{Tells}
 use Rattle.mapf_cmd.specs.Program.{program_fault_words}
-use Rattle.mapf_cmd.specs.declared.program.ProgramFault.TheVariants.{OpenFailed}
+use Rattle.mapf_cmd.specs.declared.program_fault.ProgramFault.TheVariants.{OpenFailed}
 use Rattle.mapf_cmd.proofs.program.perform.Goals as goal
 
 pub returns-in-Err : goal.returns-in-Err

@@ -7,7 +7,7 @@ use Rattle.text_commands.specs.Status.{code_of}
 use Rattle.text_commands.specs.Telling.{Tells}
 use Rattle.text_commands.specs.declared.status.Status.TheVariants.{Done}
 use Rattle.text_commands.proofs.Rewriting.{ends_writing}
-use Rattle.mapf_cmd.proofs.program.refuse.Goals as goal
+use Rattle.mapf_cmd.proofs.unperformed.refuse.Goals as goal
 
 pub returns-in-Help : goal.returns-in-Help
 returns-in-Help g c =

@@ -1,0 +1,83 @@
+//! Files that can't be opened, and devices that fail.
+use crate::files::{FileKind, NamedFile, shown_path};
+use crate::page::Page;
+use crate::table::put_sentence;
+use crate::told::Told;
+use std::fs;
+use std::io::ErrorKind;
+use std::rt::Files;
+
+/// Explains a fault of the system.
+pub(crate) fn explain_device<R: Files>(
+    rt: &R,
+    files: &[NamedFile<'_>],
+    told: &Told<'_>,
+    page: &mut Page,
+) {
+    let is_told = match told.name() {
+        b"OpenFailed" => put_unopened(rt, files, page),
+        b"ReadFailed" => put_folder(rt, files, page),
+        _ => false,
+    };
+    if !is_told {
+        put_sentence(told.name(), FileKind::Map, page);
+    }
+}
+
+/// Says which file can't be opened, and why, if that can be found.
+fn put_unopened<R: Files>(rt: &R, files: &[NamedFile<'_>], page: &mut Page) -> bool {
+    for file in files {
+        let path = shown_path(*file);
+        let name = file.kind.name();
+        if let Some(reason) = reason_of(rt, *file) {
+            page.show(format_args!("{path}, to be read as {name}: {reason}.\n"));
+            return true;
+        }
+    }
+    false
+}
+
+/// Why the file can't be opened. What is no file of bytes is not opened once more, since it may wait for ever.
+fn reason_of<R: Files>(rt: &R, file: NamedFile<'_>) -> Option<&'static str> {
+    let is_tape = file.kind == FileKind::Tape;
+    match fs::metadata(rt, file.path) {
+        Err(e) if is_tape && e.kind() == ErrorKind::NotFound => Some(
+            "there is no such file, and it can't be made: its folder is missing, or may not be written",
+        ),
+        Err(e) => Some(kind_name(e.kind())),
+        Ok(metadata) if metadata.is_file() => match fs::open(rt, file.path) {
+            Ok(_) if is_tape => Some("it can be read, but perhaps not be written"),
+            Ok(_) => None,
+            Err(e) => Some(kind_name(e.kind())),
+        },
+        Ok(metadata) if is_tape && metadata.is_dir() => Some("it is a folder"),
+        Ok(_) if is_tape => Some("it is a pipe or a device, and no file of bytes"),
+        Ok(_) => None,
+    }
+}
+
+/// Says which of the files is a folder, which can be opened and not read.
+fn put_folder<R: Files>(rt: &R, files: &[NamedFile<'_>], page: &mut Page) -> bool {
+    for file in files {
+        if fs::metadata(rt, file.path).is_ok_and(|metadata| metadata.is_dir()) {
+            let path = shown_path(*file);
+            page.show(format_args!("{path} is a folder, and no file.\n"));
+            return true;
+        }
+    }
+    false
+}
+
+/// The system's reason in words.
+fn kind_name(kind: ErrorKind) -> &'static str {
+    match kind {
+        ErrorKind::NotFound => "there is no such file",
+        ErrorKind::PermissionDenied => "it may not be read by this user",
+        ErrorKind::NotADirectory => "a part of its path is a file, and no folder",
+        ErrorKind::IsADirectory => "it is a folder",
+        ErrorKind::FilesystemLoop => "its links lead in a circle",
+        ErrorKind::InvalidFilename | ErrorKind::InvalidInput => "this is no name of a file",
+        ErrorKind::ResourceBusy => "the system has it in use",
+        _ => "the system can't open it",
+    }
+}

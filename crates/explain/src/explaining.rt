@@ -1,0 +1,160 @@
+//! The explanation of a fault.
+ghost use Rattle.std.specs.Prelude.{◌≡◌};
+ghost use Rattle.grid.specs.Counted.{counted_inner};
+ghost use Rattle.grid.specs.Sink.{sink_writer};
+ghost use Rattle.explain.specs.Explaining.{GoesOn};
+
+use crate::devices::explain_device;
+use crate::files::{FileKind, NamedFile};
+use crate::page::{Page, Style};
+use crate::plan_faults::explain_plan;
+use crate::row_words::{no_such_agent, no_such_row, size_differs};
+use crate::tapes::explain_tape;
+use crate::texts::{explain_either, explain_text, is_of_map, is_of_plan};
+use crate::told::Told;
+use grid::{Counted, Sink, WriteFault};
+use std::alloc::Global;
+use std::io::Write;
+use std::rt::Files;
+
+/// Writes for people what a fault means, behind the line that told it: `told` is that line, and `files` are those that the command names, in the order
+/// in which it opens them; `-` alone is standard input. They are read once more, and what isn't there any more is left out. Any other line is
+/// explained by nothing.
+pub fn explain<R: Files + AllocGlobal, E: Write>(
+    rt: &R,
+    files: &[NamedFile<'_>],
+    told: &[u8],
+    style: Style,
+    err: &mut Counted<E>,
+)
+    ensures { GoesOn (E.contents (counted_inner err.old)) (E.contents (counted_inner err.new)) }
+{
+    let mut page = Page::new(style);
+    if let Some(told) = Told::read(told) {
+        put_explanation(rt, rt.alloc(), files, &told, &mut page);
+    }
+    let _ = write_page(page.as_bytes(), err);
+}
+
+/// Writes the page, or a beginning of it where the writer fails.
+fn write_page<E: Write>(text: &[u8], err: &mut Counted<E>) -> Result<(), WriteFault>
+    ensures { GoesOn (E.contents (counted_inner err.old)) (E.contents (counted_inner err.new)) }
+{
+    let mut sink = Sink::new(err);
+    put_page(&mut sink, text)
+}
+
+fn put_page<E: Write>(sink: &mut Sink<'_, E>, text: &[u8]) -> Result<(), WriteFault>
+    ensures same_writer { sink.new.writer.ghost_name ≡ sink.old.writer.ghost_name }
+    ensures goes_on { GoesOn (E.contents (counted_inner (sink_writer sink.old))) (E.contents (counted_inner (sink_writer sink.new))) }
+{
+    sink.put(text)?;
+    sink.hand_on()
+}
+
+/// Puts what is to be said. Standard input is gone once it was read.
+fn put_explanation<R: Files>(
+    rt: &R,
+    alloc: Global,
+    files: &[NamedFile<'_>],
+    told: &Told<'_>,
+    page: &mut Page,
+) {
+    match files {
+        [file] if file.path == "-" => {
+            let input = NamedFile {
+                kind: file.kind,
+                path: "",
+            };
+            put_fault(rt, alloc, &[input], told, page);
+        }
+        _ => put_fault(rt, alloc, files, told, page),
+    }
+}
+
+fn put_fault<R: Files>(
+    rt: &R,
+    alloc: Global,
+    files: &[NamedFile<'_>],
+    told: &Told<'_>,
+    page: &mut Page,
+) {
+    match told.name() {
+        b"NoSuchRow" => no_such_row(rt, files, page),
+        b"SizeDiffers" => size_differs(rt, files, told, page),
+        b"NoSuchAgent" => no_such_agent(rt, files, page),
+        b"BadStart" | b"BadMove" | b"Vertex" | b"Swap" => explain_plan(rt, files, told, page),
+        name if is_of_tape(name) => explain_tape(rt, files, told, page),
+        name => match (shared_by(told), kind_of(name)) {
+            (Some(kinds), _) => explain_shared(rt, alloc, kinds, files, told, page),
+            (None, Some(kind)) => explain_text(rt, files, kind, told, page),
+            (None, None) => explain_device(rt, files, told, page),
+        },
+    }
+}
+
+/// Explains a fault that two formats have.
+fn explain_shared<R: Files>(
+    rt: &R,
+    alloc: Global,
+    kinds: [FileKind; 2],
+    files: &[NamedFile<'_>],
+    told: &Told<'_>,
+    page: &mut Page,
+) {
+    let [first, second] = kinds;
+    let is_first = if first == FileKind::Map {
+        is_of_map(rt, alloc, files, told)
+    } else {
+        is_of_plan(rt, files)
+    };
+    match is_first {
+        Some(true) => explain_text(rt, files, first, told, page),
+        Some(false) => explain_text(rt, files, second, told, page),
+        None => explain_either(files, kinds, told, page),
+    }
+}
+
+/// Whether a tape was refused so.
+fn is_of_tape(name: &[u8]) -> bool {
+    matches!(
+        name,
+        b"Damaged"
+            | b"WrongPlan"
+            | b"WrongAgent"
+            | b"TooLong"
+            | b"NoRoom"
+            | b"TapeInUse"
+            | b"TapeExists"
+            | b"NoTape"
+            | b"TapeFailed"
+    )
+}
+
+/// The formats that have this fault, where there are two, in the order in which they are read.
+fn shared_by(told: &Told<'_>) -> Option<[FileKind; 2]> {
+    match told.name() {
+        b"BadHeader" | b"TextAfter" => Some([FileKind::Map, FileKind::Plan]),
+        b"BadNumber" if told.count() == 1 => Some([FileKind::Map, FileKind::Plan]),
+        b"Unfinished" => Some([FileKind::Plan, FileKind::Events]),
+        _ => None,
+    }
+}
+
+/// What the text was read as that alone has faults of this name.
+fn kind_of(name: &[u8]) -> Option<FileKind> {
+    match name {
+        b"TooLarge" | b"BadTerrain" | b"ShortRow" | b"LongRow" | b"MissingRows" => {
+            Some(FileKind::Map)
+        }
+        b"LineTooLong"
+        | b"NoVersion"
+        | b"FieldCount"
+        | b"BadNumber"
+        | b"OutOfGrid"
+        | b"BadLength" => Some(FileKind::Scenario),
+        b"TooMany" | b"BadAgent" | b"BadAct" => Some(FileKind::Plan),
+        b"NoHeader" | b"BadEvent" => Some(FileKind::Events),
+        _ => None,
+    }
+}

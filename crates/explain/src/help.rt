@@ -1,0 +1,86 @@
+//! Help on faults.
+use crate::page::{Page, Style};
+use crate::table::{Entry, GROUPS, group_entries, group_name};
+
+/// A text for people on one fault or on all.
+#[derive(Drop)]
+pub struct FaultHelp {
+    page: Page,
+}
+
+impl FaultHelp {
+    /// The text, ended by an LF.
+    pub fn as_bytes(&self) -> &[u8] {
+        self.page.as_bytes()
+    }
+}
+
+/// Help on the fault of this name, or on all where the topic is `faults`. Any other topic has none.
+pub fn fault_help(topic: &str) -> Option<FaultHelp> {
+    let mut page = Page::new(Style::Plain);
+    if topic == "faults" {
+        put_all(&mut page);
+    } else {
+        for group in 0..GROUPS {
+            put_named(topic, group, &mut page);
+        }
+    }
+    if page.as_bytes().is_empty() {
+        None
+    } else {
+        Some(FaultHelp { page })
+    }
+}
+
+/// Puts a line for each fault, below what it is a fault of.
+fn put_all(page: &mut Page) {
+    for group in 0..GROUPS {
+        let of = group_name(group);
+        page.show(format_args!("Of {of}:\n"));
+        for entry in group_entries(group) {
+            page.say("  ");
+            put_form(entry, page);
+            page.say(": ");
+            page.say(entry.sentence);
+            page.say("\n");
+        }
+    }
+    page.say("\n`mapf help FAULT` shows one of them, with an example.\n");
+}
+
+/// Puts the name with its numbers.
+fn put_form(entry: &Entry, page: &mut Page) {
+    page.say(entry.name);
+    if !entry.numbers.is_empty() {
+        page.say(" ");
+        page.say(entry.numbers);
+    }
+}
+
+/// Puts the faults of a group that have this name.
+fn put_named(name: &str, group: usize, page: &mut Page) {
+    for entry in group_entries(group) {
+        if entry.name == name {
+            if !page.as_bytes().is_empty() {
+                page.say("\n");
+            }
+            put_entry(entry, group_name(group), page);
+        }
+    }
+}
+
+/// Puts a fault with its example.
+fn put_entry(entry: &Entry, of: &str, page: &mut Page) {
+    put_form(entry, page);
+    page.show(format_args!(", of {of}\n"));
+    page.say(entry.sentence);
+    page.say("\n");
+    if !entry.example.is_empty() {
+        page.say("Example:\n");
+        for line in entry.example.lines() {
+            page.show(format_args!("  {line}\n"));
+        }
+        let answer = entry.answer;
+        page.show(format_args!("is answered by `{answer}`.\n"));
+    }
+}

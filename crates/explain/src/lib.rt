@@ -1,0 +1,31 @@
+//! What a fault means, for people: where it is, what was due there, and what is there instead.
+#![tactic(auto)]
+
+mod beginning;
+mod devices;
+mod event_words;
+mod explaining;
+mod files;
+mod help;
+mod lines;
+mod map_words;
+mod other_faults;
+mod page;
+mod picture;
+mod plan_faults;
+mod plan_words;
+mod row_words;
+mod scen_words;
+mod showing;
+mod spans;
+mod table;
+mod tapes;
+mod text_faults;
+mod texts;
+mod told;
+mod walks;
+
+pub use explaining::explain;
+pub use files::{FileKind, NamedFile};
+pub use help::{FaultHelp, fault_help};
+pub use page::Style;

@@ -1,0 +1,351 @@
+//! The faults of plans, commands, tapes and messages, and why an agent refuses what it is told.
+use crate::table::Entry;
+
+/// The faults of a plan on its map.
+pub(crate) fn course_entries() -> &'static [Entry] {
+    &COURSES
+}
+
+static COURSES: [Entry; 4] = [
+    Entry {
+        name: "BadStart",
+        numbers: "agent",
+        sentence: "The agent starts off the map, or where nobody can stand.",
+        example: "type octile\nheight 1\nwidth 3\nmap\n...\nmapf-plan 1\nnumber 7\nagents 1\nagent 3 0 -\n",
+        answer: "BadStart 0",
+    },
+    Entry {
+        name: "BadMove",
+        numbers: "agent step",
+        sentence: "The act with this number, from 0, leads off the map or into a cell that can't be entered from there.",
+        example: "type octile\nheight 1\nwidth 3\nmap\n...\nmapf-plan 1\nnumber 7\nagents 1\nagent 1 0 ee\n",
+        answer: "BadMove 0 1",
+    },
+    Entry {
+        name: "Vertex",
+        numbers: "agent agent time column row",
+        sentence: "Both agents are in the same cell at this time.",
+        example: "type octile\nheight 1\nwidth 3\nmap\n...\nmapf-plan 1\nnumber 7\nagents 2\nagent 0 0 e\nagent 2 0 w\n",
+        answer: "Vertex 0 1 1 1 0",
+    },
+    Entry {
+        name: "Swap",
+        numbers: "agent agent step",
+        sentence: "In this step each of the agents enters the cell that the other leaves.",
+        example: "type octile\nheight 1\nwidth 3\nmap\n...\nmapf-plan 1\nnumber 7\nagents 2\nagent 0 0 e\nagent 1 0 w\n",
+        answer: "Swap 0 1 0",
+    },
+];
+
+/// The faults of a plan beside a scenario.
+pub(crate) fn fit_entries() -> &'static [Entry] {
+    &FITS
+}
+
+static FITS: [Entry; 5] = [
+    Entry {
+        name: "TooFewRows",
+        numbers: "",
+        sentence: "The scenario has fewer rows than the plan has agents.",
+        example: "",
+        answer: "rejected TooFewRows",
+    },
+    Entry {
+        name: "AgentCount",
+        numbers: "",
+        sentence: "The plan has not as many agents as rows were asked for. No command answers it.",
+        example: "",
+        answer: "",
+    },
+    Entry {
+        name: "SizeDiffers",
+        numbers: "row",
+        sentence: "The row is of a map with another width or height.",
+        example: "",
+        answer: "SizeDiffers 0",
+    },
+    Entry {
+        name: "StartDiffers",
+        numbers: "agent",
+        sentence: "The agent doesn't start where the row with its number does.",
+        example: "",
+        answer: "rejected StartDiffers 0",
+    },
+    Entry {
+        name: "GoalDiffers",
+        numbers: "agent",
+        sentence: "The agent doesn't end where the row with its number does.",
+        example: "",
+        answer: "rejected GoalDiffers 0",
+    },
+];
+
+/// The faults of a command.
+pub(crate) fn command_entries() -> &'static [Entry] {
+    &COMMANDS
+}
+
+static COMMANDS: [Entry; 10] = [
+    Entry {
+        name: "NoSuchRow",
+        numbers: "",
+        sentence: "The scenario has no row with this number. Rows count from 0.",
+        example: "",
+        answer: "NoSuchRow",
+    },
+    Entry {
+        name: "NoSuchAgent",
+        numbers: "",
+        sentence: "The plan has no agent with this number. Agents count from 0.",
+        example: "type octile\nheight 1\nwidth 3\nmap\n...\nmapf-plan 1\nnumber 7\nagents 2\nagent 1 0 e\nagent 0 0 e\nmapf-events 1\nstart 2\n",
+        answer: "refused NoSuchAgent",
+    },
+    Entry {
+        name: "OutOfRange",
+        numbers: "",
+        sentence: "A search found a length that it can't prove. Please report it: this should never come.",
+        example: "",
+        answer: "",
+    },
+    Entry {
+        name: "BadTable",
+        numbers: "",
+        sentence: "A search found distances that prove nothing. Please report it: this should never come.",
+        example: "",
+        answer: "",
+    },
+    Entry {
+        name: "NotTight",
+        numbers: "",
+        sentence: "A search found a distance that no step explains. Please report it: this should never come.",
+        example: "",
+        answer: "",
+    },
+    Entry {
+        name: "BadWalk",
+        numbers: "",
+        sentence: "A search found a walk that is none. Please report it: this should never come.",
+        example: "",
+        answer: "",
+    },
+    Entry {
+        name: "OpenFailed",
+        numbers: "",
+        sentence: "A file can't be opened: there is none of this name, or it may not be read; an agent's tape may not be made or written, or is no file of bytes.",
+        example: "",
+        answer: "OpenFailed",
+    },
+    Entry {
+        name: "ReadFailed",
+        numbers: "",
+        sentence: "The system failed to read a file: the file is a folder, or its disk or the network has a fault.",
+        example: "",
+        answer: "ReadFailed",
+    },
+    Entry {
+        name: "WriteFailed",
+        numbers: "",
+        sentence: "Standard output didn't take all that is written: its reader has gone, or the disk is full.",
+        example: "",
+        answer: "WriteFailed",
+    },
+    Entry {
+        name: "OutOfMemory",
+        numbers: "",
+        sentence: "The system gave no memory. Nothing is known of whether the texts are right.",
+        example: "",
+        answer: "OutOfMemory",
+    },
+];
+
+/// The faults of a tape.
+pub(crate) fn tape_entries() -> &'static [Entry] {
+    &TAPES
+}
+
+static TAPES: [Entry; 9] = [
+    Entry {
+        name: "NoRoom",
+        numbers: "",
+        sentence: "The tape has no room for two records a move.",
+        example: "",
+        answer: "",
+    },
+    Entry {
+        name: "TooLong",
+        numbers: "",
+        sentence: "The tape has more records than two for each move of the agent, so it is none of this plan.",
+        example: "",
+        answer: "",
+    },
+    Entry {
+        name: "TapeFailed",
+        numbers: "",
+        sentence: "The system failed to lock, to read or to sync the tape.",
+        example: "",
+        answer: "",
+    },
+    Entry {
+        name: "Damaged",
+        numbers: "record",
+        sentence: "The record with this number, from 0, is not the one that is due there: the file was changed, or is no tape.",
+        example: "",
+        answer: "",
+    },
+    Entry {
+        name: "WrongPlan",
+        numbers: "record",
+        sentence: "The record is of a plan with another number.",
+        example: "",
+        answer: "",
+    },
+    Entry {
+        name: "WrongAgent",
+        numbers: "record",
+        sentence: "The record is of another agent.",
+        example: "",
+        answer: "",
+    },
+    Entry {
+        name: "NoTape",
+        numbers: "",
+        sentence: "With `--tape kept` there has to be a file, and there is none. None was made.",
+        example: "",
+        answer: "",
+    },
+    Entry {
+        name: "TapeInUse",
+        numbers: "",
+        sentence: "Another process holds the tape.",
+        example: "",
+        answer: "",
+    },
+    Entry {
+        name: "TapeExists",
+        numbers: "",
+        sentence: "With `--tape new` the file has to be without a record, and has some.",
+        example: "",
+        answer: "",
+    },
+];
+
+/// The faults of a message.
+pub(crate) fn message_entries() -> &'static [Entry] {
+    &MESSAGES
+}
+
+static MESSAGES: [Entry; 6] = [
+    Entry {
+        name: "BadLength",
+        numbers: "",
+        sentence: "The message is shorter or longer than its first bytes say: version 1 has twelve bytes, version 2 ten and six for each entry.",
+        example: "",
+        answer: "",
+    },
+    Entry {
+        name: "BadMagic",
+        numbers: "",
+        sentence: "The first byte isn't 46, so these bytes are no message.",
+        example: "",
+        answer: "",
+    },
+    Entry {
+        name: "BadVersion",
+        numbers: "",
+        sentence: "The second byte is no version that is known, which are 01 and 02.",
+        example: "",
+        answer: "",
+    },
+    Entry {
+        name: "BadEntry",
+        numbers: "entry",
+        sentence: "The entry, from 0, has the number 0, or an agent that isn't greater than the one before.",
+        example: "",
+        answer: "",
+    },
+    Entry {
+        name: "WrongPlan",
+        numbers: "",
+        sentence: "The message is of a plan with another number.",
+        example: "",
+        answer: "",
+    },
+    Entry {
+        name: "TooMany",
+        numbers: "",
+        sentence: "The message tells of more moves than an agent has.",
+        example: "",
+        answer: "",
+    },
+];
+
+/// The faults of a reply.
+pub(crate) fn reply_entries() -> &'static [Entry] {
+    &REPLIES
+}
+
+static REPLIES: [Entry; 9] = [
+    Entry {
+        name: "BadLine",
+        numbers: "",
+        sentence: "The line is none that an agent answers, or is too long.",
+        example: "",
+        answer: "refused BadLine",
+    },
+    Entry {
+        name: "NoSuchMessage",
+        numbers: "",
+        sentence: "So many messages were not said yet.",
+        example: "type octile\nheight 1\nwidth 3\nmap\n...\nmapf-plan 1\nnumber 7\nagents 2\nagent 1 0 e\nagent 0 0 e\nmapf-events 1\ndeliver 1 0\n",
+        answer: "refused NoSuchMessage",
+    },
+    Entry {
+        name: "BadTear",
+        numbers: "",
+        sentence: "A record has ten bytes, and a write can't be torn behind them.",
+        example: "type octile\nheight 1\nwidth 3\nmap\n...\nmapf-plan 1\nnumber 7\nagents 2\nagent 1 0 e\nagent 0 0 e\nmapf-events 1\ntear 0 11\n",
+        answer: "refused BadTear",
+    },
+    Entry {
+        name: "Broken",
+        numbers: "",
+        sentence: "A write of this agent failed, and it must restart before it does anything else.",
+        example: "type octile\nheight 1\nwidth 3\nmap\n...\nmapf-plan 1\nnumber 7\nagents 2\nagent 1 0 e\nagent 0 0 e\nmapf-events 1\ntear 0 5\nstart 0\nsay 0\n",
+        answer: "refused Broken",
+    },
+    Entry {
+        name: "AlreadyMoving",
+        numbers: "",
+        sentence: "The agent has begun a move and not finished it.",
+        example: "type octile\nheight 1\nwidth 3\nmap\n...\nmapf-plan 1\nnumber 7\nagents 2\nagent 1 0 e\nagent 0 0 e\nmapf-events 1\nstart 0\nstart 0\n",
+        answer: "refused AlreadyMoving",
+    },
+    Entry {
+        name: "AtEnd",
+        numbers: "",
+        sentence: "The agent has no move left.",
+        example: "type octile\nheight 1\nwidth 3\nmap\n...\nmapf-plan 1\nnumber 7\nagents 2\nagent 1 0 e\nagent 0 0 e\nmapf-events 1\nstart 0\nfinish 0\nstart 0\n",
+        answer: "refused AtEnd",
+    },
+    Entry {
+        name: "Waits",
+        numbers: "agent count",
+        sentence: "The agent waits: it hasn't heard yet that the other agent has finished so many moves.",
+        example: "type octile\nheight 1\nwidth 3\nmap\n...\nmapf-plan 1\nnumber 7\nagents 2\nagent 1 0 e\nagent 0 0 e\nmapf-events 1\nstart 1\n",
+        answer: "refused Waits 0 1",
+    },
+    Entry {
+        name: "NotMoving",
+        numbers: "",
+        sentence: "The agent has no move to finish.",
+        example: "type octile\nheight 1\nwidth 3\nmap\n...\nmapf-plan 1\nnumber 7\nagents 2\nagent 1 0 e\nagent 0 0 e\nmapf-events 1\nfinish 0\n",
+        answer: "refused NotMoving",
+    },
+    Entry {
+        name: "StoreFailed",
+        numbers: "",
+        sentence: "The agent couldn't store its move, and must restart.",
+        example: "type octile\nheight 1\nwidth 3\nmap\n...\nmapf-plan 1\nnumber 7\nagents 2\nagent 1 0 e\nagent 0 0 e\nmapf-events 1\ntear 0 5\nstart 0\n",
+        answer: "refused StoreFailed",
+    },
+];

@@ -1,0 +1,142 @@
+//! The faults of a scenario.
+use crate::files::open_again;
+use crate::lines::{Line, LineEnd};
+use crate::page::Page;
+use crate::showing::show_line;
+use crate::spans::{Parts, Span, content, number};
+use crate::told::Told;
+use grid::{Counted, Source};
+use std::rt::Files;
+
+/// The fields of a row.
+static FIELDS: [&str; 9] = [
+    "bucket",
+    "map name",
+    "width",
+    "height",
+    "x of the start",
+    "y of the start",
+    "x of the goal",
+    "y of the goal",
+    "listed length",
+];
+
+/// Finds the first line that holds more than blanks.
+pub(crate) fn find_first_line<R: Files>(rt: &R, path: &str, line: &mut Line) {
+    find_filled(rt, path, 0, line);
+}
+
+/// Finds the line behind so many that hold more than blanks, and answers how many of these there are before it.
+pub(crate) fn find_filled<R: Files>(rt: &R, path: &str, count: u64, line: &mut Line) -> u64 {
+    let Some(file) = open_again(rt, path) else {
+        line.find(rt, path, 1);
+        return 0;
+    };
+    let mut reader = Counted::new(file);
+    let mut source = Source::new(&mut reader);
+    let mut before = 0u64;
+    line.number = 0;
+    for _ in 0..u64::MAX {
+        line.take(&mut source);
+        if matches!(line.end, LineEnd::Missing | LineEnd::Unread) {
+            break;
+        }
+        let filled = content(line.bytes());
+        if filled.from < filled.upto {
+            if before == count {
+                break;
+            }
+            before = before.saturating_add(1);
+        }
+    }
+    before
+}
+
+/// Explains a fault of a scenario, at this line.
+pub(crate) fn explain_scenario(told: &Told<'_>, line: &Line, page: &mut Page) {
+    let fields = Parts::fields(line.bytes());
+    match told.name() {
+        b"NoVersion" => no_version(line, page),
+        b"LineTooLong" => {
+            show_line(
+                page,
+                line,
+                Span {
+                    from: 4096,
+                    upto: 4097,
+                },
+            );
+            page.say("A line has at most 4096 bytes.\n");
+        }
+        b"FieldCount" => field_count(fields, line, page),
+        b"BadNumber" => bad_number(told.number(1), fields, line, page),
+        b"OutOfGrid" => out_of_grid(fields, line, page),
+        _ => {
+            show_line(page, line, fields.get(8).unwrap_or(content(line.bytes())));
+            page.say(
+                "The listed length must be 1 to 7 digits, perhaps with a point and 1 to 12 digits behind them, as 12.24264069.\n",
+            );
+        }
+    }
+}
+
+fn no_version(line: &Line, page: &mut Page) {
+    if line.is_there() {
+        show_line(page, line, content(line.bytes()));
+    } else {
+        page.say("There is no line with more than blanks. ");
+    }
+    page.say("The first line must be `version 1`.\n");
+}
+
+fn field_count(fields: Parts, line: &Line, page: &mut Page) {
+    let count = fields.count();
+    let place = fields.get(9).unwrap_or(Span {
+        from: content(line.bytes()).upto,
+        upto: content(line.bytes()).upto,
+    });
+    show_line(page, line, place);
+    page.show(format_args!(
+        "The row has {count} fields, and must have nine: bucket, map name, width, height, x and y of the start,\nx and y of the goal, listed length. "
+    ));
+    if line.bytes().contains(&b'\t') {
+        page.say("This row has tabs, so only a tab divides two fields.\n");
+    } else {
+        page.say("This row has no tab, so spaces divide its fields.\n");
+    }
+}
+
+fn bad_number(field: u64, fields: Parts, line: &Line, page: &mut Page) {
+    let place = usize::try_from(field.saturating_sub(1)).unwrap_or(0);
+    let span = fields.get(place).unwrap_or(content(line.bytes()));
+    show_line(page, line, span);
+    let name = FIELDS.get(place).copied().unwrap_or("field");
+    page.show(format_args!("Field {field}, the {name}, is "));
+    page.quote(span.of(line.bytes()));
+    page.say(match field {
+        1 => ", and must be a number up to 4294967295, in digits alone.\n",
+        3 | 4 => ", and must be a number from 1 to 65535, in digits alone.\n",
+        _ => ", and must be a number in digits alone.\n",
+    });
+}
+
+/// Says which coordinate is not below the row's width or height.
+fn out_of_grid(fields: Parts, line: &Line, page: &mut Page) {
+    for place in 4..8 {
+        let limit = if place % 2 == 0 { 2 } else { 3 };
+        let (Some(span), Some(limit_span)) = (fields.get(place), fields.get(limit)) else {
+            return;
+        };
+        let most = number(limit_span.of(line.bytes())).unwrap_or(0);
+        // What has more digits than a number can have is too great as well.
+        if number(span.of(line.bytes())).is_none_or(|value| value >= most) {
+            show_line(page, line, span);
+            let name = FIELDS.get(place).copied().unwrap_or("field");
+            let side = FIELDS.get(limit).copied().unwrap_or("field");
+            page.show(format_args!(
+                "The {name} must be below the row's {side}, {most}: columns and rows count from 0.\n"
+            ));
+            return;
+        }
+    }
+}

@@ -1,0 +1,69 @@
+//! All faults and refusals, with a sentence and, where texts show it, a smallest example.
+use crate::files::FileKind;
+use crate::other_faults::{
+    command_entries, course_entries, fit_entries, message_entries, reply_entries, tape_entries,
+};
+use crate::page::Page;
+use crate::text_faults::{event_entries, map_entries, plan_entries, scenario_entries};
+
+/// What is known of a fault.
+pub(crate) struct Entry {
+    pub(crate) name: &'static str,
+    /// The names of its numbers.
+    pub(crate) numbers: &'static str,
+    pub(crate) sentence: &'static str,
+    /// Texts, one behind the other, or nothing.
+    pub(crate) example: &'static str,
+    /// What is answered to the example.
+    pub(crate) answer: &'static str,
+}
+
+/// How many groups of faults there are.
+pub(crate) const GROUPS: usize = 10;
+
+/// What the faults of a group are faults of.
+pub(crate) fn group_name(group: usize) -> &'static str {
+    match group {
+        0 => "a map",
+        1 => "a scenario",
+        2 => "a plan",
+        3 => "a list of events",
+        4 => "a plan on its map",
+        5 => "a plan beside a scenario",
+        6 => "a command",
+        7 => "a tape",
+        8 => "a message",
+        _ => "a reply",
+    }
+}
+
+/// The faults of a group.
+pub(crate) fn group_entries(group: usize) -> &'static [Entry] {
+    match group {
+        0 => map_entries(),
+        1 => scenario_entries(),
+        2 => plan_entries(),
+        3 => event_entries(),
+        4 => course_entries(),
+        5 => fit_entries(),
+        6 => command_entries(),
+        7 => tape_entries(),
+        8 => message_entries(),
+        _ => reply_entries(),
+    }
+}
+
+/// Puts what is wrong where this fault is told: of this kind of file, or of any.
+pub(crate) fn put_sentence(name: &[u8], kind: FileKind, page: &mut Page) {
+    let mut found = "";
+    for group in 0..GROUPS {
+        let is_of_kind = group_name(group) == kind.name();
+        for entry in group_entries(group) {
+            if entry.name.as_bytes() == name && (found.is_empty() || is_of_kind) {
+                found = entry.sentence;
+            }
+        }
+    }
+    page.say(found);
+    page.say("\n");
+}

@@ -1,0 +1,65 @@
+//! How the program ends where its words are no command.
+ghost use Rattle.std.specs.Prelude.{◌≡◌, IfSome, map, string_bytes};
+ghost use Rattle.mapf_cmd.specs.Program.{AsksForFaultHelp, EndsRefused, EndsUnperformed};
+
+use crate::program_fault::ProgramFault;
+use command_line::LineFault;
+use explain::{FaultHelp, fault_help};
+use grid::Counted;
+use std::io::Write;
+use text_commands::{Status, finish, report, write_text};
+
+/// Shows help on a fault, where the words ask for that, and else what `refuse` does. The answer is the exit status.
+pub(crate) fn end_unperformed<W: Write, E: Write>(
+    words: &[String],
+    fault: LineFault,
+    out: &mut Counted<W>,
+    err: &mut Counted<E>,
+) -> u8
+    ensures { EndsUnperformed W.contents E.contents (map string_bytes words.now) fault out.old out.new err.old err.new result }
+{
+    match fault_help_of(words, &fault) {
+        Some(help) => {
+            let written = write_text(help.as_bytes(), out);
+            finish(written, Status::Done, out, err).code()
+        }
+        None => refuse(fault, out, err),
+    }
+}
+
+/// The help on a fault, or on all of them, for which the words ask that are no command.
+fn fault_help_of(words: &[String], fault: &LineFault) -> Option<FaultHelp>
+    ensures { IfSome result (λ _. AsksForFaultHelp (map string_bytes words.now) fault.now) }
+{
+    match (fault, words) {
+        (LineFault::BadCommand(_), [_, help, topic]) => match help.as_str() {
+            "help" => fault_help(topic),
+            _ => None,
+        },
+        _ => None,
+    }
+}
+
+/// Shows the help that was asked for, or says why the words are no command. The answer is the exit status.
+pub fn refuse<W: Write, E: Write>(
+    fault: LineFault,
+    out: &mut Counted<W>,
+    err: &mut Counted<E>,
+) -> u8
+    ensures { EndsRefused W.contents E.contents fault out.old out.new err.old err.new result }
+{
+    match fault {
+        LineFault::Help(text) => {
+            let written = write_text(text.as_bytes(), out);
+            finish(written, Status::Done, out, err).code()
+        }
+        LineFault::BadCommand(text) => {
+            let _ = write_text(text.as_bytes(), err);
+            Status::BadCommand.code()
+        }
+        LineFault::OutOfMemory => {
+            report(err, ProgramFault::OutOfMemory.words());
+            Status::Failure.code()
+        }
+    }
+}
