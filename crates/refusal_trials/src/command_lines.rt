@@ -6,7 +6,7 @@ use crate::texts::{
 };
 use fakes::{CORNER, CORNER_WRITTEN, DiskFiles, FakeDisk, Keeper, ROW, ROW_WRITTEN};
 use grid::Counted;
-use mapf_cmd::run;
+use mapf_cmd::{Remembering, Style, run};
 use std::alloc::{AllocError, Global};
 use std::process::Abort;
 use std::test::Fail;
@@ -27,7 +27,11 @@ static LINES: [(&str, u8, &str); 15] = [
     ("run M P E", 0, REPLIES),
     ("run M P E --complete", 0, COMPLETED),
     ("agent M P 0 T", 0, ANSWERED),
-    ("--version", 0, "mapf 0.1.0\n"),
+    (
+        "--version",
+        0,
+        "mapf 0.1.0\nproved by rattle-kit-13b logic dac8208d650f15bf\n",
+    ),
 ];
 
 /// The files that they name, but for the tape.
@@ -86,9 +90,10 @@ fn ended(files: &DiskFiles<'_>, words: &[String]) -> Ended {
     let status = run(
         files,
         words,
+        Style::Plain,
         &mut Counted::new(ASKED.as_bytes()),
-        &mut Counted::new(&mut out),
-        &mut Counted::new(&mut err),
+        &mut Counted::new(Remembering::new(&mut out)),
+        &mut Counted::new(Remembering::new(&mut err)),
     );
     Ended { status, out, err }
 }

@@ -1,14 +1,14 @@
 //! Each command of the program, called as the program calls it.
 use crate::endings::{End, Ended};
 use crate::texts::{
-    ACCEPTED, ACCEPTED_JSON, AGREES, ANSWERED, ASKED, BEHIND, COMPLETED, EVENTS, LANE, NEEDS, PATH,
-    PATHS, REJECTED, REJECTED_JSON, REPLIES, SWAP, TASKS, VISITS,
+    ACCEPTED, ACCEPTED_JSON, AGREES, ANSWERED, ASKED, BEHIND, COMPLETED, EVENTS, KEPT, LANE, NEEDS,
+    PATH, PATHS, REJECTED, REJECTED_JSON, REPLIES, SWAP, TASKS, VISITS,
 };
 use fakes::{CORNER, CORNER_WRITTEN, DiskFiles, FakeDisk, Keeper, ROW, ROW_WRITTEN};
 use grid::{Cell, Counted};
 use mapf_cmd::{
     agent_cmd, check_cmd, check_fit_cmd, deps_cell_cmd, deps_cmd, map_cmd, path_cmd, row_cmd,
-    run_cmd, scen_cmd,
+    run_cmd, scen_cmd, tape_cmd,
 };
 use std::alloc::Global;
 use std::test::Fail;
@@ -29,10 +29,12 @@ enum Command {
     /// Perhaps says how the run ends.
     Run(bool),
     Agent,
+    /// Says what an empty tape keeps.
+    Tape,
 }
 
-/// Each command with its status and what it writes.
-static COMMANDS: [(Command, u8, &str); 16] = [
+/// Each command with its status and what it writes: last the one that writes the tape.
+static COMMANDS: [(Command, u8, &str); 17] = [
     (Command::Map, 0, CORNER_WRITTEN),
     (Command::Scen, 0, ROW_WRITTEN),
     (Command::Row, 0, AGREES),
@@ -48,6 +50,7 @@ static COMMANDS: [(Command, u8, &str); 16] = [
     (Command::Path(Some(1)), 0, PATH),
     (Command::Run(false), 0, REPLIES),
     (Command::Run(true), 0, COMPLETED),
+    (Command::Tape, 0, KEPT),
     (Command::Agent, 0, ANSWERED),
 ];
 
@@ -83,6 +86,7 @@ fn perform_on_plan(alloc: Global, command: Command, out: &mut Out<'_>, err: &mut
         Command::Run(complete) => {
             run_cmd(alloc, map, plan, &mut reader(EVENTS), complete, out, err)
         }
+        Command::Tape => tape_cmd(alloc, map, plan, 0, &mut reader(""), out, err),
         _ => deps_cmd(alloc, map, plan, out, err),
     }
 }

@@ -42,9 +42,14 @@ fn are_due(replies: &[Reply]) -> bool {
 /// The words `mapf row M S 3`.
 fn is_line(words: &[String], alloc: Global) -> Result<bool, OutOfMemory> {
     match line(alloc, words) {
-        Ok(Line::Row { map, scen, row }) => Ok(
-            map.as_str() == "M" && scen.as_str() == "S" && row == 3,
-        ),
+        Ok(
+            Line::Row {
+                map,
+                scen,
+                row,
+                explain,
+            },
+        ) => Ok(map.as_str() == "M" && scen.as_str() == "S" && row == 3 && !explain),
         Err(LineFault::OutOfMemory) => Err(OutOfMemory),
         _ => Ok(false),
     }

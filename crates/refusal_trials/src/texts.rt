@@ -28,6 +28,9 @@ pub const ASKED: &str = "start\nfinish\nsay\n";
 pub const ANSWERED: &str =
     "at 1 0 done 0\nmoving 2 0\narrived 2 0\nsaid 460100000000000700000001\n";
 
+/// What is kept of the first agent by a tape without a record.
+pub const KEPT: &str = "at 1 0 done 0\nrecords 0 torn 0\n";
+
 pub const AGREES: &str = "shortest 2 0 listed 2.00000000 agrees\n";
 
 pub const ACCEPTED: &str = "accepted agents 2 cost 2 makespan 1\n";
