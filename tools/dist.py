@@ -10,6 +10,7 @@ The check needs no kit, but for the last part; where there is none, or another o
 import argparse
 import hashlib
 import os
+import re
 import shutil
 import sys
 import tempfile
@@ -21,6 +22,8 @@ import product  # noqa: E402
 FACTS = product.SHIPPED.with_name("made-from.txt")
 # The names of the facts, in the order in which they stand. The last is the SHA-256 of the lines before it, so that none changes unseen.
 SUM, KIT, SOURCES, LINES = "sha256", "kit", "sources", "lines"
+# Where the program has the text of its version, which names the kit too.
+VERSION = product.ROOT / "crates" / "command_line" / "src" / "help.rt"
 
 
 class Fault(Exception):
@@ -46,6 +49,13 @@ def read_facts() -> dict[str, str]:
     return facts
 
 
+def hold_version(kit: str) -> None:
+    """Raises where the version of the program names another kit than this one."""
+    found = re.search(r"^proved by (.+)\";$", VERSION.read_text(encoding="utf-8", errors="replace"), re.MULTILINE)
+    if not found or found[1] != kit:
+        raise Fault(f"{VERSION.relative_to(product.ROOT)} says that {found[1] if found else 'no kit'} proved the program, and it was {kit}")
+
+
 def put(path, content: bytes, mode: int) -> None:
     """Writes a file so that it is there as a whole or as it was before, also for a program that runs."""
     path.parent.mkdir(parents=True, exist_ok=True)
@@ -56,6 +66,7 @@ def put(path, content: bytes, mode: int) -> None:
 
 
 def ship() -> None:
+    hold_version(product.kit())
     if not product.is_built() and not build.prove_and_build():
         raise Fault("the program could not be proved and built")
     put(product.SHIPPED, product.BUILT.read_bytes(), 0o755)
@@ -71,6 +82,7 @@ def check(must_compare: bool) -> None:
         raise Fault(f"{product.SHIPPED.relative_to(product.ROOT)} has not the SHA-256 that stands beside it")
     if not os.access(product.SHIPPED, os.X_OK):
         raise Fault(f"{product.SHIPPED.relative_to(product.ROOT)} may not be executed")
+    hold_version(facts[KIT])
     if product.source_digest() != facts[SOURCES]:
         raise Fault("the sources are others than dist/ was made from: `rt ci`, and then `python3 tools/dist.py`, makes it anew")
     print("dist: the program is whole, and made from these sources")
