@@ -2,7 +2,7 @@
 from typing import Iterator, Mapping, Sequence
 
 import help_texts
-from harness import Ended, Harness, Outcome, compared, ended_as, shown
+from harness import VERSION, Ended, Harness, Outcome, compared, ended_as, shown
 
 # A map, a plan, a scenario and events that are told apart by what each command answers.
 FILES = {
@@ -12,6 +12,8 @@ FILES = {
     "E": b"mapf-events 1\nstart 0\n",
     # A plan without agents, whose runs end in one way only.
     "O": b"mapf-plan 1\nnumber 7\nagents 0\n",
+    # A tape on which nothing is kept yet.
+    "K": b"",
 }
 NAMED_AS_OPTIONS = {"-h": FILES["M"], "--json": FILES["P"], "--scen": FILES["S"], "-": FILES["E"], "--complete": FILES["E"]}
 MAP = FILES["M"].decode()
@@ -23,12 +25,15 @@ NEEDS = "agents 2 moves 2 needs 1 rotations 0\nneed 1 0 0 1\n"
 VISITS = "visit 0 0 0\nvisit 1 1 1\n"
 ROWS = "0 1 0 0 0\n1 2 0 1 0\n2 2 0 1 0\n"
 ROW_OF_1 = "0 0 0\n1 1 0\n"
+KEPT = "at 1 0 done 0\nrecords 0 torn 0\n"
 
 # Words that are a command, and what it writes. After `--` each word is a word, and none an option.
 COMMANDS = [
     ("map M", MAP),
     ("map ./M", MAP),
     ("map -- -h", MAP),
+    ("map M --explain", MAP),
+    ("map --explain M", MAP),
     ("scen S", SCEN),
     ("row M S 0", "shortest 1 0 listed 1 agrees\n"),
     ("row M S 002", "shortest 2 0 listed 2 agrees\n"),
@@ -95,6 +100,16 @@ COMMANDS = [
     ("agent M P 0 T --tape new", "at 1 0 done 0\n"),
     ("agent --tape=new M P 0 T", "at 1 0 done 0\n"),
     ("agent M P --tape new 0 T", "at 1 0 done 0\n"),
+    ("scen S --explain", SCEN),
+    ("row M --explain S 0", "shortest 1 0 listed 1 agrees\n"),
+    ("check M P --explain --json", JSON),
+    ("deps --explain M P --cell 2 0", "visit 0 1 1\n"),
+    ("path M P --agent 1 --explain", ROW_OF_1),
+    ("run M O E --complete --explain", COMPLETE),
+    ("agent M P 0 T --tape new --explain", "at 1 0 done 0\n"),
+    ("tape M P 0 K", KEPT),
+    ("tape M P 0 K --explain", KEPT),
+    ("tape -- M P 0001 K", "at 0 0 done 0\nrecords 0 torn 0\n"),
 ]
 
 # Files in another order than the command has them, or one that is not there, and the fault that shows which was read as what.
@@ -164,6 +179,13 @@ OTHER_FILES = [
     ("agent M P 0 . --tape kept", 3, "OpenFailed"),
     ("agent M P 2 T --tape kept", 1, "NoSuchAgent"),
     ("agent M P 0 /dev/null", 3, "OpenFailed"),
+    ("tape P M 0 K", 1, "BadHeader 1"),
+    ("tape M P 2 K", 1, "NoSuchAgent"),
+    ("tape M P 65535 K", 1, "NoSuchAgent"),
+    ("tape M P 0 P", 1, "TooLong"),
+    ("tape N P 0 K", 3, "OpenFailed"),
+    ("tape M N 0 K", 3, "OpenFailed"),
+    ("tape M P 0 N", 3, "OpenFailed"),
 ]
 
 # Words that are no command, each with what is named as wrong or missing, and how the command is used.
@@ -176,12 +198,12 @@ BAD = [
     ("-x", "'-x'", "Usage: mapf <COMMAND>"),
     ("--json check M P", "'--json'", "Usage: mapf <COMMAND>"),
     ("map", "<file>", "Usage: mapf map <file>"),
-    ("map M M", "'M'", "Usage: mapf map <file>"),
-    ("map -x", "'-x'", "Usage: mapf map <file>"),
+    ("map M M", "'M'", "Usage: mapf map [OPTIONS] <file>"),
+    ("map -x", "'-x'", "Usage: mapf map [OPTIONS] <file>"),
     ("map M --json", "'--json'", "Usage: mapf map <file>"),
-    ("map scen S", "'S'", "Usage: mapf map <file>"),
+    ("map scen S", "'S'", "Usage: mapf map [OPTIONS] <file>"),
     ("scen", "<file>", "Usage: mapf scen <file>"),
-    ("scen S S", "'S'", "Usage: mapf scen <file>"),
+    ("scen S S", "'S'", "Usage: mapf scen [OPTIONS] <file>"),
     ("row", "<map>", "Usage: mapf row"),
     ("row M", "<scen>", "Usage: mapf row"),
     ("row M S", "<row>", "Usage: mapf row"),
@@ -284,6 +306,14 @@ BAD = [
     ("agent M P 131072 T", "'131072'", "from 0 to 65535"),
     ("agent M P 4294967296 T", "'4294967296'", "from 0 to 65535"),
     ("agent M P 1x T", "'1x'", "from 0 to 65535"),
+    ("tape", "<map>", "Usage: mapf tape <map> <plan> <id> <file>"),
+    ("tape M P 0", "<file>", "Usage: mapf tape <map> <plan> <id> <file>"),
+    ("tape M P 0 K X", "'X'", "Usage: mapf tape [OPTIONS] <map> <plan> <id> <file>"),
+    ("tape M P 65536 K", "'65536' for '<id>'", "Usage: mapf tape [OPTIONS] <map> <plan> <id> <file>"),
+    ("tape M P 0 K --tape new", "'--tape'", "Usage: mapf tape"),
+    ("--explain map M", "'--explain'", "Usage: mapf <COMMAND>"),
+    ("map M --explain --explain", "--explain", "Usage: mapf map"),
+    ("map M --explain=x", "--explain", "Usage: mapf map"),
 ]
 
 
@@ -295,16 +325,27 @@ def refusal(why: str, usage: str = "") -> bytes:
 
 # What is told in full.
 WHOLE = {
-    "": refusal("'mapf' requires a subcommand but one was not provided\n  [subcommands: map, scen, row, check, deps, path, run, agent, help]", "<COMMAND>"),
+    "": refusal("'mapf' requires a subcommand but one was not provided\n  [subcommands: map, scen, row, check, deps, path, run, agent, tape, help]", "<COMMAND>"),
     "nope": refusal("unrecognized subcommand 'nope'", "<COMMAND>"),
-    "chek": refusal("unrecognized subcommand 'chek'\n\n  tip: a similar subcommand exists: 'check'", "<COMMAND>"),
-    "help chek": refusal("unrecognized subcommand 'chek'", "<COMMAND>"),
+    # Clap's own advice, by another measure.
+    "mapp_": refusal("unrecognized subcommand 'mapp_'\n\n  tip: a similar subcommand exists: 'map'", "<COMMAND>"),
+    "chek": refusal("unrecognized subcommand 'chek'\n\n  tip: a similar command exists: 'check'", "<COMMAND>"),
+    "dep": refusal("unrecognized subcommand 'dep'\n\n  tip: a similar command exists: 'deps'", "<COMMAND>"),
+    "agentt": refusal("unrecognized subcommand 'agentt'\n\n  tip: a similar command exists: 'agent'", "<COMMAND>"),
+    "rub M P E": refusal("unrecognized subcommand 'rub'\n\n  tip: a similar command exists: 'run'", "<COMMAND>"),
+    "hceck": refusal("unrecognized subcommand 'hceck'\n\n  tip: a similar command exists: 'check'", "<COMMAND>"),
+    "apth": refusal("unrecognized subcommand 'apth'\n\n  tip: a similar command exists: 'path'", "<COMMAND>"),
+    "tap": refusal("unrecognized subcommand 'tap'\n\n  tip: some similar commands exist: 'map', 'tape'", "<COMMAND>"),
+    "help chek": refusal("unrecognized subcommand 'chek'\n\n  tip: a similar command exists: 'check'", "<COMMAND>"),
+    "help BadTerain": refusal("unrecognized subcommand 'BadTerain'", "<COMMAND>"),
+    "row M S -1": refusal("unexpected argument '-1' found\n\n  tip: a number from 0 on is wanted", "row [OPTIONS] <map> <scen> <row>"),
+    "map -1": refusal("unexpected argument '-1' found\n\n  tip: to pass '-1' as a value, use '-- -1'", "map [OPTIONS] <file>"),
     "map": refusal("the following required arguments were not provided:\n  <file>", "map <file>"),
-    "map M M": refusal("unexpected argument 'M' found", "map <file>"),
+    "map M M": refusal("unexpected argument 'M' found", "map [OPTIONS] <file>"),
     "run M P": refusal("the following required arguments were not provided:\n  <events>", "run <map> <plan> <events>"),
     "check M P --scen": refusal("a value is required for '--scen <scen>' but none was supplied"),
     "check M P --json --json": refusal("the argument '--json' cannot be used multiple times", "check [OPTIONS] <map> <plan>"),
-    "row M S 1x": refusal("invalid value '1x' for '<row>': a number from 0 to 4294967295 is wanted, in digits alone", "row <map> <scen> <row>"),
+    "row M S 1x": refusal("invalid value '1x' for '<row>': a number from 0 to 4294967295 is wanted, in digits alone", "row [OPTIONS] <map> <scen> <row>"),
     "deps M P --cell 1": refusal("2 values required for '--cell <X> <Y>' but 1 was provided", "deps [OPTIONS] <map> <plan>"),
     "deps M P --cell 1 x": refusal(
         "invalid value for '--cell <X> <Y>': two numbers from 0 to 65535 are wanted, in digits alone", "deps [OPTIONS] <map> <plan>"
@@ -317,6 +358,16 @@ WHOLE = {
     ),
     "agent M P 0 T --tape old": refusal("invalid value for '--tape <tape>': new or kept is wanted", "agent [OPTIONS] <map> <plan> <id> <file>"),
 }
+
+# Words with bytes that would move the cursor, and how they are shown.
+MOVING = [
+    (["a\x1b[2Jb"], "unrecognized subcommand 'a\\x1b[2Jb'"),
+    (["ma\n"], "unrecognized subcommand 'ma\\x0a'\n\n  tip: a similar command exists: 'map'"),
+    (["row", "M", "S", "1\x7f\t"], "invalid value '1\\x7f\\x09' for '<row>'"),
+    (["map", "M", "--j\x1b"], "unexpected argument '--j\\x1b' found"),
+    (["map", "M", "--explain=\r"], "unexpected value '\\x0d' for '--explain' found"),
+    (["map", "M", "\n\n"], "unexpected argument '\\x0a\\x0a' found"),
+]
 
 # Words that hold blanks or nothing where that is no command, and more words than any command has.
 ODD = [
@@ -370,6 +421,25 @@ def commands(harness: Harness) -> Iterator[Outcome]:
         folder = harness.folder(FILES)
         ended = harness.mapf(line.split(), folder=folder)
         yield ended_as(line, f"mapf {line}", ended, Ended(status, b"", f"mapf: {fault}\n".encode()))
+        # An explanation follows the line.
+        explained = harness.mapf([*line.split(), "--explain"], folder=harness.folder(FILES))
+        wrote = (explained.status, explained.out, explained.err[: len(ended.err)])
+        yield compared(f"{line} --explain", f"mapf {line} --explain", wrote, (status, b"", ended.err))
+
+
+def inputs(harness: Harness) -> Iterator[Outcome]:
+    """Standard input is a map or a scenario where its file is `-`, and no file of this name is read."""
+    folder = harness.folder({**FILES, "-": b"another file"})
+    for words, text, due in (
+        (["map", "-"], FILES["M"], Ended(0, MAP.encode(), b"")),
+        (["scen", "-"], FILES["S"], Ended(0, SCEN.encode(), b"")),
+        (["map", "--", "-"], FILES["M"], Ended(0, MAP.encode(), b"")),
+        (["map", "-"], b"", Ended(1, b"", b"mapf: BadHeader 1\n")),
+        (["map", "./-"], FILES["M"], Ended(1, b"", b"mapf: BadHeader 1\n")),
+        (["scen", "./-"], FILES["S"], Ended(1, b"", b"mapf: NoVersion\n")),
+        (["row", "M", "-", "0"], FILES["S"], Ended(1, b"", b"mapf: NoVersion\n")),
+    ):
+        yield ended_as(f"{words} of {len(text)} bytes", shown(["mapf", *words]), harness.mapf(words, text, folder=folder), due)
 
 
 def bad_lines(harness: Harness) -> Iterator[Outcome]:
@@ -383,6 +453,11 @@ def bad_lines(harness: Harness) -> Iterator[Outcome]:
         yield compared(line, f"mapf {line}", wrote, due)
     for line, told in WHOLE.items():
         yield ended_as(line, f"mapf {line}", harness.mapf(line.split(), folder=folder), Ended(2, b"", told))
+    for words, told in MOVING:
+        ended = harness.mapf(words, folder=folder)
+        wrote = (ended.status, ended.out, ended.err.decode())
+        well = wrote[:2] == (2, b"") and wrote[2].startswith(f"error: {told}")
+        yield compared(f"{words}", shown(["mapf", *words]), wrote, wrote if well else f"status 2, and `error: {told}`")
     for words in ODD:
         ended = harness.mapf(words, folder=folder)
         yield compared(str(words[:4]), shown(["mapf", *words[:4]]), (ended.status, ended.out, ended.err[:7]), (2, b"", b"error: "))
@@ -458,13 +533,19 @@ def helps(harness: Harness) -> Iterator[Outcome]:
     texts = [(f"help {command}", text) for command, text in help_texts.COMMANDS.items()]
     texts += [(f"{command} {word}", text) for command, text in help_texts.COMMANDS.items() if command != "help" for word in ("-h", "--help", "M --help")]
     texts += [(line, help_texts.PROGRAM) for line in ("help", "-h", "--help", "-h map", "--help map M", "-h --version")]
-    texts += [(line, "mapf 0.1.0\n") for line in ("--version", "-V", "--version map M")]
+    texts += [(line, VERSION) for line in ("--version", "-V", "--version map M")]
     for line, text in texts:
         yield ended_as(line, f"mapf {line}", harness.mapf(line.split(), folder=folder), Ended(0, text.encode(), b""))
+    # Help on faults; a word more, or another one, is none.
+    for line, is_help in (("help faults", True), ("help BadTerrain", True), ("help faults map", False), ("help badterrain", False), ("faults", False)):
+        ended = harness.mapf(line.split(), folder=folder)
+        wrote = (ended.status, bool(ended.out), bool(ended.err))
+        yield compared(line, f"mapf {line}", wrote, (0, True, False) if is_help else (2, False, True))
 
 
 def outcomes(harness: Harness) -> Iterator[Outcome]:
     yield from commands(harness)
+    yield from inputs(harness)
     yield from bad_lines(harness)
     yield from names(harness)
     yield from long_names(harness)

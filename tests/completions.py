@@ -43,7 +43,7 @@ def outcomes(harness: Harness) -> Iterator[Outcome]:
     yield compared("commands", "mapf help", len(commands) > 8 and "help" in commands, True)
     yield offers("", [*commands, *options(text)])
     yield offers("-", options(text))
-    yield offers("help ", commands)
+    yield offers("help ", [*commands, "faults"])
     for command in commands:
         yield offers(command[:-1], [it for it in commands if it.startswith(command[:-1])])
         if command == "help":

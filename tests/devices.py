@@ -13,7 +13,7 @@ from typing import Iterator, Optional, Sequence
 
 import command_lines
 import help_texts
-from harness import LONGEST, Ended, Harness, Outcome, compared, ended_as, side_by_side
+from harness import LONGEST, VERSION, Ended, Harness, Outcome, compared, ended_as, side_by_side
 from texts import BEHIND, CORNER, CORNER_WRITTEN, LANE, NOBODY, ROW, ROW_WRITTEN, SHORT, SQUARE, SWAP, TASKS, TURN, events
 
 FILES = {
@@ -51,7 +51,7 @@ WRITING = [
     ("run Q R J --complete", "refused Waits 1 1\n"),
     ("run Q R E --complete", "refused Waits 2 1\nrefused Waits 1 1\nrefused NotMoving\nrefused Waits 2 1\nblocked 0\n"),
     ("agent M P 0 T", "at 1 0 done 0\n"),
-    ("--version", "mapf 0.1.0\n"),
+    ("--version", VERSION),
 ]
 # Commands with a fault, and the line of it.
 FAULTY = [

@@ -14,7 +14,7 @@ import command_lines
 import help_texts
 from answers import ARRIVED_AS_OTHER, MOVING, NOISE, OTHER_AGENT, STANDING, answer, lines
 from completing import ends_of, judged
-from harness import ROOT, Ended, Harness, Outcome, compared, shown, side_by_side
+from harness import ROOT, VERSION, Ended, Harness, Outcome, compared, shown, side_by_side
 from texts import (
     BEHIND,
     CORNER,
@@ -160,7 +160,13 @@ CASES = [
     Case("agent M P 0 T", answer(1, "WrongAgent 0"), b"start\n", OTHER_AGENT),
     Case("agent M P 0 T", answer(1, "Damaged 1"), b"start\n", MOVING + NOISE),
     Case("agent M P 0 T", answer(1, "TooLong"), b"start\n", MOVING + STANDING + NOISE),
-    Case("--version", answer(0, "mapf 0.1.0\n")),
+    Case("tape M P 0 T", answer(0, "at 1 0 done 0\nrecords 0 torn 0\n"), tape=b""),
+    Case("tape M P 0 T", answer(0, "between 1 0 2 0 done 0\nrecords 1 torn 9\n"), tape=MOVING + STANDING[:9]),
+    Case("tape M P 0 T", answer(1, "WrongAgent 0"), tape=OTHER_AGENT),
+    Case("tape M P 2 T", answer(1, "NoSuchAgent"), tape=b""),
+    Case("map -", answer(0, CORNER_WRITTEN), CORNER.encode()),
+    Case("scen -", answer(1, "BadNumber 2 5"), FILES["N"].encode()),
+    Case("--version", answer(0, VERSION)),
     Case("help", answer(0, help_texts.PROGRAM)),
     Case("check --help", answer(0, help_texts.COMMANDS["check"])),
 ]
@@ -291,7 +297,7 @@ def judged_tape(library: Library, case: Case, folder: pathlib.Path, out: bytes, 
     """What is wrong with a tape, behind what was told; empty where nothing is. It is opened again once for all runs that leave the same."""
     left = (folder / TAPE).read_bytes()
     agent = case.words.split()[3]
-    if case.due.status:
+    if case.due.status or case.words.startswith("tape "):
         return "" if left == case.tape else f"the tape was to stay as it was, and has {left.hex()}"
     records, before = left[: len(left) // 10 * 10], len(case.tape or b"") // 10
     told = before + len(re.findall(rb"^(?:moving|arrived) ", out, re.MULTILINE))
@@ -345,6 +351,8 @@ def names_due(case: Case, call: str) -> set[str]:
     if call == "write":
         stores = {TAPE} if b"start\n" in case.given and not case.due.err else set()
         return stores | ({"output"} if case.due.out else set()) | ({"error output"} if case.due.err else set())
+    if not case.words.startswith("agent "):
+        return set()
     if call in ("look", "lock"):
         return {TAPE} & opened(case)
     is_synced = len(case.tape or b"") >= 10 or case.words.endswith(NEW)

@@ -13,6 +13,9 @@ from typing import Callable, Iterable, Iterator, Mapping, Optional, Sequence
 ROOT = pathlib.Path(__file__).resolve().parent.parent
 # Where the program lies in a checkout.
 SHIPPED = pathlib.Path("dist") / "x86_64-linux" / "mapf"
+# The kit that proved the program, and what the program says of itself.
+KIT = (ROOT / SHIPPED).with_name("made-from.txt").read_text().partition("\nkit ")[2].partition("\n")[0]
+VERSION = f"mapf 0.1.0\nproved by {KIT}\n"
 # No run of a part takes nearly as long: a command that hangs fails its test.
 LONGEST = 120
 # The status of a command that could not be started, as a shell has it.
@@ -159,7 +162,8 @@ class Report:
 
     def say(self, text: str) -> None:
         self.show("")
-        print(text, flush=True)
+        # One write, which lines of others do not come into.
+        print(f"{text}\n", end="", flush=True)
 
     def fail(self, why: str) -> None:
         self.failed += 1

@@ -14,6 +14,7 @@ Commands:
   path   Walks a plan on a map, and says where its agents are at each time
   run    Checks a plan on a map, and answers the events of a run of it
   agent  Checks a plan on a map, and answers for one of its agents
+  tape   Checks a plan on a map, and says what the tape of an agent keeps
   help   Print this message or the help of the given subcommand(s)
 
 Options:
@@ -29,21 +30,24 @@ Status:
   3  a file can't be opened, a device failed, or memory was refused
 
 `mapf help COMMAND` shows the answer, the statuses and an example of a command.
+`mapf help faults` lists all faults, and `mapf help FAULT` shows one. With
+--explain a command says more about its fault than the line.
 """
 
 COMMANDS = {
     "map": """\
 Reads a map and writes it in canonical form
 
-Usage: mapf map <file>
+Usage: mapf map [OPTIONS] <file>
 
 Arguments:
   <file>  The file of the map
 
 Options:
-  -h, --help  Print help
+      --explain  Explains a fault, behind its line
+  -h, --help     Print help
 
-Standard output is the canonical text of the map.
+Standard output is the canonical text of the map. The file - is standard input.
 
 Status:
   0  the text is written
@@ -57,15 +61,17 @@ Example:
     "scen": """\
 Reads a scenario and writes it in canonical form
 
-Usage: mapf scen <file>
+Usage: mapf scen [OPTIONS] <file>
 
 Arguments:
   <file>  The file of the scenario
 
 Options:
-  -h, --help  Print help
+      --explain  Explains a fault, behind its line
+  -h, --help     Print help
 
-Standard output is the canonical text of the scenario.
+Standard output is the canonical text of the scenario. The file - is standard
+input.
 
 Status:
   0  the text is written
@@ -79,7 +85,7 @@ Example:
     "row": """\
 Judges the length that a scenario lists for one of its rows
 
-Usage: mapf row <map> <scen> <row>
+Usage: mapf row [OPTIONS] <map> <scen> <row>
 
 Arguments:
   <map>   The file of the map
@@ -87,7 +93,8 @@ Arguments:
   <row>   The number of the row, counted from 0
 
 Options:
-  -h, --help  Print help
+      --explain  Explains a fault, behind its line
+  -h, --help     Print help
 
 Standard output is one line. S and D are the straight and the diagonal steps of
 a shortest walk, L is the listed length:
@@ -117,6 +124,7 @@ Arguments:
 Options:
       --scen <scen>  The file of a scenario that the plan is to solve
       --json         Writes the answer as JSON
+      --explain      Explains a fault, behind its line
   -h, --help         Print help
 
 Standard output is one line:
@@ -144,6 +152,7 @@ Arguments:
 
 Options:
       --cell <X> <Y>  Writes who comes into this cell, and when
+      --explain       Explains a fault, behind its line
   -h, --help          Print help
 
 Standard output:
@@ -175,6 +184,7 @@ Arguments:
 
 Options:
       --agent <agent>  The number of the one agent to write, from 0
+      --explain        Explains a fault, behind its line
   -h, --help           Print help
 
 Standard output is a line for each time, from 0 to the most acts of an agent:
@@ -205,6 +215,7 @@ Arguments:
 
 Options:
       --complete  Writes how the run ends too
+      --explain   Explains a fault, behind its line
   -h, --help      Print help
 
 Standard output is one line for each event, as `moving 2 0`, `arrived 2 0` or
@@ -238,6 +249,7 @@ Arguments:
 
 Options:
       --tape <tape>  What the tape has to be: new or kept
+      --explain      Explains a fault, behind its line
   -h, --help         Print help
 
 The tape keeps how far the agent has come. No other process may hold it. The
@@ -269,6 +281,40 @@ Status:
 
 Example:
   mapf agent examples/plain.map examples/behind.plan 0 robot0.tape
+""",
+    "tape": """\
+Checks a plan on a map, and says what the tape of an agent keeps
+
+Usage: mapf tape [OPTIONS] <map> <plan> <id> <file>
+
+Arguments:
+  <map>   The file of the map
+  <plan>  The file of the plan
+  <id>    The number of the agent, counted from 0
+  <file>  The file of the agent's tape
+
+Options:
+      --explain  Explains a fault, behind its line
+  -h, --help     Print help
+
+Standard output is two lines. The first is the state of the agent:
+  at X Y done N            it stands in this cell, with N moves finished
+  between X Y U V done N   it is moving from the one cell to the other
+The second is of the file:
+  records R torn T         R whole records, and T bytes behind them that count
+                           as nothing
+Nothing is written to the tape, and it may be read beside the agent that holds
+it.
+
+Status:
+  0  the lines are written
+  1  a text or the plan has a fault, there is no such agent, or the tape is
+     refused: one line on standard error
+  2  a bad command line
+  3  a file can't be opened, a device failed, or memory was refused
+
+Example:
+  mapf tape examples/plain.map examples/behind.plan 0 robot0.tape
 """,
     "help": """\
 Print this message or the help of the given subcommand(s)

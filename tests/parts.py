@@ -1,5 +1,7 @@
 """The parts of ./test, and which of them a call runs."""
 import argparse
+import contextlib
+import functools
 import pathlib
 import re
 import shutil
@@ -7,6 +9,7 @@ import signal
 import subprocess
 import sys
 import tempfile
+import threading
 from typing import Callable, Iterator
 
 import answers
@@ -17,6 +20,7 @@ import converting
 import devices
 import documents
 import endings
+import explaining
 import faults
 import fleet
 import formats
@@ -46,6 +50,7 @@ PARTS: dict[str, tuple[str, Callable[[Harness], Iterator[Outcome]]]] = {
     "devices": ("files, inputs and outputs that fail", devices.outcomes),
     "faults": ("calls of the system that fail, one after another", faults.outcomes),
     "memory": ("calls of the libraries to which memory is refused", refusals.outcomes),
+    "explain": ("faults explained to people", explaining.outcomes),
     "endings": ("how runs end: the events that complete them, or the rotation in the way", endings.outcomes),
     "convert": ("plans of other formats, converted and back", converting.outcomes),
     "judge": ("many plans, judged as one table", judging.outcomes),
@@ -54,6 +59,8 @@ PARTS: dict[str, tuple[str, Callable[[Harness], Iterator[Outcome]]]] = {
     "fleet": ("robots as processes that are killed at random", fleet.outcomes),
     "robots": ("robots on a network, over UDP and MQTT", robots.outcomes),
 }
+# The parts that look at what the gate has built, and so come last where all is proved.
+NEED_PROOF = ("dist", "memory")
 
 
 def read_words(words: list[str]) -> argparse.Namespace:
@@ -67,7 +74,7 @@ def read_words(words: list[str]) -> argparse.Namespace:
     parser.add_argument("parts", nargs="*", metavar="PART", help="runs the parts whose name begins so (all)")
     parser.add_argument("--program", type=pathlib.Path, default=ROOT / SHIPPED, metavar="PATH", help="tests this program")
     parser.add_argument("--long", action="store_true", help="runs what takes longer than two minutes too")
-    parser.add_argument("--prove", action="store_true", help="proves everything first (`rt ci`), and then tests all, --long too")
+    parser.add_argument("--prove", action="store_true", help="proves everything (`rt ci`), and meanwhile tests all, --long too")
     given = parser.parse_args(words)
     given.names = [name for name in PARTS if not given.parts or any(name.startswith(word) for word in given.parts)]
     for word in given.parts:
@@ -76,22 +83,47 @@ def read_words(words: list[str]) -> argparse.Namespace:
     return given
 
 
-def prove(report: Report) -> None:
-    """Runs the gate of the kit, passes on what it writes, and counts what it counted."""
-    if not shutil.which("rt"):
+class Gate:
+    """The gate of the kit, which proves everything while the program of dist/ is tested. What it writes is passed on, a line at a time."""
+
+    def __init__(self) -> None:
+        self.last = ""
+        self.process = subprocess.Popen(["rt", "ci"], cwd=ROOT, stdin=subprocess.DEVNULL, stdout=subprocess.PIPE, text=True, errors="replace")
+        self.passing_on = threading.Thread(target=self.pass_on)
+        self.passing_on.start()
+
+    def pass_on(self) -> None:
+        for self.last in self.process.stdout:
+            print(self.last, end="", flush=True)
+
+    def end(self) -> tuple[int, int]:
+        """Waits for its end, and answers how many it counted as passed and as failed."""
+        self.passing_on.join()
+        failed_itself = self.process.wait() != 0
+        counted = re.fullmatch(r"(\d+) passed, (\d+) failed\n", self.last)
+        passed, failed = map(int, counted.groups()) if counted else (0, 0)
+        return passed, max(failed, 1) if failed_itself else failed
+
+    def stop(self) -> None:
+        """Ends it, where it has not ended."""
+        self.process.terminate()
+        self.passing_on.join()
+
+
+@contextlib.contextmanager
+def proving(is_wanted: bool, report: Report) -> Iterator[Callable[[], None]]:
+    """Proves everything meanwhile, where that is wanted. The call that this gives waits until all is proved and counted."""
+    if is_wanted and not shutil.which("rt"):
         report.fail("`rt` is not on the path: proving needs the kit that dist/README.md names")
+        is_wanted = False
+    if not is_wanted:
+        yield lambda: None
         return
-    last = ""
-    with subprocess.Popen(["rt", "ci"], cwd=ROOT, stdin=subprocess.DEVNULL, stdout=subprocess.PIPE, text=True, errors="replace") as gate:
-        try:
-            for last in gate.stdout:
-                print(last, end="", flush=True)
-        except BaseException:
-            gate.terminate()
-            raise
-    counted = re.fullmatch(r"(\d+) passed, (\d+) failed\n", last)
-    passed, failed = map(int, counted.groups()) if counted else (0, 0)
-    report.count(passed, max(failed, 1) if gate.returncode else failed)
+    gate = Gate()
+    try:
+        yield functools.cache(lambda: report.count(*gate.end()))
+    finally:
+        gate.stop()
 
 
 def heed_signals() -> None:
@@ -110,16 +142,17 @@ def main(words: list[str]) -> int:
     given = read_words(words)
     heed_signals()
     report = Report()
-    if given.prove:
-        prove(report)
-    with tempfile.TemporaryDirectory(prefix="mapf-test-") as room:
+    with tempfile.TemporaryDirectory(prefix="mapf-test-") as room, proving(given.prove, report) as wait_for_proof:
         harness = Harness(given.program.resolve(), pathlib.Path(room), given.long or given.prove, given.prove)
         version = harness.mapf(["--version"])
         starts = version.status == 0 and version.out.startswith(b"mapf ")
-        for name in given.names:
+        for name in sorted(given.names, key=lambda name: given.prove and name in NEED_PROOF):
+            if name in NEED_PROOF:
+                wait_for_proof()
             # Of a program that does not start, only dist/ says more.
             if starts or name == "dist":
                 report.take(name, PARTS[name][1](harness))
+        wait_for_proof()
         if not starts:
             report.fail(f"{given.program} does not start here; dist/README.md says what it needs, and how to make it again")
     return report.end()

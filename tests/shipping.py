@@ -1,10 +1,11 @@
 """dist/: that its program is whole, is made from the sources of the checkout, and is what the kit builds; and that each change is seen."""
 import pathlib
+import re
 import shutil
 import sys
 from typing import Callable, Iterator
 
-from harness import ROOT, SHIPPED, Harness, Outcome, compared
+from harness import ROOT, SHIPPED, VERSION, Harness, Outcome, compared
 
 TOOL = pathlib.Path("tools") / "dist.py"
 
@@ -48,6 +49,11 @@ def with_other_crates(folder: pathlib.Path) -> None:
     (folder / "crates.txt").write_text(listed.replace("mapf: ", "mapf: itoa ", 1))
 
 
+def with_another_kit(folder: pathlib.Path) -> None:
+    source = folder / "crates" / "command_line" / "src" / "help.rt"
+    source.write_text(re.sub(r"(?m)^proved by .*$", 'proved by another kit";', source.read_text()))
+
+
 SPOILED = [
     ("one byte of the program", flipped("dist/x86_64-linux/mapf", 0.5), "dist: dist/x86_64-linux/mapf has not the SHA-256"),
     ("the last byte of the program gone", shortened, "dist: dist/x86_64-linux/mapf has not the SHA-256"),
@@ -58,6 +64,7 @@ SPOILED = [
     ),
     ("one byte of a source", flipped("crates/grid/src/lib.rt"), "dist: the sources are others"),
     ("one byte of the program's own source", flipped("crates/mapf/src/main.rt"), "dist: the sources are others"),
+    ("the kit in the version", with_another_kit, "dist: crates/command_line/src/help.rt says that another kit proved the program"),
     ("a source more", with_a_source_more, "dist: the sources are others"),
     ("a crate that stands on another one", with_other_crates, "dist: the sources are others"),
 ]
@@ -72,6 +79,7 @@ def outcomes(harness: Harness) -> Iterator[Outcome]:
     if ended.status:
         # Where it doesn't hold, no further change can be told.
         return
+    yield compared("the version", "mapf --version", harness.run([str(ROOT / SHIPPED), "--version"]).out.decode(), VERSION)
     for name, spoil, due in SPOILED:
         folder = checkout(harness)
         spoil(folder)

@@ -40,7 +40,7 @@ MADE = {
     "file_tape/file_tape.rt: From<TapeMakeFault> for FileTapeFault: from": NAMED_ANEW,
     "grid/map_fault.rt: From<AllocError> for MapFault: from": NAMED_ANEW,
     "mapf/main.rt: fault_of": "tells why the system didn't give the words of the command line",
-    "mapf_cmd/program.rt: refuse": "tells that there was no memory for a command line",
+    "mapf_cmd/unperformed.rt: refuse": "tells that there was no memory for a command line",
     "path_commands/path_command.rt: show": "was given an answer that there was no room for where agents are",
     "plan/checker.rt: check": "gives the plan back beside the want",
     "plan_commands/check_command.rt: refuse": NO_TEXT,
@@ -62,7 +62,7 @@ MADE = {
     "text_commands/row_command.rt: propose": PASSED_ON,
 }
 # In how many places a function says it, where that is more than one.
-PLACES = {"command_line/command_line.rt: refused": 2}
+PLACES = {"command_line/command_line.rt: refused": 2, "command_line/words.rt: no_number": 2}
 
 # Lines of a body, each with how many such values it makes.
 FORMS = [
