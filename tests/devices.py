@@ -13,7 +13,7 @@ from typing import Iterator, Optional, Sequence
 
 import command_lines
 import help_texts
-from harness import LONGEST, VERSION, Ended, Harness, Outcome, compared, ended_as, side_by_side
+from harness import LONGEST, VERSION, Ended, Harness, Outcome, compared, ended_as, has_terminals, side_by_side
 from texts import BEHIND, CORNER, CORNER_WRITTEN, LANE, NOBODY, ROW, ROW_WRITTEN, SHORT, SQUARE, SWAP, TASKS, TURN, events
 
 FILES = {
@@ -226,13 +226,9 @@ def inputs_that_fail(harness: Harness) -> Iterator[Outcome]:
         (folder / "D").mkdir()
         yield ended_as(words, f"mapf {words}  with a folder D", harness.mapf(words.split(), folder=folder), due)
         yield compared(f"{words} makes no tape", f"mapf {words}", (folder / "T").exists(), False)
-    try:
-        ends = pty.openpty()
-    except OSError:
+    if not has_terminals():
         yield Outcome("an agent's input that fails", lacks="terminal")
         return
-    for end in ends:
-        os.close(end)
     for given, answers in ((b"", ""), (b"start\nfin", "moving 2 0\n"), (b"start\nfinish\n", "moving 2 0\narrived 2 0\n")):
         ended = over_a_line_that_breaks(harness, given)
         due = Ended(3, f"at 1 0 done 0\n{answers}".encode(), b"mapf: ReadFailed\n")

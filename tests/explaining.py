@@ -7,7 +7,7 @@ import subprocess
 import tty
 from typing import Iterator, Mapping, Sequence
 
-from harness import LONGEST, ROOT, Ended, Harness, Outcome, compared, ended_as, shown, side_by_side
+from harness import LONGEST, ROOT, Ended, Harness, Outcome, compared, ended_as, has_terminals, shown, side_by_side
 from texts import BEHIND, LANE, SWAP
 from wrong_inputs import FILES, INPUTS, Wrong
 
@@ -98,13 +98,9 @@ def coloured(harness: Harness, of: str, wrong: Wrong) -> Sequence[Outcome]:
 
 def colours(harness: Harness) -> Iterator[Outcome]:
     """What is wrong is marked, on a terminal alone, and not where colour is unwanted."""
-    try:
-        ends = pty.openpty()
-    except OSError:
+    if not has_terminals():
         yield Outcome("colours", lacks="terminal")
         return
-    for end in ends:
-        os.close(end)
     folder = harness.folder({"M": as_bytes(LANE), "X": as_bytes(SWAP), "wrong": as_bytes(LANE.replace("type octile", "type hex"))})
     for words in (["map", "wrong", "--explain"], ["deps", "M", "X", "--explain"]):
         plain = harness.mapf(words, folder=folder)

@@ -5,6 +5,7 @@ import dataclasses
 import itertools
 import os
 import pathlib
+import pty
 import signal
 import subprocess
 import sys
@@ -90,6 +91,17 @@ class Harness:
                     raise
                 err += f"(it had not ended after {LONGEST} seconds)".encode()
             return Ended(process.returncode, out, err)
+
+
+def has_terminals() -> bool:
+    """Whether this machine gives tests a terminal."""
+    try:
+        ends = pty.openpty()
+    except OSError:
+        return False
+    for end in ends:
+        os.close(end)
+    return True
 
 
 def side_by_side(tests: Iterable[Callable[[], Sequence[Outcome]]]) -> Iterator[Outcome]:
