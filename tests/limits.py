@@ -3,11 +3,14 @@
 Nothing gives up below its limit: the answer is there in full, and what is wrong at the last place alone is found there."""
 import functools
 import os
+import pathlib
+import re
 import struct
+import subprocess
 from typing import Callable, Iterator, Mapping, Sequence
 
 from answers import answer
-from harness import Ended, Harness, Outcome, shown, side_by_side
+from harness import Ended, Harness, Outcome, compared, shown, side_by_side
 from texts import LANE, SQUARE, plan, scen
 
 MOST_ACTS, MOST_AGENTS, MOST_ACTS_OF_ALL = 65_535, 10_000, 16_777_216
@@ -490,6 +493,24 @@ def of_long_tapes(harness: Harness) -> list[Outcome]:
     return outcomes
 
 
+def of_what_an_agent_keeps(harness: Harness) -> list[Outcome]:
+    """A process reads the whole plan, and keeps what its own agent needs of it: a small part of the most that it had, in kilobytes."""
+    in_row, acts = 100, 400
+    starts = [(2 * (i % in_row), i // in_row) for i in range(MOST_AGENTS)]
+    folder = harness.folder({"M": map_text(["." * (2 * in_row)] * in_row), "P": plan(*(f"{x} {y} {'ew' * (acts // 2)}" for x, y in starts)).encode()})
+    command = [str(harness.program), "agent", "M", "P", "1", "T"]
+    with subprocess.Popen(command, cwd=folder, stdin=subprocess.PIPE, stdout=subprocess.PIPE) as process:
+        said = process.stdout.readline()
+        memory = dict(re.findall(r"(VmHWM|VmRSS):\s+(\d+)", pathlib.Path(f"/proc/{process.pid}/status").read_text()))
+        process.stdin.close()
+    ran = f"mapf agent M P 1 T  of {MOST_AGENTS} agents with {acts} acts"
+    is_small = 4 * int(memory["VmRSS"]) < int(memory["VmHWM"])
+    return [
+        compared(f"the first line of one of {MOST_AGENTS} agents", ran, said, b"at 2 0 done 0\n"),
+        compared(f"what one of {MOST_AGENTS} agents keeps", ran, memory, memory if is_small else "less than a quarter of the most"),
+    ]
+
+
 TESTS: Sequence[Test] = (
     of_maps,
     *(functools.partial(of_walks, width=width, height=height) for width, height in ((2_048, 2_047), (65_535, 63), (64, 65_535))),
@@ -504,6 +525,7 @@ TESTS: Sequence[Test] = (
     of_many_cells,
     *(functools.partial(of_long_runs, version=version) for version in (1, 2)),
     of_long_tapes,
+    of_what_an_agent_keeps,
 )
 
 

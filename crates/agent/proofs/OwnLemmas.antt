@@ -1,7 +1,6 @@
 -- What the tape of an agent keeps, and what a write of the due record does to it.
 use Rattle.std.proofs.Common.{◌≡◌, ℕ, zero, suc, ◌+◌, ◌*◌, ◌/◌, ◌-◌, ◌<◌, ◌≤◌, ◌++◌, Bool, true, false, List, [], ◌∷◌, length, take, drop, Some, None, inl, inr, refl, sym, ap, subst, ◌∙◌, arith}
 use Rattle.std.specs.Prelude.{◌⊎◌, ◌==◌, Option, option_map, slice_get}
-use Rattle.std.specs.List.{AllByRecursion}
 use Rattle.std.proofs.Math.Nat.{mul-div-le, lt-mul-div-succ, mul-add-div, mul-div_cancel_left, div-eq_of_lt}
 use Rattle.std.proofs.Math.Seq.{drop-append_seam}
 use Rattle.std.proofs.lemmas.Bool.{cases_lt, cases_Bool, cond-true, cond-false, eq-eqb, true≢false}
@@ -9,36 +8,30 @@ use Rattle.std.proofs.lemmas.List.{take-append-le, drop-append-le, drop-take, le
 use Rattle.std.proofs.lemmas.Option.{same_Some, none-some, slice_get-get_or}
 use Rattle.grid.specs.declared.cell.Cell.{Cell}
 use Rattle.model.specs.History.{record_length}
-use Rattle.model.specs.Timetable.{Track, Timetable, same_cell, moves_after, moves, path, track_of}
+use Rattle.model.specs.Timetable.{Track, Timetable, moves, path, track_of}
 use Rattle.model.specs.Rules.{path_cell}
 use Rattle.model.proofs.TrackLemmas.{length-path}
-use Rattle.agent.specs.Agents.{AgentOn}
 use Rattle.agent.specs.Owning.{IsOwn, HasSize}
 use Rattle.agent.specs.Records.{due_record, record_at}
-use Rattle.agent.specs.States.{State, done, is_moving, start_refusal}
+use Rattle.agent.specs.States.{State, done, is_moving, start_refusal, finish_refusal}
 use Rattle.agent.specs.Tape.{TapeState, whole_records, MayRead, MayWrite, IsWrite}
+use Rattle.depgraph.specs.AgentParts.{AgentPart, IsPartOf, IsOfGraph}
+use Rattle.depgraph.proofs.AgentPartLemmas.{moves-most, own-moves, own-most}
 use Rattle.depgraph.specs.Graphs.{IsGraphed}
 
 -- ---- how many moves there are
 
-moves-within : (c : Cell) (cells : List Cell) (t : ℕ) → moves_after c cells t ≤ length cells
-moves-within c [] t = omega arith
-moves-within c (d ∷ cells) zero = omega arith
-moves-within c (d ∷ cells) (suc t) = elim (cases_Bool (same_cell c d)) [
-  | inl same ↦ (let is = cond-true (same_cell c d) (moves_after d cells t) (moves_after d cells t + 1) same in let rest = moves-within d cells t in omega (arith, is, rest))
-  | inr other ↦ (let is = cond-false (same_cell c d) (moves_after d cells t) (moves_after d cells t + 1) other in let rest = moves-within d cells t in omega (arith, is, rest))
-]
+-- an agent makes few moves
+pub few-needs : (p : AgentPart) → IsOfGraph p → length p.needs ≤ 65535
+few-needs p of = (let few = own-most p of in let count = of.2.need_count in omega (arith, few, count))
 
-few_moves : (tracks : List Track) (i : ℕ) (track : Track) → AllByRecursion (λ t. length t.later ≤ 65535) tracks → slice_get tracks i ≡ Some track → moves track ≤ 65535
-few_moves [] i track all is = absurd (none-some track is)
-few_moves (first ∷ tracks) zero track all is =
-    (let within = moves-within track.start track.later (length track.later) in
-    let most = subst (λ t. length t.later ≤ 65535) (same_Some first track is) all.0 in
-    omega (arith, within, most))
-few_moves (first ∷ tracks) (suc i) track all is = few_moves tracks i track all.1 is
+-- a number below twice the moves is small
+pub few_records : (p : AgentPart) (number : ℕ) → IsOfGraph p → number < 2 * length p.needs → number < 2 * 65535
+few_records p number of less = (let few = few-needs p of in omega (arith, less, few))
 
-pub moves-most : (tt : Timetable) (i : ℕ) (track : Track) → IsGraphed tt → track_of tt i ≡ Some track → moves track ≤ 65535
-moves-most tt i track graphed is = few_moves tt.tracks i track graphed.step_limit is
+-- how many moves the agent makes, by either list of its part
+pub own-count : (p : AgentPart) → IsOfGraph p → slice_get p.moves p.agent ≡ Some (length p.needs)
+own-count p of = own-moves of.0 p of.2 ∙ ap Some (sym of.2.need_count)
 
 -- a graph tells no more moves
 pub told-most : (table : Timetable) (i count : ℕ) → IsGraphed table → Some count ≡ option_map moves (track_of table i) → count ≤ 65535
@@ -49,20 +42,17 @@ told-most table i count graphed is = told (track_of table i) refl is
     told (Some track) known same =
         (let most = moves-most table i track graphed known in let one = same_Some count (moves track) same in omega (arith, most, one))
 
--- a number below twice the moves is small
-pub few_records : {T : Type 0} (inside outside : AgentOn T) (number : ℕ) → inside ≡ outside → IsGraphed inside.timetable → (own : Track) → track_of outside.timetable outside.id ≡ Some own
-    → number < 2 * moves own → number < 2 * 65535
-few_records inside outside number same graphed own is less =
-    let most = moves-most outside.timetable outside.id own (subst (λ a. IsGraphed a.timetable) same graphed) is in
-    omega (arith, most, less)
+-- the track of an agent is that of its part
+pub same-track : (tt : Timetable) (p : AgentPart) → (is : IsPartOf tt p) → (track : Track) → track_of tt p.agent ≡ Some track → is.track ≡ track
+same-track tt p is track there = same_Some is.track track (sym is.is_track ∙ there)
 
 -- ---- reads and writes that a tape allows
 
 pub may-read : (t : TapeState) (n : ℕ) → n < whole_records t → MayRead t (record_length * n)
 may-read t n less = (let whole = mul-div-le (length t.contents) 10 in omega (arith, less, whole))
 
-pub may-write : (t : TapeState) (track : Track) → HasSize track t → whole_records t < 2 * moves track → MayWrite t (record_length * whole_records t)
-may-write t track size less =
+pub may-write : (t : TapeState) (count : ℕ) → HasSize count t → whole_records t < 2 * count → MayWrite t (record_length * whole_records t)
+may-write t count size less =
     let whole = mul-div-le (length t.contents) 10 in
     let next = lt-mul-div-succ (length t.contents) {b = 10} (omega arith) in
     let room = size.room in
@@ -110,16 +100,13 @@ module _ (contents tail : List ℕ) (q : ℕ) (fits : 10 * q ≤ length contents
 
 -- ---- a write of the due record
 
-module _ (tt : Timetable) (i : ℕ) (t u : TapeState) (own : IsOwn tt i t) (track : Track) (is_track : track_of tt i ≡ Some track)
-    (succeeds : Bool) (write : IsWrite t u (record_length * whole_records t) (due_record tt.number i (whole_records t)) succeeds) where
+module _ (p : AgentPart) (t u : TapeState) (own : IsOwn p t)
+    (succeeds : Bool) (write : IsWrite t u (record_length * whole_records t) (due_record p.number p.agent (whole_records t)) succeeds) where
   abbrev q : ℕ
   q = whole_records t
 
   abbrev due : List ℕ
-  due = due_record tt.number i q
-
-  same_track : own.track ≡ track
-  same_track = same_Some own.track track (sym own.is_track ∙ is_track)
+  due = due_record p.number p.agent q
 
   fits : 10 * q ≤ length t.contents
   fits = mul-div-le (length t.contents) 10
@@ -134,40 +121,36 @@ module _ (tt : Timetable) (i : ℕ) (t u : TapeState) (own : IsOwn tt i t) (trac
   count-due is =
       ap (λ c. length c / 10) is ∙ ap (λ n. n / 10) (count-after t.contents due q fits) ∙ mul-add-div {m = 10} (omega arith) q 10
 
-  earlier-due : (tail : List ℕ) → u.contents ≡ take (10 * q) t.contents ++ tail → (n : ℕ) → n < q → record_at u.contents n ≡ due_record tt.number i n
+  earlier-due : (tail : List ℕ) → u.contents ≡ take (10 * q) t.contents ++ tail → (n : ℕ) → n < q → record_at u.contents n ≡ due_record p.number p.agent n
   earlier-due tail is n less = ap (λ c. record_at c n) is ∙ earlier-stays t.contents tail q fits n less ∙ own.due n less
 
-  own-short : (tail : List ℕ) → u.contents ≡ take (10 * q) t.contents ++ tail → length tail < 10 → IsOwn tt i u
+  own-short : (tail : List ℕ) → u.contents ≡ take (10 * q) t.contents ++ tail → length tail < 10 → IsOwn p u
   own-short tail is less = record {
-    track = own.track;
-    is_track = own.is_track;
     size = record {
-      room = subst (λ r. 2 * record_length * moves own.track ≤ r) (sym write.room) own.size.room;
-      limit = subst (λ n. n ≤ 2 * moves own.track) (sym (count-short tail is less)) own.size.limit;
+      room = subst (λ r. 2 * record_length * length p.needs ≤ r) (sym write.room) own.size.room;
+      limit = subst (λ n. n ≤ 2 * length p.needs) (sym (count-short tail is less)) own.size.limit;
     };
     due = λ n within. earlier-due tail is n (subst (λ m. n < m) (count-short tail is less) within);
   }
 
-  own-due : q < 2 * moves track → u.contents ≡ take (10 * q) t.contents ++ due → IsOwn tt i u
+  own-due : q < 2 * length p.needs → u.contents ≡ take (10 * q) t.contents ++ due → IsOwn p u
   own-due less is = record {
-    track = own.track;
-    is_track = own.is_track;
     size = record {
-      room = subst (λ r. 2 * record_length * moves own.track ≤ r) (sym write.room) own.size.room;
-      limit = (let count = count-due is in let same = ap moves same_track in omega (arith, count, less, same));
+      room = subst (λ r. 2 * record_length * length p.needs ≤ r) (sym write.room) own.size.room;
+      limit = (let count = count-due is in omega (arith, count, less));
     };
     due = λ n within. elim (cases_lt n q) [
       | inl before ↦ earlier-due due is n before
       | inr not_before ↦ (
           let count = count-due is in
           let last : q ≡ n = omega (arith, count, within, not_before) in
-          subst (λ m. record_at u.contents m ≡ due_record tt.number i m) last (ap (λ c. record_at c q) is ∙ next-is t.contents due q fits refl)
+          subst (λ m. record_at u.contents m ≡ due_record p.number p.agent m) last (ap (λ c. record_at c q) is ∙ next-is t.contents due q fits refl)
           )
     ];
   }
 
   -- the tape is still the agent's, and has one record more or the same
-  pub own-after : q < 2 * moves track → IsOwn tt i u
+  pub own-after : q < 2 * length p.needs → IsOwn p u
   own-after less = elim (cases_Bool succeeds) [
     | inl good ↦ own-due less (write.stores good)
     | inr bad ↦ (let torn = write.tears bad in elim torn.2 [
@@ -188,16 +171,25 @@ module _ (tt : Timetable) (i : ℕ) (t u : TapeState) (own : IsOwn tt i t) (trac
 -- the same over a tape, for the write that the code makes
 pub own-written : {T : Type 0} (seen : T → TapeState) (may_write : T → ℕ → List ℕ → Bool → T → Type 0)
     → ((t u : T) (at : ℕ) (bytes : List ℕ) (succeeds : Bool) → MayWrite (seen t) at → length bytes ≡ record_length → may_write t at bytes succeeds u → IsWrite (seen t) (seen u) at bytes succeeds)
-    → (tt : Timetable) (i : ℕ) (tape after : T) → IsOwn tt i (seen tape) → (track : Track) → track_of tt i ≡ Some track → whole_records (seen tape) < 2 * moves track
-    → (plan number : ℕ) (bytes : List ℕ) (succeeds : Bool) → plan ≡ tt.number → number ≡ whole_records (seen tape) → bytes ≡ due_record plan i number
-    → may_write tape (record_length * number) bytes succeeds after → IsOwn tt i (seen after)
-own-written seen may_write writes tt i tape after own track is_track less plan number bytes succeeds is_plan is_number is_bytes written =
-    let due = due_record tt.number i (whole_records (seen tape)) in
-    let size = subst (λ k. HasSize k (seen tape)) (same_Some own.track track (sym own.is_track ∙ is_track)) own.size in
-    let same = is_bytes ∙ ap (λ p. due_record p i number) is_plan ∙ ap (due_record tt.number i) is_number in
+    → (p : AgentPart) (tape after : T) → IsOwn p (seen tape) → whole_records (seen tape) < 2 * length p.needs
+    → (plan agent number : ℕ) (bytes : List ℕ) (succeeds : Bool) → plan ≡ p.number → agent ≡ p.agent → number ≡ whole_records (seen tape) → bytes ≡ due_record plan agent number
+    → may_write tape (record_length * number) bytes succeeds after → IsOwn p (seen after)
+own-written seen may_write writes p tape after own less plan agent number bytes succeeds is_plan is_agent is_number is_bytes written =
+    let due = due_record p.number p.agent (whole_records (seen tape)) in
+    let same = is_bytes ∙ ap (λ n. due_record n agent number) is_plan ∙ ap (λ n. due_record p.number n number) is_agent ∙ ap (due_record p.number p.agent) is_number in
     let whole = subst (λ n. may_write tape (record_length * n) due succeeds after) is_number (subst (λ b. may_write tape (record_length * number) b succeeds after) same written) in
-    own-after tt i (seen tape) (seen after) own track is_track succeeds
-    (writes tape after (record_length * whole_records (seen tape)) due succeeds (may-write (seen tape) track size less) refl whole) less
+    own-after p (seen tape) (seen after) own succeeds
+    (writes tape after (record_length * whole_records (seen tape)) due succeeds (may-write (seen tape) (length p.needs) own.size less) refl whole) less
+
+-- a write that succeeds makes one record more
+pub record-more : {T : Type 0} (seen : T → TapeState) (may_write : T → ℕ → List ℕ → Bool → T → Type 0)
+    → ((t u : T) (at : ℕ) (bytes : List ℕ) (succeeds : Bool) → MayWrite (seen t) at → length bytes ≡ record_length → may_write t at bytes succeeds u → IsWrite (seen t) (seen u) at bytes succeeds)
+    → (p : AgentPart) (tape after : T) → IsOwn p (seen tape) → whole_records (seen tape) < 2 * length p.needs
+    → may_write tape (record_length * whole_records (seen tape)) (due_record p.number p.agent (whole_records (seen tape))) true after
+    → whole_records (seen after) ≡ whole_records (seen tape) + 1
+record-more seen may_write writes p tape after own less wrote =
+    count-stored p (seen tape) (seen after) own true
+    (writes tape after (record_length * whole_records (seen tape)) _ true (may-write (seen tape) (length p.needs) own.size less) refl wrote) refl
 
 -- ---- cells of a path
 
@@ -226,3 +218,6 @@ start-room tt i track s none limit = elim (cases_Bool s.broken) [
     ]
   ]
 ]
+
+pub finish-none : (s : State) → s.broken ≡ false → is_moving s ≡ true → finish_refusal s ≡ None
+finish-none s whole moving = cond-false s.broken _ _ whole ∙ cond-true (is_moving s) _ _ moving

@@ -10,8 +10,6 @@ pub mod Merging
 pub mod Places
 -- a reading of records that stopped
 pub mod Stops
--- the write of a due record
-pub mod Stores
 -- what an agent takes of a message
 pub mod Taking
 -- the entries that counters tell

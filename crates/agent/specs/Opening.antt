@@ -8,6 +8,7 @@ use Rattle.agent.specs.Agents.{AgentOn}
 use Rattle.agent.specs.Owning.{HasSize}
 use Rattle.agent.specs.Records.{due_record, record_at, AreDue, SaysDue, SaysPlan, SaysAgent}
 use Rattle.agent.specs.Tape.{TapeState, IsKept, whole_records}
+use Rattle.depgraph.specs.AgentParts.{IsPartOf}
 
 -- a record was read
 abbrev pub Gives : {T : Type 0} → (T → ℕ → Bool → List ℕ → T → Type 0) → ℕ → T → T → Type 0
@@ -22,12 +23,12 @@ HasRead {T = T} may_read tape (suc n) after = (before : T) × HasRead may_read t
 pub record IsOpened {T : Type 0} (seen : T → TapeState) (may_read : T → ℕ → Bool → List ℕ → T → Type 0) (tt : Timetable) (i : ℕ) (tape : T) (opened : AgentOn T) : Type 0 where
   pub track : Track
   pub is_track : track_of tt i ≡ Some track
-  pub size : HasSize track (seen tape)
+  pub size : HasSize (moves track) (seen tape)
   pub due : AreDue tt.number i (seen tape).contents (whole_records (seen tape))
   pub reads : HasRead may_read tape (whole_records (seen tape)) opened.tape
   pub contents : (seen opened.tape).contents ≡ (seen tape).contents
-  pub timetable : opened.timetable ≡ tt
-  pub id : opened.id ≡ i
+  pub part : IsPartOf tt opened.part
+  pub id : opened.part.agent ≡ i
   pub heard : opened.heard ≡ []
   pub broken : opened.broken ≡ false
 
@@ -53,7 +54,7 @@ pub record StopsAt {T : Type 0} (seen : T → TapeState) (may_read : T → ℕ �
 -- some record stops the reading of a tape that has the right size
 abbrev pub IsStopped : {T : Type 0} → (T → TapeState) → (T → ℕ → Bool → List ℕ → T → Type 0) → Timetable → ℕ → T → T → OpenFault → Type 0
 IsStopped seen may_read tt i tape after fault =
-    ((track : Track) × (track_of tt i ≡ Some track) × HasSize track (seen tape)) × ((n : ℕ) × StopsAt seen may_read tt i n tape after fault)
+    ((track : Track) × (track_of tt i ≡ Some track) × HasSize (moves track) (seen tape)) × ((n : ℕ) × StopsAt seen may_read tt i n tape after fault)
 
 -- what each fault says of the tape, and what was done with it before it was handed back
 abbrev pub IsRefused : {T : Type 0} → (T → TapeState) → (T → ℕ → Bool → List ℕ → T → Type 0) → Timetable → ℕ → T → T → OpenFault → Type 0
@@ -71,8 +72,7 @@ FailsWithin {T = T} may_read count old new =
 
 -- An agent's own tape is opened again: what was heard is forgotten, and it isn't broken any more. Only a read that fails stops it.
 pub record Restarts {T : Type 0} (seen : T → TapeState) (may_read : T → ℕ → Bool → List ℕ → T → Type 0) (old new : AgentOn T) (answer : Result Unit OpenFault) : Type 0 where
-  pub timetable : new.timetable ≡ old.timetable
-  pub id : new.id ≡ old.id
+  pub part : new.part ≡ old.part
   pub kept : IsKept (seen old.tape) (seen new.tape)
   pub outcome : MatchResult answer
       (λ _. HasRead may_read old.tape (whole_records (seen old.tape)) new.tape × (new.heard ≡ []) × (new.broken ≡ false))

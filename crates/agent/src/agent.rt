@@ -1,7 +1,8 @@
 //! An agent: what it may do next, by its tape and by what it has heard.
 ghost use Rattle.std.specs.Prelude.{◌≡◌, ◌+◌, ◌*◌, ◌<◌, ◌≤◌, [], ◌++◌, true, false, length, option_map, IfSome, IfOk, IfErr, OnOk, OnErr, MatchOption};
 ghost use Rattle.model.specs.History.{record_length};
-ghost use Rattle.model.specs.Timetable.{Track, moves, track_of};
+ghost use Rattle.model.specs.Timetable.{Timetable, track_of};
+ghost use Rattle.depgraph.specs.AgentParts.{IsPartOf, IsOfGraph};
 ghost use Rattle.agent.specs.States.{message_refusal};
 ghost use Rattle.agent.specs.Code.Listing.{entries_of};
 
@@ -14,17 +15,16 @@ use crate::record::due_record;
 use crate::refusal::{HearFault, OpenFault, Refusal, TellFault};
 use crate::tape::{Scripted, Tape};
 use crate::telling::{put_told, tell};
-use depgraph::{Graph, Route};
+use depgraph::{Graph, Part};
 use grid::Cell;
 use model::{Entry, Held, MsgFault};
 use std::alloc::{AllocError, Global};
 use std::marker::Model;
 
-/// An agent of a graph, over its tape.
+/// An agent of a graph, of which it needs its part, over its tape.
 #[derive(Drop)]
 pub struct Agent<'g, T: Tape> {
-    graph: &'g Graph,
-    id: u16,
+    part: Part<'g>,
     tape: T,
     counters: Counters,
     broken: bool,
@@ -36,23 +36,22 @@ impl<'g, T: Tape> Model for Agent<'g, T> {
 
     ghost Value = { AgentOn T };
 
-    ghost view = { λ a. record { timetable = a.graph.now; id = a.id; tape = a.tape; heard = a.counters; broken = a.broken } };
+    ghost view = { λ a. record { part = a.part; tape = a.tape; heard = a.counters; broken = a.broken } };
 
-    ghost invariant = { λ a. IsSound a.graph.now a.id (T.state a.tape) a.counters };
+    ghost invariant = { λ a. IsSound a.part (T.state a.tape) a.counters };
 }
 
 impl<'g, T: Tape> Agent<'g, T> {
     ghost use Rattle.std.specs.Prelude.{None};
     ghost use Rattle.model.specs.Rules.{path_cell};
     ghost use Rattle.model.specs.Messages.{own_message, whole_message, AreRising};
-    ghost use Rattle.agent.specs.Agents.{AgentOn, state_of, Starts, Finishes, Hears, HearsOf, HearsFrom, Holds, Says, bytes_told, TellsAll};
+    ghost use Rattle.agent.specs.Agents.{AgentOn, state_of, Moves, Starts, Finishes, Hears, HearsOf, HearsFrom, Holds, Says, bytes_told, TellsAll};
     ghost use Rattle.agent.specs.Counters.{known_in};
     ghost use Rattle.agent.specs.Opening.{IsOpened, IsRefused, Restarts};
     ghost use Rattle.agent.specs.Owning.{IsOwn};
     ghost use Rattle.agent.specs.States.{done, is_moving, start_refusal, finish_refusal, waits_for};
     ghost use Rattle.agent.specs.Tape.{IsKept, whole_records};
     ghost use Rattle.agent.specs.Code.Listing.{entries_of};
-    ghost use Rattle.agent.specs.Code.Stores.{Stored, HasRouteOf};
     ghost use Rattle.agent.specs.Code.Taking.{Takes};
 
     /// Opens the tape of an agent, which has then heard nothing. A tape that is refused comes back with what it had.
@@ -66,9 +65,20 @@ impl<'g, T: Tape> Agent<'g, T> {
         ensures refused { IfErr result (λ e. IsRefused T.state T.may_read graph.now id tape e.1 e.0) }
         ensures kept { IfErr result (λ e. IsKept (T.state tape) (T.state e.1)) }
     {
-        let Some(moves) = graph.moves(u32::from(id)) else {
-            return Err((OpenFault::NoSuchAgent, tape));
-        };
+        match graph.part(id) {
+            Some(part) => Agent::open_part(alloc, part, tape),
+            None => Err((OpenFault::NoSuchAgent, tape)),
+        }
+    }
+
+    /// The same by the agent's part of a graph, which may be gone.
+    pub fn open_part(alloc: Global, part: Part<'g>, tape: T) -> Result<Agent<'g, T>, (OpenFault, T)>
+        ensures part { IfOk result (λ a. a.part ≡ part.entry) }
+        ensures opened { IfOk result (λ a. (tt : Timetable) → IsPartOf tt part.entry → IsOpened T.state T.may_read tt part.entry.agent tape a) }
+        ensures refused { IfErr result (λ e. (tt : Timetable) → IsPartOf tt part.entry → IsRefused T.state T.may_read tt part.entry.agent tape e.1 e.0) }
+        ensures kept { IfErr result (λ e. IsKept (T.state tape) (T.state e.1)) }
+    {
+        let moves = own_moves(&part);
         if tape.room() < 20 * moves {
             return Err((OpenFault::NoRoom, tape));
         }
@@ -77,12 +87,11 @@ impl<'g, T: Tape> Agent<'g, T> {
             return Err((OpenFault::TooLong, tape));
         }
         let mut tape = tape;
-        if let Err(fault) = read_records(&mut tape, graph.number(), id, records) {
+        if let Err(fault) = read_records(&mut tape, part.number(), part.agent(), records) {
             return Err((fault, tape));
         }
         Ok(Agent {
-            graph,
-            id,
+            part,
             tape,
             counters: Counters::new(alloc),
             broken: false,
@@ -94,8 +103,8 @@ impl<'g, T: Tape> Agent<'g, T> {
         ensures { Restarts T.state T.may_read self.old self.new result }
     {
         let records = self.records();
-        let plan = self.graph.number();
-        read_records(&mut self.tape, plan, self.id, records)?;
+        let plan = self.part.number();
+        read_records(&mut self.tape, plan, self.part.agent(), records)?;
         self.forget();
         Ok(())
     }
@@ -110,14 +119,15 @@ impl<'g, T: Tape> Agent<'g, T> {
 
     /// Which agent of the graph it is.
     pub fn id(&self) -> u16
-        ensures { result ≡ self.now.id }
+        ensures { result ≡ self.now.part.agent }
     {
-        self.id
+        self.part.agent()
     }
 
     /// Begins the next move, and answers the cell that the agent enters.
     pub fn start(&mut self) -> Result<Cell, Refusal>
-        ensures { Starts T.state T.may_write self.old self.new result }
+        ensures starts { (tt : Timetable) → IsPartOf tt self.old.part → Starts T.state T.may_write tt self.old self.new result }
+        ensures within { IsOfGraph self.old.part }
     {
         match self.start_refusal() {
             Some(why) => Err(why),
@@ -127,7 +137,8 @@ impl<'g, T: Tape> Agent<'g, T> {
 
     /// Ends the move that was begun, and answers the cell that the agent reached.
     pub fn finish(&mut self) -> Result<Cell, Refusal>
-        ensures { Finishes T.state T.may_write self.old self.new result }
+        ensures finishes { (tt : Timetable) → IsPartOf tt self.old.part → Finishes T.state T.may_write tt self.old self.new result }
+        ensures within { IsOfGraph self.old.part }
     {
         if self.broken {
             return Err(Refusal::Broken);
@@ -140,14 +151,15 @@ impl<'g, T: Tape> Agent<'g, T> {
 
     /// The message that says how many moves are stored as finished.
     pub fn say(&self) -> Result<[u8; 12], Refusal>
-        ensures { Says T.state self.now result }
+        ensures says { (tt : Timetable) → IsPartOf tt self.now.part → Says T.state tt self.now result }
+        ensures within { IsOfGraph self.now.part }
     {
         if self.broken {
             return Err(Refusal::Broken);
         }
         Ok(encode(Finished {
-            from: self.id,
-            plan: self.graph.number(),
+            from: self.id(),
+            plan: self.part.number(),
             done: self.done(),
         }))
     }
@@ -155,31 +167,33 @@ impl<'g, T: Tape> Agent<'g, T> {
     /// The message of version 2 with all that the agent knows: how many of its own moves are stored as finished, and what it has heard of
     /// others. It takes memory for its bytes alone.
     pub fn tell(&self) -> Result<Vec<u8>, TellFault>
-        ensures { TellsAll T.state self.now (bytes_told result) }
+        ensures tells { (tt : Timetable) → IsPartOf tt self.now.part → TellsAll T.state tt self.now (bytes_told result) }
+        ensures within { IsOfGraph self.now.part }
     {
         if self.broken {
             return Err(TellFault::Broken);
         }
-        let plan = self.graph.number();
+        let plan = self.part.number();
         let alloc = self.counters.alloc();
-        Ok(tell(alloc, plan, self.id, self.done(), &self.counters)?)
+        Ok(tell(alloc, plan, self.id(), self.done(), &self.counters)?)
     }
 
     /// Puts the entries of what `tell` says behind a list, which is as it was where memory is refused.
     pub fn put_entries(&self, entries: &mut Vec<Entry>) -> Result<(), AllocError>
-        ensures put { OnOk result (entries.new.items ≡ entries.old.items ++ (whole_message (length self.now.timetable.tracks) self.now.id (done (state_of T.state self.now)) (known_in self.now.heard)).entries) }
+        ensures put { OnOk result (entries.new.items ≡ entries.old.items ++ (whole_message (length self.now.part.moves) self.now.part.agent (done (state_of T.state self.now)) (known_in self.now.heard)).entries) }
         ensures few { OnOk result (length entries.new.items ≤ length entries.old.items + 10000) }
         ensures err { OnErr result (entries.new.items ≡ entries.old.items) }
     {
         // There are no more entries than agents.
-        prove!(self.graph.agents() <= 10_000);
-        put_told(entries, self.id, self.done(), &self.counters)
+        prove!(self.part.agents() <= 10_000);
+        put_told(entries, self.id(), self.done(), &self.counters)
     }
 
     /// Hears a message of either version: answers its sender, and how many moves of that one are known to be finished now. It takes memory
     /// only for agents not heard of before.
     pub fn hear(&mut self, bytes: &[u8]) -> Result<(u16, u32), HearFault>
-        ensures { Hears T.state self.old self.new bytes.now result }
+        ensures hears { (tt : Timetable) → IsPartOf tt self.old.part → Hears T.state tt self.old self.new bytes.now result }
+        ensures within { IsOfGraph self.old.part }
     {
         if self.broken {
             return Err(HearFault::Broken);
@@ -193,7 +207,8 @@ impl<'g, T: Tape> Agent<'g, T> {
 
     /// Hears what a message of version 1 says, as `hear` does.
     pub fn hear_finished(&mut self, finished: Finished) -> Result<(u16, u32), HearFault>
-        ensures { HearsFrom T.state self.old self.new finished result }
+        ensures hears { (tt : Timetable) → IsPartOf tt self.old.part → HearsFrom T.state tt self.old self.new finished result }
+        ensures within { IsOfGraph self.old.part }
     {
         if self.broken {
             return Err(HearFault::Broken);
@@ -203,12 +218,13 @@ impl<'g, T: Tape> Agent<'g, T> {
 
     /// Hears what a message of version 2 of the agent's plan says, by its sender and its entries, as `hear` does.
     pub fn hear_entries(&mut self, from: u16, entries: &[Entry]) -> Result<(u16, u32), HearFault>
-        ensures { HearsOf T.state self.old self.new (record { sender = from; entries = entries.now }) result }
+        ensures hears { (tt : Timetable) → IsPartOf tt self.old.part → HearsOf T.state tt self.old self.new (record { sender = from; entries = entries.now }) result }
+        ensures within { IsOfGraph self.old.part }
     {
         if self.broken {
             return Err(HearFault::Broken);
         }
-        let plan = self.graph.number();
+        let plan = self.part.number();
         let entries = Entries::Listed(entries);
         match entries.first_wrong() {
             Some(number) => Err(HearFault::Message(MsgFault::BadEntry(number))),
@@ -218,12 +234,12 @@ impl<'g, T: Tape> Agent<'g, T> {
 
     /// Takes what the sender of a message says of itself.
     fn take_own(&mut self, finished: Finished) -> Result<(u16, u32), HearFault>
-        ensures { Takes T.state self.old self.new (record { plan = finished.plan; message = own_message finished.from finished.done }) result }
+        ensures { (tt : Timetable) → IsPartOf tt self.old.part → Takes T.state tt self.old self.new (record { plan = finished.plan; message = own_message finished.from finished.done }) result }
     {
-        if finished.plan != self.graph.number() {
+        if finished.plan != self.part.number() {
             return Err(HearFault::WrongPlan);
         }
-        let Some(moves) = self.graph.moves(u32::from(finished.from)) else {
+        let Some(moves) = self.part.moves(u32::from(finished.from)) else {
             return Err(HearFault::NoSuchAgent);
         };
         if finished.done > moves {
@@ -241,12 +257,12 @@ impl<'g, T: Tape> Agent<'g, T> {
         entries: Entries<'_>,
     ) -> Result<(u16, u32), HearFault>
         requires { AreRising 0 (entries_of entries) }
-        ensures { Takes T.state self.old self.new (record { plan = plan; message = record { sender = from; entries = entries_of entries.entry } }) result }
+        ensures { (tt : Timetable) → IsPartOf tt self.old.part → Takes T.state tt self.old self.new (record { plan = plan; message = record { sender = from; entries = entries_of entries.entry } }) result }
     {
-        if plan != self.graph.number() {
+        if plan != self.part.number() {
             return Err(HearFault::WrongPlan);
         }
-        if let Some(fault) = refusal_of(self.graph, from, entries) {
+        if let Some(fault) = refusal_of(&self.part, from, entries) {
             return Err(fault);
         }
         self.counters.raise_all(entries)?;
@@ -255,9 +271,10 @@ impl<'g, T: Tape> Agent<'g, T> {
 
     /// How many moves of an agent are known to be finished; `None` where there is no such agent.
     pub fn known(&self, agent: u16) -> Option<u32>
-        ensures { result ≡ option_map (λ _. known_in self.now.heard agent) (track_of self.now.timetable agent) }
+        ensures known { (tt : Timetable) → IsPartOf tt self.now.part → result ≡ option_map (λ _. known_in self.now.heard agent) (track_of tt agent) }
+        ensures within { IsOfGraph self.now.part }
     {
-        if u32::from(agent) < self.graph.agents() {
+        if u32::from(agent) < self.part.agents() {
             Some(self.counters.known(agent))
         } else {
             None
@@ -266,7 +283,8 @@ impl<'g, T: Tape> Agent<'g, T> {
 
     /// The cells that the agent holds, by its whole records.
     pub fn held(&self) -> Held
-        ensures { Holds T.state self.now result }
+        ensures holds { (tt : Timetable) → IsPartOf tt self.now.part → Holds T.state tt self.now result }
+        ensures within { IsOfGraph self.now.part }
     {
         let records = self.records();
         let at = self.path_cell(records / 2);
@@ -280,7 +298,7 @@ impl<'g, T: Tape> Agent<'g, T> {
     /// How many moves are finished, by the whole records.
     pub fn done(&self) -> u32
         ensures done { result ≡ done (state_of T.state self.now) }
-        ensures within { IsOwn self.now.timetable self.now.id (T.state self.now.tape) }
+        ensures within { IsOwn self.now.part (T.state self.now.tape) }
     {
         self.records() / 2
     }
@@ -315,9 +333,10 @@ impl<'g, T: Tape> Agent<'g, T> {
 
     /// Why the next move may not begin now.
     fn start_refusal(&self) -> Option<Refusal>
-        ensures within { IsOwn self.now.timetable self.now.id (T.state self.now.tape) }
-        ensures refusal { (track : Track) × (track_of self.now.timetable self.now.id ≡ Some track)
-            × (result ≡ start_refusal self.now.timetable self.now.id track (state_of T.state self.now)) }
+        ensures within { IsOwn self.now.part (T.state self.now.tape) }
+        ensures refusal { (tt : Timetable) (is : IsPartOf tt self.now.part) → result ≡ start_refusal tt self.now.part.agent is.track (state_of T.state self.now) }
+        ensures of_graph { IsOfGraph self.now.part }
+        ensures room { MatchOption result (whole_records (T.state self.now.tape) < 2 * length self.now.part.needs) (λ _. Unit {0}) }
     {
         if self.broken {
             return Some(Refusal::Broken);
@@ -326,11 +345,10 @@ impl<'g, T: Tape> Agent<'g, T> {
             return Some(Refusal::AlreadyMoving);
         }
         let done = self.done();
-        let route = self.route();
         if done == self.moves() {
             return Some(Refusal::AtEnd);
         }
-        match route.need(done) {
+        match self.part.need(done) {
             Some((agent, count)) if self.counters.known(agent) < count => {
                 Some(Refusal::Waits { agent, count })
             }
@@ -340,12 +358,12 @@ impl<'g, T: Tape> Agent<'g, T> {
 
     /// Stores the due record, and answers the cell of the move at hand.
     fn store(&mut self) -> Result<Cell, Refusal>
-        requires { (track : Track) → track_of self.old.timetable self.old.id ≡ Some track → whole_records (T.state self.old.tape) < 2 * moves track }
-        ensures { Stored T.state T.may_write self.old self.new result }
+        requires { whole_records (T.state self.old.tape) < 2 * length self.old.part.needs }
+        ensures { (tt : Timetable) (is : IsPartOf tt self.old.part) → Moves T.state T.may_write tt is.track None self.old self.new result }
     {
         let number = self.records();
         let cell = self.path_cell(number / 2 + 1);
-        let record = due_record(self.graph.number(), self.id, number);
+        let record = due_record(self.part.number(), self.id(), number);
         if self.tape.write_at(10 * number, &record).is_err() {
             self.broken = true;
             return Err(Refusal::StoreFailed);
@@ -356,29 +374,24 @@ impl<'g, T: Tape> Agent<'g, T> {
     /// How many whole records there are.
     fn records(&self) -> u32
         ensures records { result ≡ whole_records (T.state self.now.tape) }
-        ensures within { IsOwn self.now.timetable self.now.id (T.state self.now.tape) }
+        ensures within { IsOwn self.now.part (T.state self.now.tape) }
     {
         self.tape.len() / 10
     }
 
     fn moves(&self) -> u32
-        ensures { (track : Track) × (track_of self.now.timetable self.now.id ≡ Some track) × (result ≡ moves track) }
+        ensures { result ≡ length self.now.part.needs }
     {
-        self.graph.moves(u32::from(self.id)).unwrap()
-    }
-
-    fn route(&self) -> Route<'_>
-        ensures { HasRouteOf self.now.timetable self.now.id result }
-    {
-        self.graph.route(u32::from(self.id)).unwrap()
+        own_moves(&self.part)
     }
 
     /// A cell of the path.
     fn path_cell(&self, index: u32) -> Cell
-        requires { (track : Track) → track_of self.now.timetable self.now.id ≡ Some track → index ≤ moves track }
-        ensures { (track : Track) × (track_of self.now.timetable self.now.id ≡ Some track) × (result ≡ path_cell track index) }
+        requires { index ≤ length self.now.part.needs }
+        ensures cell { (tt : Timetable) (is : IsPartOf tt self.now.part) → result ≡ path_cell is.track index }
+        ensures within { IsOfGraph self.now.part }
     {
-        self.route().cell(index).unwrap()
+        self.part.cell(index).unwrap()
     }
 }
 
@@ -405,17 +418,25 @@ impl<'g, T: Scripted> Agent<'g, T> {
     }
 }
 
-/// Why a message of a graph's plan is not heard, by its sender and its entries.
-fn refusal_of(graph: &Graph, from: u16, entries: Entries<'_>) -> Option<HearFault>
-    ensures { result ≡ message_refusal graph.now (record { sender = from; entries = entries_of entries.entry }) }
+/// How many moves the agent of a part makes.
+fn own_moves(part: &Part<'_>) -> u32
+    ensures moves { result ≡ length part.now.needs }
+    ensures within { IsOfGraph part.now }
 {
-    if u32::from(from) >= graph.agents() {
+    part.moves(u32::from(part.agent())).unwrap()
+}
+
+/// Why a message of the plan is not heard, by its sender and its entries.
+fn refusal_of(part: &Part<'_>, from: u16, entries: Entries<'_>) -> Option<HearFault>
+    ensures { (tt : Timetable) → IsPartOf tt part.now → result ≡ message_refusal tt (record { sender = from; entries = entries_of entries.entry }) }
+{
+    if u32::from(from) >= part.agents() {
         return Some(HearFault::NoSuchAgent);
     }
     let mut too_many = false;
     'entries: for at in 0..entries.count() {
         let entry = entries.entry(at);
-        let Some(moves) = graph.moves(u32::from(entry.agent)) else {
+        let Some(moves) = part.moves(u32::from(entry.agent)) else {
             return Some(HearFault::NoSuchAgent);
         };
         too_many = too_many || entry.done > moves;

@@ -5,24 +5,23 @@ use Rattle.std.proofs.lemmas.Option.{same_Some}
 use Rattle.grid.specs.declared.counted.Counted.{Counted}
 use Rattle.grid.specs.Text.{line_feed}
 use Rattle.model.specs.History.{record_length}
-use Rattle.model.specs.Timetable.{Track, Timetable, moves, track_of}
+use Rattle.model.specs.Timetable.{Timetable, moves, track_of}
 use Rattle.agent.specs.declared.mem_tape.MemTape.{MemTape}
 use Rattle.agent.specs.declared.mem_tape.TapeMakeFault.{TapeMakeFault}
 use Rattle.agent.specs.declared.mem_tape.TapeMakeFault.TheVariants.{TooLong as made_too_long, OutOfMemory as made_out_of_memory}
 use Rattle.agent.specs.declared.refusal.OpenFault.{OpenFault}
-use Rattle.agent.specs.declared.refusal.OpenFault.TheVariants.{NoSuchAgent, Damaged, WrongPlan, TooLong, TapeFailed, WrongAgent, NoRoom}
+use Rattle.agent.specs.declared.refusal.OpenFault.TheVariants.{NoSuchAgent}
 use Rattle.agent.specs.Agents.{AgentOn, state_of}
 use Rattle.agent.specs.MemTape.{mem_state, mem_reads}
 use Rattle.agent.specs.Opening.{IsOpened, IsRefused}
 use Rattle.agent.specs.Replies.{stood}
-use Rattle.agent.specs.States.{State, done, held}
-use Rattle.agent.specs.Tape.{TapeState, whole_records}
+use Rattle.agent.specs.States.{done, held}
 use Rattle.event_text.specs.ReplyText.{reply_line}
 use Rattle.file_tape.specs.FileTape.{file_fault_of}
 use Rattle.file_tape.specs.declared.file_tape.FileTapeFault.{FileTapeFault}
 use Rattle.file_tape.specs.declared.file_tape.FileTapeFault.TheVariants as file_fault
-use Rattle.agent_commands.specs.TapeCommand.{IsNotShown, IsShown, records_line, tape_of_bytes, tape_text}
-use Rattle.agent_commands.specs.Code.Reports.{IsImageOf, IsNoImage, IsReported, IsReportOf, outcome_of, report_text, standing_of}
+use Rattle.agent_commands.specs.TapeCommand.{IsNotShown, IsShown, records_line, tape_of_bytes}
+use Rattle.agent_commands.specs.Code.Reports.{IsImageOf, IsNoImage, IsReported, IsReportOf, outcome_of, standing_of}
 use Rattle.agent_commands.specs.declared.agent_fault.AgentFault.{AgentFault}
 use Rattle.agent_commands.specs.declared.agent_fault.AgentFault.TheVariants.{File, Tape}
 use Rattle.agent_commands.specs.declared.tape_report.TapeImage.{TapeImage}
@@ -69,11 +68,11 @@ not_opened remaining table i n old new image after f is of refused =
 -- the text of a report is that of its agent and its file
 pub is_shown : {T : Type 0} (remaining : T → Option (List ℕ)) (table : Timetable) (i n : ℕ) (old new : Counted T) (image : TapeImage) (a : AgentOn MemTape) (r : TapeReport)
     → Some n ≡ option_map moves (track_of table i) → IsImageOf remaining (20 * n) old new image → IsOpened mem_state mem_reads table i image.tape a
-    → IsReportOf a image.len r → IsReported remaining table i old new r
+    → IsReportOf table a image.len r → IsReported remaining table i old new r
 is_shown remaining table i n old new image a r is of opened report =
     let t = has_track (track_of table i) n is in
     let s = state_of mem_state a in
-    let own : track_of a.timetable a.id ≡ Some t.0 = ap₂ track_of opened.timetable opened.id ∙ t.1 in
+    let own : track_of table a.part.agent ≡ Some t.0 = ap (track_of table) opened.id ∙ t.1 in
     let same : report.holds.0 ≡ t.0 = same_Some _ _ (sym report.holds.1 ∙ own) in
     let stands : standing_of r ≡ reply_line (stood (held t.0 s) (done s))
     = ap₂ (λ h d. reply_line (stood h d)) (report.holds.2 ∙ ap (λ track. held track s) same) report.is_done in

@@ -86,7 +86,7 @@ pub record Converses
   pub opens : MatchResult opened (IsOnTape remaining claim tt i) (IsNotOnTape remaining claim tt i)
   pub ends : MatchResult opened
       (λ agent. (answer : Result Unit TalkFault) × (after : AgentOn (FileTape F))
-      × Talks input_left contents file_state old_in new_in old_out new_out agent after answer × (result ≡ told answer))
+      × Talks input_left contents file_state tt old_in new_in old_out new_out agent after answer × (result ≡ told answer))
       (λ fault. (result ≡ Err fault) × (new_in ≡ old_in) × (new_out ≡ old_out))
 
 -- The map and the plan were read and the plan was checked; where it is valid, the agent answered, and else neither input nor output

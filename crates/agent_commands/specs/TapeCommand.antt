@@ -14,7 +14,6 @@ use Rattle.agent.specs.Opening.{IsOpened, IsRefused}
 use Rattle.agent.specs.States.{State}
 use Rattle.agent.specs.Tape.{TapeState}
 use Rattle.dialogue.specs.Turns.{state_line}
-use Rattle.file_tape.specs.declared.file_tape.FileTapeFault.{FileTapeFault}
 use Rattle.file_tape.specs.declared.file_tape.FileTapeFault.TheVariants.{TooLong, TapeFailed, OutOfMemory}
 use Rattle.plan_commands.specs.DepsCommand.{ReadsTimetable}
 use Rattle.plan_commands.specs.declared.check_fault.CheckFault.{CheckFault}

@@ -1,5 +1,7 @@
 //! `mapf agent`: answers for one agent of a plan, by its tape.
 ghost use Rattle.std.specs.Prelude.{◌≡◌, IfErr, IfOk, MatchResult};
+ghost use Rattle.model.specs.Timetable.{Timetable};
+ghost use Rattle.depgraph.specs.AgentParts.{IsPartOf};
 ghost use Rattle.text_commands.specs.Telling.{Tells};
 ghost use Rattle.agent_commands.specs.AgentStatus.{agent_status};
 ghost use Rattle.agent_commands.specs.FaultWords.{told_of_agent};
@@ -9,12 +11,12 @@ ghost use Rattle.file_tape.specs.declared.file_tape.FileTapeFault.TheVariants.{T
 ghost use Rattle.agent_commands.specs.Code.Parts.{IsNotOpened, IsNotTaken, IsSameTape};
 
 use crate::agent_fault::AgentFault;
+use crate::agent_part::{moves_of, read_part};
 use agent::{Agent, OpenFault, Tape};
-use depgraph::Graph;
+use depgraph::Part;
 use dialogue::talk;
 use file_tape::{FileTape, FileTapeFault};
 use grid::Counted;
-use plan_commands::read_graph;
 use std::fs::{self, OpenFile, OpenOptions};
 use std::io::{ErrorKind, Read, Write};
 use std::rt::Files;
@@ -66,7 +68,7 @@ where
     conclude(answer, err).code()
 }
 
-/// Reads the map and the plan, and answers for the agent.
+/// Reads the map and the plan, and answers for the agent, by its part of the plan alone.
 fn serve<R: Files + AllocGlobal, M: Read, P: Read, I: Read, W: Write>(
     rt: &R,
     map: &mut Counted<M>,
@@ -82,15 +84,16 @@ where
     ensures { Serves R.File.remaining M.remaining P.remaining I.remaining W.contents claim id map.old map.new plan.old plan.new input.old input.new out.old out.new
         result }
 {
-    let graph = read_graph(rt.alloc(), map, plan)?;
-    converse(rt, &graph, id, path, claim, input, out)
+    let Some(own) = read_part(rt.alloc(), map, plan, id)? else {
+        return Err(AgentFault::Tape(OpenFault::NoSuchAgent));
+    };
+    converse(rt, own.part(), path, claim, input, out)
 }
 
-/// Answers for an agent of the graph.
+/// Answers for an agent.
 fn converse<R: Files + AllocGlobal, I: Read, W: Write>(
     rt: &R,
-    graph: &Graph,
-    id: u16,
+    part: Part<'_>,
     path: &str,
     claim: TapeClaim,
     input: &mut Counted<I>,
@@ -98,47 +101,46 @@ fn converse<R: Files + AllocGlobal, I: Read, W: Write>(
 ) -> Result<(), AgentFault>
 where
     R::File: LockFile,
-    ensures { Converses R.File.remaining I.remaining W.contents claim graph.now id input.old input.new out.old out.new result }
+    ensures { (tt : Timetable) → IsPartOf tt part.entry → Converses R.File.remaining I.remaining W.contents claim tt part.entry.agent input.old input.new out.old out.new result }
 {
-    let mut agent = open_agent(rt, graph, id, path, claim)?;
+    let mut agent = open_agent(rt, part, path, claim)?;
     talk(rt.alloc(), &mut agent, input, out)?;
     Ok(())
 }
 
-/// Opens an agent of the graph over its tape file.
+/// Opens an agent over its tape file.
 fn open_agent<'g, R: Files + AllocGlobal>(
     rt: &R,
-    graph: &'g Graph,
-    id: u16,
+    part: Part<'g>,
     path: &str,
     claim: TapeClaim,
 ) -> Result<Agent<'g, FileTape<R::File>>, AgentFault>
 where
     R::File: LockFile,
-    ensures { MatchResult result (IsOnTape R.File.remaining claim graph.now id) (IsNotOnTape R.File.remaining claim graph.now id) }
+    ensures part { IfOk result (λ agent. agent.part ≡ part.entry) }
+    ensures opened { (tt : Timetable) → IsPartOf tt part.entry
+        → MatchResult result (IsOnTape R.File.remaining claim tt part.entry.agent) (IsNotOnTape R.File.remaining claim tt part.entry.agent) }
 {
-    let tape = open_tape(rt, graph, id, path, claim)?;
-    match Agent::open(rt.alloc(), graph, id, tape) {
+    let tape = open_tape(rt, &part, path, claim)?;
+    match Agent::open_part(rt.alloc(), part, tape) {
         Ok(agent) => Ok(agent),
         Err((fault, _)) => Err(AgentFault::Tape(fault)),
     }
 }
 
-/// Opens the tape file of an agent of the graph, with room for two records a move.
+/// Opens the tape file of an agent, with room for two records a move.
 fn open_tape<R: Files + AllocGlobal>(
     rt: &R,
-    graph: &Graph,
-    id: u16,
+    part: &Part<'_>,
     path: &str,
     claim: TapeClaim,
 ) -> Result<FileTape<R::File>, AgentFault>
 where
     R::File: LockFile,
-    ensures { MatchResult result (λ tape. IsTapeOf R.File.remaining graph.now id tape × IsClaimed claim tape) (IsNoTape R.File.remaining claim graph.now id) }
+    ensures { (tt : Timetable) → IsPartOf tt part.now
+        → MatchResult result (λ tape. IsTapeOf R.File.remaining tt part.now.agent tape × IsClaimed claim tape) (IsNoTape R.File.remaining claim tt part.now.agent) }
 {
-    let Some(moves) = graph.moves(u32::from(id)) else {
-        return Err(AgentFault::Tape(OpenFault::NoSuchAgent));
-    };
+    let moves = moves_of(part);
     let file = open_file(rt, path, claim)?;
     let tape = FileTape::open(rt.alloc(), file, 20 * moves)?;
     take_tape(rt, path, tape, claim)

@@ -3,6 +3,7 @@
 
 mod agent_command;
 mod agent_fault;
+mod agent_part;
 mod tape_command;
 mod tape_report;
 

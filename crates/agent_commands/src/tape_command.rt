@@ -5,9 +5,10 @@ ghost use Rattle.agent_commands.specs.TapeCommand.{AnswersTape, EndsByTape, Insp
 ghost use Rattle.agent_commands.specs.Code.Reports.{IsReported, outcome_of};
 
 use crate::agent_fault::AgentFault;
+use crate::agent_part::read_part;
 use crate::tape_report::{TapeReport, read_report, write_report};
+use agent::OpenFault;
 use grid::Counted;
-use plan_commands::read_graph;
 use std::alloc::Global;
 use std::io::{Read, Write};
 use text_commands::{Status, finish, report};
@@ -41,8 +42,10 @@ fn inspect<M: Read, P: Read, T: Read>(
 ) -> Result<TapeReport, AgentFault>
     ensures { Inspects M.remaining P.remaining T.remaining id map.old map.new plan.old plan.new tape.old tape.new (outcome_of result) }
 {
-    let graph = read_graph(alloc, map, plan)?;
-    read_report(alloc, &graph, id, tape)
+    let Some(own) = read_part(alloc, map, plan, id)? else {
+        return Err(AgentFault::Tape(OpenFault::NoSuchAgent));
+    };
+    read_report(alloc, own.part(), tape)
 }
 
 /// Writes what the tape keeps, or says why it can't be shown. The answer is the exit status.

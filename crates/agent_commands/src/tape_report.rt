@@ -5,14 +5,17 @@ ghost use Rattle.grid.specs.Counted.{counted_inner, failures_of, Rises};
 ghost use Rattle.grid.specs.Sink.{held_back, Puts, Breaks};
 ghost use Rattle.grid.specs.Text.{line_feed};
 ghost use Rattle.grid.specs.Writing.{WritesText};
+ghost use Rattle.model.specs.Timetable.{Timetable};
+ghost use Rattle.depgraph.specs.AgentParts.{IsPartOf};
 ghost use Rattle.agent.specs.MemTape.{mem_state};
 ghost use Rattle.agent_commands.specs.TapeCommand.{IsNotShown, records_line};
 ghost use Rattle.agent_commands.specs.Code.Reports.{IsReported, IsImageOf, IsNoImage, IsReportOf, standing_of, report_text};
 
 use crate::agent_fault::AgentFault;
+use crate::agent_part::moves_of;
 use agent::replies::reply_to_restart;
-use agent::{Agent, Held, MemTape, OpenFault, Tape};
-use depgraph::Graph;
+use agent::{Agent, Held, MemTape, Tape};
+use depgraph::Part;
 use event_text::put_reply;
 use file_tape::FileTapeFault;
 use grid::{Counted, Sink, WriteFault};
@@ -39,21 +42,18 @@ struct TapeImage {
     len: u32,
 }
 
-/// Reads the file of a tape, and opens an agent of the graph on what it has.
+/// Reads the file of a tape, and opens its agent on what it has.
 pub(crate) fn read_report<T: Read>(
     alloc: Global,
-    graph: &Graph,
-    id: u16,
+    part: Part<'_>,
     file: &mut Counted<T>,
 ) -> Result<TapeReport, AgentFault>
-    ensures { MatchResult result (IsReported T.remaining graph.now id file.old file.new) (IsNotShown T.remaining graph.now id file.old file.new) }
+    ensures { (tt : Timetable) → IsPartOf tt part.entry
+        → MatchResult result (IsReported T.remaining tt part.entry.agent file.old file.new) (IsNotShown T.remaining tt part.entry.agent file.old file.new) }
 {
-    let Some(moves) = graph.moves(u32::from(id)) else {
-        return Err(AgentFault::Tape(OpenFault::NoSuchAgent));
-    };
-    let image = read_image(alloc, file, 20 * moves)?;
+    let image = read_image(alloc, file, 20 * moves_of(&part))?;
     let TapeImage { tape, len } = image;
-    match Agent::open(alloc, graph, id, tape) {
+    match Agent::open_part(alloc, part, tape) {
         Ok(agent) => Ok(report_of(&agent, len)),
         Err((fault, _)) => Err(AgentFault::Tape(fault)),
     }
@@ -102,7 +102,7 @@ fn read_up_to<T: Read>(file: &mut Counted<T>, bytes: &mut [u8]) -> Result<usize,
 
 /// Where the agent is, and what its tape's file of so many bytes has.
 fn report_of(agent: &Agent<'_, MemTape>, len: u32) -> TapeReport
-    ensures { IsReportOf agent.now len result }
+    ensures { (tt : Timetable) → IsPartOf tt agent.now.part → IsReportOf tt agent.now len result }
 {
     let records = agent.tape().len() / 10;
     TapeReport {

@@ -1,8 +1,8 @@
 //! Which tapes are opened.
 use crate::texts::one_behind;
 use crate::walks::{MIDDLE, RIGHT, Row, expect, opened};
-use agent::{Agent, Held, MemTape, OpenFault, Refusal, Tape, TapeMakeFault};
-use depgraph::Graph;
+use agent::{Agent, Finished, Held, MemTape, OpenFault, Refusal, Tape, TapeMakeFault};
+use depgraph::{Graph, OwnPart};
 use fake_tapes::FailTape;
 use std::alloc::Global;
 use std::process::Abort;
@@ -144,5 +144,33 @@ fn refusals_as_text(rt: HostRuntime) -> Result<(), Fail> {
         Refusal::Waits { agent: 0, count: 1 }
     )?;
     assert_eq!(rt; text.as_str(), "Damaged 1 Waits 0 1");
+    Ok(())
+}
+
+/// What agent 1 needs of a graph that is gone.
+fn part_alone(alloc: Global) -> Result<OwnPart, Fail> {
+    let graph = one_behind(alloc)?;
+    let part = graph.part(1).ok_or("agent 1 is missing")?;
+    Ok(OwnPart::of(alloc, &part)?)
+}
+
+#[test]
+fn an_agent_without_its_graph(rt: HostRuntime) -> Result<(), Fail> {
+    let own = part_alone(rt.alloc())?;
+    let tape = MemTape::new(rt.alloc(), 20)?;
+    let mut agent = Agent::open_part(rt.alloc(), own.part(), tape).map_err(|refused| refused.0)?;
+    let waits = Refusal::Waits { agent: 0, count: 1 };
+    assert_eq!(rt; (agent.id(), agent.start()), (1, Err(waits)));
+    let gone = Finished {
+        from: 0,
+        plan: 7,
+        done: 1,
+    };
+    assert_eq!(rt; agent.hear_finished(gone)?, (0, 1));
+    assert_eq!(rt; (agent.start(), agent.finish()), (Ok(MIDDLE), Ok(MIDDLE)));
+    assert_eq!(rt;
+        (agent.start(), agent.held()),
+        (Err(Refusal::AtEnd), Held::At(MIDDLE))
+    );
     Ok(())
 }

@@ -21,6 +21,8 @@ pub mod WaitLemmas
 pub mod NoteLemmas
 pub mod LinkLemmas
 pub mod KeptLemmas
+pub mod AgentPartLemmas
+pub mod ShareLemmas
 pub mod RingLemmas
 pub mod WalkLemmas
 pub mod CycleLemmas

@@ -30,6 +30,8 @@ pub mod Waits
 pub mod Parts
 -- what a graph keeps
 pub mod Keeping
+-- what is kept of it for one agent
+pub mod Shares
 -- the cycles of entries that follow one another
 pub mod Cycles
 -- what leads from one entry to the next

@@ -8,5 +8,7 @@ pub mod Visits
 pub mod Rotations
 -- what every graph keeps
 pub mod Graphs
+-- what one agent needs of a graph
+pub mod AgentParts
 -- the code's own words
 pub mod Code

@@ -1,6 +1,7 @@
 //! The dependency graph.
 ghost use Rattle.std.specs.Prelude.{◌≡◌, List, length, None, slice_get, option_map, IsSomeAnd, MatchOption, IfOk};
 ghost use Rattle.model.specs.Timetable.{moves, track_of};
+ghost use Rattle.depgraph.specs.AgentParts.{IsPartOf};
 ghost use Rattle.depgraph.specs.Graphs.{IsGraphed};
 ghost use Rattle.depgraph.specs.Rotations.{AreRotations, turns_of};
 ghost use Rattle.depgraph.specs.Routes.{IsRouteOf, need_at};
@@ -12,6 +13,7 @@ use crate::entries::{begin_in, entry_at};
 use crate::numbering::cell_at;
 use crate::order::{numbered_cells, order_of};
 use crate::out_of_memory::OutOfMemory;
+use crate::part::Part;
 use crate::paths::{Paths, paths_of};
 use crate::placing::{Placed, place_visits, visits_of};
 use crate::rotations::find_rotations;
@@ -130,6 +132,24 @@ impl Graph {
     {
         if (agent as usize) < self.ends.len() {
             Some(Route { graph: self, agent })
+        } else {
+            None
+        }
+    }
+
+    /// What an agent needs of the graph; `None` where there is no such agent.
+    pub fn part(&self, agent: u16) -> Option<Part<'_>>
+        ensures { MatchOption result (track_of self.now agent ≡ None) (λ part. IsPartOf self.now part × (part.agent ≡ agent)) }
+    {
+        if usize::from(agent) < self.ends.len() {
+            Some(Part::among(
+                self.number,
+                agent,
+                &self.names,
+                &self.numbers,
+                &self.needs,
+                &self.ends,
+            ))
         } else {
             None
         }

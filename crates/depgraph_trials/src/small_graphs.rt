@@ -1,7 +1,8 @@
 //! Small plans, and who waits for whom in them.
 use crate::texts::{ROW, graph_of};
-use depgraph::{Graph, Visit};
+use depgraph::{Graph, OwnPart, Visit};
 use grid::Cell;
+use std::alloc::Global;
 use std::process::Abort;
 use std::test::Fail;
 
@@ -41,6 +42,34 @@ fn one_behind_another(rt: HostRuntime) -> Result<(), Fail> {
     expect_needs(&rt, &graph, 1, &[Some((0, 1))])?;
     expect_rotations(&rt, &graph, &[]);
     expect_visits_one_behind_another(&rt, &graph);
+    assert!(rt; graph.part(1).is_some() && graph.part(2).is_none());
+    Ok(())
+}
+
+/// What an agent needs of the same graph, which is gone.
+fn part_alone(alloc: Global, agent: u16) -> Result<OwnPart, Fail> {
+    let graph = graph_of(alloc, ROW, 2, "agent 1 0 e-\nagent 0 0 e\n")?;
+    let part = graph.part(agent).ok_or("a part is missing")?;
+    Ok(OwnPart::of(alloc, &part)?)
+}
+
+#[test]
+fn parts_without_their_graph(rt: HostRuntime) -> Result<(), Fail> {
+    for (agent, x, need) in [(0, 1, None), (1, 0, Some((0, 1)))] {
+        let own = part_alone(rt.alloc(), agent)?;
+        let part = own.part();
+        assert_eq!(rt; (part.number(), part.agent(), part.agents()), (7, agent, 2));
+        assert_eq!(rt;
+            (part.moves(0), part.moves(1), part.moves(2)),
+            (Some(1), Some(1), None)
+        );
+        assert_eq!(rt; part.cell(0), Some(Cell { x, y: 0 }));
+        assert_eq!(rt; part.cell(1), Some(Cell { x: x + 1, y: 0 }));
+        assert_eq!(rt;
+            (part.cell(2), part.need(0), part.need(1)),
+            (None, need, None)
+        );
+    }
     Ok(())
 }
 

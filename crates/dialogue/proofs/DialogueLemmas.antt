@@ -17,6 +17,7 @@ use Rattle.model.specs.Timetable.{Track, Timetable, track_of}
 use Rattle.agent.specs.Agents.{AgentOn, state_of}
 use Rattle.agent.specs.States.{State}
 use Rattle.agent.specs.Tape.{TapeState}
+use Rattle.depgraph.specs.AgentParts.{IsPartOf}
 use Rattle.dialogue.specs.Turns.{IsTurn, state_line, store_failed}
 use Rattle.dialogue.specs.Dialogue.{AreTurns, dialogue_lines, EndsInFailedStore, AreFirst, BreaksInLast, BlamesTape, Leads, Talks}
 use Rattle.dialogue.specs.Code.Answering.{IsSameAgent, Sends, Replies}
@@ -96,15 +97,14 @@ module _ {W : Type 0} (contents : W → Option (List ℕ)) (first : Sink W) (non
 
 -- These lines were read and answered, and the answers sent.
 pub record SoFar
-    {R W T : Type 0} (remaining : R → Option (List ℕ)) (contents : W → Option (List ℕ)) (seen : T → TapeState) (first_in : Counted R)
+    {R W T : Type 0} (remaining : R → Option (List ℕ)) (contents : W → Option (List ℕ)) (seen : T → TapeState) (table : Timetable) (first_in : Counted R)
     (source : Source R) (first_sink sink : Sink W) (old new : AgentOn T) : Type 0 where
   pub track : Track
-  pub is_track : track_of old.timetable old.id ≡ Some track
-  pub timetable : new.timetable ≡ old.timetable
-  pub id : new.id ≡ old.id
+  pub is_track : track_of table old.part.agent ≡ Some track
+  pub part : new.part ≡ old.part
   pub lines : List (List ℕ)
   pub texts : List (List ℕ)
-  pub turns : AreTurns old.timetable old.id track lines texts (state_of seen old) (state_of seen new)
+  pub turns : AreTurns table old.part.agent track lines texts (state_of seen old) (state_of seen new)
   pub failures : (seen new.tape).failures ≡ (seen old.tape).failures
   pub well : AllByRecursion GoesOn texts
   pub taken : HasTaken remaining first_in source lines
@@ -165,17 +165,17 @@ module _ {R : Type 0} (remaining : R → Option (List ℕ)) (first_in : Counted 
       record { input = all.input; consumed = all.consumed; are_first = inr (all.are_all, all.spent); failures = all.failures }
 
 module _
-    {R W T : Type 0} (remaining : R → Option (List ℕ)) (contents : W → Option (List ℕ)) (seen : T → TapeState) (first_in : Counted R)
+    {R W T : Type 0} (remaining : R → Option (List ℕ)) (contents : W → Option (List ℕ)) (seen : T → TapeState) (table : Timetable) (first_in : Counted R)
     (first_sink : Sink W) (none : held_back first_sink ≡ []) (old : AgentOn T)
   where
     abbrev Far : Source R → Sink W → AgentOn T → Type 0
-    Far source sink new = SoFar remaining contents seen first_in source first_sink sink old new
+    Far source sink new = SoFar remaining contents seen table first_in source first_sink sink old new
 
     abbrev Led : Source R → Sink W → AgentOn T → Result Unit TalkFault → Type 0
-    Led source sink new result = Leads remaining contents seen first_in (source_reader source) (sink_writer first_sink) (sink_writer sink) old new result
+    Led source sink new result = Leads remaining contents seen table first_in (source_reader source) (sink_writer first_sink) (sink_writer sink) old new result
 
     -- the writer failed at the first line
-    pub state_not_said : (source : Source R) (sink : Sink W) (track : Track) → track_of old.timetable old.id ≡ Some track
+    pub state_not_said : (source : Source R) (sink : Sink W) (track : Track) → track_of table old.part.agent ≡ Some track
         → HasTaken remaining first_in source [] → Breaks contents first_sink sink (state_line track (state_of seen old) ++ line_feed ∷ [])
         → Led source sink old (Err WriteFailed)
     state_not_said source sink track is_track taken breaks =
@@ -183,8 +183,7 @@ module _
         record {
           track = track;
           is_track = is_track;
-          timetable = refl;
-          id = refl;
+          part = refl;
           lines = [];
           texts = [];
           turns = refl;
@@ -206,8 +205,7 @@ module _
           record {
             track = far.track;
             is_track = far.is_track;
-            timetable = far.timetable;
-            id = far.id;
+            part = far.part;
             lines = far.lines;
             texts = far.texts;
             turns = far.turns;
@@ -224,8 +222,7 @@ module _
       led_to_failure next rest has rises = record {
         track = far.track;
         is_track = far.is_track;
-        timetable = far.timetable;
-        id = far.id;
+        part = far.part;
         lines = far.lines;
         texts = far.texts;
         turns = far.turns;
@@ -238,7 +235,7 @@ module _
 
       module _ (line : List ℕ) (next : Source R) (sent : Sink W) (new : AgentOn T) (same : IsSameAgent mid new) where
         abbrev Replied : Result Unit TalkFault → Type 0
-        Replied result = Replies contents old.timetable old.id far.track line (state_of seen mid) (state_of seen new) sink sent result
+        Replied result = Replies contents table old.part.agent far.track line (state_of seen mid) (state_of seen new) sink sent result
 
         -- what is said of the tape, as of that of the first
         abbrev Blames : Result Unit TalkFault → Type 0
@@ -249,15 +246,14 @@ module _
 
         -- the answer as one to the agent of the first
         pub replied : (room : List ℕ) (kept : Option ℕ) (result : Result Unit TalkFault)
-            → ((track : Track) (text : List ℕ) → track_of mid.timetable mid.id ≡ Some track → IsKept text room kept
-            → Replies contents mid.timetable mid.id track text (state_of seen mid) (state_of seen new) sink sent result)
-            → IsKept line room kept → Replied result
-        replied room kept result replies is_kept =
-            let is_track : track_of mid.timetable mid.id ≡ Some far.track =
-            ap (λ tt. track_of tt mid.id) far.timetable ∙ (ap (λ i. track_of old.timetable i) far.id ∙ far.is_track) in
-            subst (λ i. Replies contents old.timetable i far.track line (state_of seen mid) (state_of seen new) sink sent result) far.id
-            (subst (λ tt. Replies contents tt mid.id far.track line (state_of seen mid) (state_of seen new) sink sent result) far.timetable
-            (replies far.track line is_track is_kept))
+            → ((tab : Timetable) → IsPartOf tab mid.part → (track : Track) (text : List ℕ) → track_of tab mid.part.agent ≡ Some track → IsKept text room kept
+            → Replies contents tab mid.part.agent track text (state_of seen mid) (state_of seen new) sink sent result)
+            → IsPartOf table old.part → IsKept line room kept → Replied result
+        replied room kept result replies is is_kept =
+            let own : mid.part.agent ≡ old.part.agent = ap (λ p. p.agent) far.part in
+            let is_track : track_of table mid.part.agent ≡ Some far.track = ap (track_of table) own ∙ far.is_track in
+            subst (λ i. Replies contents table i far.track line (state_of seen mid) (state_of seen new) sink sent result) own
+            (replies table (subst (IsPartOf table) (sym far.part) is) far.track line is_track is_kept)
 
         pub same_writer : (result : Result Unit TalkFault) → Replied result → sent.writer.ghost_name ≡ first_sink.writer.ghost_name
         same_writer (Ok done) r = r.2.puts.same_writer ∙ far.put.same_writer
@@ -266,10 +262,10 @@ module _
         same_writer (Err ReadFailed) r = absurd r
         same_writer (Err OutOfMemory) r = absurd r
 
-        turns_on : (text : List ℕ) → IsTurn old.timetable old.id far.track line (state_of seen mid) (state_of seen new) text
-            → AreTurns old.timetable old.id far.track (far.lines ++ line ∷ []) (far.texts ++ text ∷ []) (state_of seen old) (state_of seen new)
+        turns_on : (text : List ℕ) → IsTurn table old.part.agent far.track line (state_of seen mid) (state_of seen new) text
+            → AreTurns table old.part.agent far.track (far.lines ++ line ∷ []) (far.texts ++ text ∷ []) (state_of seen old) (state_of seen new)
         turns_on text turn =
-            AreTurns-push old.timetable old.id far.track far.lines far.texts line text (state_of seen old) (state_of seen mid) (state_of seen new) far.turns far.well turn
+            AreTurns-push table old.part.agent far.track far.lines far.texts line text (state_of seen old) (state_of seen mid) (state_of seen new) far.turns far.well turn
 
         put_on : (text : List ℕ) → Sends contents sink sent text
             → Puts contents first_sink sent (ended (dialogue_lines far.track (state_of seen old) (far.texts ++ text ∷ [])))
@@ -280,8 +276,7 @@ module _
         far_more taken blames r = record {
           track = far.track;
           is_track = far.is_track;
-          timetable = same.timetable ∙ far.timetable;
-          id = same.id ∙ far.id;
+          part = same.part ∙ far.part;
           lines = far.lines ++ line ∷ [];
           texts = far.texts ++ r.0 ∷ [];
           turns = turns_on r.0 r.1;
@@ -297,8 +292,7 @@ module _
         led_to_broken read blames r = record {
           track = far.track;
           is_track = far.is_track;
-          timetable = same.timetable ∙ far.timetable;
-          id = same.id ∙ far.id;
+          part = same.part ∙ far.part;
           lines = far.lines ++ line ∷ [];
           texts = far.texts ++ r.0 ∷ [];
           turns = turns_on r.0 r.1;
@@ -314,8 +308,7 @@ module _
         led_to_failed_store read blames r = record {
           track = far.track;
           is_track = far.is_track;
-          timetable = same.timetable ∙ far.timetable;
-          id = same.id ∙ far.id;
+          part = same.part ∙ far.part;
           lines = far.lines ++ line ∷ [];
           texts = far.texts ++ store_failed ∷ [];
           turns = turns_on store_failed r.0;
@@ -331,8 +324,7 @@ module _
         led_to_last read blames r = record {
           track = far.track;
           is_track = far.is_track;
-          timetable = same.timetable ∙ far.timetable;
-          id = same.id ∙ far.id;
+          part = same.part ∙ far.part;
           lines = far.lines ++ line ∷ [];
           texts = far.texts ++ r.0 ∷ [];
           turns = turns_on r.0 r.1;
@@ -362,11 +354,11 @@ module _
 
 -- a dialogue that was led is one
 pub talk_of
-    : {R W T : Type 0} (remaining : R → Option (List ℕ)) (contents : W → Option (List ℕ)) (seen : T → TapeState) (old_in new_in : Counted R)
+    : {R W T : Type 0} (remaining : R → Option (List ℕ)) (contents : W → Option (List ℕ)) (seen : T → TapeState) (table : Timetable) (old_in new_in : Counted R)
     (old_out new_out : Counted W) (old new : AgentOn T) (result : Result Unit TalkFault)
-    → Leads remaining contents seen old_in new_in old_out new_out old new result → Talks remaining contents seen old_in new_in old_out new_out old new result
-talk_of remaining contents seen old_in new_in old_out new_out old new (Ok done) led = led
-talk_of remaining contents seen old_in new_in old_out new_out old new (Err ReadFailed) led = led
-talk_of remaining contents seen old_in new_in old_out new_out old new (Err WriteFailed) led = led
-talk_of remaining contents seen old_in new_in old_out new_out old new (Err StoreFailed) led = led
-talk_of remaining contents seen old_in new_in old_out new_out old new (Err OutOfMemory) led = absurd led.reads
+    → Leads remaining contents seen table old_in new_in old_out new_out old new result → Talks remaining contents seen table old_in new_in old_out new_out old new result
+talk_of remaining contents seen table old_in new_in old_out new_out old new (Ok done) led = led
+talk_of remaining contents seen table old_in new_in old_out new_out old new (Err ReadFailed) led = led
+talk_of remaining contents seen table old_in new_in old_out new_out old new (Err WriteFailed) led = led
+talk_of remaining contents seen table old_in new_in old_out new_out old new (Err StoreFailed) led = led
+talk_of remaining contents seen table old_in new_in old_out new_out old new (Err OutOfMemory) led = absurd led.reads

@@ -69,17 +69,16 @@ BlamesTape (Err StoreFailed) old_failures new_failures = HasFailed old_failures 
 BlamesTape (Err WriteFailed) old_failures new_failures = (new_failures ≡ old_failures) ⊎ HasFailed old_failures new_failures
 BlamesTape _ old_failures new_failures = new_failures ≡ old_failures
 
--- The dialogue was led: its lines were written, up to the one that failed, and the agent is in the state that the last turn left.
+-- The dialogue was led by an agent whose part is one of the timetable: its lines were written, up to the one that failed, and the agent is in the state that the last turn left.
 pub record Leads
-    {R W T : Type 0} (remaining : R → Option (List ℕ)) (contents : W → Option (List ℕ)) (seen : T → TapeState) (old_in new_in : Counted R)
+    {R W T : Type 0} (remaining : R → Option (List ℕ)) (contents : W → Option (List ℕ)) (seen : T → TapeState) (tt : Timetable) (old_in new_in : Counted R)
     (old_out new_out : Counted W) (old new : AgentOn T) (result : Result Unit TalkFault) : Type 0 where
   pub track : Track
-  pub is_track : track_of old.timetable old.id ≡ Some track
-  pub timetable : new.timetable ≡ old.timetable
-  pub id : new.id ≡ old.id
+  pub is_track : track_of tt old.part.agent ≡ Some track
+  pub part : new.part ≡ old.part
   pub lines : List (List ℕ)
   pub texts : List (List ℕ)
-  pub turns : AreTurns old.timetable old.id track lines texts (state_of seen old) (state_of seen new)
+  pub turns : AreTurns tt old.part.agent track lines texts (state_of seen old) (state_of seen new)
   pub input : List ℕ
   pub consumed : Consumes (remaining (counted_inner old_in)) (remaining (counted_inner new_in)) input
   pub reads : ReadsLines lines texts input (remaining (counted_inner new_in)) (failures_of old_in) (failures_of new_in) result
@@ -89,8 +88,8 @@ pub record Leads
 
 -- What a dialogue comes to: memory was refused before anything was read or written, or it was led.
 abbrev pub Talks
-    : {R W T : Type 0} → (R → Option (List ℕ)) → (W → Option (List ℕ)) → (T → TapeState) → Counted R → Counted R → Counted W → Counted W
+    : {R W T : Type 0} → (R → Option (List ℕ)) → (W → Option (List ℕ)) → (T → TapeState) → Timetable → Counted R → Counted R → Counted W → Counted W
     → AgentOn T → AgentOn T → Result Unit TalkFault → Type 0
-Talks remaining contents seen old_in new_in old_out new_out old new (Err OutOfMemory) = (new_in ≡ old_in) × (new_out ≡ old_out) × (new ≡ old)
-Talks remaining contents seen old_in new_in old_out new_out old new result =
-    Leads remaining contents seen old_in new_in old_out new_out old new result
+Talks remaining contents seen tt old_in new_in old_out new_out old new (Err OutOfMemory) = (new_in ≡ old_in) × (new_out ≡ old_out) × (new ≡ old)
+Talks remaining contents seen tt old_in new_in old_out new_out old new result =
+    Leads remaining contents seen tt old_in new_in old_out new_out old new result

@@ -1,6 +1,7 @@
 //! Answering an input line.
 ghost use Rattle.std.specs.Prelude.{◌≡◌, ◌≤◌, ◌*◌, false, List, ℕ, Some, length, IfSome};
-ghost use Rattle.model.specs.Timetable.{Track, track_of};
+ghost use Rattle.model.specs.Timetable.{Track, Timetable, track_of};
+ghost use Rattle.depgraph.specs.AgentParts.{IsPartOf, IsOfGraph};
 ghost use Rattle.agent.specs.Agents.{state_of};
 ghost use Rattle.dialogue.specs.Requests.{longest_request, say, tell, hear};
 ghost use Rattle.dialogue.specs.Turns.{Takes, IsTurn, state_line};
@@ -27,8 +28,8 @@ pub(crate) fn answer_kept<T: Tape>(
     requires within { IfSome kept (λ count. count ≤ length line.now) }
     ensures same { IsSameAgent agent.old agent.new }
     ensures counts { CountsFailures (says_store_failed result) (T.state agent.old.tape).failures (T.state agent.new.tape).failures }
-    ensures turn { (track : Track) (text : List ℕ) → track_of agent.old.timetable agent.old.id ≡ Some track → IsKept text line.now kept
-        → IsTurn agent.old.timetable agent.old.id track text (state_of T.state agent.old) (state_of T.state agent.new) (answer_line result) }
+    ensures turn { (tt : Timetable) → IsPartOf tt agent.old.part → (track : Track) (text : List ℕ) → track_of tt agent.old.part.agent ≡ Some track
+        → IsKept text line.now kept → IsTurn tt agent.old.part.agent track text (state_of T.state agent.old) (state_of T.state agent.new) (answer_line result) }
 {
     match kept {
         Some(count) => answer_text(agent, &line[..count], room),
@@ -42,8 +43,8 @@ fn answer_text<T: Tape>(agent: &mut Agent<'_, T>, line: &[u8], room: &mut [u8]) 
     requires has_room { longest_request ≤ 2 * length room.old }
     ensures same { IsSameAgent agent.old agent.new }
     ensures counts { CountsFailures (says_store_failed result) (T.state agent.old.tape).failures (T.state agent.new.tape).failures }
-    ensures turn { (track : Track) → track_of agent.old.timetable agent.old.id ≡ Some track
-        → IsTurn agent.old.timetable agent.old.id track line.now (state_of T.state agent.old) (state_of T.state agent.new) (answer_line result) }
+    ensures turn { (tt : Timetable) → IsPartOf tt agent.old.part → (track : Track) → track_of tt agent.old.part.agent ≡ Some track
+        → IsTurn tt agent.old.part.agent track line.now (state_of T.state agent.old) (state_of T.state agent.new) (answer_line result) }
 {
     match read_request(line, room) {
         Some(request) => answer_request(agent, request, room),
@@ -56,8 +57,8 @@ fn answer_request<T: Tape>(agent: &mut Agent<'_, T>, request: Request, room: &[u
     requires { FitsIn room.now request }
     ensures same { IsSameAgent agent.old agent.new }
     ensures counts { CountsFailures (says_store_failed result) (T.state agent.old.tape).failures (T.state agent.new.tape).failures }
-    ensures takes { (track : Track) → track_of agent.old.timetable agent.old.id ≡ Some track
-        → Takes agent.old.timetable agent.old.id track (request_in room.now request) (state_of T.state agent.old) (state_of T.state agent.new) (answer_line result) }
+    ensures takes { (tt : Timetable) → IsPartOf tt agent.old.part → (track : Track) → track_of tt agent.old.part.agent ≡ Some track
+        → Takes tt agent.old.part.agent track (request_in room.now request) (state_of T.state agent.old) (state_of T.state agent.new) (answer_line result) }
 {
     match request {
         Request::Start => LineAnswer::Reply(reply_to_start(agent.start())),
@@ -71,7 +72,7 @@ fn answer_request<T: Tape>(agent: &mut Agent<'_, T>, request: Request, room: &[u
 
 fn answer_say<T: Tape>(agent: &Agent<'_, T>) -> LineAnswer
     ensures never { says_store_failed result ≡ false }
-    ensures takes { (track : Track) → Takes agent.now.timetable agent.now.id track say (state_of T.state agent.now) (state_of T.state agent.now) (answer_line result) }
+    ensures takes { (tt : Timetable) → IsPartOf tt agent.now.part → (track : Track) → Takes tt agent.now.part.agent track say (state_of T.state agent.now) (state_of T.state agent.now) (answer_line result) }
 {
     match agent.say() {
         Ok(message) => LineAnswer::Said(message),
@@ -81,7 +82,7 @@ fn answer_say<T: Tape>(agent: &Agent<'_, T>) -> LineAnswer
 
 fn answer_tell<T: Tape>(agent: &Agent<'_, T>) -> LineAnswer
     ensures never { says_store_failed result ≡ false }
-    ensures takes { (track : Track) → Takes agent.now.timetable agent.now.id track tell (state_of T.state agent.now) (state_of T.state agent.now) (answer_line result) }
+    ensures takes { (tt : Timetable) → IsPartOf tt agent.now.part → (track : Track) → Takes tt agent.now.part.agent track tell (state_of T.state agent.now) (state_of T.state agent.now) (answer_line result) }
 {
     match agent.tell() {
         Ok(message) => LineAnswer::Told(message),
@@ -93,7 +94,7 @@ fn answer_tell<T: Tape>(agent: &Agent<'_, T>) -> LineAnswer
 fn answer_hear<T: Tape>(agent: &mut Agent<'_, T>, message: &[u8]) -> LineAnswer
     ensures same { IsSameAgent agent.old agent.new }
     ensures counts { CountsFailures (says_store_failed result) (T.state agent.old.tape).failures (T.state agent.new.tape).failures }
-    ensures takes { (track : Track) → Takes agent.old.timetable agent.old.id track (hear message.now) (state_of T.state agent.old) (state_of T.state agent.new) (answer_line result) }
+    ensures takes { (tt : Timetable) → IsPartOf tt agent.old.part → (track : Track) → Takes tt agent.old.part.agent track (hear message.now) (state_of T.state agent.old) (state_of T.state agent.new) (answer_line result) }
 {
     match reply_to_delivery(agent.hear(message)) {
         Ok(reply) => LineAnswer::Reply(reply),
@@ -104,8 +105,9 @@ fn answer_hear<T: Tape>(agent: &mut Agent<'_, T>, message: &[u8]) -> LineAnswer
 /// Where the agent is, and how many moves it has finished.
 pub(crate) fn state_answer<T: Tape>(agent: &Agent<'_, T>) -> LineAnswer
     ensures never { says_store_failed result ≡ false }
-    ensures line { (track : Track) × (track_of agent.now.timetable agent.now.id ≡ Some track)
+    ensures line { (tt : Timetable) → IsPartOf tt agent.now.part → (track : Track) × (track_of tt agent.now.part.agent ≡ Some track)
         × (answer_line result ≡ state_line track (state_of T.state agent.now)) }
+    ensures within { IsOfGraph agent.now.part }
 {
     LineAnswer::Reply(reply_to_restart(agent.held(), agent.done()))
 }

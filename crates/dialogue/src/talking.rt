@@ -3,7 +3,8 @@ ghost use Rattle.std.specs.Prelude.{◌≡◌, ◌≤◌, ◌*◌, ◌++◌, ℕ
 ghost use Rattle.grid.specs.Lines.{HasTaken};
 ghost use Rattle.grid.specs.Sink.{held_back, sink_writer};
 ghost use Rattle.grid.specs.Source.{source_reader};
-ghost use Rattle.model.specs.Timetable.{Track, track_of};
+ghost use Rattle.model.specs.Timetable.{Track, Timetable, track_of};
+ghost use Rattle.depgraph.specs.AgentParts.{IsPartOf, IsOfGraph};
 ghost use Rattle.agent.specs.Agents.{state_of};
 ghost use Rattle.dialogue.specs.Requests.{longest_request};
 ghost use Rattle.dialogue.specs.Dialogue.{BlamesTape, Leads, Talks};
@@ -30,7 +31,7 @@ pub fn talk<R: Read, W: Write, T: Tape>(
     input: &mut Counted<R>,
     output: &mut Counted<W>,
 ) -> Result<(), TalkFault>
-    ensures { Talks R.remaining W.contents T.state input.old input.new output.old output.new agent.old agent.new result }
+    ensures { (tt : Timetable) → IsPartOf tt agent.old.part → Talks R.remaining W.contents T.state tt input.old input.new output.old output.new agent.old agent.new result }
 {
     let mut line = room(alloc, LONGEST_LINE)?;
     let mut message = room(alloc, LONGEST_LINE / 2)?;
@@ -54,7 +55,7 @@ fn talk_with_room<R: Read, W: Write, T: Tape>(
 ) -> Result<(), TalkFault>
     requires long { length line.old ≡ longest_request }
     requires has_room { longest_request ≤ 2 * length message.old }
-    ensures { Leads R.remaining W.contents T.state input.old input.new output.old output.new agent.old agent.new result }
+    ensures { (tt : Timetable) → IsPartOf tt agent.old.part → Leads R.remaining W.contents T.state tt input.old input.new output.old output.new agent.old agent.new result }
 {
     let mut source = Source::new(input);
     let mut sink = Sink::new(output);
@@ -75,8 +76,8 @@ fn lead<R: Read, W: Write, T: Tape>(
     requires has_room { longest_request ≤ 2 * length message.old }
     ensures same_reader { source.new.reader.ghost_name ≡ source.old.reader.ghost_name }
     ensures same_writer { sink.new.writer.ghost_name ≡ sink.old.writer.ghost_name }
-    ensures leads { Leads R.remaining W.contents T.state (source_reader source.old) (source_reader source.new) (sink_writer sink.old) (sink_writer sink.new)
-        agent.old agent.new result }
+    ensures leads { (tt : Timetable) → IsPartOf tt agent.old.part
+        → Leads R.remaining W.contents T.state tt (source_reader source.old) (source_reader source.new) (sink_writer sink.old) (sink_writer sink.new) agent.old agent.new result }
 {
     say_state(agent, sink)?;
     'lines: loop {
@@ -94,7 +95,8 @@ fn say_state<W: Write, T: Tape>(
     agent: &Agent<'_, T>,
     sink: &mut Sink<'_, W>,
 ) -> Result<(), WriteFault>
-    ensures { SaysState W.contents T.state agent.now sink.old sink.new result }
+    ensures says { (tt : Timetable) → IsPartOf tt agent.now.part → SaysState W.contents T.state tt agent.now sink.old sink.new result }
+    ensures within { IsOfGraph agent.now.part }
 {
     send_answer(sink, &state_answer(agent))
 }
@@ -112,8 +114,8 @@ fn reply<W: Write, T: Tape>(
     requires within { IfSome kept (λ count. count ≤ length line.now) }
     ensures same { IsSameAgent agent.old agent.new }
     ensures blames { BlamesTape result (T.state agent.old.tape).failures (T.state agent.new.tape).failures }
-    ensures replies { (track : Track) (text : List ℕ) → track_of agent.old.timetable agent.old.id ≡ Some track → IsKept text line.now kept
-        → Replies W.contents agent.old.timetable agent.old.id track text (state_of T.state agent.old) (state_of T.state agent.new) sink.old sink.new result }
+    ensures replies { (tt : Timetable) → IsPartOf tt agent.old.part → (track : Track) (text : List ℕ) → track_of tt agent.old.part.agent ≡ Some track → IsKept text line.now kept
+        → Replies W.contents tt agent.old.part.agent track text (state_of T.state agent.old) (state_of T.state agent.new) sink.old sink.new result }
 {
     let answer = answer_kept(agent, line, kept, message);
     send_answer(sink, &answer)?;

@@ -19,9 +19,10 @@ use Rattle.model.specs.Rules.{deliver_answer, answer_by, answer, IsRun}
 use Rattle.model.specs.Speech.{WasSaid}
 use Rattle.model.specs.Timetable.{Track, Timetable, moves, track_of}
 use Rattle.agent.specs.Agents.{AgentOn, state_of, HearsOf, HearsFrom}
-use Rattle.agent.specs.Counters.{known_in, is_heard_of, Raises, TellsOfNew}
+use Rattle.agent.specs.Tellings.{Telling}
+use Rattle.agent.specs.Counters.{known_in, Raises, TellsOfNew}
 use Rattle.agent.specs.Decoding.{wrong_entry}
-use Rattle.agent.specs.States.{Keeps, Refuses, names_nobody, moves_of, tells_too_many, message_refusal, telling_refusal, IsTaken}
+use Rattle.agent.specs.States.{State, Keeps, Refuses, names_nobody, moves_of, tells_too_many, message_refusal, telling_refusal, IsTaken}
 use Rattle.agent.specs.declared.finished.Finished.{Finished}
 use Rattle.agent.specs.declared.refusal.HearFault.{HearFault}
 use Rattle.agent.specs.declared.refusal.HearFault.TheVariants as fault
@@ -31,6 +32,7 @@ use Rattle.runner.specs.SimTape.{sim_state}
 use Rattle.runner.specs.Standing.{RunnerState, IsMember, StandsAt, TakesMemory}
 use Rattle.runner.proofs.GoesLemmas.{no_track, one-agent}
 use Rattle.runner.proofs.MessageLemmas.{raised-known, deliver-goes, deliver-refused}
+use Rattle.depgraph.specs.AgentParts.{IsPartOf}
 
 -- ---- what an agent answers to a message of a run
 
@@ -45,13 +47,13 @@ Gives a b message answer =
     ⊎ ((a.broken ≡ false) × (answer ≡ Err fault.OutOfMemory) × TellsOfNew a.heard message.entries × (b ≡ a))
     ⊎ ((a.broken ≡ false) × (answer ≡ Ok (message.sender, known_in b.heard message.sender)) × Raises a.heard b.heard message.entries × (b ≡ record a { heard = b.heard }))
 
-module _ (a b : AgentOn SimTape) (message : Message) (answer : Result (ℕ × ℕ) HearFault) (same : b ≡ record a { heard = b.heard }) where
+module _ (table : Timetable) (a b : AgentOn SimTape) (message : Message) (answer : Result (ℕ × ℕ) HearFault) (same : b ≡ record a { heard = b.heard }) where
   kept : a.broken ≡ false → (r : Result (ℕ × ℕ) HearFault) → Keeps (state_of sim_state a) (state_of sim_state b) message r → Gives a b message r
   kept whole (Ok pair) keeps = inr (inr (whole, ap (λ p. Ok p) keeps.0, keeps.1, same))
   kept whole (Err why) keeps = inr (inl (whole, ap (λ w. Err w) keeps.0, keeps.1, same-agent a b same keeps.2))
 
-  taken : a.broken ≡ false → (plan : ℕ) → telling_refusal a.timetable (record { plan = plan; message = message }) ≡ None
-      → IsTaken a.timetable (state_of sim_state a) (state_of sim_state b) (record { plan = plan; message = message }) answer → Gives a b message answer
+  taken : a.broken ≡ false → (plan : ℕ) → telling_refusal table (record { plan = plan; message = message }) ≡ None
+      → IsTaken table (state_of sim_state a) (state_of sim_state b) (record { plan = plan; message = message }) answer → Gives a b message answer
   taken whole plan none takes =
       kept whole answer (subst (λ o. MatchOption o (Keeps (state_of sim_state a) (state_of sim_state b) message answer) (Refuses (state_of sim_state a) (state_of sim_state b) answer)) none takes)
 
@@ -59,36 +61,62 @@ module _ (a b : AgentOn SimTape) (message : Message) (answer : Result (ℕ × �
   refuses-broken broken refuses = inl (broken, refuses.0, same-agent a b same refuses.1)
 
 -- of version 1
-pub from-gives : (a b : AgentOn SimTape) (f : Finished) (answer : Result (ℕ × ℕ) HearFault) → telling_refusal a.timetable (record { plan = f.plan; message = own_message f.from f.done }) ≡ None
-    → HearsFrom sim_state a b f answer → Gives a b (own_message f.from f.done) answer
-from-gives a b f answer none hears = by_broken a.broken refl where
+pub from-gives : (table : Timetable) (a b : AgentOn SimTape) (f : Finished) (answer : Result (ℕ × ℕ) HearFault) → telling_refusal table (record { plan = f.plan; message = own_message f.from f.done }) ≡ None
+    → HearsFrom sim_state table a b f answer → Gives a b (own_message f.from f.done) answer
+from-gives table a b f answer none hears = by_broken a.broken refl where
   by_broken : (broken : Bool) → a.broken ≡ broken → Gives a b (own_message f.from f.done) answer
   by_broken true broken =
-      refuses-broken a b (own_message f.from f.done) answer hears.same broken
+      refuses-broken table a b (own_message f.from f.done) answer hears.same broken
       (subst (λ x. MatchBool x (Refuses (state_of sim_state a) (state_of sim_state b) answer fault.Broken)
-      (IsTaken a.timetable (state_of sim_state a) (state_of sim_state b) (record { plan = f.plan; message = own_message f.from f.done }) answer)) broken hears.state)
+      (IsTaken table (state_of sim_state a) (state_of sim_state b) (record { plan = f.plan; message = own_message f.from f.done }) answer)) broken hears.state)
   by_broken false whole =
-      taken a b (own_message f.from f.done) answer hears.same whole f.plan none
+      taken table a b (own_message f.from f.done) answer hears.same whole f.plan none
       (subst (λ x. MatchBool x (Refuses (state_of sim_state a) (state_of sim_state b) answer fault.Broken)
-      (IsTaken a.timetable (state_of sim_state a) (state_of sim_state b) (record { plan = f.plan; message = own_message f.from f.done }) answer)) whole hears.state)
+      (IsTaken table (state_of sim_state a) (state_of sim_state b) (record { plan = f.plan; message = own_message f.from f.done }) answer)) whole hears.state)
 
 -- of version 2
-abbrev Hearing : AgentOn SimTape → AgentOn SimTape → Message → Result (ℕ × ℕ) HearFault → Option HearFault → Type 0
-Hearing a b message answer o =
-    MatchOption o (IsTaken a.timetable (state_of sim_state a) (state_of sim_state b) (record { plan = a.timetable.number; message = message }) answer)
+abbrev Hearing : Timetable → AgentOn SimTape → AgentOn SimTape → Message → Result (ℕ × ℕ) HearFault → Option HearFault → Type 0
+Hearing table a b message answer o =
+    MatchOption o (IsTaken table (state_of sim_state a) (state_of sim_state b) (record { plan = table.number; message = message }) answer)
     (Refuses (state_of sim_state a) (state_of sim_state b) answer)
 
 abbrev refusal_by : Message → Bool → Option HearFault
 refusal_by message t = if t then Some fault.Broken else option_map (λ number. fault.Message (BadEntry number)) (wrong_entry 0 0 message.entries)
 
-pub of-gives : (a b : AgentOn SimTape) (message : Message) (answer : Result (ℕ × ℕ) HearFault) → wrong_entry 0 0 message.entries ≡ None
-    → telling_refusal a.timetable (record { plan = a.timetable.number; message = message }) ≡ None → HearsOf sim_state a b message answer → Gives a b message answer
-of-gives a b message answer right none hears = by_broken a.broken refl where
+pub of-gives : (table : Timetable) (a b : AgentOn SimTape) (message : Message) (answer : Result (ℕ × ℕ) HearFault) → wrong_entry 0 0 message.entries ≡ None
+    → telling_refusal table (record { plan = table.number; message = message }) ≡ None → HearsOf sim_state table a b message answer → Gives a b message answer
+of-gives table a b message answer right none hears = by_broken a.broken refl where
   by_broken : (broken : Bool) → a.broken ≡ broken → Gives a b message answer
-  by_broken true broken = refuses-broken a b message answer hears.same broken (subst (Hearing a b message answer) (ap (refusal_by message) broken) hears.state)
+  by_broken true broken = refuses-broken table a b message answer hears.same broken (subst (Hearing table a b message answer) (ap (refusal_by message) broken) hears.state)
   by_broken false whole =
-      taken a b message answer hears.same whole a.timetable.number none
-      (subst (Hearing a b message answer) (ap (refusal_by message) whole ∙ ap (option_map (λ number. fault.Message (BadEntry number))) right) hears.state)
+      taken table a b message answer hears.same whole table.number none
+      (subst (Hearing table a b message answer) (ap (refusal_by message) whole ∙ ap (option_map (λ number. fault.Message (BadEntry number))) right) hears.state)
+
+-- ---- where memory is wanting
+
+still : (answer : Result (ℕ × ℕ) HearFault) → delivered answer ≡ None → (old new : State) (message : Message) → Keeps old new message answer → new ≡ old
+still (Ok pair) none old new message keeps = absurd (none-some _ (sym none))
+still (Err why) none old new message keeps = keeps.2
+
+still-taken : (table : Timetable) (old new : State) (t : Telling) (answer : Result (ℕ × ℕ) HearFault) → delivered answer ≡ None → IsTaken table old new t answer → new ≡ old
+still-taken table old new t answer none takes = by (telling_refusal table t) takes where
+  by : (o : Option HearFault) → MatchOption o (Keeps old new t.message answer) (Refuses old new answer) → new ≡ old
+  by None keeps = still answer none old new t.message keeps
+  by (Some why) refuses = refuses.1
+
+-- an agent that lacks memory for a message is as it was
+pub still-from : (table : Timetable) (a b : AgentOn SimTape) (f : Finished) (answer : Result (ℕ × ℕ) HearFault) → delivered answer ≡ None → HearsFrom sim_state table a b f answer → b ≡ a
+still-from table a b f answer none hears = same-agent a b hears.same (by a.broken hears.state) where
+  by : (broken : Bool) → MatchBool broken (Refuses (state_of sim_state a) (state_of sim_state b) answer fault.Broken)
+      (IsTaken table (state_of sim_state a) (state_of sim_state b) (record { plan = f.plan; message = own_message f.from f.done }) answer) → state_of sim_state b ≡ state_of sim_state a
+  by true refuses = refuses.1
+  by false takes = still-taken table (state_of sim_state a) (state_of sim_state b) (record { plan = f.plan; message = own_message f.from f.done }) answer none takes
+
+pub still-of : (table : Timetable) (a b : AgentOn SimTape) (message : Message) (answer : Result (ℕ × ℕ) HearFault) → delivered answer ≡ None → HearsOf sim_state table a b message answer → b ≡ a
+still-of table a b message answer none hears = same-agent a b hears.same (by (refusal_by message a.broken) hears.state) where
+  by : (o : Option HearFault) → Hearing table a b message answer o → state_of sim_state b ≡ state_of sim_state a
+  by None takes = still-taken table (state_of sim_state a) (state_of sim_state b) (record { plan = table.number; message = message }) answer none takes
+  by (Some why) refuses = refuses.1
 
 -- ---- no message of a run is refused
 
@@ -129,15 +157,15 @@ sender-there v table h m message was =
     sender One = refl
     sender Two = refl
 
--- nor for an agent over the same timetable
-pub none-refused-by : (v : Version) (table own : Timetable) (h : History) (m plan : ℕ) (message : Message) → own ≡ table → plan ≡ table.number → WasSaid v table h m message
-    → telling_refusal own (record { plan = plan; message = message }) ≡ None
-none-refused-by v table own h m plan message same number was =
-    ap (λ t. telling_refusal t (record { plan = plan; message = message })) same ∙ ap (λ n. telling_refusal table (record { plan = n; message = message })) number
+-- nor with the plan's number
+pub none-refused-by : (v : Version) (table : Timetable) (h : History) (m plan : ℕ) (message : Message) → plan ≡ table.number → WasSaid v table h m message
+    → telling_refusal table (record { plan = plan; message = message }) ≡ None
+none-refused-by v table h m plan message number was =
+    ap (λ n. telling_refusal table (record { plan = n; message = message })) number
     ∙ none-refused v table h m message (sender-there v table h m message was) was
 
 -- what was there is written again
-set-same : {X : Type 0} (l : List X) (i : ℕ) (x : X) → slice_get l i ≡ Some x → set l i x ≡ l
+pub set-same : {X : Type 0} (l : List X) (i : ℕ) (x : X) → slice_get l i ≡ Some x → set l i x ≡ l
 set-same [] i x there = refl
 set-same (y ∷ l) zero x there = ap (λ z. z ∷ l) (same_Some x y (sym there))
 set-same (y ∷ l) (suc i) x there = ap (λ k. y ∷ k) (set-same l i x there)
@@ -210,20 +238,20 @@ module _ (r : RunnerState) (h : History) (stands : StandsAt r h) (i : ℕ) (with
       was = of_runs r.version r.timetable h m message stands.run said-there
 
       -- at version 1
-      pub own-gives : (f : Finished) → message ≡ own_message f.from f.done → f.plan ≡ r.timetable.number → HearsFrom sim_state a b f result → Gives a b message result
+      pub own-gives : (f : Finished) → message ≡ own_message f.from f.done → f.plan ≡ r.timetable.number → ((tt : Timetable) → IsPartOf tt a.part → HearsFrom sim_state tt a b f result) → Gives a b message result
       own-gives f same plan hears =
           subst (λ x. Gives a b x result) (sym same)
-          (from-gives a b f result (none-refused-by r.version r.timetable a.timetable h m f.plan (own_message f.from f.done) is.timetable plan (subst (WasSaid r.version r.timetable h m) same was)) hears)
+          (from-gives r.timetable a b f result (none-refused-by r.version r.timetable h m f.plan (own_message f.from f.done) plan (subst (WasSaid r.version r.timetable h m) same was)) (hears r.timetable is.part))
 
       -- at version 2
       pub told-gives : r.version ≡ Two → ((f : ℕ → ℕ) (first count : ℕ) → AreRising first (entries_from f first count)) → ((es : List Entry) → AreRising 0 es → wrong_entry 0 0 es ≡ None)
-          → HearsOf sim_state a b message result → Gives a b message result
+          → ((tt : Timetable) → IsPartOf tt a.part → HearsOf sim_state tt a b message result) → Gives a b message result
       told-gives version of_agents right hears =
-          of-gives a b message result
+          of-gives r.timetable a b message result
           (right message.entries (subst (λ x. AreRising 0 x.entries)
           (sym (was.tells ∙ ap (λ v. message_said v (length r.timetable.tracks) was.agent (done was.earlier was.agent) (known r.version r.timetable was.earlier was.agent)) version))
           (of_agents _ 0 (length r.timetable.tracks))))
-          (none-refused-by r.version r.timetable a.timetable h m a.timetable.number message is.timetable (ap (λ t. t.number) is.timetable) was) hears
+          (none-refused-by r.version r.timetable h m r.timetable.number message refl was) (hears r.timetable is.part)
 
     -- ---- the delivery of a message that there is
 

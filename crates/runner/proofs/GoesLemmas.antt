@@ -30,6 +30,7 @@ use Rattle.runner.specs.Standing.{RunnerState, IsMember, StandsAt}
 use Rattle.runner.proofs.OtherLemmas.{member-other}
 use Rattle.runner.proofs.RestartLemmas.{tear-goes, tear-refused, held-is, restart-rule, restart-goes}
 use Rattle.runner.proofs.StoreLemmas.{start-goes, finish-goes}
+use Rattle.depgraph.specs.AgentParts.{IsPartOf}
 
 -- an element that was written is there, and the others stay
 pub set-at : {X : Type 0} (l : List X) (i : ℕ) (b : X) → i < length l → slice_get (set l i b) i ≡ Some b
@@ -100,26 +101,27 @@ module _ (r : RunnerState) (h : History) (stands : StandsAt r h) (i : ℕ) (a b 
   member : IsMember r.version r.timetable h i a
   member = stands.members i a there
 
-  same_refusal : (refusal : Timetable → ℕ → Option Refusal) (track : Track) → Moves sim_state sim_writes track (refusal a.timetable a.id) a b result
-      → Moves sim_state sim_writes track (refusal r.timetable i) a b result
-  same_refusal refusal track moves =
-      subst (λ o. Moves sim_state sim_writes track o a b result) (ap (λ t. refusal t a.id) member.timetable ∙ ap (refusal r.timetable) member.id) moves
+  same_refusal : (refusal : ℕ → Option Refusal) (track : Track) → Moves sim_state sim_writes r.timetable track (refusal a.part.agent) a b result
+      → Moves sim_state sim_writes r.timetable track (refusal i) a b result
+  same_refusal refusal track moves = subst (λ o. Moves sim_state sim_writes r.timetable track o a b result) (ap refusal member.id) moves
 
-  own_track : (track : Track) → track_of a.timetable a.id ≡ Some track → track_of r.timetable i ≡ Some track
-  own_track track is = sym (ap (λ t. track_of t a.id) member.timetable ∙ ap (track_of r.timetable) member.id) ∙ is
+  own_track : (track : Track) → track_of r.timetable a.part.agent ≡ Some track → track_of r.timetable i ≡ Some track
+  own_track track is = sym (ap (track_of r.timetable) member.id) ∙ is
 
-  pub start-on : Starts sim_state sim_writes a b result
+  pub start-on : ((tt : Timetable) → IsPartOf tt a.part → Starts sim_state sim_writes tt a b result)
       → (answered moving result ≡ answer r.version r.timetable h (Start i)) × StandsAt (record r { agents = set r.agents i b }) (record { event = Start i; answer = answered moving result } ∷ h)
-  start-on starts =
+  start-on starts-by =
+      let starts = starts-by r.timetable member.part in
       let track = starts.0 in
-      let moves = same_refusal (λ t k. start_refusal t k track (state_of sim_state a)) track starts.1 in
+      let moves = same_refusal (λ k. start_refusal r.timetable k track (state_of sim_state a)) track starts.1 in
       let goes = start-goes r.version r.timetable h stands.run i track a b member result moves in
       let rule = goes.0 ∙ sym (ap (answer_by r.version r.timetable h (Start i)) (own_track track starts.1.is_track)) in
       (rule, one-agent r h (Start i) i b (answered moving result) stands refl (slice_get_within r.agents i a there) rule goes.1 refl)
 
-  pub finish-on : Finishes sim_state sim_writes a b result
+  pub finish-on : ((tt : Timetable) → IsPartOf tt a.part → Finishes sim_state sim_writes tt a b result)
       → (answered arrived result ≡ answer r.version r.timetable h (Finish i)) × StandsAt (record r { agents = set r.agents i b }) (record { event = Finish i; answer = answered arrived result } ∷ h)
-  finish-on finishes =
+  finish-on finishes-by =
+      let finishes = finishes-by r.timetable member.part in
       let track = finishes.0 in
       let goes = finish-goes r.version r.timetable h stands.run i track a b member result finishes.1 in
       let rule = goes.0 ∙ sym (ap (answer_by r.version r.timetable h (Finish i)) (own_track track finishes.1.is_track)) in
@@ -169,28 +171,30 @@ opened-stood (At u) k = refl
 opened-stood (Between u v) k = refl
 
 pub restart-on : (r : RunnerState) (h : History) (stands : StandsAt r h) (i : ℕ) (a b : AgentOn SimTape) (what : Held) (k : ℕ) → slice_get r.agents i ≡ Some a → Reopens a b
-    → Holds sim_state b what → k ≡ states.done (state_of sim_state b)
+    → ((tt : Timetable) → IsPartOf tt b.part → Holds sim_state tt b what) → k ≡ states.done (state_of sim_state b)
     → (stood what k ≡ answer r.version r.timetable h (Restart i)) × StandsAt (record r { agents = set r.agents i b }) (record { event = Restart i; answer = stood what k } ∷ h)
-restart-on r h stands i a b what k there reopens holds done =
+restart-on r h stands i a b what k there reopens holds-by done =
     let is = stands.members i a there in
+    let holds = holds-by r.timetable (subst (IsPartOf r.timetable) (sym reopens.part) is.part) in
     let within = slice_get_within r.agents i a there in
     let track = holds.0 in
     let same : (state_of sim_state b).records ≡ (state_of sim_state a).records = ap (λ c. whole_records (record { contents = c; room = 0; failures = 0 })) reopens.contents in
-    let known : track_of r.timetable i ≡ Some track = sym (ap (λ t. track_of t b.id) (reopens.timetable ∙ is.timetable) ∙ ap (track_of r.timetable) (reopens.id ∙ is.id)) ∙ holds.1 in
+    let known : track_of r.timetable i ≡ Some track = sym (ap (track_of r.timetable) (ap (λ p. p.agent) reopens.part ∙ is.id)) ∙ holds.1 in
     let stays = held-same track (state_of sim_state b) (state_of sim_state a) same in
     let rule = ap (λ w. stood w k) (holds.2 ∙ stays) ∙ ap (stood (states.held track (state_of sim_state a))) (done ∙ ap (λ n. n / 2) same)
     ∙ sym (restart-rule r.version r.timetable h stands.run i track a is) ∙ sym (ap (answer_by r.version r.timetable h (Restart i)) known) in (
       rule,
       one-agent r h (Restart i) i b (stood what k) stands refl within rule
-          (restart-goes r.version r.timetable h i a b (stood what k) (opened-stood what k) is reopens.timetable reopens.id reopens.contents reopens.heard reopens.broken reopens.armed) refl,
+          (restart-goes r.version r.timetable h i a b (stood what k) (opened-stood what k) is reopens.part reopens.contents reopens.heard reopens.broken reopens.armed) refl,
     )
 
 -- ---- what is held
 
-pub held-on : (r : RunnerState) (h : History) (stands : StandsAt r h) (i : ℕ) (a : AgentOn SimTape) (what : Held) → slice_get r.agents i ≡ Some a → Holds sim_state a what
+pub held-on : (r : RunnerState) (h : History) (stands : StandsAt r h) (i : ℕ) (a : AgentOn SimTape) (what : Held) → slice_get r.agents i ≡ Some a → ((tt : Timetable) → IsPartOf tt a.part → Holds sim_state tt a what)
     → Some what ≡ option_map (λ track. held track h i) (track_of r.timetable i)
-held-on r h stands i a what there holds =
+held-on r h stands i a what there holds-by =
     let is = stands.members i a there in
+    let holds = holds-by r.timetable is.part in
     let track = holds.0 in
-    let known : track_of r.timetable i ≡ Some track = sym (ap (λ t. track_of t a.id) is.timetable ∙ ap (track_of r.timetable) is.id) ∙ holds.1 in
+    let known : track_of r.timetable i ≡ Some track = sym (ap (track_of r.timetable) is.id) ∙ holds.1 in
     ap (λ w. Some w) (holds.2 ∙ held-is r.version r.timetable h stands.run i track a is) ∙ sym (ap (option_map (λ t. held t h i)) known)

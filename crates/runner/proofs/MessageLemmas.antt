@@ -1,5 +1,5 @@
 -- Where an agent is after a message was said or delivered.
-use Rattle.std.proofs.Common.{◌≡◌, ℕ, Bool, true, false, List, [], ◌∷◌, max, Some, refl, sym, ap, ◌∙◌, arith}
+use Rattle.std.proofs.Common.{◌≡◌, ℕ, Bool, true, false, List, [], ◌∷◌, max, Some, refl, sym, ap, subst, ◌∙◌, arith}
 use Rattle.std.specs.Prelude.{◌==◌, ◌&&◌, ◌||◌, if◌then◌else◌, is_some, unwrap_or, slice_get}
 use Rattle.std.proofs.lemmas.Bool.{true≢false}
 use Rattle.model.specs.declared.entry.Entry.{Entry}
@@ -17,11 +17,12 @@ use Rattle.runner.specs.SimTape.{sim_state, sim_armed}
 use Rattle.runner.specs.Hearing.{message_tells_of, has_heard_of}
 use Rattle.runner.specs.Standing.{IsMember}
 use Rattle.runner.proofs.StoreLemmas.{own_test}
+use Rattle.depgraph.specs.AgentParts.{IsPartOf}
 
 -- a message that is said leaves every agent where it is
 pub say-goes : (v : Version) (table : Timetable) (h : History) (i k : ℕ) (a : AgentOn SimTape) (r : Answer) → IsMember v table h k a → IsMember v table (record { event = Say i; answer = r } ∷ h) k a
 say-goes v table h i k a r is = record {
-  timetable = is.timetable;
+  part = is.part;
   id = is.id;
   records = (let before = is.records in omega (arith, before));
   heard = is.heard;
@@ -61,7 +62,7 @@ raised-heard old new es raises j = ap is_some (raises j) ∙ by_test (tells_of e
 pub deliver-refused : (v : Version) (table : Timetable) (h : History) (i m k : ℕ) (a : AgentOn SimTape) (r : Answer) → is_heard r ≡ false → IsMember v table h k a
     → IsMember v table (record { event = Deliver i m; answer = r } ∷ h) k a
 deliver-refused v table h i m k a r unheard is = record {
-  timetable = is.timetable;
+  part = is.part;
   id = is.id;
   records = (let before = is.records in omega (arith, before));
   heard = λ j. is.heard j ∙ sym (
@@ -81,8 +82,8 @@ pub deliver-goes : (v : Version) (table : Timetable) (h : History) (i m : ℕ) (
     → slice_get (messages v table h) m ≡ Some message → IsMember v table h i a → b ≡ record a { heard = b.heard }
     → Raises a.heard b.heard message.entries → IsMember v table (record { event = Deliver i m; answer = r } ∷ h) i b
 deliver-goes v table h i m message a b r hears there is same raises = record {
-  timetable = ap (λ x. x.timetable) same ∙ is.timetable;
-  id = ap (λ x. x.id) same ∙ is.id;
+  part = subst (IsPartOf table) (sym (ap (λ x. x.part) same)) is.part;
+  id = ap (λ x. x.part.agent) same ∙ is.id;
   records = (let tape = ap (λ x. whole_records (sim_state x.tape)) same in let before = is.records in omega (arith, tape, before));
   heard = λ j. raised-known a.heard b.heard message.entries raises j ∙ ap (λ n. max n (told message j)) (is.heard j) ∙ sym (rule j);
   heard_of = λ j. raised-heard a.heard b.heard message.entries raises j ∙ ap (λ t. tells_of message.entries j || t) (is.heard_of j) ∙ sym (rule_of j);

@@ -69,7 +69,7 @@ heard_of-other (Tear j n) r ms i k before other = refl
 -- an agent that the event doesn't name stays where it is
 pub member-other : (v : Version) (table : Timetable) (h : History) (now : Happening) (i : ℕ) (a : AgentOn SimTape) → agent_of now.event ≢ i → IsMember v table h i a → IsMember v table (now ∷ h) i a
 member-other v table h now i a other is = record {
-  timetable = is.timetable;
+  part = is.part;
   id = is.id;
   records = (let starts = starts-other now.event now.answer i (armed_of h i) other in
       let finishes = finishes-other now.event now.answer i (armed_of h i) other in

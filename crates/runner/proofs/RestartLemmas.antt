@@ -1,5 +1,5 @@
 -- A tear and a restart of an agent that is where the history leaves it.
-use Rattle.std.proofs.Common.{◌≡◌, ℕ, ◌+◌, Bool, true, false, [], ◌∷◌, Some, None, refl, sym, ap, ◌∙◌, arith}
+use Rattle.std.proofs.Common.{◌≡◌, ℕ, ◌+◌, Bool, true, false, [], ◌∷◌, Some, None, refl, sym, ap, subst, ◌∙◌, arith}
 use Rattle.std.specs.Prelude.{◌==◌, ◌&&◌, if◌then◌else◌}
 use Rattle.model.specs.declared.version.Version.{Version}
 use Rattle.model.specs.declared.event.Event.TheVariants.{Restart, Tear}
@@ -22,6 +22,7 @@ use Rattle.runner.specs.Hearing.{has_heard_of}
 use Rattle.runner.specs.Standing.{IsMember}
 use Rattle.runner.proofs.RuleLemmas.{done-is, moving-is}
 use Rattle.runner.proofs.StoreLemmas.{own_test}
+use Rattle.depgraph.specs.AgentParts.{IsPartOf}
 
 -- ---- tears
 
@@ -29,8 +30,8 @@ use Rattle.runner.proofs.StoreLemmas.{own_test}
 pub tear-goes : (v : Version) (table : Timetable) (h : History) (i n : ℕ) (a b : AgentOn SimTape) → IsMember v table h i a → b ≡ record a { tape = b.tape }
     → sim_state b.tape ≡ sim_state a.tape → sim_armed b.tape ≡ Some n → IsMember v table (record { event = Tear i n; answer = history.armed } ∷ h) i b
 tear-goes v table h i n a b is same state armed = record {
-  timetable = ap (λ x. x.timetable) same ∙ is.timetable;
-  id = ap (λ x. x.id) same ∙ is.id;
+  part = subst (IsPartOf table) (sym (ap (λ x. x.part) same)) is.part;
+  id = ap (λ x. x.part.agent) same ∙ is.id;
   records = (let count = ap whole_records state in let before = is.records in omega (arith, count, before));
   heard = λ j. ap (λ x. known_in x.heard j) same ∙ is.heard j;
   heard_of = λ j. ap (λ x. is_heard_of x.heard j) same ∙ is.heard_of j;
@@ -41,7 +42,7 @@ tear-goes v table h i n a b is same state armed = record {
 -- one that was not armed
 pub tear-refused : (v : Version) (table : Timetable) (h : History) (i n : ℕ) (a : AgentOn SimTape) → IsMember v table h i a → IsMember v table (record { event = Tear i n; answer = refused BadTear } ∷ h) i a
 tear-refused v table h i n a is = record {
-  timetable = is.timetable;
+  part = is.part;
   id = is.id;
   records = (let before = is.records in omega (arith, before));
   heard = is.heard;
@@ -82,11 +83,11 @@ restart-rule v table h run i track a is =
 
 -- an agent that was opened anew, and of which nothing is armed
 pub restart-goes : (v : Version) (table : Timetable) (h : History) (i : ℕ) (a b : AgentOn SimTape) (r : Answer) → history.is_opened r ≡ true → IsMember v table h i a
-    → b.timetable ≡ a.timetable → b.id ≡ a.id → (sim_state b.tape).contents ≡ (sim_state a.tape).contents → b.heard ≡ [] → b.broken ≡ false → sim_armed b.tape ≡ None
+    → b.part ≡ a.part → (sim_state b.tape).contents ≡ (sim_state a.tape).contents → b.heard ≡ [] → b.broken ≡ false → sim_armed b.tape ≡ None
     → IsMember v table (record { event = Restart i; answer = r } ∷ h) i b
-restart-goes v table h i a b r opened is timetable id contents heard broken armed = record {
-  timetable = timetable ∙ is.timetable;
-  id = id ∙ is.id;
+restart-goes v table h i a b r opened is part contents heard broken armed = record {
+  part = subst (IsPartOf table) (sym part) is.part;
+  id = ap (λ p. p.agent) part ∙ is.id;
   records = (let count = ap (λ c. whole_records (record { contents = c; room = 0; failures = 0 })) contents in let before = is.records in omega (arith, count, before));
   heard = λ j. ap (λ l. known_in l j) heard ∙ sym (reopened 0 (known v table h i j));
   heard_of = λ j. ap (λ l. is_heard_of l j) heard ∙ sym (reopened false (has_heard_of v table h i j));

@@ -22,6 +22,7 @@ use Rattle.runner.specs.Code.Telling.{message_told}
 use Rattle.runner.proofs.GoesLemmas.{no_track}
 use Rattle.runner.proofs.MessageLemmas.{say-goes}
 use Rattle.runner.proofs.RuleLemmas.{done-is}
+use Rattle.depgraph.proofs.AgentPartLemmas.{count-agents}
 
 -- ---- what is told hangs on the numbers alone
 
@@ -95,32 +96,37 @@ module _ (r : RunnerState) (h : History) (stands : StandsAt r h) (i : ℕ) (a : 
 
   -- at version 1 how many moves it has finished
   pub own-on : (sender done : ℕ) → r.version ≡ One → a.broken ≡ false → sender ≡ i → done ≡ states.done (state_of sim_state a)
-      → (said (length r.messages) (message_bytes a.timetable.number a.id done) ≡ answer r.version r.timetable h (Say i))
-      × StandsAt (record r { messages = r.messages ++ own_message sender done ∷ [] }) (record { event = Say i; answer = said (length r.messages) (message_bytes a.timetable.number a.id done) } ∷ h)
+      → (said (length r.messages) (message_bytes r.timetable.number a.part.agent done) ≡ answer r.version r.timetable h (Say i))
+      × StandsAt (record r { messages = r.messages ++ own_message sender done ∷ [] }) (record { event = Say i; answer = said (length r.messages) (message_bytes r.timetable.number a.part.agent done) } ∷ h)
   own-on sender done version whole own is_done =
       let finished = is_done ∙ done_is in
-      said_on (own_message sender done) (message_bytes a.timetable.number a.id done) whole
+      said_on (own_message sender done) (message_bytes r.timetable.number a.part.agent done) whole
       (ap (λ k. own_message k done) own ∙ ap (own_message i) finished
       ∙ ap (λ v. message_said v (length r.timetable.tracks) i (history.done h i) (known r.version r.timetable h i)) (sym version))
-      (ap (λ t. message_bytes t.number a.id done) is.timetable ∙ ap (λ k. message_bytes r.timetable.number k done) is.id ∙ ap (message_bytes r.timetable.number i) finished
+      (ap (λ k. message_bytes r.timetable.number k done) is.id ∙ ap (message_bytes r.timetable.number i) finished
       ∙ ap (λ v. bytes_said v r.timetable.number (length r.timetable.tracks) i (history.done h i) (known r.version r.timetable h i)) (sym version))
 
-  whole_is : message_told a ≡ whole_message (length r.timetable.tracks) i (history.done h i) (known r.version r.timetable h i)
+  -- the message of version 2, by the agents of the timetable
+  abbrev pub message_by : Message
+  message_by = whole_message (length r.timetable.tracks) a.part.agent (states.done (state_of sim_state a)) (known_in a.heard)
+
+  told_is : message_told a ≡ message_by
+  told_is = ap (λ n. whole_message n a.part.agent (states.done (state_of sim_state a)) (known_in a.heard)) (count-agents r.timetable a.part is.part)
+
+  whole_is : message_by ≡ whole_message (length r.timetable.tracks) i (history.done h i) (known r.version r.timetable h i)
   whole_is =
-      ap (λ t. whole_message (length t.tracks) a.id (states.done (state_of sim_state a)) (known_in a.heard)) is.timetable
-      ∙ ap (λ k. whole_message (length r.timetable.tracks) k (states.done (state_of sim_state a)) (known_in a.heard)) is.id
+      ap (λ k. whole_message (length r.timetable.tracks) k (states.done (state_of sim_state a)) (known_in a.heard)) is.id
       ∙ ap (λ d. whole_message (length r.timetable.tracks) i d (known_in a.heard)) done_is
       ∙ same-message (length r.timetable.tracks) i (history.done h i) (known_in a.heard) (known r.version r.timetable h i) is.heard
 
   -- at version 2 all that it knows
   pub told-on : r.version ≡ Two → a.broken ≡ false
-      → (said (length r.messages) (told_bytes a.timetable.number (message_told a)) ≡ answer r.version r.timetable h (Say i))
-      × StandsAt (record r { messages = r.messages ++ message_told a ∷ [] }) (record { event = Say i; answer = said (length r.messages) (told_bytes a.timetable.number (message_told a)) } ∷ h)
+      → (said (length r.messages) (told_bytes r.timetable.number message_by) ≡ answer r.version r.timetable h (Say i))
+      × StandsAt (record r { messages = r.messages ++ message_told a ∷ [] }) (record { event = Say i; answer = said (length r.messages) (told_bytes r.timetable.number message_by) } ∷ h)
   told-on version whole =
-      said_on (message_told a) (told_bytes a.timetable.number (message_told a)) whole
-      (whole_is ∙ ap (λ v. message_said v (length r.timetable.tracks) i (history.done h i) (known r.version r.timetable h i)) (sym version))
-      (ap (λ t. told_bytes t.number (message_told a)) is.timetable ∙ ap (told_bytes r.timetable.number) whole_is
-      ∙ ap (λ v. bytes_said v r.timetable.number (length r.timetable.tracks) i (history.done h i) (known r.version r.timetable h i)) (sym version))
+      said_on (message_told a) (told_bytes r.timetable.number message_by) whole
+      (told_is ∙ whole_is ∙ ap (λ v. message_said v (length r.timetable.tracks) i (history.done h i) (known r.version r.timetable h i)) (sym version))
+      (ap (told_bytes r.timetable.number) whole_is ∙ ap (λ v. bytes_said v r.timetable.number (length r.timetable.tracks) i (history.done h i) (known r.version r.timetable h i)) (sym version))
 
 -- what holds in any case holds where a call gives a refusal
 pub err-so : {X Y : Type 0} (result : Result X Y) (P : Type 0) → P → OnErr result P

@@ -29,6 +29,7 @@ use Rattle.runner.specs.SimTape.{sim_state, sim_armed, sim_writes}
 use Rattle.runner.specs.Hearing.{heard_of_after, has_heard_of}
 use Rattle.runner.specs.Standing.{IsMember}
 use Rattle.runner.proofs.RuleLemmas.{start-rule, finish-rule}
+use Rattle.depgraph.specs.AgentParts.{IsPartOf}
 
 -- ---- what a torn write adds
 
@@ -121,19 +122,19 @@ finish-stores i = record {
 module _ (v : Version) (table : Timetable) (h : History) (i : ℕ) (track : Track) (a b : AgentOn SimTape) (is : IsMember v table h i a)
     (event : Event) (of : Cell → Answer) (storing : IsStoring event of i) where
   abbrev due : List ℕ
-  due = due_record a.timetable.number a.id (whole_records (sim_state a.tape))
+  due = due_record a.part.number a.part.agent (whole_records (sim_state a.tape))
 
   abbrev TornBy : Result Cell Refusal → Option ℕ → Type 0
   TornBy answer tear = IsTorn tear (sim_armed b.tape) (sim_state a.tape) (sim_state b.tape) (10 * whole_records (sim_state a.tape)) due (is_ok answer)
 
   -- where the agent is, by what the answer has changed
-  next : (r : Answer) (added : ℕ) → starts_of event r i (armed_of h i) + finishes_of event r i (armed_of h i) ≡ added → b.timetable ≡ a.timetable → b.id ≡ a.id
+  next : (r : Answer) (added : ℕ) → starts_of event r i (armed_of h i) + finishes_of event r i (armed_of h i) ≡ added → b.part ≡ a.part
       → whole_records (sim_state b.tape) ≡ whole_records (sim_state a.tape) + added → b.heard ≡ a.heard
       → b.broken ≡ (if is_store_failed r then true else a.broken) → sim_armed b.tape ≡ (if is_store_failed r then None else sim_armed a.tape)
       → IsMember v table (record { event = event; answer = r } ∷ h) i b
-  next r added adds timetable id records heard broken armed = record {
-    timetable = timetable ∙ is.timetable;
-    id = id ∙ is.id;
+  next r added adds part records heard broken armed = record {
+    part = subst (IsPartOf table) (sym part) is.part;
+    id = ap (λ p. p.agent) part ∙ is.id;
     records = (let before = is.records in omega (arith, adds, records, before));
     heard = λ j. ap (λ l. known_in l j) heard ∙ is.heard j ∙ sym (storing.known r (messages v table h) j (known v table h i j));
     heard_of = λ j. ap (λ l. is_heard_of l j) heard ∙ is.heard_of j ∙ sym (storing.heard_of r (messages v table h) j (has_heard_of v table h i j));
@@ -142,21 +143,21 @@ module _ (v : Version) (table : Timetable) (h : History) (i : ℕ) (track : Trac
   }
 
   -- a refusal
-  refuses : (why : Refusal) (answer : Result Cell Refusal) → IsQuiet why → Moves sim_state sim_writes track (Some why) a b answer
+  refuses : (why : Refusal) (answer : Result Cell Refusal) → IsQuiet why → Moves sim_state sim_writes table track (Some why) a b answer
       → (answered of answer ≡ refused (why_of why)) × IsMember v table (record { event = event; answer = answered of answer } ∷ h) i b
   refuses why answer quiet moves =
       let same = ap (answered of) moves.state.0 in
       let tape = moves.tape in (
         same,
         subst (λ r. IsMember v table (record { event = event; answer = r } ∷ h) i b) (sym same)
-            (next (refused (why_of why)) 0 (storing.stored_none why quiet (armed_of h i)) moves.timetable moves.id
+            (next (refused (why_of why)) 0 (storing.stored_none why quiet (armed_of h i)) moves.part
             (ap (λ t. whole_records (sim_state t)) tape ∙ omega arith) (ap (λ s. s.heard) moves.state.1)
             (ap (λ s. s.broken) moves.state.1 ∙ sym (ap (λ t. if t then true else a.broken) quiet.1))
             (ap sim_armed tape ∙ sym (ap (λ t. if t then None else sim_armed a.tape) quiet.1))),
       )
 
   -- a write of the due record, as the tape was armed
-  stores : (cell : Cell) (answer : Result Cell Refusal) (tear : Option ℕ) → sim_armed a.tape ≡ tear → Moves sim_state sim_writes track None a b answer
+  stores : (cell : Cell) (answer : Result Cell Refusal) (tear : Option ℕ) → sim_armed a.tape ≡ tear → Moves sim_state sim_writes table track None a b answer
       → (cell ≡ next_cell track (state_of sim_state a)) → (answered of answer ≡ stored tear (of cell)) × IsMember v table (record { event = event; answer = answered of answer } ∷ h) i b
   stores cell answer None unarmed moves is_cell = elim moves.state.outcome [
     | inl good ↦ (
@@ -165,7 +166,7 @@ module _ (v : Version) (table : Timetable) (h : History) (i : ℕ) (track : Trac
         let torn = subst (TornBy answer) unarmed moves.tape.torn in (
           same,
           subst (λ r. IsMember v table (record { event = event; answer = r } ∷ h) i b) (sym same)
-              (next (of cell) 1 (storing.stored_cell cell (armed_of h i)) moves.timetable moves.id good.1 moves.state.heard
+              (next (of cell) 1 (storing.stored_cell cell (armed_of h i)) moves.part good.1 moves.state.heard
               (good.2 ∙ sym (ap (λ t. if t then true else a.broken) (storing.fine cell)))
               (torn.1 ∙ sym unarmed ∙ sym (ap (λ t. if t then None else sim_armed a.tape) (storing.fine cell)))),
         )
@@ -187,7 +188,7 @@ module _ (v : Version) (table : Timetable) (h : History) (i : ℕ) (track : Trac
         let added = storing.stored_torn (armed_of h i) ∙ ap (λ t. if stores_all t then 1 else 0) (sym is.armed ∙ armed) in (
           same,
           subst (λ r. IsMember v table (record { event = event; answer = r } ∷ h) i b) (sym same)
-              (next (refused (why_of StoreFailed)) (if n == 10 then 1 else 0) added moves.timetable moves.id
+              (next (refused (why_of StoreFailed)) (if n == 10 then 1 else 0) added moves.part
               (torn-records (sim_state a.tape) (sim_state b.tape) due n most refl torn.2) moves.state.heard bad.2 torn.1),
         )
         )
@@ -197,7 +198,7 @@ module _ (v : Version) (table : Timetable) (h : History) (run : IsRun v table h)
   -- the agent answers as the rules do, and is where they leave it
   goes-by : (event : Event) (of : Cell → Answer) (storing : IsStoring event of i) (rule : Answer) (o : Option Refusal) (answer : Result Cell Refusal)
       → ((why : Refusal) → o ≡ Some why → IsQuiet why) → rule ≡ unless o (stored (armed_of h i) (of (next_cell track (state_of sim_state a))))
-      → Moves sim_state sim_writes track o a b answer → (answered of answer ≡ rule) × IsMember v table (record { event = event; answer = answered of answer } ∷ h) i b
+      → Moves sim_state sim_writes table track o a b answer → (answered of answer ≡ rule) × IsMember v table (record { event = event; answer = answered of answer } ∷ h) i b
   goes-by event of storing rule None answer quiet by moves =
       let found = stores v table h i track a b is event of storing (next_cell track (state_of sim_state a)) answer (sim_armed a.tape) refl moves refl in
       (found.0 ∙ ap (λ t. stored t (of (next_cell track (state_of sim_state a)))) is.armed ∙ sym by, found.1)
@@ -205,12 +206,12 @@ module _ (v : Version) (table : Timetable) (h : History) (run : IsRun v table h)
       let found = refuses v table h i track a b is event of storing why answer (quiet why refl) moves in
       (found.0 ∙ sym by, found.1)
 
-  pub start-goes : (answer : Result Cell Refusal) → Moves sim_state sim_writes track (start_refusal table i track (state_of sim_state a)) a b answer
+  pub start-goes : (answer : Result Cell Refusal) → Moves sim_state sim_writes table track (start_refusal table i track (state_of sim_state a)) a b answer
       → (answered moving answer ≡ start_answer v table h i track) × IsMember v table (record { event = Start i; answer = answered moving answer } ∷ h) i b
   start-goes answer moves =
       goes-by (Start i) moving (start-stores i) _ _ answer (quiet-start table i track (state_of sim_state a)) (start-rule v table h run i track a is) moves
 
-  pub finish-goes : (answer : Result Cell Refusal) → Moves sim_state sim_writes track (finish_refusal (state_of sim_state a)) a b answer
+  pub finish-goes : (answer : Result Cell Refusal) → Moves sim_state sim_writes table track (finish_refusal (state_of sim_state a)) a b answer
       → (answered arrived answer ≡ finish_answer h i track) × IsMember v table (record { event = Finish i; answer = answered arrived answer } ∷ h) i b
   finish-goes answer moves =
       goes-by (Finish i) arrived (finish-stores i) _ _ answer (quiet-finish (state_of sim_state a)) (finish-rule v table h run i track a is) moves

@@ -13,6 +13,7 @@ use Rattle.agent.specs.Tape.{whole_records}
 use Rattle.runner.specs.declared.sim_tape.SimTape.{SimTape}
 use Rattle.runner.specs.SimTape.{sim_state, sim_armed}
 use Rattle.runner.specs.Hearing.{has_heard_of}
+use Rattle.depgraph.specs.AgentParts.{IsPartOf}
 
 -- the timetable of the graph, the version of the messages, the agents, agent 0 first, and what was said, in order
 pub record RunnerState : Type 0 where
@@ -21,11 +22,11 @@ pub record RunnerState : Type 0 where
   pub agents : List (AgentOn SimTape)
   pub messages : List Message
 
--- An agent is where a history leaves it: its tape has a record for each begun and each finished move, it knows what was heard and of
+-- An agent has its part of the timetable, and is where a history leaves it: its tape has a record for each begun and each finished move, it knows what was heard and of
 -- whom, and is broken and armed by what happened.
 pub record IsMember (version : Version) (tt : Timetable) (h : History) (i : ℕ) (a : AgentOn SimTape) : Type 0 where
-  pub timetable : a.timetable ≡ tt
-  pub id : a.id ≡ i
+  pub part : IsPartOf tt a.part
+  pub id : a.part.agent ≡ i
   pub records : whole_records (sim_state a.tape) ≡ kept_starts h i + done h i
   pub heard : (j : ℕ) → known_in a.heard j ≡ known version tt h i j
   pub heard_of : (j : ℕ) → is_heard_of a.heard j ≡ has_heard_of version tt h i j

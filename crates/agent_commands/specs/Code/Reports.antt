@@ -1,12 +1,11 @@
 -- What the parts of `mapf tape` owe each other.
-use Rattle.std.specs.Prelude.{◌≡◌, ℕ, ◌+◌, ◌-◌, ◌*◌, ◌<◌, ◌≤◌, List, [], ◌∷◌, ◌++◌, length, Option, Some, Result, Ok, Err}
+use Rattle.std.specs.Prelude.{◌≡◌, ℕ, ◌+◌, ◌-◌, ◌*◌, ◌≤◌, List, [], ◌∷◌, ◌++◌, length, Option, Result, Ok, Err}
 use Rattle.std.specs.Io.KnownBytes.{Consumes}
 use Rattle.grid.specs.declared.counted.Counted.{Counted}
 use Rattle.grid.specs.Counted.{counted_inner, failures_of, Rises}
 use Rattle.grid.specs.Text.{line_feed}
-use Rattle.model.specs.declared.held.Held.{Held}
 use Rattle.model.specs.History.{record_length}
-use Rattle.model.specs.Timetable.{Track, Timetable, track_of}
+use Rattle.model.specs.Timetable.{Timetable}
 use Rattle.agent.specs.declared.mem_tape.MemTape.{MemTape}
 use Rattle.agent.specs.Agents.{AgentOn, state_of, Holds}
 use Rattle.agent.specs.MemTape.{mem_state}
@@ -38,9 +37,9 @@ outcome_of (Err fault) = Err fault
 abbrev pub IsReported : {T : Type 0} → (T → Option (List ℕ)) → Timetable → ℕ → Counted T → Counted T → TapeReport → Type 0
 IsReported remaining tt i old new r = IsShown remaining tt i old new (report_text r)
 
--- the report of an agent, the file of whose tape has so many bytes
-pub record IsReportOf (a : AgentOn MemTape) (count : ℕ) (r : TapeReport) : Type 0 where
-  pub holds : Holds mem_state a r.held
+-- the report of an agent of a timetable, the file of whose tape has so many bytes
+pub record IsReportOf (tt : Timetable) (a : AgentOn MemTape) (count : ℕ) (r : TapeReport) : Type 0 where
+  pub holds : Holds mem_state tt a r.held
   pub is_done : r.done ≡ done (state_of mem_state a)
   pub records : r.records ≡ whole_records (mem_state a.tape)
   pub torn : r.torn ≡ count - record_length * whole_records (mem_state a.tape)

@@ -37,8 +37,7 @@ CountsFailures false old new = new ≡ old
 
 -- an agent stays the same one, whatever its state
 pub record IsSameAgent {T : Type 0} (old new : AgentOn T) : Type 0 where
-  pub timetable : new.timetable ≡ old.timetable
-  pub id : new.id ≡ old.id
+  pub part : new.part ≡ old.part
 
 -- a line and its LF were handed on, and nothing is held back
 pub record Sends {W : Type 0} (contents : W → Option (List ℕ)) (old new : Sink W) (line : List ℕ) : Type 0 where
@@ -46,11 +45,11 @@ pub record Sends {W : Type 0} (contents : W → Option (List ℕ)) (old new : Si
   pub none_held : held_back new ≡ []
 
 -- the line of the state was sent, or the writer failed
-abbrev pub SaysState : {W T : Type 0} → (W → Option (List ℕ)) → (T → TapeState) → AgentOn T → Sink W → Sink W → Result Unit WriteFault → Type 0
-SaysState contents seen a old new (Ok done) =
-    (track : Track) × (track_of a.timetable a.id ≡ Some track) × Sends contents old new (state_line track (state_of seen a))
-SaysState contents seen a old new (Err fault) =
-    (track : Track) × (track_of a.timetable a.id ≡ Some track) × Breaks contents old new (state_line track (state_of seen a) ++ line_feed ∷ [])
+abbrev pub SaysState : {W T : Type 0} → (W → Option (List ℕ)) → (T → TapeState) → Timetable → AgentOn T → Sink W → Sink W → Result Unit WriteFault → Type 0
+SaysState contents seen tt a old new (Ok done) =
+    (track : Track) × (track_of tt a.part.agent ≡ Some track) × Sends contents old new (state_line track (state_of seen a))
+SaysState contents seen tt a old new (Err fault) =
+    (track : Track) × (track_of tt a.part.agent ≡ Some track) × Breaks contents old new (state_line track (state_of seen a) ++ line_feed ∷ [])
 
 -- a line was answered, and the answer was sent, or the writer failed
 abbrev pub Replies

@@ -6,8 +6,7 @@ use Rattle.runner.specs.SimTape.{sim_state, sim_armed}
 
 -- It has what it had on the tape; nothing is heard or armed, and it isn't broken.
 pub record Reopens (old new : AgentOn SimTape) : Type 0 where
-  pub timetable : new.timetable ≡ old.timetable
-  pub id : new.id ≡ old.id
+  pub part : new.part ≡ old.part
   pub contents : (sim_state new.tape).contents ≡ (sim_state old.tape).contents
   pub heard : new.heard ≡ []
   pub broken : new.broken ≡ false

@@ -9,4 +9,4 @@ use Rattle.runner.specs.SimTape.{sim_state}
 
 -- the message of version 2 with all that it knows
 abbrev pub message_told : AgentOn SimTape → Message
-message_told a = whole_message (length a.timetable.tracks) a.id (done (state_of sim_state a)) (known_in a.heard)
+message_told a = whole_message (length a.part.moves) a.part.agent (done (state_of sim_state a)) (known_in a.heard)

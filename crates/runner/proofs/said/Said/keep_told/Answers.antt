@@ -19,7 +19,7 @@ returns-in-Ok-clause-ok c =
     let all = c.len.ensures in
     let longer = ap length put ∙ length-append entries more in
     let note : Note = record { first = c.len-first.result; count = c.len.result - c.len-first.result; sender = c.id-sender.result } in
-    let same = told-more version entries more notes note c.args.teller.now.id two c.self.invariant (omega (arith, first)) (omega (arith, first, all, longer)) c.id-sender.ensures in
+    let same = told-more version entries more notes note c.args.teller.now.part.agent two c.self.invariant (omega (arith, first)) (omega (arith, first, all, longer)) c.id-sender.ensures in
     ap {A = List Message} {B = SaidMessages} (λ l. record { version = version; messages = l })
     (ap (λ l. messages_in version l c.push.new.self.items) put ∙ ap (messages_in version (entries ++ more)) c.in-Ok.ensures.items ∙ same)
     ∙ ap (λ s. record { version = s.version; messages = s.messages ++ message_told c.args.teller.now ∷ [] }) c.self.view_is
