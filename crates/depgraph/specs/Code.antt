@@ -38,3 +38,5 @@ pub mod Cycles
 pub mod Links
 -- who moves into whose cell in a step
 pub mod Turning
+-- what is made of a plan before its rotations are sought
+pub mod Laying

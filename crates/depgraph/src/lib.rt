@@ -3,9 +3,11 @@
 
 mod cell_hash;
 mod cycles;
+mod dependencies;
 mod entries;
 mod graph;
 pub mod laws;
+mod laying;
 mod numbering;
 mod order;
 mod out_of_memory;
@@ -17,7 +19,8 @@ mod sorting;
 mod tiles;
 mod waiting;
 
-pub use graph::{Graph, Route};
+pub use dependencies::{Dependencies, Route};
+pub use graph::Graph;
 pub use model::{Rotation, Visit};
 pub use out_of_memory::OutOfMemory;
 pub use part::{OwnPart, Part};

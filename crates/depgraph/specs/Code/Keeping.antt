@@ -9,6 +9,7 @@ use Rattle.depgraph.specs.declared.placing.Arrival.{Arrival}
 use Rattle.depgraph.specs.declared.waiting.Wait.{Wait}
 use Rattle.depgraph.specs.Graphs.{IsGraphed}
 use Rattle.depgraph.specs.Routes.{Route}
+use Rattle.depgraph.specs.Code.Orders.{AreOrdered}
 use Rattle.depgraph.specs.Code.Paths.{all_entered, all_times}
 use Rattle.depgraph.specs.Code.Placing.{IsTimeline, IsPlacing}
 use Rattle.depgraph.specs.Code.Waits.{AreWaits}
@@ -23,6 +24,21 @@ pub record IsKept (tt : Timetable) (cells : List Cell) (times ends : List ℕ) (
   pub line : IsTimeline tt.tracks ends arrivals step_ends
   pub placing : IsPlacing tt.tracks ends arrivals visits visit_ends
   pub are_needs : AreWaits ends visits visit_ends needs
+
+-- the paths, and what their moves wait for, by visits that need not be kept
+pub record AreKept (tt : Timetable) (cells : List Cell) (times ends : List ℕ) (needs : List Wait) : Type 0 where
+  pub visits : List Visit
+  pub visit_ends : List ℕ
+  pub kept : IsKept tt cells times ends needs visits visit_ends
+
+-- the visits of a timetable, and its visited cells, each with its number, in order of first visit
+pub record HasVisits (tt : Timetable) (visits : List Visit) (visit_ends : List ℕ) (entries : List (Cell × ℕ)) : Type 0 where
+  pub cells : List Cell
+  pub times : List ℕ
+  pub ends : List ℕ
+  pub needs : List Wait
+  pub kept : IsKept tt cells times ends needs visits visit_ends
+  pub ordered : AreOrdered kept.placing.names kept.placing.listed entries
 
 -- the route of an agent
 abbrev pub route_by : Timetable → ℕ → Option Track → Route
