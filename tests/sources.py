@@ -54,7 +54,7 @@ MADE = {
     "replay/run_fault.rt: From<OutOfMemory> for RunFault: from": NAMED_ANEW,
     "runner/complete_fault.rt: From<AllocError> for CompleteFault: from": NAMED_ANEW,
     "runner/runner.rt: Runner<'g>: tell": PASSED_ON,
-    "runner/runner.rt: Runner<'g>: with_version": "was given an agent back that there was no room for",
+    "runner/runner.rt: Runner<'g>: over": "was given an agent back that there was no room for",
     "runner/runs.rt: run_with": "was given a reply back that there was no room for",
     "runner/said.rt: Said: keep_told": "takes back what it had taken, and then says why",
     "scen/scen_fault.rt: From<AllocError> for ScenFault: from": NAMED_ANEW,

@@ -6,12 +6,12 @@ ghost use Rattle.agent_commands.specs.Code.Reading.{ReadsPart};
 
 use depgraph::{OwnPart, Part};
 use grid::Counted;
-use plan_commands::{CheckFault, read_graph};
+use plan_commands::{CheckFault, read_dependencies};
 use std::alloc::Global;
 use std::io::Read;
 
 /// Reads a map and then a plan, checks the plan, and takes what an agent needs of it; `None` where there is no such agent. The map, the plan
-/// and its graph, which are large, are gone then.
+/// and its dependencies, which are large, are gone then.
 pub(crate) fn read_part<M: Read, P: Read>(
     alloc: Global,
     map: &mut Counted<M>,
@@ -20,8 +20,8 @@ pub(crate) fn read_part<M: Read, P: Read>(
 ) -> Result<Option<OwnPart>, CheckFault>
     ensures { ReadsPart M.remaining P.remaining id map.old map.new plan.old plan.new result }
 {
-    let graph = read_graph(alloc, map, plan)?;
-    match graph.part(id) {
+    let dependencies = read_dependencies(alloc, map, plan)?;
+    match dependencies.part(id) {
         Some(part) => Ok(Some(OwnPart::of(alloc, &part)?)),
         None => Ok(None),
     }

@@ -2,11 +2,11 @@
 ghost use Rattle.std.specs.Prelude.{◌≡◌};
 ghost use Rattle.text_commands.specs.Telling.{Tells};
 ghost use Rattle.plan_commands.specs.CellVisitsText.{AreCellVisits};
+ghost use Rattle.plan_commands.specs.DepsCommand.{ReadsTimetable};
 ghost use Rattle.plan_commands.specs.DepsCellCommand.{EndsByVisits, AnswersDepsCell};
 
-use crate::check_command::give_up;
+use crate::check_command::{give_up, read_and_check};
 use crate::check_fault::CheckFault;
-use crate::deps_command::read_graph;
 use crate::visits_text::write_visits;
 use depgraph::{Graph, Visit};
 use grid::{Cell, Counted};
@@ -28,6 +28,18 @@ pub fn deps_cell_cmd<M: Read, P: Read, W: Write, E: Write>(
 {
     let answer = read_graph(alloc, map, plan);
     conclude(answer, cell, out, err)
+}
+
+/// Reads the map and then the plan, checks the plan, and builds its graph, which has the visits.
+fn read_graph<M: Read, P: Read>(
+    alloc: Global,
+    map: &mut Counted<M>,
+    plan: &mut Counted<P>,
+) -> Result<Graph, CheckFault>
+    ensures { ReadsTimetable M.remaining P.remaining map.old map.new plan.old plan.new result }
+{
+    let plan = read_and_check(alloc, map, plan)?;
+    Ok(Graph::build(alloc, &plan)?)
 }
 
 /// Writes the visits of a cell, or says why there is no graph. The answer is the exit status.

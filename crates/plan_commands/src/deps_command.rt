@@ -6,7 +6,7 @@ ghost use Rattle.plan_commands.specs.DepsCommand.{ReadsTimetable, EndsByDeps, An
 use crate::check_command::{give_up, read_and_check};
 use crate::check_fault::CheckFault;
 use crate::deps_text::write_deps;
-use depgraph::Graph;
+use depgraph::Dependencies;
 use grid::Counted;
 use std::alloc::Global;
 use std::io::{Read, Write};
@@ -23,33 +23,33 @@ pub fn deps_cmd<M: Read, P: Read, W: Write, E: Write>(
 ) -> u8
     ensures { AnswersDeps M.remaining P.remaining W.contents (Tells E.contents err.old err.new) map.old map.new plan.old plan.new out.old out.new result }
 {
-    let answer = read_graph(alloc, map, plan);
+    let answer = read_dependencies(alloc, map, plan);
     conclude(answer, out, err)
 }
 
-/// Reads the map and then the plan, checks the plan, and builds its graph.
-pub fn read_graph<M: Read, P: Read>(
+/// Reads the map and then the plan, checks the plan, and tells which of its moves wait for which.
+pub fn read_dependencies<M: Read, P: Read>(
     alloc: Global,
     map: &mut Counted<M>,
     plan: &mut Counted<P>,
-) -> Result<Graph, CheckFault>
+) -> Result<Dependencies, CheckFault>
     ensures { ReadsTimetable M.remaining P.remaining map.old map.new plan.old plan.new result }
 {
     let plan = read_and_check(alloc, map, plan)?;
-    Ok(Graph::build(alloc, &plan)?)
+    Ok(Dependencies::build(alloc, &plan)?)
 }
 
 /// Writes the dependencies, or says why there are none. The answer is the exit status.
 fn conclude<W: Write, E: Write>(
-    answer: Result<Graph, CheckFault>,
+    answer: Result<Dependencies, CheckFault>,
     out: &mut Counted<W>,
     err: &mut Counted<E>,
 ) -> u8
     ensures { EndsByDeps W.contents (Tells E.contents err.old err.new) out.old out.new result answer }
 {
     match answer {
-        Ok(graph) => {
-            let written = write_deps(&graph, out);
+        Ok(dependencies) => {
+            let written = write_deps(&dependencies, out);
             finish(written, Status::Done, out, err).code()
         }
         Err(fault) => give_up(fault, err),

@@ -9,12 +9,15 @@ ghost use Rattle.depgraph.specs.Rotations.{Turn, AreRotations, turns_of};
 ghost use Rattle.plan_commands.specs.DepsText.{need_lines, all_need_lines, rotation_line, counts_line, deps_text};
 ghost use Rattle.plan_commands.specs.Code.Dependencies.{HasNeedsOf, need_text};
 
-use depgraph::{Graph, Rotation, Route};
+use depgraph::{Dependencies, Rotation, Route};
 use grid::{Counted, Sink, WriteFault};
 use std::io::Write;
 
 /// Writes what the moves of a plan wait for, and its rotations. The writer is not flushed.
-pub(crate) fn write_deps<W: Write>(graph: &Graph, writer: &mut Counted<W>) -> Result<(), WriteFault>
+pub(crate) fn write_deps<W: Write>(
+    graph: &Dependencies,
+    writer: &mut Counted<W>,
+) -> Result<(), WriteFault>
     ensures { (turns : List Turn) × AreRotations graph.now turns
         × WritesText (is_ok result) (W.contents (counted_inner writer.old)) (W.contents (counted_inner writer.new)) (failures_of writer.old) (failures_of writer.new) (deps_text graph.now turns) }
 {
@@ -24,7 +27,7 @@ pub(crate) fn write_deps<W: Write>(graph: &Graph, writer: &mut Counted<W>) -> Re
 
 /// Writes it with these rotations.
 fn write_with_rotations<W: Write>(
-    graph: &Graph,
+    graph: &Dependencies,
     rotations: &[Rotation],
     writer: &mut Counted<W>,
 ) -> Result<(), WriteFault>
@@ -37,7 +40,7 @@ fn write_with_rotations<W: Write>(
 /// Puts the whole text, and hands it on.
 fn put_deps<W: Write>(
     sink: &mut Sink<'_, W>,
-    graph: &Graph,
+    graph: &Dependencies,
     rotations: &[Rotation],
 ) -> Result<(), WriteFault>
     ensures ok { OnOk result (Puts W.contents sink.old sink.new (deps_text graph.now (turns_of rotations.now))) }
@@ -58,7 +61,7 @@ struct Counts {
 }
 
 /// Counts the moves, and those that have a need.
-fn count(graph: &Graph) -> Counts
+fn count(graph: &Dependencies) -> Counts
     ensures moves { result.moves ≡ sum_by moves graph.now.tracks }
     ensures needs { result.needs ≡ length (all_need_lines graph.now 0 graph.now.tracks) }
 {
@@ -87,7 +90,7 @@ fn count_needs(route: &Route<'_>, moves: u32) -> u32
 }
 
 /// The route of an agent.
-fn route_of(graph: &Graph, agent: u32) -> Route<'_>
+fn route_of(graph: &Dependencies, agent: u32) -> Route<'_>
     requires { agent < length graph.now.tracks }
     ensures { HasNeedsOf graph.now agent result }
 {
@@ -95,7 +98,7 @@ fn route_of(graph: &Graph, agent: u32) -> Route<'_>
 }
 
 /// How many moves an agent makes.
-fn moves_of(graph: &Graph, agent: u32) -> u32
+fn moves_of(graph: &Dependencies, agent: u32) -> u32
     requires { agent < length graph.now.tracks }
     ensures { (track : Track) → track_of graph.now agent ≡ Some track → result ≡ moves track }
 {
@@ -120,7 +123,7 @@ fn put_counts<W: Write>(
 }
 
 /// Puts a line for each move that has a need, of all agents.
-fn put_all_needs<W: Write>(sink: &mut Sink<'_, W>, graph: &Graph) -> Result<(), WriteFault>
+fn put_all_needs<W: Write>(sink: &mut Sink<'_, W>, graph: &Dependencies) -> Result<(), WriteFault>
     ensures ok { OnOk result (Puts W.contents sink.old sink.new (ended (all_need_lines graph.now 0 graph.now.tracks))) }
     ensures err { OnErr result (Breaks W.contents sink.old sink.new (ended (all_need_lines graph.now 0 graph.now.tracks))) }
 {

@@ -14,7 +14,7 @@ mod visits_text;
 pub use check_command::{check_cmd, check_fit_cmd};
 pub use check_fault::{CheckFault, plan_text_fault_status};
 pub use deps_cell_command::deps_cell_cmd;
-pub use deps_command::{deps_cmd, read_graph};
+pub use deps_command::{deps_cmd, read_dependencies};
 pub use deps_text::put_number;
 pub use rejection::Rejection;
 pub use verdict::{Verdict, verdict_json};

@@ -9,9 +9,9 @@ ghost use Rattle.runner.specs.Standing.{StandsAt};
 ghost use Rattle.replay.specs.Completing.{numbered_line, completion_text, blocked_text, CompletesEvents, Completes, CompletesText};
 ghost use Rattle.replay.specs.Code.Ending.{PutsEnding};
 
-use crate::replaying::{hand_on, read_graph, run_events};
+use crate::replaying::{hand_on, read_dependencies, run_events};
 use crate::{Completion, RunFault};
-use depgraph::Graph;
+use depgraph::Dependencies;
 use event_text::put_event;
 use grid::{Counted, Sink, Source, WriteFault};
 use model::Event;
@@ -31,14 +31,14 @@ pub fn complete_text<M: Read, P: Read, E: Read, W: Write>(
 ) -> Result<Completion, RunFault>
     ensures { CompletesText M.remaining P.remaining E.remaining W.contents map.old map.new plan.old plan.new events.old events.new out.old out.new result }
 {
-    let graph = read_graph(alloc, map, plan)?;
+    let graph = read_dependencies(alloc, map, plan)?;
     complete(alloc, &graph, events, out)
 }
 
 /// Answers the events on the graph, and says how their run ends.
 fn complete<E: Read, W: Write>(
     alloc: Global,
-    graph: &Graph,
+    graph: &Dependencies,
     events: &mut Counted<E>,
     out: &mut Counted<W>,
 ) -> Result<Completion, RunFault>
@@ -52,7 +52,7 @@ fn complete<E: Read, W: Write>(
 /// Answers the events, says how their run ends, and hands on all of it.
 fn complete_all<E: Read, W: Write>(
     alloc: Global,
-    graph: &Graph,
+    graph: &Dependencies,
     source: &mut Source<'_, E>,
     sink: &mut Sink<'_, W>,
 ) -> Result<Completion, RunFault>
@@ -69,7 +69,7 @@ fn complete_all<E: Read, W: Write>(
 /// Answers one event after another, by the version of their header, and then says how their run ends.
 fn complete_events<E: Read, W: Write>(
     alloc: Global,
-    graph: &Graph,
+    graph: &Dependencies,
     source: &mut Source<'_, E>,
     sink: &mut Sink<'_, W>,
 ) -> Result<Completion, RunFault>

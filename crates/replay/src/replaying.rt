@@ -8,7 +8,7 @@ ghost use Rattle.replay.specs.Code.HandingOn.{IsHandedOn};
 ghost use Rattle.replay.specs.Code.Standing.{AnswersBy};
 
 use crate::RunFault;
-use depgraph::Graph;
+use depgraph::Dependencies;
 use event_text::{EventReader, put_reply};
 use grid::{Counted, Sink, Source, read_map};
 use plan::{check, read_plan};
@@ -28,22 +28,22 @@ pub fn run_text<M: Read, P: Read, E: Read, W: Write>(
 ) -> Result<(), RunFault>
     ensures { RunsText M.remaining P.remaining E.remaining W.contents map.old map.new plan.old plan.new events.old events.new out.old out.new result }
 {
-    let graph = read_graph(alloc, map, plan)?;
+    let graph = read_dependencies(alloc, map, plan)?;
     replay(alloc, &graph, events, out)
 }
 
-/// Reads the map and then the plan, checks the plan, and builds its graph.
-pub(crate) fn read_graph<M: Read, P: Read>(
+/// Reads the map and then the plan, checks the plan, and tells which of its moves wait for which.
+pub(crate) fn read_dependencies<M: Read, P: Read>(
     alloc: Global,
     map: &mut Counted<M>,
     plan: &mut Counted<P>,
-) -> Result<Graph, RunFault>
+) -> Result<Dependencies, RunFault>
     ensures { ReadsTimetable M.remaining P.remaining map.old map.new plan.old plan.new result }
 {
     let map = read_map(alloc, map)?;
     let plan = read_plan(alloc, plan)?;
     match check(alloc, &map, plan) {
-        Ok(checked) => Ok(Graph::build(alloc, &checked)?),
+        Ok(checked) => Ok(Dependencies::build(alloc, &checked)?),
         Err(rejected) => Err(RunFault::Plan(rejected.fault)),
     }
 }
@@ -51,7 +51,7 @@ pub(crate) fn read_graph<M: Read, P: Read>(
 /// Answers the events on the graph.
 fn replay<E: Read, W: Write>(
     alloc: Global,
-    graph: &Graph,
+    graph: &Dependencies,
     events: &mut Counted<E>,
     out: &mut Counted<W>,
 ) -> Result<(), RunFault>
@@ -65,7 +65,7 @@ fn replay<E: Read, W: Write>(
 /// Answers the events, and hands on all replies.
 fn answer_all<E: Read, W: Write>(
     alloc: Global,
-    graph: &Graph,
+    graph: &Dependencies,
     source: &mut Source<'_, E>,
     sink: &mut Sink<'_, W>,
 ) -> Result<(), RunFault>
@@ -103,7 +103,7 @@ pub fn was_written<T>(answer: &Result<T, RunFault>) -> bool
 /// Answers one event after another, by the version of their header.
 fn answer_events<E: Read, W: Write>(
     alloc: Global,
-    graph: &Graph,
+    graph: &Dependencies,
     source: &mut Source<'_, E>,
     sink: &mut Sink<'_, W>,
 ) -> Result<(), RunFault>
@@ -120,7 +120,7 @@ fn answer_events<E: Read, W: Write>(
 /// Answers one event after another, and gives back the runner that answered all.
 pub(crate) fn run_events<'g, E: Read, W: Write>(
     alloc: Global,
-    graph: &'g Graph,
+    graph: &'g Dependencies,
     source: &mut Source<'_, E>,
     sink: &mut Sink<'_, W>,
 ) -> Result<Runner<'g>, RunFault>
@@ -135,7 +135,7 @@ pub(crate) fn run_events<'g, E: Read, W: Write>(
     event_text::laws::none_read::<E>();
     let mut reader = EventReader::any();
     let version = reader.version(source)?;
-    let mut runner = Runner::with_version(alloc, graph, version)?;
+    let mut runner = Runner::over(alloc, graph, version)?;
     'events: while let Some(event) = reader.next_event(source)? {
         let reply = runner.step(event)?;
         put_reply(sink, &reply)?;

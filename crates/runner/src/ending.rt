@@ -6,7 +6,7 @@ ghost use Rattle.runner.specs.Code.Waiting.{HasNoRotation, CompletesFrom};
 
 use crate::SimTape;
 use agent::Agent;
-use depgraph::{Graph, Route};
+use depgraph::{Dependencies, Route};
 use model::Event;
 use std::alloc::{AllocError, Global};
 use std::marker::Model;
@@ -41,7 +41,7 @@ struct Seen {
 /// Events after a run, and where they lead.
 #[derive(Drop)]
 pub struct Ending<'r, 'g> {
-    graph: &'g Graph,
+    graph: &'g Dependencies,
     agents: &'r [Agent<'g, SimTape>],
     events: Vec<Event>,
     messages: u64,
@@ -443,7 +443,7 @@ fn is_opened_anew(agent: &Agent<'_, SimTape>) -> bool
 /// Events that bring all agents of a graph to their ends, from where a run left them after so many messages.
 pub(crate) fn bring_all_to_ends(
     alloc: Global,
-    graph: &Graph,
+    graph: &Dependencies,
     agents: &[Agent<'_, SimTape>],
     messages: u64,
 ) -> Result<Vec<Event>, AllocError>

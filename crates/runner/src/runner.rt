@@ -16,7 +16,7 @@ use agent::replies::{
     reply_to_delivery, reply_to_finish, reply_to_restart, reply_to_start, why_of,
 };
 use agent::{Agent, Finished, TellFault};
-use depgraph::{Graph, OutOfMemory};
+use depgraph::{Dependencies, Graph, OutOfMemory};
 use model::{Entry, Event, Held, Reply, Version, Why};
 use std::alloc::{AllocError, Global};
 use std::marker::Model;
@@ -25,7 +25,7 @@ use std::marker::Model;
 #[derive(Drop)]
 pub struct Runner<'g> {
     alloc: Global,
-    graph: &'g Graph,
+    graph: &'g Dependencies,
     agents: Vec<Agent<'g, SimTape>>,
     said: Said,
 }
@@ -62,6 +62,20 @@ impl<'g> Runner<'g> {
     pub fn with_version(
         alloc: Global,
         graph: &'g Graph,
+        version: Version,
+    ) -> Result<Runner<'g>, OutOfMemory>
+        ensures timetable { IfOk result (λ r. r.timetable ≡ graph.now) }
+        ensures version { IfOk result (λ r. r.version ≡ version) }
+        ensures stands { IfOk result (λ r. StandsAt r []) }
+        ensures safe { IsSafeRun graph.now [] }
+    {
+        Runner::over(alloc, graph.dependencies(), version)
+    }
+
+    /// The same by a plan's dependencies alone: a run needs no visits.
+    pub fn over(
+        alloc: Global,
+        graph: &'g Dependencies,
         version: Version,
     ) -> Result<Runner<'g>, OutOfMemory>
         ensures timetable { IfOk result (λ r. r.timetable ≡ graph.now) }
@@ -306,13 +320,18 @@ impl<'g> Runner<'g> {
 }
 
 /// An agent over an empty tape with room for two records a move.
-fn new_agent(alloc: Global, graph: &Graph, id: u16) -> Result<Agent<'_, SimTape>, OutOfMemory>
+fn new_agent(
+    alloc: Global,
+    graph: &Dependencies,
+    id: u16,
+) -> Result<Agent<'_, SimTape>, OutOfMemory>
     requires { id < length graph.now.tracks }
     ensures { IfOk result (λ a. (version : Version) → IsMember version graph.now [] id a) }
 {
     let moves = graph.moves(u32::from(id)).unwrap();
     let tape = SimTape::new(alloc, 20 * moves)?;
-    match Agent::open(alloc, graph, id, tape) {
+    let part = graph.part(id).unwrap();
+    match Agent::open_part(alloc, part, tape) {
         Ok(agent) => Ok(agent),
         Err(_) => unreachable!(),
     }

@@ -15,6 +15,6 @@ returns-in-Ok g c =
     subst (EndsByDeps g.W.Write.contents (Tells g.E.Write.contents c.args.err.now c.finish.new.err) c.args.out.now c.finish.new.out c.code.result) (sym c.in-Ok.is) (
       w.0,
       w.1,
-      subst (λ n. EndsWriting g.W.Write.contents (Tells g.E.Write.contents c.args.err.now c.finish.new.err) c.args.out.now c.finish.new.out n Done (deps_text c.in-Ok.graph w.0)) (sym c.code.ensures)
-          (ends_writing g.W.Write.contents (Tells g.E.Write.contents c.args.err.now c.finish.new.err) c.args.out.now c.write_deps-written.new.writer c.finish.new.out (deps_text c.in-Ok.graph w.0) (is_ok c.write_deps-written.result) Done c.finish.result w.2 c.finish.ensures),
+      subst (λ n. EndsWriting g.W.Write.contents (Tells g.E.Write.contents c.args.err.now c.finish.new.err) c.args.out.now c.finish.new.out n Done (deps_text c.in-Ok.dependencies w.0)) (sym c.code.ensures)
+          (ends_writing g.W.Write.contents (Tells g.E.Write.contents c.args.err.now c.finish.new.err) c.args.out.now c.write_deps-written.new.writer c.finish.new.out (deps_text c.in-Ok.dependencies w.0) (is_ok c.write_deps-written.result) Done c.finish.result w.2 c.finish.ensures),
     )

@@ -4,7 +4,7 @@ use Rattle.agent.specs.Agents.{AgentOn}
 use Rattle.model.specs.declared.version.Version.{Version}
 use Rattle.runner.specs.declared.sim_tape.SimTape.{SimTape}
 use Rattle.runner.specs.Standing.{IsMember}
-use Rattle.runner.proofs.runner.Runner.with_version.Given as goal
+use Rattle.runner.proofs.runner.Runner.over.Given as goal
 
 -- there are agents up to the next, none of which has begun a move
 abbrev pub invariant-agents : goal.invariant-agents

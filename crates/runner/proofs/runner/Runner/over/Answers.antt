@@ -5,7 +5,7 @@ use Rattle.model.specs.declared.version.Version.{Version}
 use Rattle.runner.specs.Standing.{IsMember}
 use Rattle.runner.proofs.CrewLemmas.{each-pushed}
 use Rattle.runner.proofs.SafeLemmas.{safe-by}
-use Rattle.runner.proofs.runner.Runner.with_version.Goals as goal
+use Rattle.runner.proofs.runner.Runner.over.Goals as goal
 
 pub agents-preserved : goal.agents-preserved
 agents-preserved c =
