@@ -62,6 +62,7 @@ impl EventReader {
     }
 
     /// The version of a source's header, which is read where it wasn't yet. After a fault there is nothing more to be read.
+    #[inline(always)]
     pub fn version<R: Read>(&mut self, source: &mut Source<'_, R>) -> Result<Version, EventFault>
         ensures same_reader { source.new.reader.ghost_name ≡ source.old.reader.ghost_name }
         ensures taken { (headers : Headers) (first : Counted R) (events : List Event) → HasReadEvents headers R.remaining first source.old self.old events
@@ -91,6 +92,7 @@ impl EventReader {
         self.read_line(source)
     }
 
+    #[cold]
     fn read_header<R: Read>(&mut self, source: &mut Source<'_, R>) -> Result<Version, EventFault>
         ensures same_reader { source.new.reader.ghost_name ≡ source.old.reader.ghost_name }
         ensures taken { (headers : Headers) (first : Counted R) (events : List Event) → HasReadEvents headers R.remaining first source.old self.old events

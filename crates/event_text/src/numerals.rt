@@ -16,6 +16,7 @@ pub(crate) fn small_numeral(bytes: &[u8]) -> Option<u32>
 }
 
 /// The number that digits without a leading zero spell, if a `u64` holds it.
+#[inline]
 pub(crate) fn numeral(bytes: &[u8]) -> Option<u64>
     ensures { result ≡ numeral_below (2 ^ 64) bytes.now }
 {

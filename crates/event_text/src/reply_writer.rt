@@ -130,7 +130,8 @@ fn refusal_name(why: Why) -> &'static str
     }
 }
 
-/// Puts a word, and each number with a space before it.
+/// Puts a word, and each number with a space before it. Where both are known, so is their number, and the word is copied without a call.
+#[inline(always)]
 pub(crate) fn put_numbers<W: Write>(
     sink: &mut Sink<'_, W>,
     word: &[u8],

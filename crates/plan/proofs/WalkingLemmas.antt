@@ -1,7 +1,7 @@
 -- Legal steps, and the acts of a step.
 use Rattle.std.proofs.Common.{◌≡◌, ◌≢◌, ℕ, zero, suc, ◌+◌, ◌*◌, ◌<◌, ◌≤◌, pos, ◌+ℤ◌, ◌-ℤ◌, Bool, true, false, cond, map, List, [], ◌∷◌, length, get_or, Some, None, arith, refl, sym, ap, subst, inl, inr, ◌∙◌}
 use Rattle.std.specs.Prelude.{Option, MatchOption, IsTrue, ◌&&◌, ◌||◌, ◌==◌, nat_lt, slice_get}
-use Rattle.std.proofs.lemmas.Bool.{cond-true, and_parts, and_from, ltb-true, ltb-false, lt-ltb}
+use Rattle.std.proofs.lemmas.Bool.{cases_lt, cond-true, and_parts, and_from, ltb-true, ltb-false, lt-ltb}
 use Rattle.std.proofs.lemmas.List.Elements.{All-get_or, All-from_recursion}
 use Rattle.std.proofs.lemmas.Int.{ints}
 use Rattle.std.proofs.lemmas.List.{get_or-map}
@@ -18,6 +18,7 @@ use Rattle.model.proofs.PlaceLemmas.{same_place, position_after-end}
 use Rattle.model.proofs.Options.{found}
 use Rattle.plan_text.specs.Limits.{IsCourse, IsPlan}
 use Rattle.plan.specs.Code.Standing.{place_in, IsOnGrid}
+use Rattle.plan.specs.Moving.{cell_by}
 use Rattle.plan.specs.Code.Walking.{is_within_acts, has_act, IsMoved, LeadsBeside, is_land, joins_by, LeadsTo, IsAhead, HasBadMove}
 
 -- ---- legal steps
@@ -237,6 +238,48 @@ pub after_act : (m : Grid) (course : Course) (step : ℕ) (from : Cell) (act : A
     → position_of from ≡ position_at course step → IsMoved m from act answer → MatchOption answer (IsBadMove m course step) (IsAhead m course step)
 after_act m course step from act None is at (acts, illegal) = bad-moved m course step from act is at acts illegal
 after_act m course step from act (Some to) is at leads = ahead-moved m course step from to act is at leads
+
+-- an act that is no wait or a legal step leads to a cell of the map
+steps_on : (m : Grid) (from : Cell) (act : Act) → IsOnGrid m from → (act ≢ Wait → (IsLegal m (position_of from) (moved act (position_of from)) → ⊥) → ⊥)
+    → (position_of (cell_by act from) ≡ moved act (position_of from)) × IsOnGrid m (cell_by act from)
+steps_on m from N on good = elim (cases_lt 0 from.y) [
+  | inl some ↦ (
+    ap (λ y. record { x = pos from.x; y = y }) (omega (arith, ints, some)),
+    record { column = on.column; row = (let row = on.row in omega (arith, row)) },
+  )
+  | inr none ↦ absurd (good (λ same. cc) (λ legal. (let y : pos legal.v.y ≡ pos from.y -ℤ pos 1 = ap (λ p. p.y) legal.is_to in omega (arith, ints, y, none))))
+]
+steps_on m from E on good = elim (cases_lt (from.x + 1) m.width) [
+  | inl less ↦ (ap (λ x. record { x = x; y = pos from.y }) (omega (arith, ints)), record { column = less; row = on.row })
+  | inr past ↦ absurd (good (λ same. cc) (λ legal. (
+      let x : pos legal.v.x ≡ pos from.x +ℤ pos 1 = ap (λ p. p.x) legal.is_to in
+      let column = (on_map_from_step m legal.u legal.v legal.step).column in
+      omega (arith, ints, x, column, past)
+      )))
+]
+steps_on m from S on good = elim (cases_lt (from.y + 1) m.height) [
+  | inl less ↦ (ap (λ y. record { x = pos from.x; y = y }) (omega (arith, ints)), record { column = on.column; row = less })
+  | inr past ↦ absurd (good (λ same. cc) (λ legal. (
+      let y : pos legal.v.y ≡ pos from.y +ℤ pos 1 = ap (λ p. p.y) legal.is_to in
+      let row = (on_map_from_step m legal.u legal.v legal.step).row in
+      omega (arith, ints, y, row, past)
+      )))
+]
+steps_on m from W on good = elim (cases_lt 0 from.x) [
+  | inl some ↦ (
+    ap (λ x. record { x = x; y = pos from.y }) (omega (arith, ints, some)),
+    record { column = (let column = on.column in omega (arith, column)); row = on.row },
+  )
+  | inr none ↦ absurd (good (λ same. cc) (λ legal. (let x : pos legal.v.x ≡ pos from.x -ℤ pos 1 = ap (λ p. p.x) legal.is_to in omega (arith, ints, x, none))))
+]
+steps_on m from Wait on good = (refl, on)
+
+-- where a step leads that isn't bad
+pub goes_ahead : (m : Grid) (course : Course) (step : ℕ) (from : Cell) (act : Act) → slice_get course.acts step ≡ Some act
+    → position_of from ≡ position_at course step → IsOnGrid m from → (IsBadMove m course step → ⊥) → IsAhead m course step (cell_by act from)
+goes_ahead m course step from act is at on good =
+    let on_map = steps_on m from act on (λ other illegal. good (bad-moved m course step from act is at other illegal)) in
+    record { place = on_map.0 ∙ moved-place course step from act is at; on_map = on_map.1; good = good }
 
 -- an agent has a bad move where its course has
 pub bad_at : (m : Grid) (courses : List Course) (step i : ℕ) (course : Course) → slice_get courses i ≡ Some course → IsBadMove m course step
