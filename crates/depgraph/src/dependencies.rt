@@ -22,7 +22,7 @@ use plan::CheckedPlan;
 use std::alloc::{AllocError, Global};
 use std::marker::Model;
 
-/// What a checked plan says of who waits for whom. It keeps no visits, which takes a good half less time and memory than a graph that does.
+/// What a checked plan says of who waits for whom. It keeps no visits, so it takes less time and memory than a graph.
 #[derive(Debug, Drop)]
 pub struct Dependencies {
     number: u32,
