@@ -1,81 +1,59 @@
 //! The checker: a board of one byte a square says whether anything is wrong in a step, and only then it is asked what.
-use crate::crowd::{place_of, Crowd, BLOCK};
+use crate::crowd::{leads, place_of, Crowd, BLOCK};
 use crate::plan::Plan;
 use std::collections::HashMap;
 
-/// A square has a ground in its two low bits: blocked, land, water, or held by an agent that stays there for ever.
+/// A square has a ground in its two low bits: blocked, land, water, or held by an agent that stays there for ever. In the next two bits stands when
+/// somebody came there last: 1 or 2 by turns for this step and the one before, 0 for long ago; and above these, by which act.
 const GROUND: u8 = 3;
 const HELD: u8 = 3;
+const CAME: u8 = 3 << 2;
+const ACT_SHIFT: u32 = 4;
 
 pub fn ground(terrain: u8) -> u8 {
     let land = (terrain == b'.') | (terrain == b'G') | (terrain == b'S');
     u8::from(land) | u8::from(terrain == b'W') << 1
 }
 
-/// What an act does in a step: the place grows by the one and falls by the other, and it leaves a mark where it leads.
+/// What an act does: by how much the place changes, what it leaves where it leads, and what the opposite act leaves, which of a wait is nothing.
 #[derive(Clone, Copy)]
 struct Turn {
-    ahead: u32,
-    back: u32,
-    mark: u8,
-    /// The mark of the opposite act; none leaves that of a wait.
+    by: u32,
+    act: u8,
     against: u8,
 }
 
-/// The least mark of a step, and what each act does in it. Marks of two steps one after another differ.
-struct Turns {
-    first: u8,
-    by_act: [Turn; 256],
+fn turns(wide: u32) -> [Turn; 256] {
+    let leads = leads(wide);
+    std::array::from_fn(|act| {
+        let code = b"nesw".iter().position(|&other| usize::from(other) == act).map_or(0, |at| 4 + at as u8);
+        Turn { by: leads[act] << PLACE_SHIFT, act: code << ACT_SHIFT, against: (code ^ 2) << ACT_SHIFT }
+    })
 }
 
-impl Turns {
-    fn new(wide: u32, first: u8) -> Turns {
-        let wait = Turn { ahead: 0, back: 0, mark: first + 4, against: 63 };
-        let mut by_act = [wait; 256];
-        by_act[usize::from(b'n')] = Turn { back: wide, mark: first, against: first + 2, ..wait };
-        by_act[usize::from(b'e')] = Turn { ahead: 1, mark: first + 1, against: first + 3, ..wait };
-        by_act[usize::from(b's')] = Turn { ahead: wide, mark: first + 2, against: first, ..wait };
-        by_act[usize::from(b'w')] = Turn { back: 1, mark: first + 3, against: first + 1, ..wait };
-        Turns { first, by_act }
-    }
+/// An agent that has acts left is its place, and its ground in the two low bits.
+const PLACE_SHIFT: u32 = 2;
 
-    fn has(&self, mark: u8) -> bool {
-        (self.first <= mark) & (mark < self.first + 5)
-    }
-}
-
-/// An agent that has acts left.
-#[derive(Clone, Copy)]
-struct Walker {
-    place: u32,
-    ground: u8,
-    agent: u16,
-}
-
-impl crate::crowd::Walker for Walker {
-    fn agent(&self) -> usize {
-        self.agent.into()
-    }
-
-    fn place(&self) -> u32 {
-        self.place
-    }
+/// What stands for the time of a step, by turns.
+fn time_of(step: usize) -> u8 {
+    (1 + (step % 2) as u8) << 2
 }
 
 /// Takes all walkers a step on, and says whether something is wrong in it.
-fn take_step(turns: &Turns, (walkers, acts): (&mut [Walker], &[u8]), board: &mut [u8]) -> bool {
+fn take_step(turns: &[Turn; 256], time: u8, (walkers, acts): (&mut [u32], &[u8]), board: &mut [u8]) -> bool {
     let mut is_wrong = false;
     for (walker, &act) in walkers.iter_mut().zip(acts) {
-        let turn = turns.by_act[usize::from(act)];
-        let from = walker.place as usize;
-        walker.place = walker.place + turn.ahead - turn.back;
-        let to = walker.place as usize;
+        let turn = turns[usize::from(act)];
+        let ground = *walker as u8 & GROUND;
+        let from = (*walker >> PLACE_SHIFT) as usize;
+        *walker = walker.wrapping_add(turn.by);
+        let to = (*walker >> PLACE_SHIFT) as usize;
         let (left, entered) = (board[from], board[to]);
-        is_wrong |= entered & GROUND != walker.ground;
-        is_wrong |= turns.has(entered >> 2);
-        is_wrong |= left >> 2 == turn.against;
-        board[from] = if turns.has(left >> 2) { left } else { left & GROUND };
-        board[to] = turn.mark << 2 | entered & GROUND;
+        is_wrong |= (entered ^ ground) & GROUND != 0;
+        is_wrong |= entered & CAME == time;
+        is_wrong |= left & !GROUND == time | turn.against;
+        board[from] = if left & CAME == time { left } else { ground };
+        board[to] = ground | time | turn.act;
     }
     is_wrong
 }
@@ -98,20 +76,20 @@ pub fn check(width: usize, height: usize, cells: &[u8], plan: &Plan) -> Option<(
             return Some(("BadStart", vec![agent as u64]));
         }
         let place = place_of(plan.starts[agent], wide as u32);
-        walkers.push(Walker { place, ground: board[place as usize], agent: agent as u16 });
+        walkers.push(place << PLACE_SHIFT | u32::from(board[place as usize]));
     }
-    let turns = [Turns::new(wide as u32, 1), Turns::new(wide as u32, 6)];
+    let turns = turns(wide as u32);
     let mut crowd = Crowd::new(plan, walkers);
     // All wait at their starts first, so that two that share one are seen.
-    if take_step(&turns[1], crowd.step(0), &mut board) {
+    if take_step(&turns, time_of(1), crowd.step(0), &mut board) {
         return Some(least_fault(width, cells, plan, 0));
     }
     let mut step = 0;
     while !crowd.is_empty() {
         if step % BLOCK == 0 {
-            crowd.prepare(step, |walker| board[walker.place as usize] = HELD);
+            crowd.prepare(step, |&walker| walker, |&walker| board[(walker >> PLACE_SHIFT) as usize] |= HELD);
         }
-        if take_step(&turns[step % 2], crowd.step(step % BLOCK), &mut board) {
+        if take_step(&turns, time_of(step), crowd.step(step % BLOCK), &mut board) {
             return Some(least_fault(width, cells, plan, step + 1));
         }
         step += 1;

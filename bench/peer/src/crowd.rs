@@ -7,43 +7,44 @@ use crate::plan::Plan;
 /// So many steps are prepared at a time.
 pub const BLOCK: usize = 64;
 
-/// Who is under way, and where on a board with a rim of one square around the map.
-pub trait Walker: Copy {
-    fn agent(&self) -> usize;
-    fn place(&self) -> u32;
-}
-
+/// The agents that have acts left, each with what is known of it, and their acts.
 pub struct Crowd<'p, W> {
     plan: &'p Plan,
     walkers: Vec<W>,
+    agents: Vec<u16>,
     rows: Vec<u8>,
     stride: usize,
 }
 
-impl<'p, W: Walker> Crowd<'p, W> {
+impl<'p, W: Copy> Crowd<'p, W> {
+    /// All agents of a plan.
     pub fn new(plan: &'p Plan, walkers: Vec<W>) -> Self {
+        let count = walkers.len();
         // An odd number of cache lines keeps the beginnings of rows apart in the cache.
-        let stride = (walkers.len().div_ceil(64) | 1) * 64;
-        Crowd { plan, walkers, rows: vec![b'-'; BLOCK * stride], stride }
+        let stride = (count.div_ceil(64) | 1) * 64;
+        Crowd { plan, walkers, agents: (0..count as u16).collect(), rows: vec![b'-'; BLOCK * stride], stride }
     }
 
     pub fn is_empty(&self) -> bool {
         self.walkers.is_empty()
     }
 
-    /// Lets go of those whose acts are over at the step, and prepares the block of steps that begins with it. Acts that end within it become waits.
-    pub fn prepare(&mut self, step: usize, mut over: impl FnMut(&W)) {
-        let plan = self.plan;
-        self.walkers.retain(|walker| {
-            let is_over = plan.acts_of(walker.agent()).len() <= step;
-            if is_over {
+    /// Lets go of those whose acts are over at the step, and prepares the block of steps that begins with it, in the order of their places. Acts that end
+    /// within it become waits.
+    pub fn prepare(&mut self, step: usize, place: impl Fn(&W) -> u32, mut over: impl FnMut(&W)) {
+        let mut left = Vec::with_capacity(self.walkers.len());
+        for (walker, &agent) in self.walkers.iter().zip(&self.agents) {
+            if self.plan.acts_of(agent.into()).len() <= step {
                 over(walker);
+            } else {
+                left.push((place(walker), agent, *walker));
             }
-            !is_over
-        });
-        self.walkers.sort_unstable_by_key(Walker::place);
-        for (at, walker) in self.walkers.iter().enumerate() {
-            let acts = &plan.acts_of(walker.agent())[step..];
+        }
+        left.sort_unstable_by_key(|&(place, _, _)| place);
+        self.walkers.clear();
+        self.agents.clear();
+        for (at, (_, agent, walker)) in left.into_iter().enumerate() {
+            let acts = &self.plan.acts_of(agent.into())[step..];
             let some = acts.len().min(BLOCK);
             for (row, &act) in acts[..some].iter().enumerate() {
                 self.rows[row * self.stride + at] = act;
@@ -51,10 +52,12 @@ impl<'p, W: Walker> Crowd<'p, W> {
             for row in some..BLOCK {
                 self.rows[row * self.stride + at] = b'-';
             }
+            self.walkers.push(walker);
+            self.agents.push(agent);
         }
     }
 
-    /// The agents, and their acts in the n-th step of the block.
+    /// What is known of the agents, and their acts in the n-th step of the block.
     pub fn step(&mut self, n: usize) -> (&mut [W], &[u8]) {
         let acts = &self.rows[n * self.stride..][..self.walkers.len()];
         (&mut self.walkers, acts)

@@ -1,5 +1,5 @@
 //! What the moves of a plan wait for, and its rotations: in one pass by time over the last visit of each cell.
-use crate::crowd::{leads, place_of, Crowd, Walker, BLOCK};
+use crate::crowd::{leads, place_of, Crowd, BLOCK};
 use crate::output::Output;
 use crate::plan::{self, Plan};
 use crate::source::Fault;
@@ -40,16 +40,6 @@ struct Mover {
     next: u32,
 }
 
-impl Walker for Mover {
-    fn agent(&self) -> usize {
-        agent_of(self.visit) as usize
-    }
-
-    fn place(&self) -> u32 {
-        self.place
-    }
-}
-
 impl Graph {
     /// The graph of a valid plan on a map of this size.
     pub fn of(plan: &Plan, width: usize, height: usize) -> Graph {
@@ -80,7 +70,7 @@ impl Graph {
         let mut step = 0;
         while !crowd.is_empty() {
             if step % BLOCK == 0 {
-                crowd.prepare(step, |_| {});
+                crowd.prepare(step, |mover| mover.place, |_| {});
             }
             let (movers, acts) = crowd.step(step % BLOCK);
             for (mover, &act) in movers.iter_mut().zip(acts) {
@@ -113,12 +103,27 @@ impl Graph {
         self.begins[agent + 1] - self.begins[agent]
     }
 
-    /// What a move of an agent waits for.
-    pub fn need(&self, agent: usize, number: u32) -> Option<Need> {
-        match self.needs[(self.begins[agent] + number) as usize] {
+    /// Which of all moves is an agent's first one.
+    pub fn first_move(&self, agent: usize) -> u32 {
+        self.begins[agent]
+    }
+
+    /// How many moves all agents make.
+    pub fn all_moves(&self) -> usize {
+        self.needs.len()
+    }
+
+    /// What one of all moves waits for.
+    pub fn need_of(&self, number: u32) -> Option<Need> {
+        match self.needs[number as usize] {
             0 => None,
             visit => Some(Need { agent: agent_of(visit) as u16, count: visit as u16 }),
         }
+    }
+
+    /// What a move of an agent waits for.
+    pub fn need(&self, agent: usize, number: u32) -> Option<Need> {
+        self.need_of(self.begins[agent] + number)
     }
 }
 

@@ -9,17 +9,47 @@ use std::io;
 mod complete;
 
 const LONGEST_LINE: usize = 64;
-const RECORD: u32 = 10;
+/// The first line but for its version and its LF.
+const HEADER: &[u8] = b"mapf-events ";
+const RECORD: u8 = 10;
 
-/// An agent: how many records its tape has, what it heard, how its next write ends, and where it is.
+/// A cell as one number: its row in the upper 16 bits, its column in the lower.
+type Cell = u32;
+
+/// By how much each act changes a cell.
+fn leads() -> [Cell; 256] {
+    let mut by_act = [0; 256];
+    by_act[usize::from(b'n')] = (1u32 << 16).wrapping_neg();
+    by_act[usize::from(b'e')] = 1;
+    by_act[usize::from(b's')] = 1 << 16;
+    by_act[usize::from(b'w')] = 1u32.wrapping_neg();
+    by_act
+}
+
+/// The cells of all paths, one path behind the other: an agent's begin as many places behind its first move among all as there are agents before it.
+fn paths_of(plan: &Plan, moves: usize) -> Vec<Cell> {
+    let leads = leads();
+    let mut cells = Vec::with_capacity(moves + plan.starts.len());
+    for (agent, &(x, y)) in plan.starts.iter().enumerate() {
+        let mut cell = Cell::from(y) << 16 | Cell::from(x);
+        cells.push(cell);
+        for &act in plan.acts_of(agent).iter().filter(|&&act| act != b'-') {
+            cell = cell.wrapping_add(leads[usize::from(act)]);
+            cells.push(cell);
+        }
+    }
+    cells
+}
+
+/// An agent: which moves are its own, how many records its tape has, what it heard, and how its next write ends.
 struct Agent {
+    /// Its first move among all, and how many it makes.
+    first: u32,
+    moves: u32,
     records: u32,
-    heard: Vec<(u16, u32)>,
     broken: bool,
-    armed: Option<u32>,
-    /// The cell that it has reached, and which of its acts come behind.
-    cell: u32,
-    next_act: u32,
+    armed: Option<u8>,
+    heard: Vec<(u16, u32)>,
 }
 
 impl Agent {
@@ -98,19 +128,6 @@ impl Agent {
             }
         }
     }
-
-    /// The cell of its next move, and which acts come behind that.
-    fn ahead(&self, acts: &[u8], width: u32) -> (u32, u32) {
-        let rest = &acts[self.next_act as usize..];
-        let waits = rest.iter().take_while(|&&act| act == b'-').count();
-        let cell = match rest[waits] {
-            b'n' => self.cell - width,
-            b's' => self.cell + width,
-            b'e' => self.cell + 1,
-            _ => self.cell - 1,
-        };
-        (cell, self.next_act + waits as u32 + 1)
-    }
 }
 
 /// A message: its sender, and what that one had finished, or where its entries begin and how many there are.
@@ -122,8 +139,8 @@ struct Message {
 
 struct Runner<'g> {
     graph: &'g Graph,
-    plan: &'g Plan,
-    width: u32,
+    cells: Vec<Cell>,
+    number: u32,
     agents: Vec<Agent>,
     /// Whether messages have all that their sender knows (version 2).
     tells: bool,
@@ -134,101 +151,92 @@ struct Runner<'g> {
     out: Output,
 }
 
-/// Takes a numeral of at most so much, and the space behind it if there is one.
-fn take_number(text: &mut &[u8], most: u64) -> Option<u64> {
-    let mut value = 0u64;
-    let mut at = 0;
-    while let Some(digit) = text.get(at).map(|b| b.wrapping_sub(b'0')).filter(|&digit| digit < 10) {
-        // Below this no product and no sum is too large.
-        value = if at < 18 { value * 10 + u64::from(digit) } else { value.checked_mul(10)?.checked_add(digit.into())? };
-        at += 1;
-    }
-    if at == 0 || (at > 1 && text[0] == b'0') || value > most {
-        return None;
-    }
-    let is_last = at == text.len();
-    if !is_last && (text[at] != b' ' || at + 1 == text.len()) {
-        return None;
-    }
-    *text = &text[(at + usize::from(!is_last))..];
-    Some(value)
+enum Event {
+    Start,
+    Finish,
+    Say,
+    Deliver(u64),
+    Restart,
+    Tear(u64),
 }
 
-/// What stands behind a word, as numbers below limits, and nothing else.
-fn numbers<const N: usize>(mut rest: &[u8], limits: [u64; N]) -> Option<[u64; N]> {
-    let mut found = [0; N];
-    for (place, limit) in found.iter_mut().zip(limits) {
-        *place = take_number(&mut rest, limit)?;
+/// Takes a numeral of at most so much and the byte that ends it, and gives what comes behind.
+#[inline(always)]
+fn take_number(text: &[u8], most: u64, end: u8) -> Option<(u64, &[u8])> {
+    let mut value = 0u64;
+    let mut at = 0;
+    loop {
+        let byte = *text.get(at)?;
+        let digit = byte.wrapping_sub(b'0');
+        if digit > 9 {
+            let is_one = at == 1 || (at > 1 && text[0] != b'0');
+            return (is_one && value <= most && byte == end).then(|| (value, &text[at + 1..]));
+        }
+        value = value.checked_mul(10)?.checked_add(digit.into())?;
+        at += 1;
     }
-    rest.is_empty().then_some(found)
 }
 
 const MOST: u64 = u32::MAX as u64;
 
-impl Runner<'_> {
-    /// The cell of an agent's next move.
-    fn ahead(&self, i: usize) -> (u32, u32) {
-        self.agents[i].ahead(self.plan.acts_of(i), self.width)
-    }
-
-    /// Stores that a move has begun or ended; false where that fails.
-    fn store(&mut self, i: usize) -> bool {
-        let done = self.agents[i].done();
-        let is_stored = self.agents[i].store();
-        if self.agents[i].done() > done {
-            (self.agents[i].cell, self.agents[i].next_act) = self.ahead(i);
+/// The agent and the event of the line that a text begins with, and what comes behind its LF.
+#[inline(always)]
+fn take_event(text: &[u8]) -> Option<(u64, Event, &[u8])> {
+    let (event, rest) = match *text {
+        [b's', b't', b'a', b'r', b't', b' ', ref rest @ ..] => (Event::Start, rest),
+        [b'f', b'i', b'n', b'i', b's', b'h', b' ', ref rest @ ..] => (Event::Finish, rest),
+        [b's', b'a', b'y', b' ', ref rest @ ..] => (Event::Say, rest),
+        [b'd', b'e', b'l', b'i', b'v', b'e', b'r', b' ', ref rest @ ..] => {
+            let (agent, rest) = take_number(rest, MOST, b' ')?;
+            let (message, rest) = take_number(rest, u64::MAX, b'\n')?;
+            return Some((agent, Event::Deliver(message), rest));
         }
-        is_stored
+        [b'r', b'e', b's', b't', b'a', b'r', b't', b' ', ref rest @ ..] => (Event::Restart, rest),
+        [b't', b'e', b'a', b'r', b' ', ref rest @ ..] => {
+            let (agent, rest) = take_number(rest, MOST, b' ')?;
+            let (stored, rest) = take_number(rest, MOST, b'\n')?;
+            return Some((agent, Event::Tear(stored), rest));
+        }
+        _ => return None,
+    };
+    let (agent, rest) = take_number(rest, MOST, b'\n')?;
+    Some((agent, event, rest))
+}
+
+impl Runner<'_> {
+    /// The n-th cell of an agent's path.
+    fn cell(&self, i: usize, n: u32) -> Cell {
+        self.cells[self.agents[i].first as usize + i + n as usize]
     }
 
-    fn put_cell(&mut self, cell: u32) {
-        self.out.put_number(b" ", cell % self.width);
-        self.out.put_number(b" ", cell / self.width);
+    fn put_cell(&mut self, cell: Cell) {
+        self.out.put_number(b" ", cell & 0xFFFF);
+        self.out.put_number(b" ", cell >> 16);
     }
 
     fn refuse(&mut self, name: &str) {
-        self.out.put(b"refused ");
-        self.out.put(name.as_bytes());
+        self.out.word(b"refused ");
+        self.out.word(name.as_bytes());
     }
 
-    /// Answers the event of a line; false where it is none.
-    fn answer(&mut self, line: &[u8]) -> bool {
-        self.answer_event(line).is_some()
-    }
-
-    fn answer_event(&mut self, line: &[u8]) -> Option<()> {
-        if let Some(rest) = line.strip_prefix(b"start ") {
-            let [agent] = numbers(rest, [MOST])?;
-            self.with(agent, Runner::start);
-        } else if let Some(rest) = line.strip_prefix(b"finish ") {
-            let [agent] = numbers(rest, [MOST])?;
-            self.with(agent, Runner::finish);
-        } else if let Some(rest) = line.strip_prefix(b"say ") {
-            let [agent] = numbers(rest, [MOST])?;
-            self.with(agent, Runner::say);
-        } else if let Some(rest) = line.strip_prefix(b"deliver ") {
-            let [agent, message] = numbers(rest, [MOST, u64::MAX])?;
-            self.with(agent, |runner, agent| runner.deliver(agent, message));
-        } else if let Some(rest) = line.strip_prefix(b"restart ") {
-            let [agent] = numbers(rest, [MOST])?;
-            self.with(agent, Runner::restart);
-        } else {
-            let [agent, stored] = numbers(line.strip_prefix(b"tear ")?, [MOST, MOST])?;
-            self.with(agent, |runner, agent| runner.tear(agent, stored as u32));
+    #[inline(always)]
+    fn answer(&mut self, agent: u64, event: Event) {
+        if agent >= self.agents.len() as u64 {
+            return self.refuse("NoSuchAgent");
         }
-        Some(())
-    }
-
-    fn with(&mut self, agent: u64, act: impl FnOnce(&mut Self, usize)) {
-        if agent < self.agents.len() as u64 {
-            act(self, agent as usize);
-        } else {
-            self.refuse("NoSuchAgent");
+        let i = agent as usize;
+        match event {
+            Event::Start => self.start(i),
+            Event::Finish => self.finish(i),
+            Event::Say => self.say(i),
+            Event::Deliver(message) => self.deliver(i, message),
+            Event::Restart => self.restart(i),
+            Event::Tear(stored) => self.tear(i, stored),
         }
     }
 
     fn start(&mut self, i: usize) {
-        let agent = &self.agents[i];
+        let agent = &mut self.agents[i];
         let done = agent.done();
         if agent.broken {
             return self.refuse("Broken");
@@ -236,36 +244,36 @@ impl Runner<'_> {
         if agent.is_moving() {
             return self.refuse("AlreadyMoving");
         }
-        if done == self.graph.moves(i) {
+        if done == agent.moves {
             return self.refuse("AtEnd");
         }
-        if let Some(need) = self.graph.need(i, done) {
+        if let Some(need) = self.graph.need_of(agent.first + done) {
             if agent.known(need.agent) < u32::from(need.count) {
                 self.refuse("Waits");
                 self.out.put_number(b" ", need.agent.into());
                 return self.out.put_number(b" ", need.count.into());
             }
         }
-        if self.store(i) {
-            self.out.put(b"moving");
-            let (cell, _) = self.ahead(i);
-            self.put_cell(cell);
+        if agent.store() {
+            self.out.word(b"moving");
+            self.put_cell(self.cell(i, done + 1));
         } else {
             self.refuse("StoreFailed");
         }
     }
 
     fn finish(&mut self, i: usize) {
-        let agent = &self.agents[i];
+        let agent = &mut self.agents[i];
         if agent.broken {
             return self.refuse("Broken");
         }
         if !agent.is_moving() {
             return self.refuse("NotMoving");
         }
-        if self.store(i) {
-            self.out.put(b"arrived");
-            self.put_cell(self.agents[i].cell);
+        if agent.store() {
+            let done = agent.done();
+            self.out.word(b"arrived");
+            self.put_cell(self.cell(i, done));
         } else {
             self.refuse("StoreFailed");
         }
@@ -278,15 +286,15 @@ impl Runner<'_> {
         }
         let done = agent.done();
         self.out.put_long(b"said ", self.messages.len() as u64);
-        self.out.put(b" ");
+        self.out.word(b" ");
         if self.tells {
             return self.tell(i, done);
         }
         let mut bytes = [0x46, 1, 0, 0, 0, 0, 0, 0, 0, 0, 0, 0];
         bytes[2..4].copy_from_slice(&(i as u16).to_be_bytes());
-        bytes[4..8].copy_from_slice(&self.plan.number.to_be_bytes());
+        bytes[4..8].copy_from_slice(&self.number.to_be_bytes());
         bytes[8..].copy_from_slice(&done.to_be_bytes());
-        put_digits(&mut self.out, &bytes);
+        self.out.put_digits(&bytes);
         self.messages.push(Message { sender: i as u16, count: done, first: 0 });
     }
 
@@ -303,14 +311,15 @@ impl Runner<'_> {
         let count = entries.len() as u16;
         let mut head = [0x46, 2, 0, 0, 0, 0, 0, 0, 0, 0];
         head[2..4].copy_from_slice(&id.to_be_bytes());
-        head[4..8].copy_from_slice(&self.plan.number.to_be_bytes());
+        head[4..8].copy_from_slice(&self.number.to_be_bytes());
         head[8..].copy_from_slice(&count.to_be_bytes());
-        put_digits(&mut self.out, &head);
+        self.out.put_digits(&head);
         for &(agent, done) in entries {
             let mut bytes = [0; 6];
             bytes[..2].copy_from_slice(&agent.to_be_bytes());
             bytes[2..].copy_from_slice(&done.to_be_bytes());
-            put_digits(&mut self.out, &bytes);
+            self.out.put(b"");
+            self.out.put_digits(&bytes);
         }
         self.messages.push(Message { sender: id, count: count.into(), first });
     }
@@ -337,80 +346,44 @@ impl Runner<'_> {
         agent.heard.clear();
         agent.broken = false;
         agent.armed = None;
-        let (done, is_moving, cell) = (agent.done(), agent.is_moving(), agent.cell);
-        self.out.put(if is_moving { b"between" } else { b"at" });
-        self.put_cell(cell);
+        let (done, is_moving) = (agent.done(), agent.is_moving());
+        self.out.word(if is_moving { b"between" } else { b"at" });
+        self.put_cell(self.cell(i, done));
         if is_moving {
-            let (ahead, _) = self.ahead(i);
-            self.put_cell(ahead);
+            self.put_cell(self.cell(i, done + 1));
         }
         self.out.put_number(b" done ", done);
     }
 
-    fn tear(&mut self, i: usize, stored: u32) {
-        if stored > RECORD {
+    fn tear(&mut self, i: usize, stored: u64) {
+        if stored > u64::from(RECORD) {
             return self.refuse("BadTear");
         }
-        self.agents[i].armed = Some(stored);
-        self.out.put(b"armed");
+        self.agents[i].armed = Some(stored as u8);
+        self.out.word(b"armed");
     }
 }
 
-fn put_digits(out: &mut Output, bytes: &[u8]) {
-    const DIGITS: &[u8; 16] = b"0123456789abcdef";
-    for b in bytes {
-        out.put(&[DIGITS[usize::from(b >> 4)], DIGITS[usize::from(b & 15)]]);
-    }
-}
-
-enum Line {
-    Whole,
-    TooLong,
-    /// The input ended behind so many bytes.
-    Ended(usize),
-}
-
-/// Takes a line into `line`, without its LF.
-fn take_line(source: &mut Source<File>, line: &mut Vec<u8>) -> io::Result<Line> {
-    line.clear();
-    loop {
-        let piece = source.fill()?;
-        if piece.is_empty() {
-            return Ok(Line::Ended(line.len()));
-        }
-        let most = &piece[..piece.len().min(LONGEST_LINE + 1 - line.len())];
-        match most.iter().position(|&b| b == b'\n') {
-            Some(at) => {
-                line.extend_from_slice(&most[..at]);
-                source.start += at + 1;
-                return Ok(Line::Whole);
-            }
-            None => {
-                line.extend_from_slice(most);
-                source.start += most.len();
-                if line.len() > LONGEST_LINE {
-                    return Ok(Line::TooLong);
-                }
-            }
-        }
-    }
-}
-
+/// Answers the events of a file, each when it is read.
 fn answer_all(runner: &mut Runner<'_>, events: File) -> Result<(), Fault> {
     let mut source = Source::new(events);
-    let mut line = Vec::with_capacity(LONGEST_LINE + 1);
-    let header = take_line(&mut source, &mut line)?;
-    runner.tells = line == b"mapf-events 2";
-    if !matches!(header, Line::Whole) || !(runner.tells || line == b"mapf-events 1") {
+    let header = source.ahead(HEADER.len() + 2)?;
+    runner.tells = header.starts_with(b"mapf-events 2\n");
+    if !runner.tells && !header.starts_with(b"mapf-events 1\n") {
         return fault("NoHeader", &[]);
     }
+    source.start += HEADER.len() + 2;
     for number in 2.. {
-        match take_line(&mut source, &mut line)? {
-            Line::Ended(0) => break,
-            Line::Ended(_) => return fault("Unfinished", &[number]),
-            Line::Whole if runner.answer(&line) => {}
-            Line::Whole | Line::TooLong => return fault("BadEvent", &[number]),
+        let text = source.ahead(LONGEST_LINE + 1)?;
+        if text.is_empty() {
+            break;
         }
+        let Some((agent, event, rest)) = take_event(text) else {
+            let is_whole = text.len() > LONGEST_LINE || text.contains(&b'\n');
+            return fault(if is_whole { "BadEvent" } else { "Unfinished" }, &[number]);
+        };
+        source.start += text.len() - rest.len();
+        runner.answer(agent, event);
         runner.out.end_line().map_err(|_| Fault::Device("WriteFailed"))?;
     }
     Ok(())
@@ -420,12 +393,12 @@ fn answer_all(runner: &mut Runner<'_>, events: File) -> Result<(), Fault> {
 pub fn replay(map: File, plan: File, events: File, complete: bool, output: impl FnOnce() -> io::Result<File>) -> Result<bool, Fault> {
     let (width, height, plan) = plan::read_checked(map, plan)?;
     let graph = Graph::of(&plan, width, height);
-    let cell_of = |&(x, y): &(u16, u16)| u32::from(y) * width as u32 + u32::from(x);
-    let agent_at = |start| Agent { records: 0, heard: Vec::new(), broken: false, armed: None, cell: cell_of(start), next_act: 0 };
-    let agents = plan.starts.iter().map(agent_at).collect();
+    let agent_at = |i| Agent { first: graph.first_move(i), moves: graph.moves(i), records: 0, broken: false, armed: None, heard: Vec::new() };
+    let agents = (0..plan.starts.len()).map(agent_at).collect();
+    let (cells, number) = (paths_of(&plan, graph.all_moves()), plan.number);
+    drop(plan);
     let file = output().map_err(|_| Fault::Device("WriteFailed"))?;
-    let out = Output::new(file);
-    let mut runner = Runner { graph: &graph, plan: &plan, width: width as u32, agents, tells: false, messages: Vec::new(), entries: Vec::new(), out };
+    let mut runner = Runner { graph: &graph, cells, number, agents, tells: false, messages: Vec::new(), entries: Vec::new(), out: Output::new(file) };
     let failed = |_| Fault::Device("WriteFailed");
     let mut ended = answer_all(&mut runner, events).map(|()| true);
     if complete && ended.is_ok() {

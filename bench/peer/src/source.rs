@@ -48,6 +48,30 @@ impl<R: Read> Source<R> {
         Ok(&self.piece[self.start..self.end])
     }
 
+    /// So many bytes at hand at the least, fewer only at the end of the input.
+    #[inline(always)]
+    pub fn ahead(&mut self, count: usize) -> io::Result<&[u8]> {
+        if self.end - self.start < count {
+            self.bring(count)?;
+        }
+        Ok(&self.piece[self.start..self.end])
+    }
+
+    /// Brings more bytes, behind those that are left.
+    #[cold]
+    fn bring(&mut self, count: usize) -> io::Result<()> {
+        self.piece.copy_within(self.start..self.end, 0);
+        self.end -= self.start;
+        self.start = 0;
+        while self.end < count {
+            match self.reader.read(&mut self.piece[self.end..])? {
+                0 => break,
+                more => self.end += more,
+            }
+        }
+        Ok(())
+    }
+
     pub fn next(&mut self) -> io::Result<Option<u8>> {
         let byte = self.fill()?.first().copied();
         self.start += usize::from(byte.is_some());

@@ -21,7 +21,7 @@ struct Completion<'r, 'g> {
 impl Completion<'_, '_> {
     fn put(&mut self, word: &[u8], agent: usize) {
         self.runner.out.put_number(word, agent as u32);
-        self.runner.out.put(b"\n");
+        self.runner.out.keep_line();
         self.events += 1;
     }
 
@@ -45,7 +45,7 @@ impl Completion<'_, '_> {
         self.runner.agents[i].hear(other as u16, said.done);
         self.runner.out.put_number(b"deliver ", i as u32);
         self.runner.out.put_long(b" ", said.number);
-        self.runner.out.put(b"\n");
+        self.runner.out.keep_line();
         self.events += 1;
     }
 
