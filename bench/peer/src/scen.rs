@@ -22,6 +22,15 @@ pub struct Scenario {
     names: Vec<Box<[u8]>>,
 }
 
+impl Scenario {
+    fn push(&mut self, row: Row, name: &[u8]) {
+        if self.names.last().is_none_or(|last| **last != *name) {
+            self.names.push(name.into());
+        }
+        self.rows.push(Row { name: self.names.len() as u32 - 1, ..row });
+    }
+}
+
 /// The first place of a byte, eight bytes at a time.
 fn place_of(byte: u8, bytes: &[u8]) -> Option<usize> {
     const LOW: u64 = 0x0101_0101_0101_0101;
@@ -147,7 +156,49 @@ fn listed(bytes: &[u8]) -> Option<(u64, u8)> {
     Some((value, decimals.len() as u8))
 }
 
+/// Takes a numeral of at most nine digits and the tab behind it.
+#[inline(always)]
+fn take_number(rest: &mut &[u8]) -> Option<u32> {
+    let mut value = 0;
+    for at in 0..=9 {
+        let byte = *rest.get(at)?;
+        let digit = byte.wrapping_sub(b'0');
+        if digit > 9 {
+            *rest = &rest[at + 1..];
+            return (at > 0 && byte == b'\t').then_some(value);
+        }
+        value = value * 10 + u32::from(digit);
+    }
+    None
+}
+
+/// The fields of a row as it mostly is: a tab behind each, and short numbers within their limits. Any other row is read by its fields.
+fn usual_row(content: &[u8]) -> Option<(Row, &[u8])> {
+    let mut rest = content;
+    let bucket = take_number(&mut rest)?;
+    let end = place_of(b'\t', rest)?;
+    let name = &rest[..end];
+    rest = &rest[end + 1..];
+    if name.is_empty() || name[0] == b' ' || name[end - 1] == b' ' {
+        return None;
+    }
+    let [width, height] = [take_number(&mut rest)?, take_number(&mut rest)?];
+    let start = (take_number(&mut rest)?, take_number(&mut rest)?);
+    let goal = (take_number(&mut rest)?, take_number(&mut rest)?);
+    let is_within = |(x, y): (u32, u32)| x < width && y < height;
+    if width > 65_535 || height > 65_535 || !is_within(start) || !is_within(goal) {
+        return None;
+    }
+    let (listed, decimals) = listed(rest)?;
+    let cell = |(x, y)| (x as u16, y as u16);
+    Some((Row { bucket, name: 0, width, height, start: cell(start), goal: cell(goal), listed, decimals }, name))
+}
+
 fn read_row(content: &[u8], line: u64, scenario: &mut Scenario) -> Result<(), Fault> {
+    if let Some((row, name)) = usual_row(content) {
+        scenario.push(row, name);
+        return Ok(());
+    }
     let Some(fields) = nine_fields(content) else {
         return fault("FieldCount", &[line]);
     };
@@ -165,19 +216,17 @@ fn read_row(content: &[u8], line: u64, scenario: &mut Scenario) -> Result<(), Fa
     let Some((listed, decimals)) = listed(fields[8]) else {
         return fault("BadLength", &[line]);
     };
-    if scenario.names.last().is_none_or(|last| **last != *fields[1]) {
-        scenario.names.push(fields[1].into());
-    }
-    scenario.rows.push(Row {
+    let row = Row {
         bucket: bucket as u32,
-        name: scenario.names.len() as u32 - 1,
+        name: 0,
         width: width as u32,
         height: height as u32,
         start: (start_x as u16, start_y as u16),
         goal: (goal_x as u16, goal_y as u16),
         listed,
         decimals,
-    });
+    };
+    scenario.push(row, fields[1]);
     Ok(())
 }
 
