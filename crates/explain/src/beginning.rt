@@ -6,7 +6,7 @@ use crate::spans::content;
 use std::rt::Files;
 
 /// What a text begins like that may be none of its format.
-#[derive(Clone, Copy, Debug, PartialEq, Eq)]
+#[derive(Clone, Copy)]
 enum Beginning {
     Of(FileKind),
     Marked,
@@ -32,9 +32,10 @@ pub(crate) fn put_beginning<R: Files>(
         return false;
     }
     match beginning_of(line) {
-        Beginning::Of(kind) if kind == file.kind => false,
         Beginning::Of(kind) => {
-            put_other_format(rt, files, file, kind, page);
+            if kind != file.kind {
+                put_other_format(rt, files, file, kind, page);
+            }
             false
         }
         other => {
@@ -52,10 +53,7 @@ fn beginning_of(line: &Line) -> Beginning {
     if bytes.starts_with(&[0xef, 0xbb, 0xbf]) {
         return Beginning::Marked;
     }
-    if bytes.starts_with(&[0xff, 0xfe])
-        || bytes.starts_with(&[0xfe, 0xff])
-        || bytes.get(1).is_some_and(|b| *b == 0)
-    {
+    if is_wide(bytes) {
         return Beginning::Wide;
     }
     match packer_of(bytes) {
@@ -63,6 +61,11 @@ fn beginning_of(line: &Line) -> Beginning {
         None if content(bytes).of(bytes).contains(&b'\r') => Beginning::Returns,
         None => format_of(bytes),
     }
+}
+
+/// Whether the bytes look like characters of two bytes each.
+fn is_wide(bytes: &[u8]) -> bool {
+    matches!(bytes, [0xff, 0xfe, ..] | [0xfe, 0xff, ..] | [_, 0, ..])
 }
 
 /// The program that packed these bytes, and what unpacks them.
@@ -82,25 +85,29 @@ fn packer_of(bytes: &[u8]) -> Option<(&'static str, &'static str)> {
     }
 }
 
+/// What the first line of a text begins with, and what the text looks like then.
+static FORMATS: [(&str, Beginning); 11] = [
+    ("mapf-plan", Beginning::Of(FileKind::Plan)),
+    ("mapf-events", Beginning::Of(FileKind::Events)),
+    ("type ", Beginning::Of(FileKind::Map)),
+    ("type\t", Beginning::Of(FileKind::Map)),
+    ("version ", Beginning::Of(FileKind::Scenario)),
+    ("version\t", Beginning::Of(FileKind::Scenario)),
+    ("\x50\x01", Beginning::Of(FileKind::Tape)),
+    ("\x50\x02", Beginning::Of(FileKind::Tape)),
+    ("{", Beginning::Json),
+    ("[", Beginning::Json),
+    ("<", Beginning::Markup),
+];
+
 fn format_of(bytes: &[u8]) -> Beginning {
     let text = content(bytes).of(bytes);
-    if text.starts_with(b"mapf-plan") {
-        Beginning::Of(FileKind::Plan)
-    } else if text.starts_with(b"mapf-events") {
-        Beginning::Of(FileKind::Events)
-    } else if text.starts_with(b"type ") || text.starts_with(b"type\t") {
-        Beginning::Of(FileKind::Map)
-    } else if text.starts_with(b"version ") || text.starts_with(b"version\t") {
-        Beginning::Of(FileKind::Scenario)
-    } else if text.starts_with(&[0x50, 1]) || text.starts_with(&[0x50, 2]) {
-        Beginning::Of(FileKind::Tape)
-    } else if text.starts_with(b"{") || text.starts_with(b"[") {
-        Beginning::Json
-    } else if text.starts_with(b"<") {
-        Beginning::Markup
-    } else {
-        Beginning::Unknown
+    for (first, beginning) in &FORMATS {
+        if text.starts_with(first.as_bytes()) {
+            return *beginning;
+        }
     }
+    Beginning::Unknown
 }
 
 /// Says what is no text of ours.
@@ -141,18 +148,29 @@ fn put_other_format<R: Files>(
 ) {
     let name = kind.name();
     page.show(format_args!("The file begins like {name}"));
-    let mut line = Line::new();
-    for other in files {
-        if other.path != file.path {
-            line.find(rt, other.path, 1);
-            if line.is_read() && beginning_of(&line) == Beginning::Of(file.kind) {
-                let (path, wanted) = (shown_path(*other), file.kind.name());
-                page.show(format_args!(
-                    ", and {path} like {wanted}: the files may be in the wrong order"
-                ));
-                break;
-            }
-        }
+    if let Some(other) = exchanged_with(rt, files, file) {
+        let (path, wanted) = (shown_path(other), file.kind.name());
+        page.show(format_args!(", and {path} like {wanted}: the files may be in the wrong order"));
     }
     page.say(".\n");
+}
+
+/// The first other file that begins like what this one is read as.
+fn exchanged_with<'a, R: Files>(
+    rt: &R,
+    files: &[NamedFile<'a>],
+    file: NamedFile<'_>,
+) -> Option<NamedFile<'a>> {
+    for other in files {
+        if other.path != file.path && begins_like(rt, other.path, file.kind) {
+            return Some(*other);
+        }
+    }
+    None
+}
+
+fn begins_like<R: Files>(rt: &R, path: &str, kind: FileKind) -> bool {
+    let mut line = Line::new();
+    line.find(rt, path, 1);
+    line.is_read() && matches!(beginning_of(&line), Beginning::Of(found) if found == kind)
 }

@@ -1,4 +1,5 @@
 //! Files that can't be opened, and devices that fail.
+use crate::faults::Fault;
 use crate::files::{FileKind, NamedFile, shown_path};
 use crate::page::Page;
 use crate::table::put_sentence;
@@ -14,9 +15,9 @@ pub(crate) fn explain_device<R: Files>(
     told: &Told<'_>,
     page: &mut Page,
 ) {
-    let is_told = match told.name() {
-        b"OpenFailed" => put_unopened(rt, files, page),
-        b"ReadFailed" => put_folder(rt, files, page),
+    let is_told = match told.fault {
+        Fault::OpenFailed => put_unopened(rt, files, page),
+        Fault::ReadFailed => put_folder(rt, files, page),
         _ => false,
     };
     if !is_told {
@@ -39,20 +40,39 @@ fn put_unopened<R: Files>(rt: &R, files: &[NamedFile<'_>], page: &mut Page) -> b
 
 /// Why the file can't be opened. What is no file of bytes is not opened once more, since it may wait for ever.
 fn reason_of<R: Files>(rt: &R, file: NamedFile<'_>) -> Option<&'static str> {
-    let is_tape = file.kind == FileKind::Tape;
     match fs::metadata(rt, file.path) {
-        Err(e) if is_tape && e.kind() == ErrorKind::NotFound => Some(
+        Err(e) => Some(missing_reason(e.kind(), file.kind)),
+        Ok(metadata) if metadata.is_file() => opening_reason(rt, file),
+        Ok(metadata) => shape_reason(metadata.is_dir(), file.kind),
+    }
+}
+
+/// Why a file that can't be looked at can't be opened.
+fn missing_reason(reason: ErrorKind, kind: FileKind) -> &'static str {
+    match (reason, kind) {
+        (ErrorKind::NotFound, FileKind::Tape) =>
             "there is no such file, and it can't be made: its folder is missing, or may not be written",
-        ),
-        Err(e) => Some(kind_name(e.kind())),
-        Ok(metadata) if metadata.is_file() => match fs::open(rt, file.path) {
-            Ok(_) if is_tape => Some("it can be read, but perhaps not be written"),
-            Ok(_) => None,
-            Err(e) => Some(kind_name(e.kind())),
-        },
-        Ok(metadata) if is_tape && metadata.is_dir() => Some("it is a folder"),
-        Ok(_) if is_tape => Some("it is a pipe or a device, and no file of bytes"),
+        _ => kind_name(reason),
+    }
+}
+
+/// Why a file of bytes can't be opened.
+fn opening_reason<R: Files>(rt: &R, file: NamedFile<'_>) -> Option<&'static str> {
+    match fs::open(rt, file.path) {
+        Ok(_) if file.kind == FileKind::Tape => Some("it can be read, but perhaps not be written"),
         Ok(_) => None,
+        Err(e) => Some(kind_name(e.kind())),
+    }
+}
+
+/// Why what is no file of bytes can't be opened, if it can't.
+fn shape_reason(is_folder: bool, kind: FileKind) -> Option<&'static str> {
+    if kind != FileKind::Tape {
+        None
+    } else if is_folder {
+        Some("it is a folder")
+    } else {
+        Some("it is a pipe or a device, and no file of bytes")
     }
 }
 

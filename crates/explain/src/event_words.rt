@@ -1,48 +1,54 @@
 //! The faults of a list of events.
+use crate::faults::Fault;
 use crate::lines::Line;
 use crate::page::Page;
 use crate::showing::show_line;
-use crate::spans::{Parts, Span, content, number};
+use crate::spans::{Parts, Span, content, is_number_upto};
 use crate::told::Told;
 
 /// Explains a fault of a list of events, at this line.
 pub(crate) fn explain_events(told: &Told<'_>, line: &Line, page: &mut Page) {
     let bytes = line.bytes();
-    match told.name() {
-        b"NoHeader" => {
-            show_line(page, line, content(bytes));
-            page.say("Line 1 must be `mapf-events 1` or `mapf-events 2`, ended by an LF.\n");
+    let (place, words) = match told.fault {
+        Fault::NoHeader => (
+            content(bytes),
+            "Line 1 must be `mapf-events 1` or `mapf-events 2`, ended by an LF.\n",
+        ),
+        Fault::Unfinished => (
+            Span::before(bytes.len()),
+            "The text ends inside this line: an LF ends every line, the last one too.\n",
+        ),
+        _ if bytes.len() > 64 => (
+            Span { from: 64, upto: 65 },
+            "A line has at most 64 bytes before its LF.\n",
+        ),
+        _ => {
+            bad_event(line, page);
+            return;
         }
-        b"Unfinished" => {
-            show_line(
-                page,
-                line,
-                Span {
-                    from: bytes.len(),
-                    upto: bytes.len(),
-                },
-            );
-            page.say("The text ends inside this line: an LF ends every line, the last one too.\n");
-        }
-        _ if bytes.len() > 64 => {
-            show_line(page, line, Span { from: 64, upto: 65 });
-            page.say("A line has at most 64 bytes before its LF.\n");
-        }
-        _ => bad_event(line, page),
-    }
+    };
+    show_line(page, line, place);
+    page.say(words);
 }
 
-/// What an event's line is made of.
+/// An event's first word, and what its line is made of.
+static FORMS: [(&str, &str); 6] = [
+    ("start", "start I"),
+    ("finish", "finish I"),
+    ("say", "say I"),
+    ("deliver", "deliver I M"),
+    ("restart", "restart I"),
+    ("tear", "tear I N"),
+];
+
+/// What the line of an event with this first word is made of.
 fn form_of(word: &[u8]) -> Option<&'static str> {
-    match word {
-        b"start" => Some("start I"),
-        b"finish" => Some("finish I"),
-        b"say" => Some("say I"),
-        b"deliver" => Some("deliver I M"),
-        b"restart" => Some("restart I"),
-        b"tear" => Some("tear I N"),
-        _ => None,
+    for (first, form) in &FORMS {
+        if first.as_bytes() == word {
+            return Some(*form);
+        }
     }
+    None
 }
 
 fn bad_event(line: &Line, page: &mut Page) {
@@ -59,16 +65,21 @@ fn bad_event(line: &Line, page: &mut Page) {
         }
         Some(form) => {
             show_line(page, line, faulty_part(bytes, parts));
-            page.show(format_args!(
-                "This event is written `{form}`: one space between each two parts, and numbers in digits alone, without zeros in front"
-            ));
-            page.say(if form.contains(" M") {
-                ",\nagents up to 4294967295 and messages up to 18446744073709551615.\n"
-            } else {
-                ",\nup to 4294967295.\n"
-            });
+            put_form(form, page);
         }
     }
+}
+
+/// Puts how an event is written.
+fn put_form(form: &str, page: &mut Page) {
+    page.show(format_args!(
+        "This event is written `{form}`: one space between each two parts, and numbers in digits alone, without zeros in front"
+    ));
+    page.say(if form.contains(" M") {
+        ",\nagents up to 4294967295 and messages up to 18446744073709551615.\n"
+    } else {
+        ",\nup to 4294967295.\n"
+    });
 }
 
 /// The first part that is no number, or what is missing or too much at the end.
@@ -86,10 +97,7 @@ fn faulty_part(bytes: &[u8], parts: Parts) -> Span {
             4_294_967_295
         };
         match parts.get(place) {
-            None => return Span {
-                from: bytes.len(),
-                upto: bytes.len(),
-            },
+            None => return Span::before(bytes.len()),
             Some(span) if !is_number_upto(span.of(bytes), most) => return span,
             Some(_) => {}
         }
@@ -99,10 +107,4 @@ fn faulty_part(bytes: &[u8], parts: Parts) -> Span {
         from,
         upto: bytes.len(),
     }
-}
-
-/// Whether the bytes are a number as events spell it, and no greater.
-fn is_number_upto(bytes: &[u8], most: u64) -> bool {
-    let is_plain = bytes.len() == 1 || bytes.first().is_some_and(|b| *b != b'0');
-    is_plain && number(bytes).is_some_and(|value| value <= most)
 }

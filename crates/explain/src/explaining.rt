@@ -5,6 +5,7 @@ ghost use Rattle.grid.specs.Sink.{sink_writer};
 ghost use Rattle.explain.specs.Explaining.{GoesOn};
 
 use crate::devices::explain_device;
+use crate::faults::Fault;
 use crate::files::{FileKind, NamedFile};
 use crate::page::{Page, Style};
 use crate::plan_faults::explain_plan;
@@ -79,17 +80,30 @@ fn put_fault<R: Files>(
     told: &Told<'_>,
     page: &mut Page,
 ) {
-    match told.name() {
-        b"NoSuchRow" => no_such_row(rt, files, page),
-        b"SizeDiffers" => size_differs(rt, files, told, page),
-        b"NoSuchAgent" => no_such_agent(rt, files, page),
-        b"BadStart" | b"BadMove" | b"Vertex" | b"Swap" => explain_plan(rt, files, told, page),
-        name if is_of_tape(name) => explain_tape(rt, files, told, page),
-        name => match (shared_by(told), kind_of(name)) {
-            (Some(kinds), _) => explain_shared(rt, alloc, kinds, files, told, page),
-            (None, Some(kind)) => explain_text(rt, files, kind, told, page),
-            (None, None) => explain_device(rt, files, told, page),
-        },
+    match told.fault {
+        Fault::NoSuchRow => no_such_row(rt, files, page),
+        Fault::SizeDiffers => size_differs(rt, files, told, page),
+        Fault::NoSuchAgent => no_such_agent(rt, files, page),
+        Fault::BadStart | Fault::BadMove | Fault::Vertex | Fault::Swap => {
+            explain_plan(rt, files, told, page);
+        }
+        _ => put_fault_of_file(rt, alloc, files, told, page),
+    }
+}
+
+/// Explains a fault by what the file that has it is read as.
+fn put_fault_of_file<R: Files>(
+    rt: &R,
+    alloc: Global,
+    files: &[NamedFile<'_>],
+    told: &Told<'_>,
+    page: &mut Page,
+) {
+    match (shared_by(told), kind_of(told.fault)) {
+        (Some(kinds), _) => explain_shared(rt, alloc, kinds, files, told, page),
+        (None, Some(FileKind::Tape)) => explain_tape(rt, files, told, page),
+        (None, Some(kind)) => explain_text(rt, files, kind, told, page),
+        (None, None) => explain_device(rt, files, told, page),
     }
 }
 
@@ -103,58 +117,54 @@ fn explain_shared<R: Files>(
     page: &mut Page,
 ) {
     let [first, second] = kinds;
-    let is_first = if first == FileKind::Map {
-        is_of_map(rt, alloc, files, told)
-    } else {
-        is_of_plan(rt, files)
+    let is_first = match first {
+        FileKind::Map => is_of_map(rt, alloc, files, told),
+        _ => is_of_plan(rt, files),
     };
     match is_first {
-        Some(true) => explain_text(rt, files, first, told, page),
-        Some(false) => explain_text(rt, files, second, told, page),
+        Some(is_first) => {
+            let kind = if is_first { first } else { second };
+            explain_text(rt, files, kind, told, page);
+        }
         None => explain_either(files, kinds, told, page),
     }
 }
 
-/// Whether a tape was refused so.
-fn is_of_tape(name: &[u8]) -> bool {
-    matches!(
-        name,
-        b"Damaged"
-            | b"WrongPlan"
-            | b"WrongAgent"
-            | b"TooLong"
-            | b"NoRoom"
-            | b"TapeInUse"
-            | b"TapeExists"
-            | b"NoTape"
-            | b"TapeFailed"
-    )
-}
-
 /// The formats that have this fault, where there are two, in the order in which they are read.
 fn shared_by(told: &Told<'_>) -> Option<[FileKind; 2]> {
-    match told.name() {
-        b"BadHeader" | b"TextAfter" => Some([FileKind::Map, FileKind::Plan]),
-        b"BadNumber" if told.count() == 1 => Some([FileKind::Map, FileKind::Plan]),
-        b"Unfinished" => Some([FileKind::Plan, FileKind::Events]),
+    match told.fault {
+        Fault::BadHeader | Fault::TextAfter => Some([FileKind::Map, FileKind::Plan]),
+        Fault::BadNumber if told.count() == 1 => Some([FileKind::Map, FileKind::Plan]),
+        Fault::Unfinished => Some([FileKind::Plan, FileKind::Events]),
         _ => None,
     }
 }
 
-/// What the text was read as that alone has faults of this name.
-fn kind_of(name: &[u8]) -> Option<FileKind> {
-    match name {
-        b"TooLarge" | b"BadTerrain" | b"ShortRow" | b"LongRow" | b"MissingRows" => {
-            Some(FileKind::Map)
-        }
-        b"LineTooLong"
-        | b"NoVersion"
-        | b"FieldCount"
-        | b"BadNumber"
-        | b"OutOfGrid"
-        | b"BadLength" => Some(FileKind::Scenario),
-        b"TooMany" | b"BadAgent" | b"BadAct" => Some(FileKind::Plan),
-        b"NoHeader" | b"BadEvent" => Some(FileKind::Events),
+/// What the file was read as that alone has this fault.
+fn kind_of(fault: Fault) -> Option<FileKind> {
+    match fault {
+        Fault::TooLarge
+        | Fault::BadTerrain
+        | Fault::ShortRow
+        | Fault::LongRow
+        | Fault::MissingRows => Some(FileKind::Map),
+        Fault::LineTooLong
+        | Fault::NoVersion
+        | Fault::FieldCount
+        | Fault::BadNumber
+        | Fault::OutOfGrid
+        | Fault::BadLength => Some(FileKind::Scenario),
+        Fault::TooMany | Fault::BadAgent | Fault::BadAct => Some(FileKind::Plan),
+        Fault::NoHeader | Fault::BadEvent => Some(FileKind::Events),
+        Fault::Damaged
+        | Fault::WrongPlan
+        | Fault::WrongAgent
+        | Fault::TooLong
+        | Fault::NoRoom
+        | Fault::TapeInUse
+        | Fault::TapeExists
+        | Fault::NoTape
+        | Fault::TapeFailed => Some(FileKind::Tape),
         _ => None,
     }
 }

@@ -5,6 +5,7 @@ mod beginning;
 mod devices;
 mod event_words;
 mod explaining;
+mod faults;
 mod files;
 mod help;
 mod lines;

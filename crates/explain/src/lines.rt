@@ -8,7 +8,7 @@ use std::rt::Files;
 const LONGEST: usize = 65_664;
 
 /// How a line came to its end.
-#[derive(Clone, Copy, Debug, PartialEq, Eq)]
+#[derive(Clone, Copy, PartialEq, Eq)]
 pub(crate) enum LineEnd {
     LineFeed,
     EndOfText,

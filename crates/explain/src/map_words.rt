@@ -1,4 +1,5 @@
 //! The faults of a map.
+use crate::faults::Fault;
 use crate::lines::{Line, LineEnd};
 use crate::page::Page;
 use crate::showing::show_line;
@@ -7,7 +8,7 @@ use crate::told::Told;
 use std::rt::Files;
 
 /// How many cells a row has, and how many rows there are.
-#[derive(Clone, Copy, Debug)]
+#[derive(Clone, Copy)]
 pub(crate) struct Size {
     pub(crate) width: u64,
     pub(crate) height: u64,
@@ -37,12 +38,12 @@ pub(crate) fn explain_map<R: Files>(
     line: &Line,
     page: &mut Page,
 ) {
-    match told.name() {
-        b"BadHeader" => bad_header(line, page),
-        b"BadNumber" => bad_number(line, page),
-        b"TooLarge" => too_large(rt, path, line, page),
-        b"BadTerrain" => bad_terrain(told, line, page),
-        b"TextAfter" => text_after(rt, path, line, page),
+    match told.fault {
+        Fault::BadHeader => bad_header(line, page),
+        Fault::BadNumber => bad_number(line, page),
+        Fault::TooLarge => too_large(rt, path, line, page),
+        Fault::BadTerrain => bad_terrain(told.number(1), line, page),
+        Fault::TextAfter => text_after(rt, path, line, page),
         other => bad_row(other, map_size(rt, path), line, page),
     }
 }
@@ -64,6 +65,14 @@ fn bad_header(line: &Line, page: &mut Page) {
     } else {
         page.show(format_args!("The text ends before line {number}. "));
     }
+    put_header(number, page);
+    if content(line.bytes()).of(line.bytes()).starts_with(b"width") && number == 2 {
+        page.say("The height comes first, and then the width.\n");
+    }
+}
+
+/// Says what the line with this number must be.
+fn put_header(number: u64, page: &mut Page) {
     let word = header_word(number);
     page.show(format_args!("Line {number} must be `{word}`"));
     page.say(if number == 2 || number == 3 {
@@ -71,31 +80,29 @@ fn bad_header(line: &Line, page: &mut Page) {
     } else {
         ".\n"
     });
-    if content(line.bytes()).of(line.bytes()).starts_with(b"width") && number == 2 {
-        page.say("The height comes first, and then the width.\n");
-    }
 }
 
 fn bad_number(line: &Line, page: &mut Page) {
-    let bytes = line.bytes();
     let word = header_word(line.number);
-    let whole = content(bytes);
-    let from = whole.from.saturating_add(word.len()).min(whole.upto);
-    let given = Span {
-        from,
-        upto: whole.upto,
-    };
-    let blanks = content(given.of(bytes)).from;
-    let value = Span {
-        from: from.saturating_add(blanks),
-        upto: whole.upto,
-    };
+    let value = span_behind(line.bytes(), word);
     show_line(page, line, value);
     page.show(format_args!(
         "The {word} must be a number from 1 to 65535, in digits alone, and is "
     ));
-    page.quote(value.of(bytes));
+    page.quote(value.of(line.bytes()));
     page.say(".\n");
+}
+
+/// What stands behind the word that begins a line.
+fn span_behind(line: &[u8], word: &str) -> Span {
+    let Span { from, upto } = content(line);
+    let behind = from.saturating_add(word.len()).min(upto);
+    let given = Span { from: behind, upto };
+    let blanks = content(given.of(line)).from;
+    Span {
+        from: behind.saturating_add(blanks),
+        upto,
+    }
 }
 
 fn too_large<R: Files>(rt: &R, path: &str, line: &Line, page: &mut Page) {
@@ -111,64 +118,74 @@ fn too_large<R: Files>(rt: &R, path: &str, line: &Line, page: &mut Page) {
     }
 }
 
-fn bad_terrain(told: &Told<'_>, line: &Line, page: &mut Page) {
-    let column = told.number(1);
+fn bad_terrain(column: u64, line: &Line, page: &mut Page) {
     let place = Span::at_column(column);
+    let given = place.of(line.bytes());
     show_line(page, line, place);
-    let (x, y) = (column.saturating_sub(1), line.number.saturating_sub(5));
+    let (x, y) = (column.saturating_sub(1), row_of(line));
     page.show(format_args!("Cell {x} {y} (its column and row, from 0) is "));
-    page.quote(place.of(line.bytes()));
+    page.quote(given);
     page.say(".\nA cell is one of . G (land) S (swamp) W (water) @ O (out of bounds) T (trees).\n");
-    match place.of(line.bytes()).first() {
-        Some(b'\r') => page.say("A CR ends a line only before an LF.\n"),
-        Some(b' ' | b'\t') => page.say(
+    page.say(terrain_hint(given.first().copied()));
+}
+
+/// What is said of a character that is often written in place of terrain.
+fn terrain_hint(character: Option<u8>) -> &'static str {
+    match character {
+        Some(b'\r') => "A CR ends a line only before an LF.\n",
+        Some(b' ' | b'\t') =>
             "No blanks stand in a row, neither before nor between nor behind its cells.\n",
-        ),
-        Some(b'g' | b's' | b'w' | b'o' | b't') => page.say(
-            "Terrain is written in capital letters.\n",
-        ),
-        Some(b'#' | b'x' | b'X' | b'*' | b'1') => page.say("A wall is written `@` or `T`.\n"),
-        Some(b'0' | b'_') => page.say("A free cell is written `.`.\n"),
-        _ => {}
+        Some(b'g' | b's' | b'w' | b'o' | b't') => "Terrain is written in capital letters.\n",
+        Some(b'#' | b'x' | b'X' | b'*' | b'1') => "A wall is written `@` or `T`.\n",
+        Some(b'0' | b'_') => "A free cell is written `.`.\n",
+        _ => "",
     }
 }
 
+/// The row that the line is of, from 0.
+fn row_of(line: &Line) -> u64 {
+    line.number.saturating_sub(5)
+}
+
 /// Rows that are too short, too long or not there.
-fn bad_row(name: &[u8], size: Option<Size>, line: &Line, page: &mut Page) {
+fn bad_row(fault: Fault, size: Option<Size>, line: &Line, page: &mut Page) {
     let Size { width, height } = size.unwrap_or(Size {
         width: 0,
         height: 0,
     });
-    let row = line.number.saturating_sub(5);
-    match name {
-        b"ShortRow" => {
-            let count = content(line.bytes()).upto;
-            show_line(
-                page,
-                line,
-                Span {
-                    from: count,
-                    upto: count,
-                },
-            );
-            page.show(format_args!(
-                "Row {row} (from 0) has {count} cells, and line 3 gives the width {width}.\n"
-            ));
-            if line.end == LineEnd::EndOfText {
-                page.say("The text ends here.\n");
-            }
-        }
-        b"LongRow" => {
-            show_line(page, line, Span::at_column(width.saturating_add(1)));
-            let count = content(line.bytes()).upto;
-            page.show(format_args!(
-                "Row {row} (from 0) must end after {width} cells, the width that line 3 gives, and has {count}.\n"
-            ));
-        }
-        _ => page.show(format_args!(
-            "The text ends after {row} rows, and line 2 gives the height {height}.\n"
-        )),
+    match fault {
+        Fault::ShortRow => short_row(width, line, page),
+        Fault::LongRow => long_row(width, line, page),
+        _ => missing_rows(height, line, page),
     }
+}
+
+fn short_row(width: u64, line: &Line, page: &mut Page) {
+    let row = row_of(line);
+    let count = content(line.bytes()).upto;
+    show_line(page, line, Span::before(count));
+    page.show(format_args!(
+        "Row {row} (from 0) has {count} cells, and line 3 gives the width {width}.\n"
+    ));
+    if line.end == LineEnd::EndOfText {
+        page.say("The text ends here.\n");
+    }
+}
+
+fn long_row(width: u64, line: &Line, page: &mut Page) {
+    let row = row_of(line);
+    let count = content(line.bytes()).upto;
+    show_line(page, line, Span::at_column(width.saturating_add(1)));
+    page.show(format_args!(
+        "Row {row} (from 0) must end after {width} cells, the width that line 3 gives, and has {count}.\n"
+    ));
+}
+
+fn missing_rows(height: u64, line: &Line, page: &mut Page) {
+    let row = row_of(line);
+    page.show(format_args!(
+        "The text ends after {row} rows, and line 2 gives the height {height}.\n"
+    ));
 }
 
 fn text_after<R: Files>(rt: &R, path: &str, line: &Line, page: &mut Page) {

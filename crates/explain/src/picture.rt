@@ -5,6 +5,7 @@ use crate::map_words::{Size, map_size};
 use crate::page::Page;
 use crate::walks::Place;
 use grid::{Counted, Source, Terrain};
+use std::io::Read;
 use std::rt::Files;
 
 /// So many columns and rows are shown, where the map has as many.
@@ -60,25 +61,31 @@ pub(crate) fn put_picture<R: Files>(
     marks: &Marks,
     page: &mut Page,
 ) {
-    let Some(size) = map_size(rt, path) else {
-        return;
-    };
-    let window = Window::around(size, middle);
-    let Some(file) = open_again(rt, path) else {
-        return;
-    };
-    let mut reader = Counted::new(file);
-    let mut source = Source::new(&mut reader);
-    let (left, right) = (window.left, window.right);
-    page.show(format_args!("      columns {left} to {right}, at time {time}:\n"));
-    let above = u64::try_from(window.top).unwrap_or(0).saturating_add(4);
-    if pass_lines(&mut source, above).is_err() {
-        return;
+    if let Some(size) = map_size(rt, path)
+        && let Some(file) = open_again(rt, path)
+    {
+        let window = Window::around(size, middle);
+        put_columns(window, time, page);
+        let mut reader = Counted::new(file);
+        put_rows(&mut Source::new(&mut reader), window, marks, page);
     }
-    let mut line = Line::new();
-    for y in window.top..window.bottom.saturating_add(1) {
-        line.take(&mut source);
-        put_row(line.bytes(), y, window, marks, page);
+}
+
+/// Puts which columns are shown.
+fn put_columns(window: Window, time: u64, page: &mut Page) {
+    let Window { left, right, .. } = window;
+    page.show(format_args!("      columns {left} to {right}, at time {time}:\n"));
+}
+
+/// Puts the rows that are shown of a map.
+fn put_rows<F: Read>(source: &mut Source<'_, F>, window: Window, marks: &Marks, page: &mut Page) {
+    let above = u64::try_from(window.top).unwrap_or(0).saturating_add(4);
+    if pass_lines(source, above).is_ok() {
+        let mut line = Line::new();
+        for y in window.top..window.bottom.saturating_add(1) {
+            line.take(source);
+            put_row(line.bytes(), y, window, marks, page);
+        }
     }
 }
 
@@ -115,14 +122,20 @@ fn put_place(terrain: u8, place: Place, marks: &Marks, page: &mut Page) {
 
 /// The terrain of a place; `None` off the map.
 pub(crate) fn terrain_at<R: Files>(rt: &R, path: &str, place: Place) -> Option<Terrain> {
-    let size = map_size(rt, path)?;
-    let x = u64::try_from(place.x).ok()?;
-    let y = u64::try_from(place.y).ok()?;
-    if x >= size.width || y >= size.height {
-        return None;
-    }
+    let (x, y) = cell_on(map_size(rt, path)?, place)?;
     let mut line = Line::new();
     line.find(rt, path, y.saturating_add(5));
-    let character = line.bytes().get(usize::try_from(x).ok()?).copied()?;
+    let character = line.bytes().get(x).copied()?;
     Terrain::from_character(character)
+}
+
+/// The column and the row of a place on a map of this size; `None` off the map.
+fn cell_on(size: Size, place: Place) -> Option<(usize, u64)> {
+    let x = u64::try_from(place.x).ok()?;
+    let y = u64::try_from(place.y).ok()?;
+    if x < size.width && y < size.height {
+        Some((usize::try_from(x).ok()?, y))
+    } else {
+        None
+    }
 }

@@ -1,9 +1,10 @@
 //! What a plan must not do.
+use crate::faults::Fault;
 use crate::files::{FileKind, NamedFile, file_of, shown_path};
 use crate::lines::Line;
-use crate::map_words::map_size;
+use crate::map_words::{Size, map_size};
 use crate::page::Page;
-use crate::picture::{Marks, put_picture, terrain_at};
+use crate::picture::{put_picture, terrain_at};
 use crate::plan_words::FIRST_AGENT;
 use crate::table::put_sentence;
 use crate::told::Told;
@@ -26,33 +27,51 @@ pub(crate) fn explain_plan<R: Files>(
     told: &Told<'_>,
     page: &mut Page,
 ) {
-    let (Some(map), Some(plan)) = (
-        file_of(files, FileKind::Map),
-        file_of(files, FileKind::Plan),
-    ) else {
-        return;
-    };
-    let mut line = Line::new();
-    find_agent(rt, plan.path, told.number(0), &mut line);
-    put_place(map, plan, told.number(0), page);
-    let Some(course) = Course::read(&line) else {
-        page.say("The plan can't be read once more here.\n");
-        put_sentence(told.name(), FileKind::Plan, page);
-        return;
-    };
-    let first = Agent {
-        letter: 'a',
-        number: told.number(0),
-        course,
-    };
-    match told.name() {
-        b"BadStart" => bad_start(rt, map.path, first, page),
-        b"BadMove" => bad_move(rt, map.path, first, told.number(1), page),
-        _ => meeting(rt, map, plan, first, told, page),
+    let map = file_of(files, FileKind::Map);
+    let plan = file_of(files, FileKind::Plan);
+    if let (Some(map), Some(plan)) = (map, plan) {
+        put_title(map, plan, told.number(0), page);
+        explain_on_map(rt, map.path, plan.path, told, page);
     }
 }
 
-fn put_place(map: NamedFile<'_>, plan: NamedFile<'_>, agent: u64, page: &mut Page) {
+/// Explains a fault of a plan, with the line of the first agent that it names.
+fn explain_on_map<R: Files>(rt: &R, map: &str, plan: &str, told: &Told<'_>, page: &mut Page) {
+    let number = told.number(0);
+    let mut line = Line::new();
+    find_agent(rt, plan, number, &mut line);
+    match Course::read(&line) {
+        Some(course) => {
+            let first = Agent {
+                letter: 'a',
+                number,
+                course,
+            };
+            explain_agent(rt, map, plan, first, told, page);
+        }
+        None => {
+            page.say("The plan can't be read once more here.\n");
+            put_sentence(told.name(), FileKind::Plan, page);
+        }
+    }
+}
+
+fn explain_agent<R: Files>(
+    rt: &R,
+    map: &str,
+    plan: &str,
+    first: Agent<'_>,
+    told: &Told<'_>,
+    page: &mut Page,
+) {
+    match told.fault {
+        Fault::BadStart => bad_start(rt, map, first, page),
+        Fault::BadMove => bad_move(rt, map, first, told.number(1), page),
+        _ => explain_both(rt, map, plan, first, told, page),
+    }
+}
+
+fn put_title(map: NamedFile<'_>, plan: NamedFile<'_>, agent: u64, page: &mut Page) {
     let (map, plan) = (shown_path(map), shown_path(plan));
     let line = agent.saturating_add(FIRST_AGENT);
     page.show(format_args!("{plan}:{line}, a plan on the map {map}:\n"));
@@ -100,22 +119,24 @@ fn column_of(place: usize) -> usize {
 /// Says what is at a place that can't be entered.
 fn put_ground<R: Files>(rt: &R, path: &str, place: Place, page: &mut Page) {
     match terrain_at(rt, path, place) {
-        None => {
-            page.say("off the map");
-            if let Some(size) = map_size(rt, path) {
-                let (last_x, last_y) = (
-                    size.width.saturating_sub(1),
-                    size.height.saturating_sub(1),
-                );
-                page.show(format_args!(", whose columns are 0 to {last_x} and rows 0 to {last_y}"));
-            }
-        }
-        Some(terrain) => {
-            let character = char::from(terrain.character());
-            let name = terrain_name(terrain);
-            page.show(format_args!("{name} (`{character}`)"));
-        }
+        None => put_off(map_size(rt, path), page),
+        Some(terrain) => put_terrain(terrain, page),
     }
+}
+
+/// Says that a place is off a map of this size.
+fn put_off(size: Option<Size>, page: &mut Page) {
+    page.say("off the map");
+    if let Some(Size { width, height }) = size {
+        let (last_x, last_y) = (width.saturating_sub(1), height.saturating_sub(1));
+        page.show(format_args!(", whose columns are 0 to {last_x} and rows 0 to {last_y}"));
+    }
+}
+
+fn put_terrain(terrain: Terrain, page: &mut Page) {
+    let character = char::from(terrain.character());
+    let name = terrain_name(terrain);
+    page.show(format_args!("{name} (`{character}`)"));
 }
 
 fn terrain_name(terrain: Terrain) -> &'static str {
@@ -131,17 +152,28 @@ fn terrain_name(terrain: Terrain) -> &'static str {
 fn bad_start<R: Files>(rt: &R, map: &str, agent: Agent<'_>, page: &mut Page) {
     let Agent { number, course, .. } = agent;
     let place = course.place(0);
-    let Place { x, y } = place;
-    page.show(format_args!("Agent {number} starts in column {x}, row {y}, which is "));
+    page.show(format_args!("Agent {number} starts in "));
+    put_cell(place, page);
+    page.say(", which is ");
     put_ground(rt, map, place, page);
     page.say(".\n");
-    // Off the map columns and rows may have been exchanged; elsewhere that would be a guess.
+    put_exchanged(rt, map, place, page);
+    let marks = [(b'a', Some(place)), (b'a', None), (b'a', None)];
+    put_picture(rt, map, place, 0, &marks, page);
+}
+
+fn put_cell(place: Place, page: &mut Page) {
+    let Place { x, y } = place;
+    page.show(format_args!("column {x}, row {y}"));
+}
+
+/// Says that a place off the map has its column and its row exchanged, where that may be; elsewhere it would be a guess.
+fn put_exchanged<R: Files>(rt: &R, map: &str, place: Place, page: &mut Page) {
+    let Place { x, y } = place;
     let is_off = terrain_at(rt, map, place).is_none();
     if is_off && terrain_at(rt, map, Place { x: y, y: x }).is_some_and(is_free) {
         page.show(format_args!("Column {y}, row {x} is free: the column comes first.\n"));
     }
-    let marks = [(b'a', Some(place)), (b'a', None), (b'a', None)];
-    put_picture(rt, map, place, 0, &marks, page);
 }
 
 /// Whether an agent may stand there.
@@ -153,94 +185,109 @@ fn is_free(terrain: Terrain) -> bool {
 }
 
 fn bad_move<R: Files>(rt: &R, map: &str, agent: Agent<'_>, step: u64, page: &mut Page) {
-    let Agent { number, course, .. } = agent;
-    let from = course.place(step);
-    let to = course.place(step.saturating_add(1));
-    let act = char::from(course.act(step));
-    let Place { x, y } = to;
-    page.show(format_args!(
-        "In step {step} agent {number} moves by `{act}` to column {x}, row {y}, which is "
-    ));
-    put_ground(rt, map, to, page);
-    page.say(".\n");
-    if terrain_at(rt, map, to).is_some_and(is_free) {
-        page.say("Between land and water, and between swamp and water, there is no move.\n");
-    }
+    let from = agent.course.place(step);
+    let to = agent.course.place(step.saturating_add(1));
+    put_move(agent, step, to, page);
+    put_refused(rt, map, to, page);
     put_times(&[agent], step, page);
     let marks = [(b'x', Some(to)), (b'a', Some(from)), (b'x', None)];
     put_picture(rt, map, from, step, &marks, page);
 }
 
-/// Two agents in a cell, or that exchange cells.
-fn meeting<R: Files>(
+fn put_move(agent: Agent<'_>, step: u64, to: Place, page: &mut Page) {
+    let Agent { number, course, .. } = agent;
+    let act = char::from(course.act(step));
+    page.show(format_args!("In step {step} agent {number} moves by `{act}` to "));
+    put_cell(to, page);
+}
+
+/// Says why a move can't enter a place.
+fn put_refused<R: Files>(rt: &R, map: &str, to: Place, page: &mut Page) {
+    page.say(", which is ");
+    put_ground(rt, map, to, page);
+    page.say(".\n");
+    if terrain_at(rt, map, to).is_some_and(is_free) {
+        page.say("Between land and water, and between swamp and water, there is no move.\n");
+    }
+}
+
+/// Explains a fault that names two agents.
+fn explain_both<R: Files>(
     rt: &R,
-    map: NamedFile<'_>,
-    plan: NamedFile<'_>,
+    map: &str,
+    plan: &str,
     first: Agent<'_>,
     told: &Told<'_>,
     page: &mut Page,
 ) {
+    let number = told.number(1);
     let mut line = Line::new();
-    find_agent(rt, plan.path, told.number(1), &mut line);
-    let Some(course) = Course::read(&line) else {
-        return;
-    };
-    let second = Agent {
-        letter: 'b',
-        number: told.number(1),
-        course,
-    };
-    let time = told.number(2);
-    if matches!(told.name(), b"Swap") {
-        put_swap(first, second, time, page);
-    } else {
-        put_vertex(first, second, time, page);
-    }
-    put_times(&[first, second], time, page);
-    let is_vertex = matches!(told.name(), b"Vertex");
-    let shown = if is_vertex {
-        time.saturating_sub(1)
-    } else {
-        time
-    };
-    let marks = marks_of(first, second, is_vertex, shown, time);
-    put_picture(rt, map.path, first.course.place(time), shown, &marks, page);
-}
-
-/// Where both are at the time that is shown, and the cell that both enter.
-fn marks_of(first: Agent<'_>, second: Agent<'_>, is_vertex: bool, shown: u64, time: u64) -> Marks {
-    let met = if is_vertex {
-        Some(first.course.place(time))
-    } else {
-        None
-    };
-    [
-        (b'x', met),
-        (b'a', Some(first.course.place(shown))),
-        (b'b', Some(second.course.place(shown))),
-    ]
-}
-
-fn put_swap(first: Agent<'_>, second: Agent<'_>, step: u64, page: &mut Page) {
-    let (i, j) = (first.number, second.number);
-    let Place { x, y } = first.course.place(step);
-    let Place { x: u, y: v } = second.course.place(step);
-    page.show(format_args!(
-        "In step {step} agent {i} moves from {x} {y} to {u} {v}, and agent {j} the other way: they would pass through each other.\n"
-    ));
-}
-
-fn put_vertex(first: Agent<'_>, second: Agent<'_>, time: u64, page: &mut Page) {
-    let (i, j) = (first.number, second.number);
-    let Place { x, y } = first.course.place(time);
-    page.show(format_args!("At time {time} agents {i} and {j} are both in column {x}, row {y}.\n"));
-    for agent in [first, second] {
-        let Agent { number, course, .. } = agent;
-        let end = course.len();
-        if end < time {
-            page.show(format_args!(
-                "Agent {number} has no act left since time {end}, and stays in its last cell for ever.\n"
-            ));
+    find_agent(rt, plan, number, &mut line);
+    if let Some(course) = Course::read(&line) {
+        let second = Agent {
+            letter: 'b',
+            number,
+            course,
+        };
+        match told.fault {
+            Fault::Swap => swap(rt, map, [first, second], told.number(2), page),
+            _ => vertex(rt, map, [first, second], told.number(2), page),
         }
+    }
+}
+
+/// Two agents that exchange cells.
+fn swap<R: Files>(rt: &R, map: &str, agents: [Agent<'_>; 2], step: u64, page: &mut Page) {
+    let [first, second] = agents;
+    let (from, to) = (first.course.place(step), second.course.place(step));
+    put_swap([first.number, second.number], [from, to], step, page);
+    put_times(&agents, step, page);
+    let marks = [(b'x', None), (b'a', Some(from)), (b'b', Some(to))];
+    put_picture(rt, map, from, step, &marks, page);
+}
+
+fn put_swap(numbers: [u64; 2], places: [Place; 2], step: u64, page: &mut Page) {
+    let ([i, j], [from, to]) = (numbers, places);
+    page.show(format_args!("In step {step} agent {i} moves from "));
+    put_place(from, page);
+    page.say(" to ");
+    put_place(to, page);
+    page.show(format_args!(", and agent {j} the other way: they would pass through each other.\n"));
+}
+
+fn put_place(place: Place, page: &mut Page) {
+    let Place { x, y } = place;
+    page.show(format_args!("{x} {y}"));
+}
+
+/// Two agents in a cell.
+fn vertex<R: Files>(rt: &R, map: &str, agents: [Agent<'_>; 2], time: u64, page: &mut Page) {
+    let [first, second] = agents;
+    let cell = first.course.place(time);
+    put_vertex([first.number, second.number], cell, time, page);
+    put_end(first, time, page);
+    put_end(second, time, page);
+    put_times(&agents, time, page);
+    let shown = time.saturating_sub(1);
+    let (a, b) = (first.course.place(shown), second.course.place(shown));
+    let marks = [(b'x', Some(cell)), (b'a', Some(a)), (b'b', Some(b))];
+    put_picture(rt, map, cell, shown, &marks, page);
+}
+
+fn put_vertex(numbers: [u64; 2], cell: Place, time: u64, page: &mut Page) {
+    let [i, j] = numbers;
+    page.show(format_args!("At time {time} agents {i} and {j} are both in "));
+    put_cell(cell, page);
+    page.say(".\n");
+}
+
+/// Says that the agent has come to its end before this time, where it has.
+fn put_end(agent: Agent<'_>, time: u64, page: &mut Page) {
+    let Agent { number, course, .. } = agent;
+    let end = course.len();
+    if end < time {
+        page.show(format_args!(
+            "Agent {number} has no act left since time {end}, and stays in its last cell for ever.\n"
+        ));
     }
 }

@@ -1,8 +1,9 @@
 //! The faults of a plan's text.
+use crate::faults::Fault;
 use crate::lines::{Line, LineEnd};
 use crate::page::Page;
 use crate::showing::show_line;
-use crate::spans::{Parts, Span, content, number};
+use crate::spans::{Parts, Span, content, is_number_upto, number};
 use crate::told::Told;
 use std::rt::Files;
 
@@ -31,35 +32,32 @@ pub(crate) fn explain_plan_text<R: Files>(
     line: &Line,
     page: &mut Page,
 ) {
-    match told.name() {
-        b"BadHeader" => bad_header(line, page),
-        b"BadNumber" => bad_number(line, page),
-        b"BadAgent" => bad_agent(line, page),
-        b"BadAct" => bad_act(told, line, page),
-        b"TooMany" => too_many(line, page),
-        b"Unfinished" => unfinished(announced_agents(rt, path), line, page),
+    match told.fault {
+        Fault::BadHeader => bad_header(line, page),
+        Fault::BadNumber => bad_number(line, page),
+        Fault::BadAgent => bad_agent(line, page),
+        Fault::BadAct => bad_act(told.number(1), line, page),
+        Fault::TooMany => too_many(line, page),
+        Fault::Unfinished => unfinished(announced_agents(rt, path), line, page),
         _ => text_after(announced_agents(rt, path), line, page),
     }
 }
 
 fn bad_header(line: &Line, page: &mut Page) {
     show_line(page, line, content(line.bytes()));
-    match line.number {
-        1 => page.say(
+    page.say(match line.number {
+        1 =>
             "Line 1 must be `mapf-plan 1`. `tools/convert.py` makes a plan of what many planners write.\n",
-        ),
-        2 => page.say("Line 2 must be `number`, one space and the plan's number, as `number 7`.\n"),
-        _ => page.say(
-            "Line 3 must be `agents`, one space and how many agents there are, as `agents 2`.\n",
-        ),
-    }
+        2 => "Line 2 must be `number`, one space and the plan's number, as `number 7`.\n",
+        _ => "Line 3 must be `agents`, one space and how many agents there are, as `agents 2`.\n",
+    });
 }
 
 /// The first part of an agent's line that is to be a number up to 65,535 and is none, else what follows the first word.
 fn faulty_number(line: &Line) -> Span {
     let parts = Parts::at_spaces(line.bytes());
     let first = parts.get(1).unwrap_or(content(line.bytes()));
-    if line.number >= FIRST_AGENT && is_coordinate(first.of(line.bytes())) {
+    if line.number >= FIRST_AGENT && is_number_upto(first.of(line.bytes()), 65_535) {
         return parts.get(2).unwrap_or(first);
     }
     let upto = if line.number < FIRST_AGENT {
@@ -71,12 +69,6 @@ fn faulty_number(line: &Line) -> Span {
         from: first.from,
         upto,
     }
-}
-
-/// Whether the bytes are a number up to 65,535, as a plan spells it.
-fn is_coordinate(bytes: &[u8]) -> bool {
-    let is_plain = bytes.len() == 1 || bytes.first().is_some_and(|b| *b != b'0');
-    is_plain && number(bytes).is_some_and(|value| value <= 65_535)
 }
 
 fn bad_number(line: &Line, page: &mut Page) {
@@ -92,113 +84,107 @@ fn bad_number(line: &Line, page: &mut Page) {
 }
 
 fn bad_agent(line: &Line, page: &mut Page) {
-    let bytes = line.bytes();
-    let parts = Parts::at_spaces(bytes);
-    let count = parts.count();
-    let (place, about) = if !bytes.starts_with(b"agent ") {
-        (
-            parts.get(0).unwrap_or(content(bytes)),
-            "It doesn't begin with `agent` and a space.",
-        )
-    } else if let Some(empty) = parts.first_empty() {
-        (
-            empty,
-            "One space stands between each two parts, and none at the end.",
-        )
-    } else if count < 4 {
-        (
-            Span {
-                from: bytes.len(),
-                upto: bytes.len(),
-            },
-            "Parts are missing: where an agent has no act, `=` stands for them.",
-        )
-    } else {
-        let from = parts.get(4).map_or(bytes.len(), |extra| extra.from);
-        (
-            Span {
-                from,
-                upto: bytes.len(),
-            },
-            "No space stands between the acts or behind them.",
-        )
-    };
+    let (place, about) = misplaced(line.bytes());
     show_line(page, line, place);
     let agent = line.number.saturating_sub(FIRST_AGENT);
     page.show(format_args!(
         "The line of agent {agent} must be `agent`, the column and the row of its start, and its acts, as `agent 1 0 e-`.\n"
     ));
     page.say(about);
-    page.say("\n");
 }
 
-fn bad_act(told: &Told<'_>, line: &Line, page: &mut Page) {
-    let place = Span::at_column(told.number(1));
+/// Where the line of an agent isn't cut as it must be, and what is said of that.
+fn misplaced(bytes: &[u8]) -> (Span, &'static str) {
+    let parts = Parts::at_spaces(bytes);
+    let upto = bytes.len();
+    if !bytes.starts_with(b"agent ") {
+        (
+            parts.get(0).unwrap_or(content(bytes)),
+            "It doesn't begin with `agent` and a space.\n",
+        )
+    } else if let Some(empty) = parts.first_empty() {
+        (
+            empty,
+            "One space stands between each two parts, and none at the end.\n",
+        )
+    } else if parts.count() < 4 {
+        (
+            Span::before(upto),
+            "Parts are missing: where an agent has no act, `=` stands for them.\n",
+        )
+    } else {
+        let from = parts.get(4).map_or(upto, |extra| extra.from);
+        (
+            Span { from, upto },
+            "No space stands between the acts or behind them.\n",
+        )
+    }
+}
+
+fn bad_act(column: u64, line: &Line, page: &mut Page) {
+    let place = Span::at_column(column);
+    let given = place.of(line.bytes());
     show_line(page, line, place);
-    page.quote(place.of(line.bytes()));
+    page.quote(given);
     page.say(
         " is no act. An act is one of n e s w (a move to the north, east, south or west) and - (a wait);\n`=` alone stands for no acts.\n",
     );
-    match place.of(line.bytes()).first() {
-        Some(b'N' | b'E' | b'S' | b'W') => page.say("Acts are written in small letters.\n"),
-        Some(b'u' | b'd' | b'l' | b'r' | b'U' | b'D' | b'L' | b'R') => page.say(
+    page.say(act_hint(given.first().copied()));
+}
+
+/// What is said of a character that is often written in place of an act.
+fn act_hint(character: Option<u8>) -> &'static str {
+    match character {
+        Some(b'N' | b'E' | b'S' | b'W') => "Acts are written in small letters.\n",
+        Some(b'u' | b'd' | b'l' | b'r' | b'U' | b'D' | b'L' | b'R') =>
             "Up is n, down is s, left is w, right is e.\n",
-        ),
-        _ => {}
+        _ => "",
     }
 }
 
 fn too_many(line: &Line, page: &mut Page) {
     let bytes = line.bytes();
-    let acts = Parts::at_spaces(bytes).get(3).unwrap_or(content(bytes));
     if line.end == LineEnd::Longer || bytes.len() > 65_553 {
-        show_line(
-            page,
-            line,
-            Span {
-                from: 65_553,
-                upto: 65_554,
-            },
-        );
+        show_line(page, line, Span::at_column(65_554));
         page.say("A line has at most 65553 bytes before its LF.\n");
     } else if line.number < FIRST_AGENT {
         show_line(page, line, content(bytes));
         page.say("A plan has at most 10000 agents.\n");
     } else {
-        show_line(page, line, acts);
-        let count = acts.upto.saturating_sub(acts.from);
-        page.show(format_args!(
-            "This agent has {count} acts. An agent has at most 65535, and all agents together have at most 16777216.\n"
-        ));
+        too_many_acts(line, page);
     }
+}
+
+fn too_many_acts(line: &Line, page: &mut Page) {
+    let bytes = line.bytes();
+    let acts = Parts::at_spaces(bytes).get(3).unwrap_or(content(bytes));
+    show_line(page, line, acts);
+    let count = acts.upto.saturating_sub(acts.from);
+    page.show(format_args!(
+        "This agent has {count} acts. An agent has at most 65535, and all agents together have at most 16777216.\n"
+    ));
 }
 
 fn unfinished(agents: Option<u64>, line: &Line, page: &mut Page) {
     if line.is_there() {
-        let end = line.bytes().len();
-        show_line(
-            page,
-            line,
-            Span {
-                from: end,
-                upto: end,
-            },
-        );
+        show_line(page, line, Span::before(line.bytes().len()));
         page.say("The text ends inside this line: an LF ends every line, the last one too.\n");
     }
+    put_missing(agents, line.number, page);
+}
+
+/// Says that lines from this number on are missing.
+fn put_missing(agents: Option<u64>, number: u64, page: &mut Page) {
     match agents {
-        Some(agents) if line.number >= FIRST_AGENT => {
-            let count = line.number.saturating_sub(FIRST_AGENT);
+        Some(agents) if number >= FIRST_AGENT => {
+            let count = number.saturating_sub(FIRST_AGENT);
             page.show(format_args!(
                 "Line 3 announces {agents} agents, and there are whole lines of {count}.\n"
             ));
         }
-        _ => {
-            let number = line.number;
-            page.show(format_args!(
-                "A plan has three lines and then one for each agent: line {number} is missing, or not ended.\n"
-            ));
-        }
+        _ => page.show(format_args!(
+            "A plan has three lines and then one for each agent: line {number} is missing, or not ended.\n"
+        )),
     }
 }
 

@@ -12,19 +12,27 @@ use std::rt::Files;
 
 /// Says how many rows a scenario has.
 pub(crate) fn no_such_row<R: Files>(rt: &R, files: &[NamedFile<'_>], page: &mut Page) {
-    let Some(file) = file_of(files, FileKind::Scenario) else {
-        return;
-    };
-    let path = shown_path(file);
-    let mut line = Line::new();
-    let filled = find_filled(rt, file.path, u64::MAX, &mut line);
-    if !line.is_read() {
-        page.show(format_args!("{path} has no row with this number. Rows count from 0.\n"));
-        return;
+    if let Some(file) = file_of(files, FileKind::Scenario) {
+        put_rows(shown_path(file), count_rows(rt, file.path), page);
     }
-    match filled.saturating_sub(1) {
-        0 => page.show(format_args!("{path} has no row.\n")),
-        count => {
+}
+
+/// How many rows a scenario has.
+fn count_rows<R: Files>(rt: &R, path: &str) -> Option<u64> {
+    let mut line = Line::new();
+    let filled = find_filled(rt, path, u64::MAX, &mut line);
+    if line.is_read() {
+        Some(filled.saturating_sub(1))
+    } else {
+        None
+    }
+}
+
+fn put_rows(path: &str, count: Option<u64>, page: &mut Page) {
+    match count {
+        None => page.show(format_args!("{path} has no row with this number. Rows count from 0.\n")),
+        Some(0) => page.show(format_args!("{path} has no row.\n")),
+        Some(count) => {
             let last = count.saturating_sub(1);
             page.show(format_args!("The last row of {path} is row {last}: rows count from 0.\n"));
         }
@@ -38,55 +46,65 @@ pub(crate) fn size_differs<R: Files>(
     told: &Told<'_>,
     page: &mut Page,
 ) {
-    let (Some(map), Some(scen)) = (
-        file_of(files, FileKind::Map),
-        file_of(files, FileKind::Scenario),
-    ) else {
-        return;
-    };
-    let row = told.number(0);
-    let mut line = Line::new();
-    find_filled(rt, scen.path, row.saturating_add(1), &mut line);
-    let (path, number) = (shown_path(scen), line.number);
-    page.show(format_args!("{path}:{number}, read as a scenario:\n"));
-    let fields = Parts::fields(line.bytes());
-    let (Some(width), Some(height)) = (fields.get(2), fields.get(3)) else {
-        page.show(format_args!("Row {row} is of a map of another size.\n"));
-        return;
-    };
-    show_line(
-        page,
-        &line,
-        Span {
-            from: width.from,
-            upto: height.upto,
-        },
-    );
-    page.show(format_args!("Row {row} is of a map with width and height "));
-    page.quote(Span {
-        from: width.from,
-        upto: height.upto,
+    let map = file_of(files, FileKind::Map);
+    let scen = file_of(files, FileKind::Scenario);
+    if let (Some(map), Some(scen)) = (map, scen) {
+        let row = told.number(0);
+        let mut line = Line::new();
+        find_filled(rt, scen.path, row.saturating_add(1), &mut line);
+        put_place(shown_path(scen), line.number, page);
+        put_sizes(row, &line, shown_path(map), map_size(rt, map.path), page);
     }
-    .of(line.bytes()));
-    if let Some(Size { width, height }) = map_size(rt, map.path) {
-        let path = shown_path(map);
-        page.show(format_args!(", and {path} has {width} and {height}"));
+}
+
+fn put_place(path: &str, number: u64, page: &mut Page) {
+    page.show(format_args!("{path}:{number}, read as a scenario:\n"));
+}
+
+/// Says which size the row has, and which the map.
+fn put_sizes(row: u64, line: &Line, map: &str, size: Option<Size>, page: &mut Page) {
+    let fields = Parts::fields(line.bytes());
+    match (fields.get(2), fields.get(3)) {
+        (Some(Span { from, .. }), Some(Span { upto, .. })) => {
+            put_row_size(row, line, Span { from, upto }, page);
+            put_map_size(map, size, page);
+            put_map_name(fields.get(1), line.bytes(), page);
+        }
+        _ => page.show(format_args!("Row {row} is of a map of another size.\n")),
+    }
+}
+
+fn put_row_size(row: u64, line: &Line, size: Span, page: &mut Page) {
+    show_line(page, line, size);
+    page.show(format_args!("Row {row} is of a map with width and height "));
+    page.quote(size.of(line.bytes()));
+}
+
+fn put_map_size(map: &str, size: Option<Size>, page: &mut Page) {
+    if let Some(Size { width, height }) = size {
+        page.show(format_args!(", and {map} has {width} and {height}"));
     }
     page.say(".\n");
-    if let Some(name) = fields.get(1) {
+}
+
+fn put_map_name(field: Option<Span>, line: &[u8], page: &mut Page) {
+    if let Some(field) = field {
+        let name = field.of(line);
         page.say("The row names the map ");
-        page.quote(content(name.of(line.bytes())).of(name.of(line.bytes())));
+        page.quote(content(name).of(name));
         page.say(".\n");
     }
 }
 
 /// Says how many agents a plan has.
 pub(crate) fn no_such_agent<R: Files>(rt: &R, files: &[NamedFile<'_>], page: &mut Page) {
-    let Some(plan) = file_of(files, FileKind::Plan) else {
-        return;
-    };
-    let path = shown_path(plan);
-    match announced_agents(rt, plan.path) {
+    if let Some(plan) = file_of(files, FileKind::Plan) {
+        put_agents(shown_path(plan), announced_agents(rt, plan.path), page);
+    }
+}
+
+fn put_agents(path: &str, count: Option<u64>, page: &mut Page) {
+    match count {
         Some(0) => page.show(format_args!("{path} has no agents.\n")),
         Some(count) => {
             let last = count.saturating_sub(1);

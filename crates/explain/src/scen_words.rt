@@ -1,4 +1,5 @@
 //! The faults of a scenario.
+use crate::faults::Fault;
 use crate::files::open_again;
 use crate::lines::{Line, LineEnd};
 use crate::page::Page;
@@ -6,6 +7,7 @@ use crate::showing::show_line;
 use crate::spans::{Parts, Span, content, number};
 use crate::told::Told;
 use grid::{Counted, Source};
+use std::io::Read;
 use std::rt::Files;
 
 /// The fields of a row.
@@ -28,21 +30,28 @@ pub(crate) fn find_first_line<R: Files>(rt: &R, path: &str, line: &mut Line) {
 
 /// Finds the line behind so many that hold more than blanks, and answers how many of these there are before it.
 pub(crate) fn find_filled<R: Files>(rt: &R, path: &str, count: u64, line: &mut Line) -> u64 {
-    let Some(file) = open_again(rt, path) else {
-        line.find(rt, path, 1);
-        return 0;
-    };
-    let mut reader = Counted::new(file);
-    let mut source = Source::new(&mut reader);
+    match open_again(rt, path) {
+        Some(file) => {
+            let mut reader = Counted::new(file);
+            let mut source = Source::new(&mut reader);
+            line.number = 0;
+            take_filled(&mut source, count, line)
+        }
+        None => {
+            line.find(rt, path, 1);
+            0
+        }
+    }
+}
+
+fn take_filled<F: Read>(source: &mut Source<'_, F>, count: u64, line: &mut Line) -> u64 {
     let mut before = 0u64;
-    line.number = 0;
     for _ in 0..u64::MAX {
-        line.take(&mut source);
+        line.take(source);
         if matches!(line.end, LineEnd::Missing | LineEnd::Unread) {
             break;
         }
-        let filled = content(line.bytes());
-        if filled.from < filled.upto {
+        if is_filled(line.bytes()) {
             if before == count {
                 break;
             }
@@ -52,25 +61,24 @@ pub(crate) fn find_filled<R: Files>(rt: &R, path: &str, count: u64, line: &mut L
     before
 }
 
+/// Whether the line holds more than blanks.
+fn is_filled(line: &[u8]) -> bool {
+    let Span { from, upto } = content(line);
+    from < upto
+}
+
 /// Explains a fault of a scenario, at this line.
 pub(crate) fn explain_scenario(told: &Told<'_>, line: &Line, page: &mut Page) {
     let fields = Parts::fields(line.bytes());
-    match told.name() {
-        b"NoVersion" => no_version(line, page),
-        b"LineTooLong" => {
-            show_line(
-                page,
-                line,
-                Span {
-                    from: 4096,
-                    upto: 4097,
-                },
-            );
+    match told.fault {
+        Fault::NoVersion => no_version(line, page),
+        Fault::LineTooLong => {
+            show_line(page, line, Span::at_column(4097));
             page.say("A line has at most 4096 bytes.\n");
         }
-        b"FieldCount" => field_count(fields, line, page),
-        b"BadNumber" => bad_number(told.number(1), fields, line, page),
-        b"OutOfGrid" => out_of_grid(fields, line, page),
+        Fault::FieldCount => field_count(fields, line, page),
+        Fault::BadNumber => bad_number(told.number(1), fields, line, page),
+        Fault::OutOfGrid => out_of_grid(fields, line, page),
         _ => {
             show_line(page, line, fields.get(8).unwrap_or(content(line.bytes())));
             page.say(
@@ -91,26 +99,23 @@ fn no_version(line: &Line, page: &mut Page) {
 
 fn field_count(fields: Parts, line: &Line, page: &mut Page) {
     let count = fields.count();
-    let place = fields.get(9).unwrap_or(Span {
-        from: content(line.bytes()).upto,
-        upto: content(line.bytes()).upto,
-    });
-    show_line(page, line, place);
+    let end = content(line.bytes()).upto;
+    show_line(page, line, fields.get(9).unwrap_or(Span::before(end)));
     page.show(format_args!(
         "The row has {count} fields, and must have nine: bucket, map name, width, height, x and y of the start,\nx and y of the goal, listed length. "
     ));
-    if line.bytes().contains(&b'\t') {
-        page.say("This row has tabs, so only a tab divides two fields.\n");
+    page.say(if line.bytes().contains(&b'\t') {
+        "This row has tabs, so only a tab divides two fields.\n"
     } else {
-        page.say("This row has no tab, so spaces divide its fields.\n");
-    }
+        "This row has no tab, so spaces divide its fields.\n"
+    });
 }
 
 fn bad_number(field: u64, fields: Parts, line: &Line, page: &mut Page) {
     let place = usize::try_from(field.saturating_sub(1)).unwrap_or(0);
     let span = fields.get(place).unwrap_or(content(line.bytes()));
     show_line(page, line, span);
-    let name = FIELDS.get(place).copied().unwrap_or("field");
+    let name = field_name(place);
     page.show(format_args!("Field {field}, the {name}, is "));
     page.quote(span.of(line.bytes()));
     page.say(match field {
@@ -120,23 +125,33 @@ fn bad_number(field: u64, fields: Parts, line: &Line, page: &mut Page) {
     });
 }
 
+fn field_name(place: usize) -> &'static str {
+    FIELDS.get(place).copied().unwrap_or("field")
+}
+
 /// Says which coordinate is not below the row's width or height.
 fn out_of_grid(fields: Parts, line: &Line, page: &mut Page) {
     for place in 4..8 {
         let limit = if place % 2 == 0 { 2 } else { 3 };
-        let (Some(span), Some(limit_span)) = (fields.get(place), fields.get(limit)) else {
+        let (Some(span), Some(side)) = (fields.get(place), fields.get(limit)) else {
             return;
         };
-        let most = number(limit_span.of(line.bytes())).unwrap_or(0);
-        // What has more digits than a number can have is too great as well.
-        if number(span.of(line.bytes())).is_none_or(|value| value >= most) {
+        let most = number(side.of(line.bytes())).unwrap_or(0);
+        if !is_below(span.of(line.bytes()), most) {
             show_line(page, line, span);
-            let name = FIELDS.get(place).copied().unwrap_or("field");
-            let side = FIELDS.get(limit).copied().unwrap_or("field");
-            page.show(format_args!(
-                "The {name} must be below the row's {side}, {most}: columns and rows count from 0.\n"
-            ));
+            put_limit(field_name(place), field_name(limit), most, page);
             return;
         }
     }
+}
+
+/// Whether digits are a number below this one. More digits than a number can have are none.
+fn is_below(digits: &[u8], most: u64) -> bool {
+    number(digits).is_some_and(|value| value < most)
+}
+
+fn put_limit(name: &str, side: &str, most: u64, page: &mut Page) {
+    page.show(format_args!(
+        "The {name} must be below the row's {side}, {most}: columns and rows count from 0.\n"
+    ));
 }

@@ -1,7 +1,7 @@
 //! Parts of a line.
 
 /// The bytes from one place up to another, counted from 0.
-#[derive(Clone, Copy, Debug, PartialEq, Eq)]
+#[derive(Clone, Copy)]
 pub(crate) struct Span {
     pub(crate) from: usize,
     pub(crate) upto: usize,
@@ -12,6 +12,14 @@ impl Span {
     pub(crate) fn of(self, bytes: &[u8]) -> &[u8] {
         let upto = self.upto.min(bytes.len());
         &bytes[self.from.min(upto)..upto]
+    }
+
+    /// No bytes, at this place.
+    pub(crate) fn before(place: usize) -> Span {
+        Span {
+            from: place,
+            upto: place,
+        }
     }
 
     /// The one place with this column, which counts from 1.
@@ -41,7 +49,7 @@ pub(crate) fn ends_with_return(line: &[u8]) -> bool {
 }
 
 /// Up to ten parts of a line, and how many there are.
-#[derive(Clone, Copy, Debug)]
+#[derive(Clone, Copy)]
 pub(crate) struct Parts {
     spans: [Span; 10],
     count: usize,
@@ -107,8 +115,9 @@ impl Parts {
         let mut from = whole.from;
         let mut end = whole.from;
         let mut is_divided = false;
-        for (at, byte) in line.iter().enumerate().take(whole.upto).skip(whole.from) {
-            if *byte == b' ' || *byte == b'\t' {
+        for (place, byte) in whole.of(line).iter().enumerate() {
+            let at = whole.from.saturating_add(place);
+            if matches!(*byte, b' ' | b'\t') {
                 is_divided = is_divided || *byte == b'\t' || !has_tab;
                 continue;
             }
@@ -139,4 +148,10 @@ pub(crate) fn number(digits: &[u8]) -> Option<u64> {
             .checked_add(u64::from(*digit - b'0'))?;
     }
     Some(value)
+}
+
+/// Whether the bytes are a number without zeros in front, and no greater.
+pub(crate) fn is_number_upto(digits: &[u8], most: u64) -> bool {
+    let is_plain = digits.len() == 1 || digits.first().is_some_and(|b| *b != b'0');
+    is_plain && number(digits).is_some_and(|value| value <= most)
 }

@@ -1,4 +1,5 @@
 //! The faults of tapes.
+use crate::faults::Fault;
 use crate::files::{FileKind, NamedFile, file_of, open_again, shown_path};
 use crate::page::Page;
 use crate::plan_words::plan_number;
@@ -18,38 +19,47 @@ pub(crate) fn explain_tape<R: Files>(
     told: &Told<'_>,
     page: &mut Page,
 ) {
-    let Some(tape) = file_of(files, FileKind::Tape) else {
-        return;
-    };
-    let path = shown_path(tape);
-    page.show(format_args!("{path}, a tape:\n"));
-    let number = told.number(0);
-    match told.name() {
-        b"Damaged" | b"WrongPlan" | b"WrongAgent" => {
-            if let Some(record) = record_of(rt, tape.path, number) {
-                put_record(&record, number, page);
+    if let Some(tape) = file_of(files, FileKind::Tape) {
+        let path = shown_path(tape);
+        page.show(format_args!("{path}, a tape:\n"));
+        put_content(rt, tape.path, files, told, page);
+        put_sentence(told.name(), FileKind::Tape, page);
+        page.say(advice_on(told.fault));
+    }
+}
+
+/// Puts what the tape has that it was refused for.
+fn put_content<R: Files>(
+    rt: &R,
+    tape: &str,
+    files: &[NamedFile<'_>],
+    told: &Told<'_>,
+    page: &mut Page,
+) {
+    match told.fault {
+        Fault::Damaged | Fault::WrongPlan | Fault::WrongAgent => {
+            if let Some(record) = record_of(rt, tape, told.number(0)) {
+                put_record(&record, told.number(0), page);
                 put_difference(rt, files, told, &record, page);
             }
         }
-        b"TooLong" | b"TapeExists" => put_length(rt, tape.path, page),
+        Fault::TooLong | Fault::TapeExists => put_length(rt, tape, page),
         _ => {}
     }
-    put_sentence(told.name(), FileKind::Tape, page);
-    put_advice(told, page);
 }
 
-fn put_advice(told: &Told<'_>, page: &mut Page) {
-    page.say(match told.name() {
-        b"WrongPlan" | b"WrongAgent" | b"TooLong" =>
+fn advice_on(fault: Fault) -> &'static str {
+    match fault {
+        Fault::WrongPlan | Fault::WrongAgent | Fault::TooLong =>
             "Give the agent the tape that it had with this plan, or a new file for a new run.\n",
-        b"Damaged" =>
+        Fault::Damaged =>
             "An agent can't tell from it how far it has come: look where it stands before it gets a new tape.\n",
-        b"TapeExists" => "Without `--tape new` the agent goes on from what the tape has.\n",
-        b"NoTape" =>
+        Fault::TapeExists => "Without `--tape new` the agent goes on from what the tape has.\n",
+        Fault::NoTape =>
             "Without `--tape kept` a tape is made, and the agent is taken to stand at its start.\n",
-        b"TapeInUse" => "Another process is this agent, or was given its tape: end it first.\n",
+        Fault::TapeInUse => "Another process is this agent, or was given its tape: end it first.\n",
         _ => "",
-    });
+    }
 }
 
 /// The record with this number.
@@ -79,33 +89,46 @@ fn put_difference<R: Files>(
     record: &Record,
     page: &mut Page,
 ) {
-    let [_, _, a, b, c, d, agent_high, agent_low, ..] = *record;
-    let plan = u32::from_be_bytes([a, b, c, d]);
-    let agent = u16::from_be_bytes([agent_high, agent_low]);
-    let number = told.number(0);
-    match told.name() {
-        b"WrongPlan" => {
-            page.show(format_args!("It is of plan {plan}"));
-            if let Some(due) = file_of(files, FileKind::Plan).and_then(|file| plan_number(
-                rt, file.path,
-            )) {
-                page.show(format_args!(", and this is plan {due}"));
-            }
-            page.say(".\n");
+    let [_, _, a, b, c, d, high, low, ..] = *record;
+    match told.fault {
+        Fault::WrongPlan => {
+            let plan = u32::from_be_bytes([a, b, c, d]);
+            put_plans(plan, number_due(rt, files), page);
         }
-        b"WrongAgent" => page.show(format_args!("It is of agent {agent}.\n")),
-        _ => {
-            let done = number.saturating_add(1) / 2;
-            let kind = if number % 2 == 0 {
-                "50 01 (moving)"
-            } else {
-                "50 02 (standing)"
-            };
-            page.show(format_args!(
-                "It must begin with {kind}, and end with {done}, the moves that are finished, in two bytes.\n"
-            ));
+        Fault::WrongAgent => {
+            let agent = u16::from_be_bytes([high, low]);
+            page.show(format_args!("It is of agent {agent}.\n"));
         }
+        _ => put_due(told.number(0), page),
     }
+}
+
+/// The number of the plan that is given with the tape.
+fn number_due<R: Files>(rt: &R, files: &[NamedFile<'_>]) -> Option<u64> {
+    let plan = file_of(files, FileKind::Plan)?;
+    plan_number(rt, plan.path)
+}
+
+/// Puts of which plan a record is, and of which it should be.
+fn put_plans(plan: u32, due: Option<u64>, page: &mut Page) {
+    page.show(format_args!("It is of plan {plan}"));
+    if let Some(due) = due {
+        page.show(format_args!(", and this is plan {due}"));
+    }
+    page.say(".\n");
+}
+
+/// Puts what the record with this number must be.
+fn put_due(number: u64, page: &mut Page) {
+    let done = number.saturating_add(1) / 2;
+    let kind = if number % 2 == 0 {
+        "50 01 (moving)"
+    } else {
+        "50 02 (standing)"
+    };
+    page.show(format_args!(
+        "It must begin with {kind}, and end with {done}, the moves that are finished, in two bytes.\n"
+    ));
 }
 
 /// Puts how many records a tape has.

@@ -1,6 +1,7 @@
 //! The faults of texts.
 use crate::beginning::put_beginning;
 use crate::event_words::explain_events;
+use crate::faults::Fault;
 use crate::files::{FileKind, NamedFile, file_of, open_again, shown_path};
 use crate::lines::{Line, pass_lines};
 use crate::map_words::explain_map;
@@ -23,40 +24,67 @@ pub(crate) fn explain_text<R: Files>(
     told: &Told<'_>,
     page: &mut Page,
 ) {
-    let Some(file) = file_of(files, kind) else {
-        return;
-    };
-    let mut line = Line::new();
-    find_fault(rt, file, told, &mut line);
-    put_place(file, told, &line, page);
+    if let Some(file) = file_of(files, kind) {
+        let mut line = Line::new();
+        find_fault(rt, file.path, told, &mut line);
+        put_place(file, told, &line, page);
+        if !begins_otherwise(rt, files, file, page) {
+            explain_line(rt, file, told, &line, page);
+        }
+    }
+}
+
+/// Says what the text begins like, where that is none of its format. The answer is whether that says all.
+fn begins_otherwise<R: Files>(
+    rt: &R,
+    files: &[NamedFile<'_>],
+    file: NamedFile<'_>,
+    page: &mut Page,
+) -> bool {
     let mut first = Line::new();
     first.find(rt, file.path, 1);
-    if put_beginning(rt, files, file, &first, page) {
-        return;
-    }
+    put_beginning(rt, files, file, &first, page)
+}
+
+/// Explains the fault at its line, if that can be read.
+fn explain_line<R: Files>(
+    rt: &R,
+    file: NamedFile<'_>,
+    told: &Told<'_>,
+    line: &Line,
+    page: &mut Page,
+) {
     if !line.is_read() {
         page.say("It can't be read once more here, so its line isn't shown.\n");
-        put_sentence(told.name(), kind, page);
-        return;
+        put_sentence(told.name(), file.kind, page);
+    } else if !put_line_end(file.kind, told.fault, line, page) {
+        explain_format(rt, file, told, line, page);
     }
-    if put_line_end(kind, told, &line, page) {
-        return;
-    }
-    match kind {
-        FileKind::Map => explain_map(rt, file.path, told, &line, page),
-        FileKind::Scenario => explain_scenario(told, &line, page),
-        FileKind::Plan => explain_plan_text(rt, file.path, told, &line, page),
-        FileKind::Events => explain_events(told, &line, page),
+}
+
+/// Explains what the line breaks of its format.
+fn explain_format<R: Files>(
+    rt: &R,
+    file: NamedFile<'_>,
+    told: &Told<'_>,
+    line: &Line,
+    page: &mut Page,
+) {
+    match file.kind {
+        FileKind::Map => explain_map(rt, file.path, told, line, page),
+        FileKind::Scenario => explain_scenario(told, line, page),
+        FileKind::Plan => explain_plan_text(rt, file.path, told, line, page),
+        FileKind::Events => explain_events(told, line, page),
         FileKind::Tape => {}
     }
 }
 
 /// Finds the line of the fault.
-fn find_fault<R: Files>(rt: &R, file: NamedFile<'_>, told: &Told<'_>, line: &mut Line) {
-    match told.name() {
-        b"NoVersion" => find_first_line(rt, file.path, line),
-        b"NoHeader" => line.find(rt, file.path, 1),
-        _ => line.find(rt, file.path, told.number(0)),
+fn find_fault<R: Files>(rt: &R, path: &str, told: &Told<'_>, line: &mut Line) {
+    match told.fault {
+        Fault::NoVersion => find_first_line(rt, path, line),
+        Fault::NoHeader => line.find(rt, path, 1),
+        _ => line.find(rt, path, told.number(0)),
     }
 }
 
@@ -67,7 +95,7 @@ fn put_place(file: NamedFile<'_>, told: &Told<'_>, line: &Line, page: &mut Page)
     if number > 0 {
         page.show(format_args!(":{number}"));
     }
-    if matches!(told.name(), b"BadTerrain" | b"BadAct") {
+    if matches!(told.fault, Fault::BadTerrain | Fault::BadAct) {
         let column = told.number(1);
         page.show(format_args!(":{column}"));
     }
@@ -75,22 +103,16 @@ fn put_place(file: NamedFile<'_>, told: &Told<'_>, line: &Line, page: &mut Page)
 }
 
 /// Says that the line ends as on Windows, where that is refused. The answer is whether that says all.
-fn put_line_end(kind: FileKind, told: &Told<'_>, line: &Line, page: &mut Page) -> bool {
+fn put_line_end(kind: FileKind, fault: Fault, line: &Line, page: &mut Page) -> bool {
     let bytes = line.bytes();
     if !matches!(kind, FileKind::Plan | FileKind::Events) || !ends_with_return(bytes) {
         return false;
     }
-    let is_all = matches!(told.name(), b"BadHeader" | b"NoHeader");
+    let is_all = matches!(fault, Fault::BadHeader | Fault::NoHeader);
     if is_all {
-        let from = bytes.len().saturating_sub(1);
-        show_line(
-            page,
-            line,
-            Span {
-                from,
-                upto: bytes.len(),
-            },
-        );
+        let upto = bytes.len();
+        let from = upto.saturating_sub(1);
+        show_line(page, line, Span { from, upto });
     }
     page.say(
         "The line ends with CR LF, and must end with LF alone: `sed -i 's/\\r$//'` takes the CRs off a file.\n",
@@ -126,12 +148,17 @@ pub(crate) fn is_of_map<R: Files>(
         return Some(true);
     }
     let map = file_of(files, FileKind::Map)?;
-    match read_map(alloc, &mut Counted::new(open_again(rt, map.path)?)) {
+    has_fault(rt, alloc, map.path, told.name())
+}
+
+/// Whether a map has the fault of this name.
+fn has_fault<R: Files>(rt: &R, alloc: Global, map: &str, name: &[u8]) -> Option<bool> {
+    match read_map(alloc, &mut Counted::new(open_again(rt, map)?)) {
         Ok(_) => Some(false),
         Err(MapFault::ReadFailed | MapFault::OutOfMemory) => None,
         Err(fault) => {
             let words = fault.words();
-            Some(words.name().as_bytes() == told.name())
+            Some(words.name().as_bytes() == name)
         }
     }
 }

@@ -1,9 +1,11 @@
 //! The line of a fault, taken apart.
+use crate::faults::Fault;
 use crate::spans::{Parts, Span, number};
 
 /// The name of a fault, and its numbers.
 #[derive(Clone, Copy)]
 pub(crate) struct Told<'a> {
+    pub(crate) fault: Fault,
     words: &'a [u8],
     parts: Parts,
 }
@@ -19,7 +21,11 @@ impl<'a> Told<'a> {
             .iter()
             .all(|b| b.is_ascii_alphanumeric() || *b == b' ');
         if is_fault && parts.count() <= 6 {
-            Some(Told { words, parts })
+            Some(Told {
+                fault: Fault::named(first_of(words, parts)),
+                words,
+                parts,
+            })
         } else {
             None
         }
@@ -27,8 +33,7 @@ impl<'a> Told<'a> {
 
     /// The first word.
     pub(crate) fn name(&self) -> &'a [u8] {
-        let span = self.parts.get(0).unwrap_or(Span { from: 0, upto: 0 });
-        span.of(self.words)
+        first_of(self.words, self.parts)
     }
 
     /// How many numbers follow it.
@@ -42,4 +47,10 @@ impl<'a> Told<'a> {
         part.and_then(|span| number(span.of(self.words)))
             .unwrap_or(0)
     }
+}
+
+/// The first of the parts of a line.
+fn first_of(line: &[u8], parts: Parts) -> &[u8] {
+    let span = parts.get(0).unwrap_or(Span { from: 0, upto: 0 });
+    span.of(line)
 }

@@ -5,7 +5,7 @@ use crate::spans::{Parts, number};
 use std::rt::Files;
 
 /// A column and a row, which may be off the map.
-#[derive(Clone, Copy, Debug, PartialEq, Eq)]
+#[derive(Clone, Copy, PartialEq, Eq)]
 pub(crate) struct Place {
     pub(crate) x: i64,
     pub(crate) y: i64,
