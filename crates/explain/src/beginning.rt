@@ -120,9 +120,10 @@ fn put_disguise(beginning: Beginning, page: &mut Page) {
             "The file looks like UTF-16, two bytes a character: `iconv -f UTF-16 -t UTF-8` makes it plain text.\n",
         ),
         Beginning::Packed(name, command) => {
-            page.show(format_args!(
-                "The file is packed by {name}: unpack it first, with `{command}`.\n"
-            ));
+            page.fill(
+                "The file is packed by {}: unpack it first, with `{}`.\n",
+                &[name, command],
+            );
         }
         Beginning::Returns => {
             page.say(
@@ -146,11 +147,13 @@ fn put_other_format<R: Files>(
     kind: FileKind,
     page: &mut Page,
 ) {
-    let name = kind.name();
-    page.show(format_args!("The file begins like {name}"));
+    page.fill("The file begins like {}", &[kind.name()]);
     if let Some(other) = exchanged_with(rt, files, file) {
-        let (path, wanted) = (shown_path(other), file.kind.name());
-        page.show(format_args!(", and {path} like {wanted}: the files may be in the wrong order"));
+        page.fill(", and {} like ", &[shown_path(other)]);
+        page.fill(
+            "{}: the files may be in the wrong order",
+            &[file.kind.name()],
+        );
     }
     page.say(".\n");
 }

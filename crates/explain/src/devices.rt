@@ -28,10 +28,9 @@ pub(crate) fn explain_device<R: Files>(
 /// Says which file can't be opened, and why, if that can be found.
 fn put_unopened<R: Files>(rt: &R, files: &[NamedFile<'_>], page: &mut Page) -> bool {
     for file in files {
-        let path = shown_path(*file);
-        let name = file.kind.name();
         if let Some(reason) = reason_of(rt, *file) {
-            page.show(format_args!("{path}, to be read as {name}: {reason}.\n"));
+            page.say(shown_path(*file));
+            page.fill(", to be read as {}: {}.\n", &[file.kind.name(), reason]);
             return true;
         }
     }
@@ -81,7 +80,7 @@ fn put_folder<R: Files>(rt: &R, files: &[NamedFile<'_>], page: &mut Page) -> boo
     for file in files {
         if fs::metadata(rt, file.path).is_ok_and(|metadata| metadata.is_dir()) {
             let path = shown_path(*file);
-            page.show(format_args!("{path} is a folder, and no file.\n"));
+            page.fill("{} is a folder, and no file.\n", &[path]);
             return true;
         }
     }

@@ -72,9 +72,10 @@ fn bad_event(line: &Line, page: &mut Page) {
 
 /// Puts how an event is written.
 fn put_form(form: &str, page: &mut Page) {
-    page.show(format_args!(
-        "This event is written `{form}`: one space between each two parts, and numbers in digits alone, without zeros in front"
-    ));
+    page.fill(
+        "This event is written `{}`: one space between each two parts, and numbers in digits alone, without zeros in front",
+        &[form],
+    );
     page.say(if form.contains(" M") {
         ",\nagents up to 4294967295 and messages up to 18446744073709551615.\n"
     } else {

@@ -36,7 +36,7 @@ pub fn fault_help(topic: &str) -> Option<FaultHelp> {
 fn put_all(page: &mut Page) {
     for group in 0..GROUPS {
         let of = group_name(group);
-        page.show(format_args!("Of {of}:\n"));
+        page.fill("Of {}:\n", &[of]);
         for entry in group_entries(group) {
             page.say("  ");
             put_form(entry, page);
@@ -72,15 +72,15 @@ fn put_named(name: &str, group: usize, page: &mut Page) {
 /// Puts a fault with its example.
 fn put_entry(entry: &Entry, of: &str, page: &mut Page) {
     put_form(entry, page);
-    page.show(format_args!(", of {of}\n"));
+    page.fill(", of {}\n", &[of]);
     page.say(entry.sentence);
     page.say("\n");
     if !entry.example.is_empty() {
         page.say("Example:\n");
         for line in entry.example.lines() {
-            page.show(format_args!("  {line}\n"));
+            page.fill("  {}\n", &[line]);
         }
         let answer = entry.answer;
-        page.show(format_args!("is answered by `{answer}`.\n"));
+        page.fill("is answered by `{}`.\n", &[answer]);
     }
 }

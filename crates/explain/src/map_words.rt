@@ -63,7 +63,7 @@ fn bad_header(line: &Line, page: &mut Page) {
     if line.is_there() {
         show_line(page, line, content(line.bytes()));
     } else {
-        page.show(format_args!("The text ends before line {number}. "));
+        page.fill("The text ends before line {}. ", &[number]);
     }
     put_header(number, page);
     if content(line.bytes()).of(line.bytes()).starts_with(b"width") && number == 2 {
@@ -74,11 +74,12 @@ fn bad_header(line: &Line, page: &mut Page) {
 /// Says what the line with this number must be.
 fn put_header(number: u64, page: &mut Page) {
     let word = header_word(number);
-    page.show(format_args!("Line {number} must be `{word}`"));
+    page.fill("Line {} must be `", &[number]);
+    page.say(word);
     page.say(if number == 2 || number == 3 {
-        ", a blank and a number.\n"
+        "`, a blank and a number.\n"
     } else {
-        ".\n"
+        "`.\n"
     });
 }
 
@@ -86,9 +87,10 @@ fn bad_number(line: &Line, page: &mut Page) {
     let word = header_word(line.number);
     let value = span_behind(line.bytes(), word);
     show_line(page, line, value);
-    page.show(format_args!(
-        "The {word} must be a number from 1 to 65535, in digits alone, and is "
-    ));
+    page.fill(
+        "The {} must be a number from 1 to 65535, in digits alone, and is ",
+        &[word],
+    );
     page.quote(value.of(line.bytes()));
     page.say(".\n");
 }
@@ -112,7 +114,7 @@ fn too_large<R: Files>(rt: &R, path: &str, line: &Line, page: &mut Page) {
         Some(size) if line.number == 3 && size.width <= 65_535 => {
             let Size { width, height } = size;
             let cells = width.saturating_mul(height);
-            page.show(format_args!(": {width} times {height} are {cells}.\n"));
+            page.fill(": {} times {} are {}.\n", &[width, height, cells]);
         }
         _ => page.say(".\n"),
     }
@@ -123,7 +125,7 @@ fn bad_terrain(column: u64, line: &Line, page: &mut Page) {
     let given = place.of(line.bytes());
     show_line(page, line, place);
     let (x, y) = (column.saturating_sub(1), row_of(line));
-    page.show(format_args!("Cell {x} {y} (its column and row, from 0) is "));
+    page.fill("Cell {} {} (its column and row, from 0) is ", &[x, y]);
     page.quote(given);
     page.say(".\nA cell is one of . G (land) S (swamp) W (water) @ O (out of bounds) T (trees).\n");
     page.say(terrain_hint(given.first().copied()));
@@ -140,6 +142,11 @@ fn terrain_hint(character: Option<u8>) -> &'static str {
         Some(b'0' | b'_') => "A free cell is written `.`.\n",
         _ => "",
     }
+}
+
+/// How many cells the line has as a row.
+fn cells_of(line: &Line) -> u64 {
+    u64::try_from(content(line.bytes()).upto).unwrap_or(u64::MAX)
 }
 
 /// The row that the line is of, from 0.
@@ -161,31 +168,31 @@ fn bad_row(fault: Fault, size: Option<Size>, line: &Line, page: &mut Page) {
 }
 
 fn short_row(width: u64, line: &Line, page: &mut Page) {
-    let row = row_of(line);
-    let count = content(line.bytes()).upto;
-    show_line(page, line, Span::before(count));
-    page.show(format_args!(
-        "Row {row} (from 0) has {count} cells, and line 3 gives the width {width}.\n"
-    ));
+    let end = content(line.bytes()).upto;
+    show_line(page, line, Span::before(end));
+    page.fill(
+        "Row {} (from 0) has {} cells, and line 3 gives the width {}.\n",
+        &[row_of(line), cells_of(line), width],
+    );
     if line.end == LineEnd::EndOfText {
         page.say("The text ends here.\n");
     }
 }
 
 fn long_row(width: u64, line: &Line, page: &mut Page) {
-    let row = row_of(line);
-    let count = content(line.bytes()).upto;
     show_line(page, line, Span::at_column(width.saturating_add(1)));
-    page.show(format_args!(
-        "Row {row} (from 0) must end after {width} cells, the width that line 3 gives, and has {count}.\n"
-    ));
+    page.fill(
+        "Row {} (from 0) must end after {} cells, the width that line 3 gives, and has {}.\n",
+        &[row_of(line), width, cells_of(line)],
+    );
 }
 
 fn missing_rows(height: u64, line: &Line, page: &mut Page) {
     let row = row_of(line);
-    page.show(format_args!(
-        "The text ends after {row} rows, and line 2 gives the height {height}.\n"
-    ));
+    page.fill(
+        "The text ends after {} rows, and line 2 gives the height {}.\n",
+        &[row, height],
+    );
 }
 
 fn text_after<R: Files>(rt: &R, path: &str, line: &Line, page: &mut Page) {
@@ -193,9 +200,10 @@ fn text_after<R: Files>(rt: &R, path: &str, line: &Line, page: &mut Page) {
     match map_size(rt, path) {
         Some(size) => {
             let height = size.height;
-            page.show(format_args!(
-                "Behind the {height} rows that line 2 gives only empty lines may follow.\n"
-            ));
+            page.fill(
+                "Behind the {} rows that line 2 gives only empty lines may follow.\n",
+                &[height],
+            );
         }
         None => page.say("Behind the rows only empty lines may follow.\n"),
     }

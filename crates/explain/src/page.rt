@@ -57,6 +57,21 @@ impl Page {
         let _ = write!(self, "{text}");
     }
 
+    /// Adds text with these values, one in place of each `{}`, in their order.
+    pub(crate) fn fill<T: fmt::Display>(&mut self, text: &str, values: &[T]) {
+        let mut place = 0usize;
+        for byte in text.as_bytes() {
+            match (*byte, values.get(place)) {
+                (b'{', Some(value)) => {
+                    self.show(value);
+                    place = place.saturating_add(1);
+                }
+                (b'}', _) => {}
+                _ => self.add(&[*byte]),
+            }
+        }
+    }
+
     /// Adds a byte so that it moves no cursor: a tab as a space, and what is no character of ASCII escaped, as `\x00`.
     pub(crate) fn show_byte(&mut self, byte: u8) {
         match byte {

@@ -74,7 +74,8 @@ pub(crate) fn put_picture<R: Files>(
 /// Puts which columns are shown.
 fn put_columns(window: Window, time: u64, page: &mut Page) {
     let Window { left, right, .. } = window;
-    page.show(format_args!("      columns {left} to {right}, at time {time}:\n"));
+    page.fill("      columns {} to {}, ", &[left, right]);
+    page.fill("at time {}:\n", &[time]);
 }
 
 /// Puts the rows that are shown of a map.

@@ -72,9 +72,12 @@ fn explain_agent<R: Files>(
 }
 
 fn put_title(map: NamedFile<'_>, plan: NamedFile<'_>, agent: u64, page: &mut Page) {
-    let (map, plan) = (shown_path(map), shown_path(plan));
-    let line = agent.saturating_add(FIRST_AGENT);
-    page.show(format_args!("{plan}:{line}, a plan on the map {map}:\n"));
+    page.say(shown_path(plan));
+    page.fill(
+        ":{}, a plan on the map ",
+        &[agent.saturating_add(FIRST_AGENT)],
+    );
+    page.fill("{}:\n", &[shown_path(map)]);
 }
 
 /// Puts where agents are and what they do, from two steps before a time to one after.
@@ -85,7 +88,7 @@ fn put_times(agents: &[Agent<'_>], time: u64, page: &mut Page) {
     page.say("time");
     for (place, at) in (from..upto).enumerate() {
         page.align(start, column_of(place));
-        page.show(format_args!("{at}"));
+        page.show(at);
     }
     page.say("\n");
     for agent in agents {
@@ -101,12 +104,13 @@ fn put_course(agent: Agent<'_>, from: u64, upto: u64, page: &mut Page) {
         course,
     } = agent;
     let start = page.len();
-    page.show(format_args!("{letter} agent {number}"));
+    page.fill("{} agent ", &[letter]);
+    page.show(number);
     for (place, at) in (from..upto).enumerate() {
-        let Place { x, y } = course.place(at);
         let act = char::from(course.act(at));
         page.align(start, column_of(place));
-        page.show(format_args!("{x} {y}  {act}"));
+        put_place(course.place(at), page);
+        page.fill("  {}", &[act]);
     }
     page.say("\n");
 }
@@ -129,14 +133,17 @@ fn put_off(size: Option<Size>, page: &mut Page) {
     page.say("off the map");
     if let Some(Size { width, height }) = size {
         let (last_x, last_y) = (width.saturating_sub(1), height.saturating_sub(1));
-        page.show(format_args!(", whose columns are 0 to {last_x} and rows 0 to {last_y}"));
+        page.fill(
+            ", whose columns are 0 to {} and rows 0 to {}",
+            &[last_x, last_y],
+        );
     }
 }
 
 fn put_terrain(terrain: Terrain, page: &mut Page) {
     let character = char::from(terrain.character());
-    let name = terrain_name(terrain);
-    page.show(format_args!("{name} (`{character}`)"));
+    page.say(terrain_name(terrain));
+    page.fill(" (`{}`)", &[character]);
 }
 
 fn terrain_name(terrain: Terrain) -> &'static str {
@@ -152,7 +159,7 @@ fn terrain_name(terrain: Terrain) -> &'static str {
 fn bad_start<R: Files>(rt: &R, map: &str, agent: Agent<'_>, page: &mut Page) {
     let Agent { number, course, .. } = agent;
     let place = course.place(0);
-    page.show(format_args!("Agent {number} starts in "));
+    page.fill("Agent {} starts in ", &[number]);
     put_cell(place, page);
     page.say(", which is ");
     put_ground(rt, map, place, page);
@@ -164,7 +171,7 @@ fn bad_start<R: Files>(rt: &R, map: &str, agent: Agent<'_>, page: &mut Page) {
 
 fn put_cell(place: Place, page: &mut Page) {
     let Place { x, y } = place;
-    page.show(format_args!("column {x}, row {y}"));
+    page.fill("column {}, row {}", &[x, y]);
 }
 
 /// Says that a place off the map has its column and its row exchanged, where that may be; elsewhere it would be a guess.
@@ -172,7 +179,10 @@ fn put_exchanged<R: Files>(rt: &R, map: &str, place: Place, page: &mut Page) {
     let Place { x, y } = place;
     let is_off = terrain_at(rt, map, place).is_none();
     if is_off && terrain_at(rt, map, Place { x: y, y: x }).is_some_and(is_free) {
-        page.show(format_args!("Column {y}, row {x} is free: the column comes first.\n"));
+        page.fill(
+            "Column {}, row {} is free: the column comes first.\n",
+            &[y, x],
+        );
     }
 }
 
@@ -197,7 +207,8 @@ fn bad_move<R: Files>(rt: &R, map: &str, agent: Agent<'_>, step: u64, page: &mut
 fn put_move(agent: Agent<'_>, step: u64, to: Place, page: &mut Page) {
     let Agent { number, course, .. } = agent;
     let act = char::from(course.act(step));
-    page.show(format_args!("In step {step} agent {number} moves by `{act}` to "));
+    page.fill("In step {} agent {} moves by `", &[step, number]);
+    page.fill("{}` to ", &[act]);
     put_cell(to, page);
 }
 
@@ -248,16 +259,19 @@ fn swap<R: Files>(rt: &R, map: &str, agents: [Agent<'_>; 2], step: u64, page: &m
 
 fn put_swap(numbers: [u64; 2], places: [Place; 2], step: u64, page: &mut Page) {
     let ([i, j], [from, to]) = (numbers, places);
-    page.show(format_args!("In step {step} agent {i} moves from "));
+    page.fill("In step {} agent {} moves from ", &[step, i]);
     put_place(from, page);
     page.say(" to ");
     put_place(to, page);
-    page.show(format_args!(", and agent {j} the other way: they would pass through each other.\n"));
+    page.fill(
+        ", and agent {} the other way: they would pass through each other.\n",
+        &[j],
+    );
 }
 
 fn put_place(place: Place, page: &mut Page) {
     let Place { x, y } = place;
-    page.show(format_args!("{x} {y}"));
+    page.fill("{} {}", &[x, y]);
 }
 
 /// Two agents in a cell.
@@ -276,7 +290,7 @@ fn vertex<R: Files>(rt: &R, map: &str, agents: [Agent<'_>; 2], time: u64, page: 
 
 fn put_vertex(numbers: [u64; 2], cell: Place, time: u64, page: &mut Page) {
     let [i, j] = numbers;
-    page.show(format_args!("At time {time} agents {i} and {j} are both in "));
+    page.fill("At time {} agents {} and {} are both in ", &[time, i, j]);
     put_cell(cell, page);
     page.say(".\n");
 }
@@ -286,8 +300,9 @@ fn put_end(agent: Agent<'_>, time: u64, page: &mut Page) {
     let Agent { number, course, .. } = agent;
     let end = course.len();
     if end < time {
-        page.show(format_args!(
-            "Agent {number} has no act left since time {end}, and stays in its last cell for ever.\n"
-        ));
+        page.fill(
+            "Agent {} has no act left since time {}, and stays in its last cell for ever.\n",
+            &[number, end],
+        );
     }
 }

@@ -87,9 +87,10 @@ fn bad_agent(line: &Line, page: &mut Page) {
     let (place, about) = misplaced(line.bytes());
     show_line(page, line, place);
     let agent = line.number.saturating_sub(FIRST_AGENT);
-    page.show(format_args!(
-        "The line of agent {agent} must be `agent`, the column and the row of its start, and its acts, as `agent 1 0 e-`.\n"
-    ));
+    page.fill(
+        "The line of agent {} must be `agent`, the column and the row of its start, and its acts, as `agent 1 0 e-`.\n",
+        &[agent],
+    );
     page.say(about);
 }
 
@@ -160,9 +161,10 @@ fn too_many_acts(line: &Line, page: &mut Page) {
     let acts = Parts::at_spaces(bytes).get(3).unwrap_or(content(bytes));
     show_line(page, line, acts);
     let count = acts.upto.saturating_sub(acts.from);
-    page.show(format_args!(
-        "This agent has {count} acts. An agent has at most 65535, and all agents together have at most 16777216.\n"
-    ));
+    page.fill(
+        "This agent has {} acts. An agent has at most 65535, and all agents together have at most 16777216.\n",
+        &[count],
+    );
 }
 
 fn unfinished(agents: Option<u64>, line: &Line, page: &mut Page) {
@@ -178,20 +180,23 @@ fn put_missing(agents: Option<u64>, number: u64, page: &mut Page) {
     match agents {
         Some(agents) if number >= FIRST_AGENT => {
             let count = number.saturating_sub(FIRST_AGENT);
-            page.show(format_args!(
-                "Line 3 announces {agents} agents, and there are whole lines of {count}.\n"
-            ));
+            page.fill(
+                "Line 3 announces {} agents, and there are whole lines of {}.\n",
+                &[agents, count],
+            );
         }
-        _ => page.show(format_args!(
-            "A plan has three lines and then one for each agent: line {number} is missing, or not ended.\n"
-        )),
+        _ => page.fill(
+            "A plan has three lines and then one for each agent: line {} is missing, or not ended.\n",
+            &[number],
+        ),
     }
 }
 
 fn text_after(agents: Option<u64>, line: &Line, page: &mut Page) {
     show_line(page, line, content(line.bytes()));
     let agents = agents.unwrap_or(0);
-    page.show(format_args!(
-        "Line 3 announces {agents} agents, and nothing may follow their lines, not even an empty line.\n"
-    ));
+    page.fill(
+        "Line 3 announces {} agents, and nothing may follow their lines, not even an empty line.\n",
+        &[agents],
+    );
 }

@@ -30,11 +30,15 @@ fn count_rows<R: Files>(rt: &R, path: &str) -> Option<u64> {
 
 fn put_rows(path: &str, count: Option<u64>, page: &mut Page) {
     match count {
-        None => page.show(format_args!("{path} has no row with this number. Rows count from 0.\n")),
-        Some(0) => page.show(format_args!("{path} has no row.\n")),
+        None => page.fill(
+            "{} has no row with this number. Rows count from 0.\n",
+            &[path],
+        ),
+        Some(0) => page.fill("{} has no row.\n", &[path]),
         Some(count) => {
             let last = count.saturating_sub(1);
-            page.show(format_args!("The last row of {path} is row {last}: rows count from 0.\n"));
+            page.fill("The last row of {} is row ", &[path]);
+            page.fill("{}: rows count from 0.\n", &[last]);
         }
     }
 }
@@ -58,7 +62,8 @@ pub(crate) fn size_differs<R: Files>(
 }
 
 fn put_place(path: &str, number: u64, page: &mut Page) {
-    page.show(format_args!("{path}:{number}, read as a scenario:\n"));
+    page.say(path);
+    page.fill(":{}, read as a scenario:\n", &[number]);
 }
 
 /// Says which size the row has, and which the map.
@@ -70,19 +75,20 @@ fn put_sizes(row: u64, line: &Line, map: &str, size: Option<Size>, page: &mut Pa
             put_map_size(map, size, page);
             put_map_name(fields.get(1), line.bytes(), page);
         }
-        _ => page.show(format_args!("Row {row} is of a map of another size.\n")),
+        _ => page.fill("Row {} is of a map of another size.\n", &[row]),
     }
 }
 
 fn put_row_size(row: u64, line: &Line, size: Span, page: &mut Page) {
     show_line(page, line, size);
-    page.show(format_args!("Row {row} is of a map with width and height "));
+    page.fill("Row {} is of a map with width and height ", &[row]);
     page.quote(size.of(line.bytes()));
 }
 
 fn put_map_size(map: &str, size: Option<Size>, page: &mut Page) {
     if let Some(Size { width, height }) = size {
-        page.show(format_args!(", and {map} has {width} and {height}"));
+        page.fill(", and {} has ", &[map]);
+        page.fill("{} and {}", &[width, height]);
     }
     page.say(".\n");
 }
@@ -105,15 +111,15 @@ pub(crate) fn no_such_agent<R: Files>(rt: &R, files: &[NamedFile<'_>], page: &mu
 
 fn put_agents(path: &str, count: Option<u64>, page: &mut Page) {
     match count {
-        Some(0) => page.show(format_args!("{path} has no agents.\n")),
+        Some(0) => page.fill("{} has no agents.\n", &[path]),
         Some(count) => {
             let last = count.saturating_sub(1);
-            page.show(format_args!(
-                "The last agent of {path} is agent {last}: agents count from 0.\n"
-            ));
+            page.fill("The last agent of {} is agent ", &[path]);
+            page.fill("{}: agents count from 0.\n", &[last]);
         }
-        None => page.show(format_args!(
-            "{path} has no agent with this number. Agents count from 0.\n"
-        )),
+        None => page.fill(
+            "{} has no agent with this number. Agents count from 0.\n",
+            &[path],
+        ),
     }
 }

@@ -101,9 +101,10 @@ fn field_count(fields: Parts, line: &Line, page: &mut Page) {
     let count = fields.count();
     let end = content(line.bytes()).upto;
     show_line(page, line, fields.get(9).unwrap_or(Span::before(end)));
-    page.show(format_args!(
-        "The row has {count} fields, and must have nine: bucket, map name, width, height, x and y of the start,\nx and y of the goal, listed length. "
-    ));
+    page.fill(
+        "The row has {} fields, and must have nine: bucket, map name, width, height, x and y of the start,\nx and y of the goal, listed length. ",
+        &[count],
+    );
     page.say(if line.bytes().contains(&b'\t') {
         "This row has tabs, so only a tab divides two fields.\n"
     } else {
@@ -115,8 +116,8 @@ fn bad_number(field: u64, fields: Parts, line: &Line, page: &mut Page) {
     let place = usize::try_from(field.saturating_sub(1)).unwrap_or(0);
     let span = fields.get(place).unwrap_or(content(line.bytes()));
     show_line(page, line, span);
-    let name = field_name(place);
-    page.show(format_args!("Field {field}, the {name}, is "));
+    page.fill("Field {}, the ", &[field]);
+    page.fill("{}, is ", &[field_name(place)]);
     page.quote(span.of(line.bytes()));
     page.say(match field {
         1 => ", and must be a number up to 4294967295, in digits alone.\n",
@@ -151,7 +152,6 @@ fn is_below(digits: &[u8], most: u64) -> bool {
 }
 
 fn put_limit(name: &str, side: &str, most: u64, page: &mut Page) {
-    page.show(format_args!(
-        "The {name} must be below the row's {side}, {most}: columns and rows count from 0.\n"
-    ));
+    page.fill("The {} must be below the row's {}, ", &[name, side]);
+    page.fill("{}: columns and rows count from 0.\n", &[most]);
 }

@@ -21,7 +21,7 @@ pub(crate) fn explain_tape<R: Files>(
 ) {
     if let Some(tape) = file_of(files, FileKind::Tape) {
         let path = shown_path(tape);
-        page.show(format_args!("{path}, a tape:\n"));
+        page.fill("{}, a tape:\n", &[path]);
         put_content(rt, tape.path, files, told, page);
         put_sentence(told.name(), FileKind::Tape, page);
         page.say(advice_on(told.fault));
@@ -74,7 +74,7 @@ fn record_of<R: Files>(rt: &R, path: &str, number: u64) -> Option<Record> {
 /// Puts the bytes of a record.
 fn put_record(record: &Record, number: u64, page: &mut Page) {
     let at = number.saturating_mul(10);
-    page.show(format_args!("Record {number}, from byte {at} on:"));
+    page.fill("Record {}, from byte {} on:", &[number, at]);
     for byte in record {
         page.show(format_args!(" {byte:02x}"));
     }
@@ -97,7 +97,7 @@ fn put_difference<R: Files>(
         }
         Fault::WrongAgent => {
             let agent = u16::from_be_bytes([high, low]);
-            page.show(format_args!("It is of agent {agent}.\n"));
+            page.fill("It is of agent {}.\n", &[agent]);
         }
         _ => put_due(told.number(0), page),
     }
@@ -111,9 +111,9 @@ fn number_due<R: Files>(rt: &R, files: &[NamedFile<'_>]) -> Option<u64> {
 
 /// Puts of which plan a record is, and of which it should be.
 fn put_plans(plan: u32, due: Option<u64>, page: &mut Page) {
-    page.show(format_args!("It is of plan {plan}"));
+    page.fill("It is of plan {}", &[plan]);
     if let Some(due) = due {
-        page.show(format_args!(", and this is plan {due}"));
+        page.fill(", and this is plan {}", &[due]);
     }
     page.say(".\n");
 }
@@ -126,9 +126,8 @@ fn put_due(number: u64, page: &mut Page) {
     } else {
         "50 02 (standing)"
     };
-    page.show(format_args!(
-        "It must begin with {kind}, and end with {done}, the moves that are finished, in two bytes.\n"
-    ));
+    page.fill("It must begin with {}, and end with ", &[kind]);
+    page.fill("{}, the moves that are finished, in two bytes.\n", &[done]);
 }
 
 /// Puts how many records a tape has.
@@ -136,8 +135,9 @@ fn put_length<R: Files>(rt: &R, path: &str, page: &mut Page) {
     if let Ok(metadata) = fs::metadata(rt, path) {
         let length = metadata.len();
         let (whole, rest) = (length / 10, length % 10);
-        page.show(format_args!(
-            "It has {length} bytes: {whole} whole records, and {rest} bytes behind them.\n"
-        ));
+        page.fill(
+            "It has {} bytes: {} whole records, and {} bytes behind them.\n",
+            &[length, whole, rest],
+        );
     }
 }

@@ -93,13 +93,12 @@ fn put_place(file: NamedFile<'_>, told: &Told<'_>, line: &Line, page: &mut Page)
     let (path, name, number) = (shown_path(file), file.kind.name(), line.number);
     page.say(path);
     if number > 0 {
-        page.show(format_args!(":{number}"));
+        page.fill(":{}", &[number]);
     }
     if matches!(told.fault, Fault::BadTerrain | Fault::BadAct) {
-        let column = told.number(1);
-        page.show(format_args!(":{column}"));
+        page.fill(":{}", &[told.number(1)]);
     }
-    page.show(format_args!(", read as {name}:\n"));
+    page.fill(", read as {}:\n", &[name]);
 }
 
 /// Says that the line ends as on Windows, where that is refused. The answer is whether that says all.
@@ -130,8 +129,8 @@ pub(crate) fn explain_either(
     page.say("Not all files can be read once more here, so it isn't known which has the fault:\n");
     for kind in kinds {
         if let Some(file) = file_of(files, kind) {
-            let (path, name) = (shown_path(file), kind.name());
-            page.show(format_args!("{path}, read as {name}: "));
+            page.say(shown_path(file));
+            page.fill(", read as {}: ", &[kind.name()]);
             put_sentence(told.name(), kind, page);
         }
     }
