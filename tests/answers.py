@@ -329,6 +329,13 @@ RUNS = [
             *["heard 1 0"] * 2,
         ],
     ),
+    # At version 1 an agent says nothing of what it has heard.
+    (
+        SQUARE,
+        RELAY,
+        ["start 0", "finish 0", "say 0", "deliver 1 0", "say 1", "deliver 2 1", "start 2"],
+        ["moving 1 1", "arrived 1 1", *HEARD, "said 1 460100010000000700000000", "heard 1 0", "refused Waits 0 1"],
+    ),
     # Nobody begins to turn.
     (SQUARE, TURN, [f"start {i}" for i in range(4)], [f"refused Waits {(i + 1) % 4} 1" for i in range(4)]),
     # Numbers that name nothing.
@@ -378,6 +385,16 @@ TELLING_RUNS = [
         ["start 0", "finish 0", "say 0", "deliver 1 0", "say 1", "deliver 2 1", "start 2"],
         ["moving 1 1", "arrived 1 1", TOLD, "heard 0 1", "said 1 46020001000000070001000000000001", "heard 1 0", "moving 1 0"],
     ),
+    # Numbers that name nobody and nothing, and a message without an entry.
+    (
+        LANE,
+        BEHIND,
+        ["say 2", "deliver 0 0", "say 1", "deliver 2 0", "deliver 0 0", "deliver 0 1"],
+        [
+            *("refused NoSuchAgent", "refused NoSuchMessage", "said 0 46020001000000070000", "refused NoSuchAgent", "heard 1 0"),
+            "refused NoSuchMessage",
+        ],
+    ),
     # Nobody has finished anything.
     (LANE, BEHIND, ["say 0", "deliver 1 0"], ["said 0 46020000000000070000", "heard 0 0"]),
     (LANE, NOBODY, ["say 0"], ["refused NoSuchAgent"]),
@@ -401,10 +418,11 @@ EVENT_FAULTS = [
     ("", "", "NoHeader"),
 ]
 
-# Records of agent 0 of the plan BEHIND, of another plan and of another agent, and bytes of none.
+# Records of agent 0 of the plan BEHIND, of another plan and agent, of either alone, and bytes of none.
 MOVING = bytes.fromhex("50010000000700000000")
 STANDING = bytes.fromhex("50020000000700000001")
 OTHER_PLAN = bytes.fromhex("50010000000800010000")
+OTHER_PLAN_ALONE = bytes.fromhex("50010000000800000000")
 OTHER_AGENT = bytes.fromhex("50010000000700010000")
 ARRIVED_IN_OTHER_PLAN = bytes.fromhex("50020000000800000001")
 ARRIVED_AS_OTHER = bytes.fromhex("50020000000700010001")
@@ -436,6 +454,7 @@ REFUSED_TAPES = [
     (OTHER_PLAN, "WrongPlan 0"),
     (OTHER_PLAN + NOISE, "WrongPlan 0"),
     (MOVING + ARRIVED_IN_OTHER_PLAN, "WrongPlan 1"),
+    (OTHER_PLAN_ALONE, "WrongPlan 0"),
     (OTHER_AGENT, "WrongAgent 0"),
     (MOVING + ARRIVED_AS_OTHER, "WrongAgent 1"),
 ]

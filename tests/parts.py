@@ -27,7 +27,9 @@ import formats
 import judging
 import launcher
 import limits
+import messages
 import refusals
+import replays
 import robots
 import shipping
 import showing
@@ -47,10 +49,12 @@ PARTS: dict[str, tuple[str, Callable[[Harness], Iterator[Outcome]]]] = {
     "beginnings": ("every beginning of texts and of messages", beginnings.outcomes),
     "limits": ("sizes up to the limits, with answers that are known by how they are made", limits.outcomes),
     "answers": ("whole commands on texts, files and tapes", answers.outcomes),
+    "messages": ("messages with each byte changed, and what agents tell by what they heard", messages.outcomes),
     "devices": ("files, inputs and outputs that fail", devices.outcomes),
     "faults": ("calls of the system that fail, one after another", faults.outcomes),
     "memory": ("calls of the libraries to which memory is refused", refusals.outcomes),
     "explain": ("faults explained to people", explaining.outcomes),
+    "runs": ("runs beside a plain model: events at random, and stops at each write", replays.outcomes),
     "endings": ("how runs end: the events that complete them, or the rotation in the way", endings.outcomes),
     "convert": ("plans of other formats, converted and back", converting.outcomes),
     "judge": ("many plans, judged as one table", judging.outcomes),

@@ -9,7 +9,7 @@ STEPS = {"n": (0, -1), "e": (1, 0), "s": (0, 1), "w": (-1, 0)}
 # The upper left cell of a block of four, and the acts by which agents in it turn round in a circle.
 TURNING = (((0, 0), "e"), ((1, 0), "s"), ((1, 1), "w"), ((0, 1), "n"))
 # How often each event comes.
-EVENTS = {"start": 6, "finish": 6, "say": 4, "deliver": 6, "restart": 1, "tear": 1}
+EVENTS = {"start": 9, "finish": 7, "say": 5, "deliver": 8, "restart": 2, "tear": 1}
 
 
 def random_map(rng: random.Random) -> tuple[str, list[Cell]]:
@@ -87,12 +87,17 @@ def random_plan(rng: random.Random, free: list[Cell], may_turn: bool) -> str:
     return "\n".join(["mapf-plan 1", "number 7", f"agents {count}", *lines, ""])
 
 
-def random_events(rng: random.Random, agents: int, version: int) -> str:
-    """Events of such a run. Most name agents and messages that there are."""
+def random_message(rng: random.Random, said: int) -> int:
+    """One of so many messages, mostly of the last ones, or the next one, that there is not."""
+    return max(said - rng.randrange(6) - 1, 0) if rng.random() < 0.7 else rng.randrange(said + 1)
+
+
+def random_events(rng: random.Random, agents: int, version: int, count: Optional[int] = None) -> str:
+    """So many events of such a run, or less than a hundred. Most name agents and messages that there are."""
     lines, said = [f"mapf-events {version}"], 0
-    for word in rng.choices(list(EVENTS), list(EVENTS.values()), k=rng.randrange(100)):
+    for word in rng.choices(list(EVENTS), list(EVENTS.values()), k=rng.randrange(100) if count is None else count):
         agent = rng.randrange(agents) if rng.random() < 0.98 else agents
-        more = f" {rng.randrange(said + 1)}" if word == "deliver" else f" {rng.randrange(12)}" if word == "tear" else ""
+        more = f" {random_message(rng, said)}" if word == "deliver" else f" {rng.randrange(12)}" if word == "tear" else ""
         lines.append(f"{word} {agent}{more}")
         said += word == "say"
     return "\n".join([*lines, ""])
