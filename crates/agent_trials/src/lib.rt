@@ -1,21 +1,16 @@
-//! Tests of the crate agent: messages, tapes that are opened or refused, and agents that go along their paths.
+//! Tests of the crate agent: the bytes of messages, an agent without its graph, tapes that fail, agents that hear of many others, and memory that is
+//! refused. What an agent answers beside that, `./test` shows by `mapf agent`.
 #![tactic(auto)]
 
 #[cfg(test)]
-mod changed_bytes;
+mod many_agents;
 #[cfg(test)]
 mod many_senders;
 #[cfg(test)]
 mod messages;
 #[cfg(test)]
-mod openings;
+mod one_agent;
 #[cfg(test)]
 mod refused_memory;
 #[cfg(test)]
-mod tears;
-#[cfg(test)]
-mod tellings;
-#[cfg(test)]
-mod texts;
-#[cfg(test)]
-mod walks;
+mod refused_messages;

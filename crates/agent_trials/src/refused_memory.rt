@@ -10,7 +10,7 @@ const RECORD: [u8; 10] = [0x50, 1, 0, 0, 0, 7, 0, 0, 0, 0];
 /// A tape without bytes; nothing but memory is lacking.
 fn make_empty(rt: &impl Abort, alloc: Global) -> Result<(), OutOfMemory> {
     let tape = MemTape::new(alloc, 20)?;
-    assert_eq!(rt; (tape.len(), tape.room(), tape.failures()), (0, 20, 0));
+    assert!(rt; tape.len() == 0 && tape.room() == 20 && tape.failures() == 0);
     Ok(())
 }
 
@@ -19,24 +19,29 @@ fn make_of_record(rt: &impl Abort, alloc: Global) -> Result<(), TapeMakeFault> {
     match MemTape::from_bytes(alloc, &RECORD, 20) {
         Ok(mut tape) => {
             let mut record = [0; 10];
-            assert!(rt; tape.len() == 10 && tape.room() == 20);
-            assert!(rt; tape.read_at(0, &mut record).is_ok() && record == RECORD);
+            let is_read = tape.read_at(0, &mut record).is_ok() && record == RECORD;
+            assert!(rt; is_read && tape.len() == 10 && tape.room() == 20);
             Ok(())
         }
         Err(fault) => {
-            assert_eq!(rt; fault, TapeMakeFault::OutOfMemory);
+            assert!(rt; fault == TapeMakeFault::OutOfMemory);
             Err(fault)
         }
     }
 }
 
+/// At most one allocation fails, so a second call needs to succeed where the first did not.
+fn make_both(rt: &impl Abort, alloc: Global) -> Result<(), TapeMakeFault> {
+    if make_empty(rt, alloc).is_err() {
+        make_empty(rt, alloc)?;
+    }
+    match make_of_record(rt, alloc) {
+        Ok(()) => Ok(()),
+        Err(_) => make_of_record(rt, alloc),
+    }
+}
+
 #[test]
 fn memory_refused_to_a_tape(rt: HostRuntime) -> Result<(), Fail> {
-    if make_empty(&rt, rt.alloc()).is_err() {
-        make_empty(&rt, rt.alloc())?;
-    }
-    if make_of_record(&rt, rt.alloc()).is_err() {
-        make_of_record(&rt, rt.alloc())?;
-    }
-    Ok(())
+    Ok(make_both(&rt, rt.alloc())?)
 }

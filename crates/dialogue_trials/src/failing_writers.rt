@@ -1,128 +1,111 @@
-//! Dialogues whose writer fails.
+//! Dialogues whose writer is slow or fails.
 use crate::dialogues::{
-    FIRST_LINE, MOVED, ROW, TWO, answers_of, first, graph_of, has_stored, lead_noted, new_agent,
+    ANSWERS, BEHIND, COUNT, LINES, first_lines, graph_of, has_stored, new_agent,
 };
-use depgraph::Graph;
-use dialogue::TalkFault;
+use agent::{Agent, MemTape};
+use depgraph::{Graph, OutOfMemory};
+use dialogue::{TalkFault, talk};
 use fakes::{Keeper, Record, Trouble};
-use std::alloc::{AllocError, Global};
-use std::process::Abort;
-use std::test::Fail;
+use grid::Counted;
+use std::alloc::Global;
 
-/// Where a dialogue is at a call of a writer that takes a byte at each: how many lines were read, and how many bytes were taken.
-#[derive(Clone, Copy)]
-struct Place {
-    lines: usize,
-    taken: usize,
+/// What is noted of the lines that are read, and of the end of the input.
+const READ: &[u8] =
+    b"<start\n<say\n<finish\n<say\n<held\n<start\n<hear 4601\n<hear 4\n<hear 460100000000000700000002\n<hear 460100000000000800000001\n<hear 460100090000000700000001\n<";
+
+/// How a dialogue ends, when a writer has taken so many bytes and so many lines were read, which have done what they ask for.
+type Due = (Result<(), TalkFault>, usize, usize);
+
+/// Whether a dialogue ends so.
+fn ends_with(
+    alloc: Global,
+    mut agent: Agent<'_, MemTape>,
+    record: &Record,
+    mut out: Keeper,
+    (end, taken, lines): Due,
+) -> bool {
+    let found = talk(
+        alloc,
+        &mut agent,
+        &mut Counted::new(record.reader(LINES)),
+        &mut Counted::new(&mut out),
+    );
+    let has_taken = Some(out.kept()) == ANSWERS.get(..taken);
+    let has_read = record.is(first_lines(READ, lines)) && has_stored(agent.tape(), lines);
+    found == end && has_taken && has_read
 }
 
-/// The places at the calls of a dialogue over the turns of `ROW`: each line of its output is written and then flushed.
-fn places(alloc: Global) -> Result<Vec<Place>, AllocError> {
-    let mut places = Vec::new(alloc);
-    let mut taken = 0_usize;
-    let mut lines = 0_usize;
-    let answers = answers_of(alloc, FIRST_LINE, &ROW)?;
-    for &byte in answers.as_bytes() {
-        places.push(Place { lines, taken })?;
-        taken = taken.saturating_add(1);
-        if byte == b'\n' {
-            places.push(Place { lines, taken })?;
-            lines = lines.saturating_add(1);
-        }
-    }
-    Ok(places)
+/// The same of a new agent.
+fn ends(alloc: Global, graph: &Graph, out: Keeper, due: Due) -> Result<bool, OutOfMemory> {
+    let record = Record::new(alloc)?;
+    let agent = new_agent(alloc, graph, 0)?;
+    Ok(ends_with(alloc, agent, &record, out, due))
 }
 
-/// Leads a dialogue over the turns of `ROW` with a writer that goes wrong at a place, and compares what was taken, stored and read.
-fn goes_wrong(
-    rt: &impl Abort,
+/// Whether a dialogue ends where a writer that takes a byte a call goes wrong at one, in any way.
+fn ends_at(
     alloc: Global,
     graph: &Graph,
-    mut out: Keeper,
-    place: Place,
-) -> Result<(), Fail> {
-    let mut agent = new_agent(alloc, graph, 0)?;
-    let record = Record::new(alloc)?;
-    let end = lead_noted(alloc, &mut agent, &record, &mut out)?;
-    assert_eq!(rt; end, Err(TalkFault::WriteFailed), "at {}", place.taken);
-    assert!(rt;
-        has_taken(alloc, out.kept(), place.taken)?,
-        "at {}",
-        place.taken
-    );
-    let turns = first(&ROW, place.lines);
-    assert!(rt; has_stored(&agent.into_tape(), turns), "at {}", place.taken);
-    assert!(rt;
-        record.is(reads_of(alloc, turns)?.as_bytes()),
-        "at {}",
-        place.taken
-    );
-    Ok(())
-}
-
-/// Whether these are so many first bytes of the answers.
-fn has_taken(alloc: Global, taken: &[u8], count: usize) -> Result<bool, AllocError> {
-    let answers = answers_of(alloc, FIRST_LINE, &ROW)?;
-    Ok(taken.len() == count && answers.as_bytes().starts_with(taken))
-}
-
-/// The record of the lines of these turns, which were read.
-fn reads_of(alloc: Global, turns: &[(&str, &str, usize)]) -> Result<String, AllocError> {
-    let mut text = String::new(alloc);
-    for &(line, _, _) in turns {
-        text.push_str("<")?;
-        text.push_str(line)?;
-        text.push_str("\n")?;
+    call: u64,
+    (taken, lines): (usize, usize),
+) -> Result<bool, OutOfMemory> {
+    let due = (Err(TalkFault::WriteFailed), taken, lines);
+    let mut has_ended = true;
+    for trouble in [
+        Trouble::Failure,
+        Trouble::Interrupted,
+        Trouble::NothingTaken,
+    ] {
+        let out = Keeper::of_size(1).in_trouble_at(call, trouble);
+        has_ended = ends(alloc, graph, out, due)? && has_ended;
     }
-    Ok(text)
+    Ok(has_ended)
+}
+
+/// How many calls such a writer has for the answers, each line of which is written and then flushed, when a dialogue ends at each of them; `None`
+/// where it doesn't.
+fn calls_that_fail(alloc: Global, graph: &Graph) -> Result<Option<u64>, OutOfMemory> {
+    let mut call = 0_u64;
+    let mut lines = 0_usize;
+    for (taken, &byte) in ANSWERS.iter().enumerate() {
+        call = call.saturating_add(1);
+        let mut has_ended = ends_at(alloc, graph, call, (taken, lines))?;
+        if byte == b'\n' {
+            call = call.saturating_add(1);
+            let place = (taken.saturating_add(1), lines);
+            has_ended = ends_at(alloc, graph, call, place)? && has_ended;
+            lines = lines.saturating_add(1);
+        }
+        if !has_ended {
+            return Ok(None);
+        }
+    }
+    Ok(Some(call))
+}
+
+/// Whether writers that take some bytes at a time get all answers, and one that takes none gets none.
+fn are_slow(alloc: Global, graph: &Graph) -> Result<bool, OutOfMemory> {
+    let nothing = (Err(TalkFault::WriteFailed), 0, 0);
+    let all = (Ok(()), ANSWERS.len(), COUNT.saturating_add(1));
+    let mut has_ended = true;
+    for size in 0..=5 {
+        let due = if size == 0 { nothing } else { all };
+        has_ended = ends(alloc, graph, Keeper::of_size(size), due)? && has_ended;
+    }
+    Ok(has_ended)
+}
+
+/// The calls of a writer that fails at each of them, and whether slow ones get all.
+type Found = (Result<Option<u64>, OutOfMemory>, Result<bool, OutOfMemory>);
+
+fn found(alloc: Global) -> Result<Found, OutOfMemory> {
+    let graph = graph_of(alloc, BEHIND)?;
+    Ok((calls_that_fail(alloc, &graph), are_slow(alloc, &graph)))
 }
 
 /// The line whose answer can't be written has done what it asked for, and no other line is read.
 #[test]
-fn writers_that_fail(rt: HostRuntime) -> Result<(), Fail> {
-    let graph = graph_of(rt.alloc(), 7, TWO)?;
-    let mut call = 0_u64;
-    for &place in places(rt.alloc())?.as_slice() {
-        call = call.saturating_add(1);
-        for trouble in [
-            Trouble::Failure,
-            Trouble::Interrupted,
-            Trouble::NothingTaken,
-        ] {
-            let out = Keeper::of_size(1).in_trouble_at(call, trouble);
-            goes_wrong(&rt, rt.alloc(), &graph, out, place)?;
-        }
-    }
+fn writers_that_fail_or_are_slow(rt: HostRuntime) {
     // 213 bytes, and a flush behind each of the 12 lines
-    assert_eq!(rt; call, 225);
-    Ok(())
-}
-
-#[test]
-fn writer_that_takes_nothing(rt: HostRuntime) -> Result<(), Fail> {
-    let graph = graph_of(rt.alloc(), 7, TWO)?;
-    let place = Place { lines: 0, taken: 0 };
-    goes_wrong(&rt, rt.alloc(), &graph, Keeper::of_size(0), place)
-}
-
-#[test]
-fn writers_that_are_slow(rt: HostRuntime) -> Result<(), Fail> {
-    let graph = graph_of(rt.alloc(), 7, TWO)?;
-    for size in 1..=5 {
-        writes_slowly(&rt, rt.alloc(), &graph, size)?;
-    }
-    Ok(())
-}
-
-/// Leads a dialogue over the turns of `ROW` with a writer that takes so many bytes a call.
-fn writes_slowly(rt: &impl Abort, alloc: Global, graph: &Graph, size: usize) -> Result<(), Fail> {
-    let mut agent = new_agent(alloc, graph, 0)?;
-    let record = Record::new(alloc)?;
-    let mut out = Keeper::of_size(size);
-    let end = lead_noted(alloc, &mut agent, &record, &mut out)?;
-    assert_eq!(rt; end, Ok(()), "at {size}");
-    let answers = answers_of(alloc, FIRST_LINE, &ROW)?;
-    assert!(rt; out.kept() == answers.as_bytes(), "at {size}");
-    assert_eq!(rt; agent.into_tape().bytes(), MOVED.as_slice());
-    Ok(())
+    assert_eq!(rt; found(rt.alloc()), Ok((Ok(Some(225)), Ok(true))));
 }

@@ -1,191 +1,221 @@
 //! Runs while memory may be refused, as `./test --prove` refuses each allocation of these tests in turn: at the most one in a run.
-use crate::lines::{expect_list, line};
-use crate::plain_run::PlainRun;
-use crate::texts::{ONE_BEHIND, ROW, SQUARE, TURNING, plan_text};
+use crate::texts::{ONE_BEHIND, ROW, SQUARE, TURNING, graph_of, have_text};
 use depgraph::{Graph, OutOfMemory};
-use grid::{Counted, Map, MapFault, read_map};
-use plan::{Plan, PlanFault, PlanTextFault, check, read_plan};
-use runner::{CompleteFault, Event, Reply, Runner, Version};
+use runner::{CompleteFault, Event, Reply, Runner, Version, run, run_with};
 use std::alloc::Global;
 use std::process::Abort;
 use std::test::Fail;
 
-const TURNING_ROWS: [(Event, &str); 4] = [
-    (Event::Start(0), "refused Waits 1 1"),
-    (Event::Start(1), "refused Waits 2 1"),
-    (Event::Start(2), "refused Waits 3 1"),
-    (Event::Start(3), "refused Waits 0 1"),
-];
-
-const MESSAGE_ROWS: [(Event, &str); 7] = [
-    (Event::Start(1), "refused Waits 0 1"),
-    (Event::Start(0), "moving 2 0"),
-    (Event::Finish(0), "arrived 2 0"),
-    (Event::Start(1), "refused Waits 0 1"),
-    (Event::Say(0), "said 0 460100000000000700000001"),
-    (Event::Deliver(1, 0), "heard 0 1"),
-    (Event::Start(1), "moving 1 0"),
-];
-
-/// Agent 1 hears the same message before and after a restart, and agent 0 one without an entry.
-const TELLING_ROWS: [(Event, &str); 12] = [
-    (Event::Start(0), "moving 2 0"),
-    (Event::Finish(0), "arrived 2 0"),
-    (Event::Say(0), "said 0 46020000000000070001000000000001"),
-    (Event::Say(1), "said 1 46020001000000070000"),
-    (Event::Deliver(0, 1), "heard 1 0"),
-    (Event::Deliver(1, 0), "heard 0 1"),
-    (Event::Deliver(1, 0), "heard 0 1"),
-    (Event::Restart(1), "at 0 0 done 0"),
-    (Event::Deliver(1, 0), "heard 0 1"),
-    (Event::Deliver(1, 0), "heard 0 1"),
-    (Event::Say(1), "said 2 46020001000000070001000000000001"),
-    (Event::Start(1), "moving 1 0"),
-];
-
-/// The map of a text; nothing but memory is lacking.
-fn map_of(rt: &impl Abort, alloc: Global, text: &str) -> Result<Map, OutOfMemory> {
-    match read_map(alloc, &mut Counted::new(text.as_bytes())) {
-        Ok(map) => Ok(map),
-        Err(fault) => {
-            assert_eq!(rt; fault, MapFault::OutOfMemory);
-            Err(OutOfMemory)
-        }
-    }
+/// A run: its map and its plan, its events with the text of their replies, and which of these events may want memory.
+#[derive(Clone, Copy)]
+struct Case {
+    map: &'static str,
+    plan: &'static str,
+    events: &'static [Event],
+    /// Beside each event, whether memory may be wanting for it: to say anything, and to hear of an agent that was not heard of since the last restart.
+    may_want: &'static [bool],
+    replies: &'static str,
 }
 
-/// The plan of the agents of these lines; nothing but memory is lacking.
-fn plan_of(rt: &impl Abort, alloc: Global, agents: &str) -> Result<Plan, OutOfMemory> {
-    let text = plan_text(alloc, agents)?;
-    match read_plan(alloc, &mut Counted::new(text.as_bytes())) {
-        Ok(plan) => Ok(plan),
-        Err(fault) => {
-            assert_eq!(rt; fault, PlanTextFault::OutOfMemory);
-            Err(OutOfMemory)
-        }
-    }
-}
+/// Four agents, each of which waits for the next.
+static TURNS: Case = Case {
+    map: SQUARE,
+    plan: TURNING,
+    events: &[
+        Event::Start(0),
+        Event::Start(1),
+        Event::Start(2),
+        Event::Start(3),
+    ],
+    may_want: &[false, false, false, false],
+    replies: "refused Waits 1 1\nrefused Waits 2 1\nrefused Waits 3 1\nrefused Waits 0 1\n",
+};
 
-/// The graph of the agents of these lines; nothing but memory is lacking.
-fn graph_of(rt: &impl Abort, alloc: Global, map: &str, agents: &str) -> Result<Graph, OutOfMemory> {
-    let map = map_of(rt, alloc, map)?;
-    let plan = plan_of(rt, alloc, agents)?;
-    match check(alloc, &map, plan) {
-        Ok(plan) => Graph::build(alloc, &plan),
-        Err(rejected) => {
-            assert_eq!(rt; rejected.fault, PlanFault::OutOfMemory);
-            Err(OutOfMemory)
-        }
-    }
-}
+/// At version 1.
+static MESSAGE: Case = Case {
+    map: ROW,
+    plan: ONE_BEHIND,
+    events: &[
+        Event::Start(1),
+        Event::Start(0),
+        Event::Finish(0),
+        Event::Start(1),
+        Event::Say(0),
+        Event::Deliver(1, 0),
+        Event::Start(1),
+    ],
+    may_want: &[false, false, false, false, true, true, false],
+    replies: "refused Waits 0 1\nmoving 2 0\narrived 2 0\nrefused Waits 0 1\nsaid 0 460100000000000700000001\nheard 0 1\nmoving 1 0\n",
+};
+
+/// At version 2 agent 1 hears the same message before and after a restart, and agent 0 one without an entry.
+static TELLING: Case = Case {
+    map: ROW,
+    plan: ONE_BEHIND,
+    events: &[
+        Event::Start(0),
+        Event::Finish(0),
+        Event::Say(0),
+        Event::Say(1),
+        Event::Deliver(0, 1),
+        Event::Deliver(1, 0),
+        Event::Deliver(1, 0),
+        Event::Restart(1),
+        Event::Deliver(1, 0),
+        Event::Deliver(1, 0),
+        Event::Say(1),
+        Event::Start(1),
+    ],
+    may_want: &[
+        false, false, true, true, false, true, false, false, true, false, true, false,
+    ],
+    replies: "moving 2 0\narrived 2 0\nsaid 0 46020000000000070001000000000001\nsaid 1 46020001000000070000\nheard 1 0\nheard 0 1\nheard 0 1\nat 0 0 done 0\nheard 0 1\nheard 0 1\nsaid 2 46020001000000070001000000000001\nmoving 1 0\n",
+};
 
 /// The reply to an event, which is asked again where memory was refused, as it may be.
 fn answer(
     rt: &impl Abort,
     runner: &mut Runner<'_>,
-    plain: &PlainRun<'_>,
     event: Event,
+    may_want: bool,
 ) -> Result<Reply, OutOfMemory> {
     match runner.step(event) {
-        Ok(reply) => Ok(reply),
         Err(OutOfMemory) => {
-            let may = plain.may_take_memory(event);
-            assert!(rt; may, "memory was refused to {event:?}");
+            assert!(rt; may_want, "memory was refused to {event:?}");
             runner.step(event)
         }
+        answered => answered,
     }
 }
 
 /// The replies to events, one by one.
-fn step_all(
+fn answer_all(
     rt: &impl Abort,
     alloc: Global,
     runner: &mut Runner<'_>,
-    plain: &mut PlainRun<'_>,
-    rows: &[(Event, &str)],
-) -> Result<(), OutOfMemory> {
-    for (event, expected) in rows {
-        let reply = line(alloc, &answer(rt, runner, plain, *event)?)?;
-        assert_eq!(rt; reply.as_str(), *expected, "after {event:?}");
-        plain.step(*event)?;
+    case: &Case,
+) -> Result<Vec<Reply>, OutOfMemory> {
+    let mut replies = Vec::new(alloc);
+    for (&event, &may_want) in case.events.iter().zip(case.may_want) {
+        let reply = answer(rt, runner, event, may_want)?;
+        let Ok(()) = replies.push(reply) else {
+            return Err(OutOfMemory);
+        };
     }
-    Ok(())
+    Ok(replies)
 }
 
-/// The replies to events, one by one, and what completes their run.
-fn complete_all(
-    rt: &impl Abort,
-    alloc: Global,
-    graph: &Graph,
-    version: Version,
-    rows: &[(Event, &str)],
-) -> Result<(), OutOfMemory> {
-    let mut runner = Runner::with_version(alloc, graph, version)?;
-    let mut plain = PlainRun::new(alloc, graph, version)?;
-    step_all(rt, alloc, &mut runner, &mut plain, rows)?;
+/// Whether memory suffices to say how a run ends.
+fn complete(runner: &Runner<'_>) -> Result<(), OutOfMemory> {
     match runner.complete() {
         Err(CompleteFault::OutOfMemory) => Err(OutOfMemory),
         _ => Ok(()),
     }
 }
 
+/// Whether the replies to events, one by one, are the right ones.
+fn are_answered(
+    rt: &impl Abort,
+    alloc: Global,
+    runner: &mut Runner<'_>,
+    case: &Case,
+) -> Result<bool, OutOfMemory> {
+    let replies = answer_all(rt, alloc, runner, case)?;
+    Ok(have_text(&replies, case.replies))
+}
+
+/// The replies to events, one by one, and what completes their run.
+fn one_by_one(
+    rt: &impl Abort,
+    alloc: Global,
+    mut runner: Runner<'_>,
+    case: &Case,
+) -> Result<(), OutOfMemory> {
+    let are_right = are_answered(rt, alloc, &mut runner, case)?;
+    assert!(rt; are_right);
+    complete(&runner)
+}
+
+/// The replies to events at once.
+fn at_once(
+    alloc: Global,
+    graph: &Graph,
+    version: Version,
+    case: &Case,
+) -> Result<Vec<Reply>, OutOfMemory> {
+    match version {
+        Version::One => run(alloc, graph, case.events),
+        Version::Two => run_with(alloc, graph, version, case.events),
+    }
+}
+
+/// Whether the replies to events at once are the right ones.
+fn are_at_once(
+    alloc: Global,
+    graph: &Graph,
+    version: Version,
+    case: &Case,
+) -> Result<bool, OutOfMemory> {
+    let replies = at_once(alloc, graph, version, case)?;
+    Ok(have_text(&replies, case.replies))
+}
+
 /// The replies to events, one by one and then at once: each is the right one, or memory was refused, and so is what completes their run.
+fn attempt_on(
+    rt: &impl Abort,
+    alloc: Global,
+    graph: &Graph,
+    version: Version,
+    case: &Case,
+) -> Result<(), OutOfMemory> {
+    one_by_one(
+        rt,
+        alloc,
+        Runner::with_version(alloc, graph, version)?,
+        case,
+    )?;
+    let are_right = are_at_once(alloc, graph, version, case)?;
+    assert!(rt; are_right);
+    Ok(())
+}
+
 fn attempt(
     rt: &impl Abort,
     alloc: Global,
-    map: &str,
-    agents: &str,
     version: Version,
-    rows: &[(Event, &str)],
+    case: &Case,
 ) -> Result<(), OutOfMemory> {
-    let graph = graph_of(rt, alloc, map, agents)?;
-    complete_all(rt, alloc, &graph, version, rows)?;
-    expect_list(rt, alloc, &graph, version, rows)
+    let graph = graph_of(alloc, case.map, case.plan)?;
+    attempt_on(rt, alloc, &graph, version, case)
 }
 
 /// At most one allocation fails, so the second attempt needs to succeed where the first did not.
 fn attempt_twice(
     rt: &impl Abort,
     alloc: Global,
-    map: &str,
-    agents: &str,
     version: Version,
-    rows: &[(Event, &str)],
-) -> Result<(), Fail> {
-    if attempt(rt, alloc, map, agents, version, rows).is_err() {
-        attempt(rt, alloc, map, agents, version, rows)?;
+    case: &Case,
+) -> Result<(), OutOfMemory> {
+    match attempt(rt, alloc, version, case) {
+        Ok(()) => Ok(()),
+        Err(OutOfMemory) => attempt(rt, alloc, version, case),
     }
-    Ok(())
 }
 
 #[test]
 fn memory_refused_to_agents_that_turn(rt: HostRuntime) -> Result<(), Fail> {
     for version in [Version::One, Version::Two] {
-        attempt_twice(&rt, rt.alloc(), SQUARE, TURNING, version, &TURNING_ROWS)?;
+        attempt_twice(&rt, rt.alloc(), version, &TURNS)?;
     }
     Ok(())
 }
 
 #[test]
 fn memory_refused_to_a_message(rt: HostRuntime) -> Result<(), Fail> {
-    attempt_twice(
-        &rt,
-        rt.alloc(),
-        ROW,
-        ONE_BEHIND,
-        Version::One,
-        &MESSAGE_ROWS,
-    )
+    Ok(attempt_twice(&rt, rt.alloc(), Version::One, &MESSAGE)?)
 }
 
 #[test]
 fn memory_refused_to_a_message_with_entries(rt: HostRuntime) -> Result<(), Fail> {
-    attempt_twice(
-        &rt,
-        rt.alloc(),
-        ROW,
-        ONE_BEHIND,
-        Version::Two,
-        &TELLING_ROWS,
-    )
+    Ok(attempt_twice(&rt, rt.alloc(), Version::Two, &TELLING)?)
 }

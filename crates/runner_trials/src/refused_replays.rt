@@ -1,4 +1,5 @@
 //! Runs that are replayed from texts while memory may be refused, as `./test --prove` refuses each allocation of these tests in turn: at the most one in a run.
+use crate::texts::{ONE_BEHIND, ROW};
 use event_text::EventFault;
 use fakes::Keeper;
 use grid::{Counted, MapFault};
@@ -7,11 +8,6 @@ use replay::{Completion, RunFault, complete_text, run_text};
 use std::alloc::Global;
 use std::process::Abort;
 use std::test::Fail;
-
-const ROW: &str = "type octile\nheight 1\nwidth 3\nmap\n...\n";
-
-/// Agent 1 follows agent 0.
-const BEHIND: &str = "mapf-plan 1\nnumber 7\nagents 2\nagent 1 0 e\nagent 0 0 e\n";
 
 /// A text of events, that of their replies, and what is said of how their run ends.
 #[derive(Clone, Copy)]
@@ -56,17 +52,24 @@ fn replay(rt: &impl Abort, alloc: Global, run: ReplayText) -> Result<(), RunFaul
     let end = run_text(
         alloc,
         &mut Counted::new(ROW.as_bytes()),
-        &mut Counted::new(BEHIND.as_bytes()),
+        &mut Counted::new(ONE_BEHIND.as_bytes()),
         &mut Counted::new(run.events.as_bytes()),
         &mut Counted::new(&mut keeper),
     );
-    match end {
-        Ok(()) => assert!(rt; keeper.kept() == run.replies.as_bytes()),
-        Err(fault) => {
-            assert!(rt; lacks_memory(fault) && are_first_lines(keeper.kept(), run.replies));
-        }
-    }
+    let is_right = match end {
+        Ok(()) => keeper.kept() == run.replies.as_bytes(),
+        Err(fault) => lacks_memory(fault) && are_first_lines(keeper.kept(), run.replies),
+    };
+    assert!(rt; is_right);
     end
+}
+
+/// Whether a text is the replies and the ending of a run.
+fn is_whole(text: &[u8], run: ReplayText) -> bool {
+    match text.strip_prefix(run.replies.as_bytes()) {
+        Some(ending) => ending == run.ending.as_bytes(),
+        None => false,
+    }
 }
 
 /// The same, and how the run ends; where memory is refused for that, nothing is said of it.
@@ -75,42 +78,43 @@ fn replay_to_the_end(rt: &impl Abort, alloc: Global, run: ReplayText) -> Result<
     let end = complete_text(
         alloc,
         &mut Counted::new(ROW.as_bytes()),
-        &mut Counted::new(BEHIND.as_bytes()),
+        &mut Counted::new(ONE_BEHIND.as_bytes()),
         &mut Counted::new(run.events.as_bytes()),
         &mut Counted::new(&mut keeper),
     );
-    match end {
-        Ok(completion) => {
-            assert_eq!(rt; completion, Completion::Ends);
-            let (replies, ending) = keeper
-                .kept()
-                .split_at(run.replies.len().min(keeper.kept().len()));
-            assert!(rt; replies == run.replies.as_bytes() && ending == run.ending.as_bytes());
-            Ok(())
-        }
-        Err(fault) => {
-            assert!(rt; lacks_memory(fault) && are_first_lines(keeper.kept(), run.replies));
-            Err(fault)
+    let is_right = match end {
+        Ok(completion) => completion == Completion::Ends && is_whole(keeper.kept(), run),
+        Err(fault) => lacks_memory(fault) && are_first_lines(keeper.kept(), run.replies),
+    };
+    assert!(rt; is_right);
+    end.map(|_| ())
+}
+
+/// At most one allocation fails, so a second attempt needs to succeed where the first did not.
+fn replay_all(rt: &impl Abort, alloc: Global) -> Result<(), RunFault> {
+    for run in REPLAYS {
+        if replay(rt, alloc, run).is_err() {
+            replay(rt, alloc, run)?;
         }
     }
+    Ok(())
+}
+
+fn replay_all_to_the_end(rt: &impl Abort, alloc: Global) -> Result<(), RunFault> {
+    for run in REPLAYS {
+        if replay_to_the_end(rt, alloc, run).is_err() {
+            replay_to_the_end(rt, alloc, run)?;
+        }
+    }
+    Ok(())
 }
 
 #[test]
 fn memory_refused_to_a_replay(rt: HostRuntime) -> Result<(), Fail> {
-    for run in REPLAYS {
-        if replay(&rt, rt.alloc(), run).is_err() {
-            replay(&rt, rt.alloc(), run)?;
-        }
-    }
-    Ok(())
+    Ok(replay_all(&rt, rt.alloc())?)
 }
 
 #[test]
 fn memory_refused_to_a_replay_to_the_end(rt: HostRuntime) -> Result<(), Fail> {
-    for run in REPLAYS {
-        if replay_to_the_end(&rt, rt.alloc(), run).is_err() {
-            replay_to_the_end(&rt, rt.alloc(), run)?;
-        }
-    }
-    Ok(())
+    Ok(replay_all_to_the_end(&rt, rt.alloc())?)
 }
