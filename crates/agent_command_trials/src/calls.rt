@@ -4,7 +4,6 @@ use fakes::{DiskFiles, FakeDisk, Keeper};
 use grid::Counted;
 use std::alloc::{AllocError, Global};
 use std::io::Write;
-use std::process::Abort;
 use tape_claim::TapeClaim;
 
 /// A map of a row of three free cells.
@@ -54,14 +53,13 @@ pub fn answer<W: Write, E: Write>(
     )
 }
 
-/// Answers for agent 0 by a tape of which something is claimed, and compares the status and what it wrote.
-pub fn expect_claim(
-    rt: &impl Abort,
+/// Whether agent 0 answers by a tape of which something is claimed with this status, these answers and this fault, and leaves the tape alone.
+pub fn claims(
     alloc: Global,
     disk: &FakeDisk,
     claim: TapeClaim,
     (status, answers, fault): (u8, &str, &str),
-) {
+) -> bool {
     let disks = [(TAPE, disk)];
     let (mut out, mut err) = (Keeper::of_size(256), Keeper::of_size(256));
     let ended = agent_claim_cmd(
@@ -75,21 +73,20 @@ pub fn expect_claim(
         &mut Counted::new(&mut out),
         &mut Counted::new(&mut err),
     );
-    assert_eq!(rt; ended, status, "at {claim:?} {fault:?}");
-    assert!(rt; out.kept() == answers.as_bytes(), "at {claim:?} {fault:?}");
-    assert!(rt; err.kept() == fault.as_bytes(), "at {claim:?} {fault:?}");
-    assert!(rt;
-        disk.is_untouched() && disk.was_used_as_expected(),
-        "at {claim:?} {fault:?}"
-    );
+    let is_said = out.kept() == answers.as_bytes() && err.kept() == fault.as_bytes();
+    ended == status && is_said && disk.is_untouched() && disk.was_used_as_expected()
 }
 
-/// Answers for agent 0 to the end of the input, and compares what it wrote.
-pub fn expect(rt: &impl Abort, alloc: Global, disk: &FakeDisk, input: &[u8], answers: &str) {
+/// Whether an agent of the plan ends with this status, these answers and this fault.
+pub fn ends(
+    alloc: Global,
+    disk: &FakeDisk,
+    id: u16,
+    input: &[u8],
+    (status, answers, fault): (u8, &str, &str),
+) -> bool {
     let (mut out, mut err) = (Keeper::of_size(512), Keeper::of_size(512));
-    let status = answer(alloc, disk, (LANE, BEHIND), 0, input, &mut out, &mut err);
-    assert_eq!(rt; status, 0, "at {answers:?}");
-    assert!(rt; out.kept() == answers.as_bytes(), "at {answers:?}");
-    assert!(rt; err.kept() == b"".as_slice(), "at {answers:?}");
-    assert!(rt; disk.was_used_as_expected(), "at {answers:?}");
+    let ended = answer(alloc, disk, (LANE, BEHIND), id, input, &mut out, &mut err);
+    let is_said = out.kept() == answers.as_bytes() && err.kept() == fault.as_bytes();
+    ended == status && is_said && disk.was_used_as_expected()
 }

@@ -1,7 +1,7 @@
 //! Tapes that have to be new, or kept, that another process holds, or that are no files like others.
-use crate::calls::{MOVING, NOISE, bytes_of, expect_claim};
+use crate::calls::{MOVING, NOISE, bytes_of, claims};
 use fakes::{Call, FakeDisk};
-use std::alloc::Global;
+use std::alloc::{AllocError, Global};
 use std::test::Fail;
 use tape_claim::TapeClaim;
 
@@ -40,59 +40,80 @@ static CLAIMED: [(TapeClaim, Bytes, (u8, &str, &str)); 10] = [
     (TapeClaim::Any, None, (0, FIRST_LINE, "")),
 ];
 
-/// A disk with the bytes of a tape file, or without one.
-fn disk_of(alloc: Global, bytes: Bytes) -> Result<FakeDisk, Fail> {
-    match bytes {
-        Some((records, tail)) => Ok(FakeDisk::new(alloc, &bytes_of(alloc, records, tail)?)?),
-        None => Ok(FakeDisk::without_file(alloc)?),
-    }
+/// The bytes of a tape file, or none.
+fn written(alloc: Global, bytes: Bytes) -> Result<Vec<u8>, AllocError> {
+    let (records, tail) = bytes.unwrap_or((&[], &[]));
+    bytes_of(alloc, records, tail)
 }
 
-/// A new tape stays where the power fails as soon as the first line is out; none is made where it was to be kept.
+/// A disk with the bytes of a tape file, or without one.
+fn disk_of(alloc: Global, bytes: Bytes) -> Result<FakeDisk, AllocError> {
+    if bytes.is_none() {
+        return FakeDisk::without_file(alloc);
+    }
+    FakeDisk::new(alloc, &written(alloc, bytes)?)
+}
+
+/// Whether the agent ends as is due. A new tape stays where the power fails as soon as the first line is out; none is made where it was to be kept.
+fn is_claimed(
+    alloc: Global,
+    claim: TapeClaim,
+    bytes: Bytes,
+    due: (u8, &str, &str),
+) -> Result<bool, AllocError> {
+    let disk = disk_of(alloc, bytes)?;
+    let is_due = claims(alloc, &disk, claim, due);
+    let is_answered = due.0 == 0;
+    let is_there = disk.has_file() == (bytes.is_some() || is_answered);
+    let is_new = claim == TapeClaim::New && is_answered;
+    Ok(is_due && is_there && (!is_new || disk.keeps(&written(alloc, bytes)?)))
+}
+
 #[test]
 fn claimed_tapes(rt: HostRuntime) -> Result<(), Fail> {
     for &(claim, bytes, due) in &CLAIMED {
-        let disk = disk_of(rt.alloc(), bytes)?;
-        expect_claim(&rt, rt.alloc(), &disk, claim, due);
-        let is_answered = due.0 == 0;
         assert!(rt;
-            disk.has_file() == (bytes.is_some() || is_answered),
-            "at {claim:?}"
+            is_claimed(rt.alloc(), claim, bytes, due)?,
+            "at {claim:?} {due:?}"
         );
-        let (records, tail) = bytes.unwrap_or((&[], &[]));
-        let written = bytes_of(rt.alloc(), records, tail)?;
-        let is_new = claim == TapeClaim::New && is_answered;
-        assert!(rt; !is_new || disk.keeps(&written), "at {claim:?}");
     }
     Ok(())
 }
 
-static CLAIMS: [TapeClaim; 3] = [TapeClaim::Any, TapeClaim::New, TapeClaim::Kept];
+/// Whether a tape that another process holds is refused, and stays.
+fn is_in_use(alloc: Global, claim: TapeClaim) -> Result<bool, AllocError> {
+    let disk = FakeDisk::new(alloc, &MOVING)?;
+    disk.hold();
+    Ok(claims(alloc, &disk, claim, (3, "", "mapf: TapeInUse\n")) && disk.has(&MOVING))
+}
 
-#[test]
-fn tapes_in_use(rt: HostRuntime) -> Result<(), Fail> {
-    for &claim in &CLAIMS {
-        let disk = FakeDisk::new(rt.alloc(), &MOVING)?;
-        disk.hold();
-        expect_claim(&rt, rt.alloc(), &disk, claim, (3, "", "mapf: TapeInUse\n"));
-        assert!(rt; disk.has(&MOVING), "at {claim:?}");
-    }
-    Ok(())
+/// Whether what is no file like others is not even locked.
+fn is_no_file(alloc: Global, claim: TapeClaim) -> Result<bool, AllocError> {
+    let disk = FakeDisk::new(alloc, b"")?;
+    disk.make_irregular();
+    disk.fail(Call::Lock, 0);
+    Ok(claims(alloc, &disk, claim, (3, "", "mapf: OpenFailed\n")) && disk.failures() == 0)
 }
 
 #[test]
-fn tapes_that_are_no_files(rt: HostRuntime) -> Result<(), Fail> {
-    for &claim in &CLAIMS {
-        let disk = FakeDisk::new(rt.alloc(), b"")?;
-        disk.make_irregular();
-        disk.fail(Call::Lock, 0);
-        expect_claim(&rt, rt.alloc(), &disk, claim, (3, "", "mapf: OpenFailed\n"));
-        assert_eq!(rt; disk.failures(), 0, "at {claim:?}");
+fn tapes_that_are_not_taken(rt: HostRuntime) -> Result<(), Fail> {
+    for claim in [TapeClaim::Any, TapeClaim::New, TapeClaim::Kept] {
+        assert!(rt; is_in_use(rt.alloc(), claim)?, "at {claim:?}");
+        assert!(rt; is_no_file(rt.alloc(), claim)?, "at {claim:?}");
     }
     Ok(())
 }
 
-/// Each call of which a new tape has need fails.
+/// Whether a new tape is refused where a call of which it has need fails, and is made when that fails no more.
+fn is_made_again(alloc: Global, call: Call) -> Result<bool, AllocError> {
+    let disk = FakeDisk::without_file(alloc)?;
+    disk.fail(call, 0);
+    let failed = (3, "", "mapf: TapeFailed\n");
+    let is_refused = claims(alloc, &disk, TapeClaim::New, failed) && disk.failures() == 1;
+    let is_made = claims(alloc, &disk, TapeClaim::New, (0, FIRST_LINE, ""));
+    Ok(is_refused && is_made && disk.keeps(b""))
+}
+
 #[test]
 fn new_tapes_that_fail(rt: HostRuntime) -> Result<(), Fail> {
     for call in [
@@ -102,13 +123,7 @@ fn new_tapes_that_fail(rt: HostRuntime) -> Result<(), Fail> {
         Call::OpenFolder,
         Call::SyncFolder,
     ] {
-        let disk = FakeDisk::without_file(rt.alloc())?;
-        disk.fail(call, 0);
-        let due = (3, "", "mapf: TapeFailed\n");
-        expect_claim(&rt, rt.alloc(), &disk, TapeClaim::New, due);
-        assert_eq!(rt; disk.failures(), 1, "at {call:?}");
-        expect_claim(&rt, rt.alloc(), &disk, TapeClaim::New, (0, FIRST_LINE, ""));
-        assert!(rt; disk.keeps(b""), "at {call:?}");
+        assert!(rt; is_made_again(rt.alloc(), call)?, "at {call:?}");
     }
     Ok(())
 }

@@ -1,8 +1,7 @@
 //! `mapf agent` over a disk that fails at each of its calls, and after power cuts.
-use crate::calls::{BEHIND, LANE, MOVING, NOISE, STANDING, answer, bytes_of, expect};
+use crate::calls::{BEHIND, LANE, MOVING, NOISE, STANDING, answer, bytes_of, ends};
 use fakes::{Call, FakeDisk, Keeper};
 use std::alloc::{AllocError, Global};
-use std::process::Abort;
 use std::test::Fail;
 
 /// Where agent 0 is by a tape without a record.
@@ -25,22 +24,25 @@ static OPENED: [(&[[u8; 10]], &[u8], &str); 9] = [
     (&[MOVING, STANDING], &[0xff; 9], "at 2 0 done 1\n"),
 ];
 
-/// What is said of where an agent is holds after a power cut too.
+/// Whether an agent is there by a tape file, which stays as it is, and after a power cut too.
+fn is_opened(alloc: Global, records: &[[u8; 10]], tail: &[u8], state: &str) -> Result<bool, Fail> {
+    let bytes = bytes_of(alloc, records, tail)?;
+    let disk = FakeDisk::new(alloc, &bytes)?;
+    let is_there = ends(alloc, &disk, 0, b"", (0, state, ""));
+    // A file with a record was made before, and its name was synced then.
+    let is_synced = disk.folder_syncs() == u32::from(records.is_empty());
+    let stays = disk.has(&bytes) && disk.is_untouched();
+    let after = disk.after_power_cut(alloc)?;
+    Ok(is_there && is_synced && stays && ends(alloc, &after, 0, b"", (0, state, "")))
+}
+
 #[test]
 fn tape_files_that_are_opened(rt: HostRuntime) -> Result<(), Fail> {
     for &(records, tail, state) in &OPENED {
-        let bytes = bytes_of(rt.alloc(), records, tail)?;
-        let disk = FakeDisk::new(rt.alloc(), &bytes)?;
-        expect(&rt, rt.alloc(), &disk, b"", state);
-        assert!(rt; disk.has(&bytes) && disk.is_untouched(), "at {state:?}");
-        // A file with a record was made before, and its name was synced then.
-        assert_eq!(rt;
-            disk.folder_syncs(),
-            u32::from(records.is_empty()),
+        assert!(rt;
+            is_opened(rt.alloc(), records, tail, state)?,
             "at {state:?}"
         );
-        let after = disk.after_power_cut(rt.alloc())?;
-        expect(&rt, rt.alloc(), &after, b"", state);
     }
     Ok(())
 }
@@ -100,26 +102,19 @@ fn end_of(
     Ok(None)
 }
 
-/// How many records an agent finds on a disk that doesn't fail, by its first line.
-fn found(rt: &impl Abort, alloc: Global, disk: &FakeDisk) -> Option<usize> {
+/// How many records an agent finds on a disk that doesn't fail, by its first line; `None` where it ends in another way.
+fn found(alloc: Global, disk: &FakeDisk) -> Option<usize> {
     disk.fail(Call::Read, u32::MAX);
-    let (mut out, mut err) = (Keeper::of_size(256), Keeper::of_size(256));
-    let status = answer(alloc, disk, (LANE, BEHIND), 0, b"", &mut out, &mut err);
-    assert!(rt; status == 0 && err.kept() == b"".as_slice());
-    assert!(rt; disk.was_used_as_expected());
     STATES
         .iter()
-        .position(|state| state.as_bytes() == out.kept())
+        .position(|state| ends(alloc, disk, 0, b"", (0, state, "")))
 }
 
 /// Leads a dialogue over a disk with so many records, and says how it ended.
-fn end_on(alloc: Global, disk: &FakeDisk, records: usize) -> Result<End, Fail> {
+fn end_on(alloc: Global, disk: &FakeDisk, records: usize) -> Result<Option<End>, AllocError> {
     let (mut out, mut err) = (Keeper::of_size(256), Keeper::of_size(256));
     let status = answer(alloc, disk, (LANE, BEHIND), 0, ASKED, &mut out, &mut err);
-    match end_of(alloc, records, status, out.kept(), err.kept())? {
-        Some(end) => Ok(end),
-        None => Err("the dialogue may not end so")?,
-    }
+    end_of(alloc, records, status, out.kept(), err.kept())
 }
 
 /// Whether a dialogue that began with so many records and ended so may leave these: those on the disk, and those behind a power cut.
@@ -145,39 +140,78 @@ fn is_told(end: End, disk: &FakeDisk) -> bool {
     }
 }
 
-/// Leads a dialogue over a disk with so many records of which a call fails, and says how it ended.
+/// Whether what is on a disk, and what is kept behind a power cut, may be left by a dialogue that ended so; and the agent goes on.
+fn leaves(
+    alloc: Global,
+    disk: &FakeDisk,
+    end: End,
+    bytes: &[u8],
+    records: usize,
+) -> Result<bool, Fail> {
+    let after = disk.after_power_cut(alloc)?;
+    let kept = found(alloc, &after);
+    let here = found(alloc, disk);
+    let is_left = may_leave(end, records, here, kept) && (end != End::Refused || disk.has(bytes));
+    Ok(is_left && goes_on(alloc, disk, here.unwrap_or(0))?)
+}
+
+/// Leads a dialogue over a disk with so many records of which a call fails, and says how it ended; `None` where it may not end so.
 fn disk_fails(
-    rt: &impl Abort,
     alloc: Global,
     bytes: &[u8],
     records: usize,
-    failing: (Call, u32),
-) -> Result<End, Fail> {
+    (call, calls): (Call, u32),
+) -> Result<Option<End>, Fail> {
     let disk = FakeDisk::new(alloc, bytes)?;
-    disk.fail(failing.0, failing.1);
-    let end = end_on(alloc, &disk, records)?;
-    assert!(rt; is_told(end, &disk), "at {failing:?}");
-    let kept = found(rt, alloc, &disk.after_power_cut(alloc)?);
-    let here = found(rt, alloc, &disk);
-    assert!(rt; may_leave(end, records, here, kept), "at {failing:?}");
-    assert!(rt; end != End::Refused || disk.has(bytes), "at {failing:?}");
-    goes_on(rt, alloc, &disk, here.unwrap_or(0))?;
-    Ok(end)
+    disk.fail(call, calls);
+    match end_on(alloc, &disk, records)? {
+        Some(end) if is_told(end, &disk) && leaves(alloc, &disk, end, bytes, records)? => {
+            Ok(Some(end))
+        }
+        _ => Ok(None),
+    }
 }
 
-/// The agent ends its move from so many records on.
-fn goes_on(
-    rt: &impl Abort,
-    alloc: Global,
-    disk: &FakeDisk,
-    records: usize,
-) -> Result<(), AllocError> {
+/// Whether the agent ends its move from so many records on.
+fn goes_on(alloc: Global, disk: &FakeDisk, records: usize) -> Result<bool, AllocError> {
     let index = records.min(2);
     let [(first, _), (second, _)] = ANSWERS[index];
     let answers = [STATES[index], first, second].concat(alloc)?;
-    expect(rt, alloc, disk, ASKED, answers.as_str());
-    assert_eq!(rt; found(rt, alloc, disk), Some(2));
-    Ok(())
+    let has_ended = ends(alloc, disk, 0, ASKED, (0, answers.as_str(), ""));
+    Ok(has_ended && found(alloc, disk) == Some(2))
+}
+
+/// The calls that fail, and how many of each kind there may be.
+static FAILING: [(Call, u32); 8] = [
+    (Call::Lock, 1),
+    (Call::Read, 9),
+    (Call::Seek, 3),
+    (Call::Write, 7),
+    (Call::Flush, 4),
+    (Call::Sync, 4),
+    (Call::OpenFolder, 2),
+    (Call::SyncFolder, 2),
+];
+
+/// Over a disk with so many records, how often a tape is refused and how often a store fails, when each of these calls fails; `None` where a
+/// dialogue ends as it may not.
+fn ends_of_failing(
+    alloc: Global,
+    bytes: &[u8],
+    records: usize,
+) -> Result<Option<(u32, u32)>, Fail> {
+    let (mut refused, mut failed) = (0_u32, 0_u32);
+    for &(call, most) in &FAILING {
+        for calls in 0..most {
+            match disk_fails(alloc, bytes, records, (call, calls))? {
+                Some(End::Refused) => refused = refused.saturating_add(1),
+                Some(End::StoreFailed(_)) => failed = failed.saturating_add(1),
+                Some(End::Answered(_)) => {}
+                None => return Ok(None),
+            }
+        }
+    }
+    Ok(Some((refused, failed)))
 }
 
 #[test]
@@ -190,24 +224,11 @@ fn failing_disks(rt: HostRuntime) -> Result<(), Fail> {
         (&[MOVING, STANDING], &[]),
     ] {
         let bytes = bytes_of(rt.alloc(), records, tail)?;
-        for (call, most) in [
-            (Call::Lock, 1),
-            (Call::Read, 9),
-            (Call::Seek, 3),
-            (Call::Write, 7),
-            (Call::Flush, 4),
-            (Call::Sync, 4),
-            (Call::OpenFolder, 2),
-            (Call::SyncFolder, 2),
-        ] {
-            for calls in 0..most {
-                match disk_fails(&rt, rt.alloc(), &bytes, records.len(), (call, calls))? {
-                    End::Refused => refused = refused.saturating_add(1),
-                    End::StoreFailed(_) => failed = failed.saturating_add(1),
-                    End::Answered(_) => {}
-                }
-            }
-        }
+        let ends = ends_of_failing(rt.alloc(), &bytes, records.len())?;
+        assert!(rt; ends.is_some(), "at {bytes:?}");
+        let (more, others) = ends.unwrap_or((0, 0));
+        refused = refused.saturating_add(more);
+        failed = failed.saturating_add(others);
     }
     assert!(rt; refused > 0 && failed > 0);
     Ok(())
@@ -226,8 +247,11 @@ fn failing_stores(rt: HostRuntime) -> Result<(), Fail> {
         (Call::Write, 4, 1),
         (Call::Write, 5, 1),
     ] {
-        let end = disk_fails(&rt, rt.alloc(), b"", 0, (call, calls))?;
-        assert_eq!(rt; end, End::StoreFailed(records), "at {call:?} {calls}");
+        let end = disk_fails(rt.alloc(), b"", 0, (call, calls))?;
+        assert!(rt;
+            end == Some(End::StoreFailed(records)),
+            "at {call:?} {calls}"
+        );
     }
     Ok(())
 }

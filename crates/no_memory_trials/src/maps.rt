@@ -1,10 +1,10 @@
 //! What maps, plans and scenarios answer by calls that take no memory, as `./test --prove` refuses each allocation of these tests in turn: at the
 //! most one in a run.
-use crate::texts::plan_behind;
-use grid::{Cell, Counted, Map, Terrain, read_map, step4, step8};
+use crate::texts::{map_of, plan_behind};
+use grid::{Cell, Counted, Map, Terrain, step4, step8};
 use plan::{CheckedPlan, FitFault, Plan, fits};
-use scen::{Scenario, read_scen};
-use std::process::Abort;
+use scen::{ScenFault, Scenario, read_scen};
+use std::alloc::Global;
 use std::test::Fail;
 
 const YARD: &str = "type octile\nheight 2\nwidth 3\nmap\n..@\nG.W\n";
@@ -28,25 +28,24 @@ static STEPS: [(Cell, Cell, bool, bool); 5] = [
     (Cell { x: 0, y: 1 }, Cell { x: 0, y: 2 }, false, false),
 ];
 
-/// What a map tells.
-fn map_tells(rt: &impl Abort, map: &Map) {
-    assert_eq!(rt; (map.width(), map.height()), (3, 2));
-    assert!(rt; map.characters() == b"..@G.W".as_slice());
+/// Whether a map tells what it should.
+fn map_tells(map: &Map) -> bool {
+    let sizes = map.width() == 3 && map.height() == 2;
+    let mut is_right = sizes && map.characters() == b"..@G.W".as_slice();
     for &(cell, terrain) in &TERRAINS {
-        assert_eq!(rt; map.terrain(cell), terrain, "at {cell:?}");
+        is_right = is_right && map.terrain(cell) == terrain;
     }
     for &(from, to, straight, either) in &STEPS {
-        let steps = (step4(map, from, to), step8(map, from, to));
-        assert_eq!(rt; steps, (straight, either), "at {from:?} {to:?}");
+        is_right = is_right && step4(map, from, to) == straight && step8(map, from, to) == either;
     }
+    is_right
 }
 
 #[test]
 fn memory_refused_to_steps_on_a_map(rt: HostRuntime) -> Result<(), Fail> {
-    let map = read_map(rt.alloc(), &mut Counted::new(YARD.as_bytes()))?;
+    let map = map_of(rt.alloc(), YARD)?;
     // From here on no memory is taken.
-    map_tells(&rt, &map);
-    assert_eq!(rt; Counted::new(YARD.as_bytes()).failures(), 0);
+    assert!(rt; map_tells(&map) && Counted::new(YARD.as_bytes()).failures() == 0);
     Ok(())
 }
 
@@ -60,19 +59,25 @@ static FITS: [(u32, Result<(), FitFault>); 3] = [
     (3, Err(FitFault::TooFewRows)),
 ];
 
-fn rows_tell(rt: &impl Abort, plan: &CheckedPlan, scenario: &Scenario) {
+fn rows_tell(plan: &CheckedPlan, scenario: &Scenario) -> bool {
+    let mut is_right = true;
     for &(count, answer) in &FITS {
-        assert_eq!(rt; fits(plan, scenario, count), answer, "at {count}");
+        is_right = is_right && fits(plan, scenario, count) == answer;
     }
+    is_right
+}
+
+/// Whether a plan tells which rows it solves, and one without agents how many it has.
+fn fits_tell(alloc: Global, plan: &CheckedPlan) -> Result<bool, ScenFault> {
+    let scenario = read_scen(alloc, &mut Counted::new(TASKS.as_bytes()))?;
+    // From here on no memory is taken.
+    let empty = Plan::new(alloc, 7);
+    Ok(rows_tell(plan, &scenario) && empty.number() == 7 && empty.agents() == 0)
 }
 
 #[test]
 fn memory_refused_to_a_plan_that_fits(rt: HostRuntime) -> Result<(), Fail> {
     let plan = plan_behind(rt.alloc())?;
-    let scenario = read_scen(rt.alloc(), &mut Counted::new(TASKS.as_bytes()))?;
-    // From here on no memory is taken.
-    rows_tell(&rt, &plan, &scenario);
-    let empty = Plan::new(rt.alloc(), 7);
-    assert_eq!(rt; (empty.number(), empty.agents()), (7, 0));
+    assert!(rt; fits_tell(rt.alloc(), &plan)?);
     Ok(())
 }

@@ -3,8 +3,9 @@ use crate::texts::plan_behind;
 use agent::Held;
 use depgraph::{Graph, OutOfMemory};
 use grid::Cell;
+use plan::CheckedPlan;
 use runner::{Event, Reply, Runner, Version, Why};
-use std::process::Abort;
+use std::alloc::Global;
 use std::test::Fail;
 
 /// Agent 0 makes its move, and agent 1 hears of it.
@@ -81,27 +82,45 @@ static HELD: [(u32, Option<Held>); 3] = [
     (2, None),
 ];
 
-fn runner_goes_on(rt: &impl Abort, runner: &mut Runner<'_>) {
+/// Whether an event is answered so.
+fn answers(runner: &mut Runner<'_>, event: Event, due: Told) -> bool {
+    match runner.step(event) {
+        Ok(reply) => told(&reply) == due,
+        Err(_) => false,
+    }
+}
+
+fn goes_on(runner: &mut Runner<'_>) -> bool {
+    let mut is_right = true;
     for &(event, due) in &ROWS {
-        let reply = runner.step(event);
-        assert!(rt;
-            reply.is_ok_and(|reply| told(&reply) == due),
-            "after {event:?}"
-        );
+        is_right = is_right && answers(runner, event, due);
     }
     for &(agent, held) in &HELD {
-        assert_eq!(rt; runner.held(agent), held, "at {agent}");
+        is_right = is_right && runner.held(agent) == held;
     }
+    is_right
+}
+
+/// Whether a run goes on so without memory, behind its first events.
+fn takes_none(alloc: Global, graph: &Graph, version: Version) -> Result<bool, OutOfMemory> {
+    let mut runner = Runner::with_version(alloc, graph, version)?;
+    step_all(&mut runner, &BEFORE)?;
+    // From here on no memory is taken by this runner.
+    Ok(goes_on(&mut runner))
+}
+
+fn both_take_none(alloc: Global, graph: &Graph) -> Result<bool, OutOfMemory> {
+    Ok(takes_none(alloc, graph, Version::One)? && takes_none(alloc, graph, Version::Two)?)
+}
+
+fn with_graph(alloc: Global, plan: &CheckedPlan) -> Result<bool, OutOfMemory> {
+    let graph = Graph::build(alloc, plan)?;
+    both_take_none(alloc, &graph)
 }
 
 #[test]
 fn memory_refused_to_a_run_after_its_first_messages(rt: HostRuntime) -> Result<(), Fail> {
-    let graph = Graph::build(rt.alloc(), &plan_behind(rt.alloc())?)?;
-    for version in [Version::One, Version::Two] {
-        let mut runner = Runner::with_version(rt.alloc(), &graph, version)?;
-        step_all(&mut runner, &BEFORE)?;
-        // From here on no memory is taken by this runner.
-        runner_goes_on(&rt, &mut runner);
-    }
+    let plan = plan_behind(rt.alloc())?;
+    assert!(rt; with_graph(rt.alloc(), &plan)?);
     Ok(())
 }

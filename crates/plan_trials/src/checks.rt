@@ -1,82 +1,139 @@
-//! Small plans, and what the checker says of them.
+//! What a checked plan tells, and which rows of a scenario it solves.
 use crate::texts::{FOLLOWING, ROW, map_of, plan_of};
-use grid::{Cell, Counted};
+use grid::{Cell, Counted, Map};
 use plan::{CheckedPlan, FitFault, PlanFault, check, fits};
-use scen::read_scen;
+use scen::{Scenario, read_scen};
 use std::alloc::Global;
 use std::test::Fail;
 
-/// Checks agents' lines on a map.
-fn checked(
-    alloc: Global,
-    map: &str,
-    count: u32,
-    agents: &str,
-) -> Result<Result<CheckedPlan, PlanFault>, Fail> {
-    let map = map_of(alloc, map)?;
-    let text = format!(in alloc; "mapf-plan 1\nnumber 7\nagents {count}\n{agents}")?;
-    let plan = plan_of(alloc, text.as_str())?;
-    Ok(check(alloc, &map, plan).map_err(|rejected| rejected.fault))
+/// The plan of a text, checked on the row.
+fn checked(alloc: Global, text: &str) -> Result<CheckedPlan, PlanFault> {
+    let Ok(map) = map_of(alloc, ROW) else {
+        return Err(PlanFault::OutOfMemory);
+    };
+    check_on(alloc, &map, text)
+}
+
+fn check_on(alloc: Global, map: &Map, text: &str) -> Result<CheckedPlan, PlanFault> {
+    match plan_of(alloc, text) {
+        Ok(plan) => check(alloc, map, plan).map_err(|rejected| rejected.fault),
+        Err(_) => Err(PlanFault::OutOfMemory),
+    }
+}
+
+/// An agent that waits now and then.
+const WAITING: &str = "mapf-plan 1\nnumber 7\nagents 1\nagent 0 0 -e-e-\n";
+
+/// Its columns, time by time.
+static COLUMNS: [u16; 7] = [0, 0, 1, 1, 2, 2, 2];
+
+/// Whether the agent is in these cells, and there is no other.
+fn has_positions(plan: &CheckedPlan) -> bool {
+    let end = Some(Cell { x: 2, y: 0 });
+    let mut is_there = plan.position(0, u32::MAX) == end && plan.position(1, 0) == None;
+    for (time, &x) in (0..).zip(&COLUMNS) {
+        is_there = is_there && plan.position(0, time) == Some(Cell { x, y: 0 });
+    }
+    is_there && plan.cost(0) == Some(4) && plan.cost(1) == None
+}
+
+/// Whether its cells up to its end are these.
+fn has_cells(plan: &CheckedPlan) -> bool {
+    let mut seen = 0_usize;
+    if let Some(cells) = plan.cells(0) {
+        for cell in cells {
+            if COLUMNS.get(seen) != Some(&cell.x) {
+                return false;
+            }
+            seen = seen.saturating_add(1);
+        }
+    }
+    seen == 5
 }
 
 #[test]
 fn positions(rt: HostRuntime) -> Result<(), Fail> {
-    let Ok(plan) = checked(rt.alloc(), ROW, 1, "agent 0 0 -e-e-\n")? else {
-        assert!(rt; false);
-        return Ok(());
-    };
-    for (time, x) in [0, 0, 1, 1, 2, 2, 2].iter().enumerate() {
-        let cell = Some(Cell { x: *x, y: 0 });
-        assert_eq!(rt; plan.position(0, time as u32), cell, "at {time}");
-    }
-    assert_eq!(rt; plan.position(0, u32::MAX), Some(Cell { x: 2, y: 0 }));
-    assert_eq!(rt; plan.position(1, 0), None);
-    assert_eq!(rt; plan.cost(0), Some(4));
-    assert_eq!(rt; plan.cost(1), None);
-    let mut seen = 0u32;
-    for cell in plan.cells(0).ok_or("no agent")? {
-        assert_eq!(rt; plan.position(0, seen), Some(cell), "at {seen}");
-        seen = seen.saturating_add(1);
-    }
-    assert_eq!(rt; seen, 5);
+    let plan = checked(rt.alloc(), WAITING)?;
+    assert!(rt; has_positions(&plan) && has_cells(&plan));
     Ok(())
+}
+
+/// Texts of scenarios, how many rows are asked for, and what is wrong with them.
+static FITS: [(&str, u32, Option<FitFault>); 9] = [
+    (
+        "version 1\n0 m.map 3 1 1 0 2 0 1\n0 m.map 3 1 0 0 1 0 1\n",
+        2,
+        None,
+    ),
+    (
+        "version 1\n0 m.map 3 1 1 0 2 0 1\n0 m.map 3 1 0 0 1 0 1\n0 m.map 3 1 1 0 2 0 1\n",
+        2,
+        None,
+    ),
+    (
+        "version 1\n0 m.map 3 1 0 0 1 0 1\n0 m.map 3 1 1 0 2 0 1\n",
+        2,
+        Some(FitFault::StartDiffers(0)),
+    ),
+    (
+        "version 1\n0 m.map 3 1 1 0 2 0 1\n",
+        2,
+        Some(FitFault::TooFewRows),
+    ),
+    (
+        "version 1\n0 m.map 3 1 1 0 2 0 1\n0 m.map 3 1 0 0 1 0 1\n0 m.map 3 1 1 0 2 0 1\n",
+        3,
+        Some(FitFault::AgentCount),
+    ),
+    (
+        "version 1\n0 m.map 3 1 1 0 2 0 1\n0 m.map 3 1 0 0 1 0 1\n",
+        1,
+        Some(FitFault::AgentCount),
+    ),
+    (
+        "version 1\n0 m.map 3 1 1 0 2 0 1\n0 m.map 3 1 0 0 1 0 1\n",
+        0,
+        Some(FitFault::AgentCount),
+    ),
+    (
+        "version 1\n0 m.map 3 1 1 0 2 0 1\n0 m.map 3 2 0 0 1 0 1\n",
+        2,
+        Some(FitFault::SizeDiffers(1)),
+    ),
+    (
+        "version 1\n0 m.map 3 1 1 0 2 0 1\n0 m.map 3 1 0 0 2 0 1\n",
+        2,
+        Some(FitFault::GoalDiffers(1)),
+    ),
+];
+
+/// The scenario of a text, if it has no fault.
+fn scenario_of(alloc: Global, text: &str) -> Option<Scenario> {
+    read_scen(alloc, &mut Counted::new(text.as_bytes())).ok()
+}
+
+/// Whether this is wrong with so many rows of a scenario.
+fn fits_so(
+    alloc: Global,
+    plan: &CheckedPlan,
+    text: &str,
+    count: u32,
+    fault: Option<FitFault>,
+) -> bool {
+    match scenario_of(alloc, text) {
+        Some(scenario) => fits(plan, &scenario, count).err() == fault,
+        None => false,
+    }
 }
 
 #[test]
 fn fitting(rt: HostRuntime) -> Result<(), Fail> {
-    let map = map_of(rt.alloc(), ROW)?;
-    let plan = plan_of(rt.alloc(), FOLLOWING)?;
-    let Ok(plan) = check(rt.alloc(), &map, plan) else {
-        assert!(rt; false);
-        return Ok(());
-    };
-    let (first, second) = (
-        "0\tm.map\t3\t1\t1\t0\t2\t0\t1\n",
-        "0\tm.map\t3\t1\t0\t0\t1\t0\t1\n",
-    );
-    for &(rows, count, fault) in &[
-        ([first, second, ""], 2, None),
-        ([first, second, first], 2, None),
-        ([second, first, ""], 2, Some(FitFault::StartDiffers(0))),
-        ([first, "", ""], 2, Some(FitFault::TooFewRows)),
-        ([first, second, first], 3, Some(FitFault::AgentCount)),
-        ([first, second, ""], 1, Some(FitFault::AgentCount)),
-        ([first, second, ""], 0, Some(FitFault::AgentCount)),
-        (
-            [first, "0\tm.map\t3\t2\t0\t0\t1\t0\t1\n", ""],
-            2,
-            Some(FitFault::SizeDiffers(1)),
-        ),
-        (
-            [first, "0\tm.map\t3\t1\t0\t0\t2\t0\t1\n", ""],
-            2,
-            Some(FitFault::GoalDiffers(1)),
-        ),
-    ] {
-        let [one, two, three] = rows;
-        let text = format!(in rt.alloc(); "version 1\n{one}{two}{three}")?;
-        let scenario = read_scen(rt.alloc(), &mut Counted::new(text.as_str().as_bytes()))?;
-        assert_eq!(rt; fits(&plan, &scenario, count).err(), fault, "at {text:?}");
+    let plan = checked(rt.alloc(), FOLLOWING)?;
+    for &(text, count, fault) in &FITS {
+        assert!(rt;
+            fits_so(rt.alloc(), &plan, text, count, fault),
+            "at {text:?}"
+        );
     }
     Ok(())
 }

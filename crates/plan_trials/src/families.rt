@@ -2,7 +2,7 @@
 use crate::plain_checker::{Agent, first_fault};
 use crate::texts::{ROW, SQUARE, map_of};
 use grid::{Cell, Map};
-use plan::{Act, Plan, check};
+use plan::{Act, Plan, PlanFault, PushFault, check};
 use std::alloc::{AllocError, Global};
 use std::process::Abort;
 use std::test::Fail;
@@ -46,6 +46,40 @@ fn agent_of(alloc: Global, map: &Map, lists: u32, number: u32) -> Result<Agent, 
     })
 }
 
+/// The agents with these numbers.
+fn agents_of(
+    alloc: Global,
+    map: &Map,
+    lists: u32,
+    numbers: &[u32],
+) -> Result<Vec<Agent>, AllocError> {
+    let mut agents = Vec::new(alloc);
+    for &number in numbers {
+        agents.push(agent_of(alloc, map, lists, number)?)?;
+    }
+    Ok(agents)
+}
+
+/// The plan of agents.
+fn plan_of(alloc: Global, agents: &[Agent]) -> Result<Plan, PushFault> {
+    let mut plan = Plan::new(alloc, 7);
+    for agent in agents {
+        let Ok(acts) = agent.acts.to_vec(alloc) else {
+            return Err(PushFault::OutOfMemory);
+        };
+        plan.push(agent.start, acts)?;
+    }
+    Ok(plan)
+}
+
+/// What the checker says of a plan.
+fn fault_of(alloc: Global, map: &Map, plan: Plan) -> Option<PlanFault> {
+    match check(alloc, map, plan) {
+        Ok(_) => None,
+        Err(rejected) => Some(rejected.fault),
+    }
+}
+
 /// Compares both checkers on the plan whose agents have these numbers.
 fn compare(
     rt: &impl Abort,
@@ -54,18 +88,11 @@ fn compare(
     lists: u32,
     numbers: &[u32],
 ) -> Result<(), Fail> {
-    let mut agents = Vec::new(alloc);
-    let mut plan = Plan::new(alloc, 7);
-    for number in numbers {
-        let agent = agent_of(alloc, map, lists, *number)?;
-        plan.push(agent.start, agent_of(alloc, map, lists, *number)?.acts)?;
-        agents.push(agent)?;
-    }
-    let fault = check(alloc, map, plan).err().map(|rejected| rejected.fault);
-    assert_eq!(rt;
-        fault,
-        first_fault(map, agents.as_slice()),
-        "at {numbers:?}"
+    let agents = agents_of(alloc, map, lists, numbers)?;
+    let fault = fault_of(alloc, map, plan_of(alloc, &agents)?);
+    assert!(rt;
+        fault == first_fault(map, &agents),
+        "{fault:?} at {numbers:?}"
     );
     Ok(())
 }

@@ -2,9 +2,17 @@
 use crate::texts::{FOLLOWING, plan_of};
 use fakes::{Keeper, Pieces, Trouble};
 use grid::{Counted, WriteFault};
-use plan::{PlanTextFault, read_plan, write_plan};
+use plan::{Plan, PlanTextFault, read_plan, write_plan};
+use std::alloc::Global;
 use std::io::ErrorKind;
 use std::test::Fail;
+
+/// What is wrong with a plan that is read, and how often its reader has failed.
+fn fault_of(alloc: Global, reader: Pieces<'_>) -> (Option<PlanTextFault>, u64) {
+    let mut reader = Counted::new(reader);
+    let fault = read_plan(alloc, &mut reader).err();
+    (fault, reader.failures())
+}
 
 #[test]
 fn failing_reader(rt: HostRuntime) {
@@ -14,37 +22,43 @@ fn failing_reader(rt: HostRuntime) {
             call,
             ErrorKind::Interrupted,
         );
-        let mut reader = Counted::new(reader);
-        let fault = read_plan(rt.alloc(), &mut reader).err();
-        assert_eq!(rt; fault, Some(PlanTextFault::ReadFailed), "at call {call}");
-        assert_eq!(rt; reader.failures(), 1, "at call {call}");
+        let found = fault_of(rt.alloc(), reader);
+        assert!(rt;
+            found == (Some(PlanTextFault::ReadFailed), 1),
+            "at call {call}"
+        );
     }
 }
 
+/// Without its LF a line is not judged yet.
 #[test]
 fn fault_before_a_failure(rt: HostRuntime) {
-    let text = "mapf-plan 1\nnumber x\n";
-    let reader = Pieces::of_size(text.as_bytes(), 21).failing_at(2, ErrorKind::Other);
-    let fault = read_plan(rt.alloc(), &mut Counted::new(reader)).err();
-    assert_eq!(rt; fault, Some(PlanTextFault::BadNumber(2)));
-    // Without its LF the line is not judged yet.
-    let reader = Pieces::of_size(&text.as_bytes()[..20], 20).failing_at(2, ErrorKind::Other);
-    let fault = read_plan(rt.alloc(), &mut Counted::new(reader)).err();
-    assert_eq!(rt; fault, Some(PlanTextFault::ReadFailed));
+    let text = b"mapf-plan 1\nnumber x\n";
+    for (given, fault) in [
+        (21, PlanTextFault::BadNumber(2)),
+        (20, PlanTextFault::ReadFailed),
+    ] {
+        let reader = Pieces::cut_at(text, given).failing_at(2, ErrorKind::Other);
+        let (found, _) = fault_of(rt.alloc(), reader);
+        assert!(rt; found == Some(fault), "after {given} bytes");
+    }
+}
+
+/// Whether just the bytes before this call are written, one at a time.
+fn fails_at(plan: &Plan, before: usize) -> bool {
+    let call = (before as u64).saturating_add(1);
+    let mut keeper = Keeper::of_size(1).in_trouble_at(call, Trouble::Failure);
+    let mut writer = Counted::new(&mut keeper);
+    let is_failed = write_plan(plan, &mut writer) == Err(WriteFault::WriteFailed);
+    let is_told = is_failed && writer.failures() == 1;
+    is_told && Some(keeper.kept()) == FOLLOWING.as_bytes().get(..before)
 }
 
 #[test]
 fn failing_writer(rt: HostRuntime) -> Result<(), Fail> {
     let plan = plan_of(rt.alloc(), FOLLOWING)?;
-    let text = FOLLOWING.as_bytes();
-    for (before, _) in text.iter().enumerate() {
-        let call = before as u64 + 1;
-        let mut keeper = Keeper::of_size(1).in_trouble_at(call, Trouble::Failure);
-        let mut writer = Counted::new(&mut keeper);
-        let written = write_plan(&plan, &mut writer);
-        assert_eq!(rt; written, Err(WriteFault::WriteFailed), "at call {call}");
-        assert_eq!(rt; writer.failures(), 1, "at call {call}");
-        assert!(rt; keeper.kept() == &text[..before], "at call {call}");
+    for before in 0..FOLLOWING.len() {
+        assert!(rt; fails_at(&plan, before), "after {before} bytes");
     }
     Ok(())
 }
