@@ -2,12 +2,12 @@
 use crate::command_lines::words_of;
 use crate::texts::{BEHIND, LANE, REPLIES};
 use agent::Tape;
-use depgraph::{Graph, OutOfMemory};
+use depgraph::{Dependencies, Graph, OutOfMemory, OwnPart};
 use event_text::write_replies;
 use fakes::Keeper;
 use grid::{Counted, read_map};
 use mapf_cmd::{Line, LineFault, Verdict, line, verdict_json};
-use plan::{check, read_plan};
+use plan::{CheckedPlan, check, read_plan};
 use runner::{Event, Reply, SimTape, Version, run, run_with};
 use std::alloc::Global;
 use std::test::Fail;
@@ -24,6 +24,7 @@ const EVENTS: [Event; 5] = [
 /// A call that takes memory.
 #[derive(Clone, Copy, Debug)]
 enum Call {
+    Part,
     Run,
     RunWith,
     Tape,
@@ -31,12 +32,35 @@ enum Call {
     Json,
 }
 
-static CALLS: [Call; 5] = [Call::Run, Call::RunWith, Call::Tape, Call::Line, Call::Json];
+static CALLS: [Call; 6] = [
+    Call::Part,
+    Call::Run,
+    Call::RunWith,
+    Call::Tape,
+    Call::Line,
+    Call::Json,
+];
 
 fn are_due(replies: &[Reply]) -> bool {
     let mut out = Keeper::of_size(512);
     let written = write_replies(replies, &mut Counted::new(&mut out));
     written.is_ok() && out.kept() == REPLIES.as_bytes()
+}
+
+/// What agent 1 needs of dependencies that are gone.
+fn part_alone(alloc: Global, plan: &CheckedPlan) -> Result<OwnPart, OutOfMemory> {
+    let dependencies = Dependencies::build(alloc, plan)?;
+    match dependencies.part(1) {
+        Some(part) => OwnPart::of(alloc, &part),
+        None => Err(OutOfMemory),
+    }
+}
+
+/// Whether agent 1 waits for the move of agent 0.
+fn is_behind(alloc: Global, plan: &CheckedPlan) -> Result<bool, OutOfMemory> {
+    let own = part_alone(alloc, plan)?;
+    let part = own.part();
+    Ok(part.agents() == 2 && part.moves(1) == Some(1) && part.need(0) == Some((0, 1)))
 }
 
 /// The words `mapf row M S 3`.
@@ -58,11 +82,13 @@ fn is_line(words: &[String], alloc: Global) -> Result<bool, OutOfMemory> {
 /// Whether a call answers right, unless memory was wanting.
 fn is_right(
     alloc: Global,
+    plan: &CheckedPlan,
     graph: &Graph,
     words: &[String],
     call: Call,
 ) -> Result<bool, OutOfMemory> {
     match call {
+        Call::Part => is_behind(alloc, plan),
         Call::Run => Ok(are_due(&run(alloc, graph, &EVENTS)?)),
         Call::RunWith => Ok(are_due(&run_with(alloc, graph, Version::One, &EVENTS)?)),
         Call::Tape => {
@@ -82,21 +108,21 @@ fn is_right(
     }
 }
 
-fn graph_of(alloc: Global) -> Result<Graph, Fail> {
+fn checked(alloc: Global) -> Result<CheckedPlan, Fail> {
     let map = read_map(alloc, &mut Counted::new(LANE.as_bytes()))?;
     let plan = read_plan(alloc, &mut Counted::new(BEHIND.as_bytes()))?;
-    let plan = check(alloc, &map, plan).map_err(|rejected| rejected.fault)?;
-    Ok(Graph::build(alloc, &plan)?)
+    Ok(check(alloc, &map, plan).map_err(|rejected| rejected.fault)?)
 }
 
 #[test]
 fn memory_refused_to_library_calls(rt: HostRuntime) -> Result<(), Fail> {
-    let graph = graph_of(rt.alloc())?;
+    let plan = checked(rt.alloc())?;
+    let graph = Graph::build(rt.alloc(), &plan)?;
     let words = words_of(rt.alloc(), "row M S 3")?;
     for &call in &CALLS {
-        let mut answer = is_right(rt.alloc(), &graph, &words, call);
+        let mut answer = is_right(rt.alloc(), &plan, &graph, &words, call);
         if answer.is_err() {
-            answer = is_right(rt.alloc(), &graph, &words, call);
+            answer = is_right(rt.alloc(), &plan, &graph, &words, call);
         }
         assert_eq!(rt; answer, Ok(true), "at {call:?}");
     }
