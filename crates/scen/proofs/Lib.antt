@@ -2,6 +2,7 @@
 pub mod TrimLemmas
 pub mod FieldLemmas
 pub mod NumberLemmas
+pub mod ShortLemmas
 pub mod ListedLemmas
 pub mod OrderLemmas
 pub mod RowLemmas

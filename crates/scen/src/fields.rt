@@ -117,7 +117,7 @@ fn has_tab(content: &[u8]) -> bool
 }
 
 /// The next field, and what follows it.
-fn first_field(bytes: &[u8], separator: u8) -> Option<(&[u8], &[u8])>
+pub(crate) fn first_field(bytes: &[u8], separator: u8) -> Option<(&[u8], &[u8])>
     requires { IsTrue (is_blank separator) }
     ensures { MatchOption result (fields_between separator bytes.now ≡ [])
         (λ p. fields_between separator bytes.now ≡ p.0.now ∷ fields_between separator p.1.now) }

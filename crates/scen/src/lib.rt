@@ -21,6 +21,7 @@ mod scen_reader;
 mod scen_writer;
 mod search_fault;
 mod tightness;
+mod usual_fields;
 mod version;
 mod walk_back;
 mod walk_search;

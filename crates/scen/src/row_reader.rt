@@ -1,14 +1,16 @@
 //! Reading a line as a row.
-ghost use Rattle.std.specs.Prelude.{◌≡◌, ◌≤◌, length, IfOk, MatchOption, MatchResult};
+ghost use Rattle.std.specs.Prelude.{◌≡◌, ◌≢◌, ◌≤◌, ℕ, List, [], None, length, IfOk, MatchOption, MatchResult};
 ghost use Rattle.std.specs.Arc.{arc_slice_items};
 ghost use Rattle.grid.specs.Text.{IsLine};
+ghost use Rattle.scen.specs.Fields.{content_of, fields_in_content};
 ghost use Rattle.scen.specs.Query.{longest_line};
-ghost use Rattle.scen.specs.ScenText.{IsSkipped, SpellsRow};
-ghost use Rattle.scen.specs.ScenFault.{row_due};
+ghost use Rattle.scen.specs.ScenText.{IsShort, IsSkipped, SpellsRow};
+ghost use Rattle.scen.specs.ScenFault.{row_due, all_fields, wrong_number};
 ghost use Rattle.scen.specs.Code.Parsing.{fields_seen, HasNumbers, Refuses};
 
 use crate::fields::{FieldBytes, content_of, nine_fields};
 use crate::numbers::{Numbers, listed_of};
+use crate::usual_fields::usual_fields;
 use crate::{Row, ScenFault};
 use grid::Cell;
 use std::alloc::{AllocError, Global};
@@ -29,13 +31,7 @@ pub(crate) fn read_row(
     if content.is_empty() {
         return Ok(None);
     }
-    let Some(fields) = nine_fields(content) else {
-        return Err(ScenFault::FieldCount(number));
-    };
-    let numbers = match Numbers::from_fields(&fields) {
-        Ok(numbers) => numbers,
-        Err(field) => return Err(ScenFault::BadNumber(number, field)),
-    };
+    let (fields, numbers) = row_fields(content, number)?;
     if !numbers.is_in_grid() {
         return Err(ScenFault::OutOfGrid(number));
     }
@@ -51,6 +47,24 @@ pub(crate) fn read_row(
         numbers.goal(),
         listed,
     )))
+}
+
+/// The fields of a line that isn't skipped, by its content, and the numbers that they spell.
+fn row_fields(content: &[u8], number: u64) -> Result<(FieldBytes<'_>, Numbers), ScenFault>
+    ensures { MatchResult result
+        (λ p. (fields_in_content content.now ≡ all_fields (fields_seen p.0)) × (wrong_number (fields_seen p.0) ≡ None) × HasNumbers (fields_seen p.0) p.1)
+        (λ fault. (line : List ℕ) → IsLine line → IsShort line → (content_of line ≡ content.now) → (content_of line ≢ []) → Refuses row_due number line fault) }
+{
+    if let Some(usual) = usual_fields(content) {
+        return Ok(usual);
+    }
+    let Some(fields) = nine_fields(content) else {
+        return Err(ScenFault::FieldCount(number));
+    };
+    match Numbers::from_fields(&fields) {
+        Ok(numbers) => Ok((fields, numbers)),
+        Err(field) => Err(ScenFault::BadNumber(number, field)),
+    }
 }
 
 /// The bytes as a name: that of the row before, where it is the same.

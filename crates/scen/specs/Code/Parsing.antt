@@ -1,11 +1,12 @@
 -- How the reader of a scenario follows a line: what its parts are seen as.
-use Rattle.std.specs.Prelude.{◌≡◌, ℕ, ◌+◌, ◌-◌, ◌^◌, min, Bool, true, false, ◌&&◌, ◌||◌, ◌==◌, if◌then◌else◌, nat_lt, List, [], ◌∷◌, ◌++◌, length, take, drop, Option, Some, None, ◌⊎◌, codes}
+use Rattle.std.specs.Prelude.{◌≡◌, ℕ, ◌+◌, ◌-◌, ◌^◌, ◌<◌, min, Bool, true, false, ◌&&◌, ◌||◌, ◌==◌, if◌then◌else◌, nat_lt, List, [], ◌∷◌, ◌++◌, length, take, drop, Option, Some, None, ◌⊎◌, codes}
 use Rattle.std.specs.List.{list_all, position_or_len}
 use Rattle.std.specs.Char.{is_ascii_digit}
 use Rattle.std.specs.Str.{bytes_eq}
 use Rattle.std.specs.Str.Parse.{digits_value_after}
 use Rattle.scen.specs.declared.fields.FieldBytes.{FieldBytes}
 use Rattle.scen.specs.declared.numbers.Numbers.{Numbers}
+use Rattle.grid.specs.Text.{tab}
 use Rattle.grid.specs.Reading.{LeadsBy, Place, IsOver}
 use Rattle.scen.specs.declared.scen_fault.ScenFault.{ScenFault}
 use Rattle.scen.specs.declared.scen_fault.ScenFault.TheVariants.{OutOfMemory}
@@ -49,6 +50,13 @@ pub record HasNumbers (f : Fields) (n : Numbers) : Type 0 where
   pub start_y : n.start_y ≡ min (value_of f.start_y) most_told
   pub goal_x : n.goal_x ≡ min (value_of f.goal_x) most_told
   pub goal_y : n.goal_y ≡ min (value_of f.goal_y) most_told
+
+-- digits before a tab, the number that they spell, and what stands behind the tab
+pub record IsShortNumber (bytes digits : List ℕ) (n : ℕ) (rest : List ℕ) : Type 0 where
+  pub is : bytes ≡ digits ++ tab ∷ rest
+  pub number : is_number digits ≡ true
+  pub value : n ≡ value_of digits
+  pub short : n < 4294967296
 
 -- what digits spell that follow those of a number, if the bytes are digits alone
 abbrev pub spelled_after : ℕ → List ℕ → Option ℕ
