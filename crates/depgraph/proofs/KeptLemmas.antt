@@ -23,9 +23,9 @@ use Rattle.depgraph.specs.Code.Placing.{part_of, visited, listing}
 use Rattle.depgraph.specs.Code.Ranks.{tally, below, rank}
 use Rattle.depgraph.specs.Code.Schedules.{entry_in}
 use Rattle.depgraph.specs.Code.Waits.{no_visit, no_wait, entry_for, wait_of, before_at}
+use Rattle.depgraph.proofs.BeforeLemmas.{later-is}
 use Rattle.depgraph.proofs.BlockLemmas.{name-of, listing-get, number-within, begin-below, end-below, part-within, visit-at_rank, all_visits}
 use Rattle.depgraph.proofs.PositionLemmas.{visit_at, cell_of}
-use Rattle.depgraph.proofs.NoteLemmas.{later-is}
 use Rattle.depgraph.proofs.RankLemmas.{occurrences_rise, occurs, occurrence-rank, rank-is, rank-least, rank-most, tally-within}
 use Rattle.depgraph.proofs.ScheduleLemmas.{same_count, begin_most, position}
 use Rattle.depgraph.proofs.PathLemmas.{no_track}

@@ -18,7 +18,11 @@ pub mod PositionLemmas
 pub mod PlacedLemmas
 pub mod BlockLemmas
 pub mod WaitLemmas
-pub mod NoteLemmas
+pub mod EntryLemmas
+pub mod BeforeLemmas
+pub mod FollowedLemmas
+pub mod PassLemmas
+pub mod FollowerLemmas
 pub mod LinkLemmas
 pub mod KeptLemmas
 pub mod AgentPartLemmas
@@ -30,3 +34,4 @@ pub mod RotationLemmas
 pub mod TurnLemmas
 pub mod KeyLemmas
 pub mod FewLemmas
+pub mod LayingLemmas

@@ -1,7 +1,7 @@
 -- Links of entries, and what they are by the visits.
 use Rattle.std.proofs.Common.{◌≡◌, ℕ, ◌+◌, ◌<◌, List, length, get_or, set, true, false, replicate, Some, None, inl, inr, arith, refl, sym, ap, ◌∙◌}
 use Rattle.std.specs.Prelude.{◌==◌, Bool, Option, if◌then◌else◌}
-use Rattle.std.proofs.lemmas.Bool.{cases_eq, cond-true, cond-false, eq-eqb, ne_eqb}
+use Rattle.std.proofs.lemmas.Bool.{cases_eq, cases_Bool, cond-true, cond-false, eq-eqb, ne_eqb}
 use Rattle.std.proofs.lemmas.List.{get_or-set_same, get_or-set_other, get_or-replicate, length-set, length-replicate, same_lists}
 use Rattle.std.proofs.lemmas.List.FromFn.{get_or-map-range_with_len, length-map-range_with_len}
 use Rattle.model.specs.declared.visit.Visit.{Visit}
@@ -25,6 +25,13 @@ module _ (times ends : List ℕ) (waits : List Wait) where
 
   pub link-there : (taken : List Bool) (e d : ℕ) → e < length taken → get_or taken e true ≡ false → get_or (links_by times ends waits taken) e d ≡ link_of times ends waits e
   link-there taken e d less is = link-at taken e d less ∙ cond-false (get_or taken e true) no_entry (link_of times ends waits e) is
+
+  -- who waits for nobody has no link
+  pub link-none : (taken : List Bool) (e : ℕ) → e < length taken → (get_or waits e no_wait).count ≡ 0 → get_or (links_by times ends waits taken) e 0 ≡ no_entry
+  link-none taken e less none = elim (cases_Bool (get_or taken e true)) [
+    | inl gone ↦ link-taken_away taken e less gone
+    | inr there ↦ link-there taken e 0 less there ∙ cond-true ((get_or waits e no_wait).count == 0) no_entry _ (eq-eqb (get_or waits e no_wait).count 0 none)
+  ]
 
   -- one link less
   pub links-set : (taken : List Bool) (i : ℕ) → i < length taken → links_by times ends waits (set taken i true) ≡ set (links_by times ends waits taken) i no_entry

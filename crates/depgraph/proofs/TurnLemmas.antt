@@ -21,9 +21,9 @@ use Rattle.depgraph.specs.Code.Ranks.{rank}
 use Rattle.depgraph.specs.Code.Schedules.{entry_in}
 use Rattle.depgraph.specs.Code.Turning.{AreLaid, AreAllRotations, agents_of}
 use Rattle.depgraph.specs.Code.Waits.{no_wait, no_entry, entry_for, wait_of, ahead_of}
+use Rattle.depgraph.proofs.BeforeLemmas.{left_before}
 use Rattle.depgraph.proofs.CycleLemmas.{AreCycles, AreFound, cut-links, found-none, found-one, found-all, walked-cycle}
 use Rattle.depgraph.proofs.KeptLemmas.{rank-visit, in_block, before_of, before_is, looked_up}
-use Rattle.depgraph.proofs.NoteLemmas.{left_entry}
 use Rattle.depgraph.proofs.PositionLemmas.{times-rise}
 use Rattle.depgraph.proofs.RingLemmas.{map-get, map-from, one_at, same_at, following-next, following-first, follower, follower-within, same_by_places}
 use Rattle.depgraph.proofs.RotationLemmas.{kept, visit_of, is_visit, mover-arrival, not_own, waits-for, into-after, after-into}
@@ -210,7 +210,7 @@ module _ (tt : Timetable) (ends : List ℕ) (waits : List Wait) (ahead : List �
                     )
                 | inr other ↦ (
                     let is : get_or waits e no_wait ≡ noted = told_of ∙ cond-false ((came q).agent == (came p).agent) no_wait noted (ne_eqb (came q).agent (came p).agent other) in
-                    let entry = left_entry tt.number tt.tracks ends l.arrivals l.step_ends l.line l.visits l.visit_ends l.placing l.graphed.conflict_free q p before.1 at.0 before.2 other in
+                    let entry = left_before tt.number tt.tracks ends l.arrivals l.step_ends l.line l.visits l.visit_ends l.placing l.graphed.conflict_free q p before.1 at.0 before.2 other in
                     let within = entry-within tt.tracks (all_entered tt.tracks) times ends l.line.paths (came q).agent ((came q).index + 1) (entry_for ends (came q) + 1) entry in
                     let same = count in
                     subst (λ w. (w.agent < length ends) × (entry_before ends w < length (all_times tt.tracks))) (sym is) (entry.is_agent, omega (arith, within, same))

@@ -33,10 +33,10 @@ module _ (number : ℕ) (tracks : List Track) (ends : List ℕ) (arrivals : List
   abbrev pub visit_of : ℕ → Visit
   visit_of p = visit_at number tracks ends arrivals step_ends line p
 
-  abbrev pub cell_in : ℕ → Cell
+  abbrev cell_in : ℕ → Cell
   cell_in p = cell_of number tracks ends arrivals step_ends line p
 
-  pub visit_stands : (p : ℕ) → p < length arrivals → Stands tt (visit_of p).agent (visit_of p).time (cell_in p)
+  visit_stands : (p : ℕ) → p < length arrivals → Stands tt (visit_of p).agent (visit_of p).time (cell_in p)
   visit_stands p less =
       let v = arrival-visit number tracks ends arrivals step_ends line p less in
       stands-from tt (visit_of p).agent (visit_of p).time (cell_in p) v.track v.is_track v.is_there
@@ -103,7 +103,7 @@ module _ (number : ℕ) (tracks : List Track) (ends : List ℕ) (arrivals : List
     pub next : tally (take q h.listed) (get_or h.listed p 0) + 1 ≡ tally (take p h.listed) (get_or h.listed p 0)
 
   -- nobody came between
-  none_between : (q x p : ℕ) → p < length arrivals → IsJustBefore q p → q < x → x < p → get_or h.listed x 0 ≡ get_or h.listed p 0 → ⊥
+  pub none_between : (q x p : ℕ) → p < length arrivals → IsJustBefore q p → q < x → x < p → get_or h.listed x 0 ≡ get_or h.listed p 0 → ⊥
   none_between q x p in_p just after before key =
       let n = get_or h.listed p 0 in
       let all = h.all in

@@ -339,3 +339,12 @@ walk-ends first ahead now taken trail entry found links least path before is_tra
     (walked first ahead (set now entry no_entry) (taken ++ entry ∷ []) entry (get_or now entry 0) found links least whole told.1
     (λ is. elim ends [ inl back ↦ back.0 | inr none ↦ absurd (none.1 is) ])
     (λ is. elim ends [ inl back ↦ back.1 | inr none ↦ absurd (not_none ahead first links (first-inside first ahead (taken ++ entry ∷ []) path) (sym is ∙ none.0)) ]))
+
+-- from an entry without a link there is no walk
+pub walked-none : (first : ℕ) (ahead trail : List ℕ) (found : Type 0) → first < length ahead → get_or ahead first 0 ≡ no_entry → (found → ⊥) → IsWalked first ahead ahead trail found
+walked-none first ahead trail found less none never = record {
+  is_cut = record { count = refl; kept = λ i j leads. leads };
+  gone = λ j leads. leads.1 (same_at ahead first j no_entry leads.0 (slice_get-get_or ahead first 0 less ∙ ap Some none));
+  is_cycle = λ is. absurd (never is);
+  others = λ entries cycle. inr cycle;
+}

@@ -26,6 +26,10 @@ pub mod Orders
 pub mod Placing
 -- what the moves wait for
 pub mod Waits
+-- the same, along the times
+pub mod Following
+-- who comes into shared cells, and when
+pub mod Meetings
 -- visits that are sorted part after part
 pub mod Parts
 -- what a graph keeps

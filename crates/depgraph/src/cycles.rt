@@ -1,5 +1,5 @@
 //! The cycles of entries that follow one another.
-ghost use Rattle.std.specs.Prelude.{◌≡◌, ◌<◌, ◌≤◌, ℕ, IfOk, IsTrue, [], length, get_or, slice_set as set};
+ghost use Rattle.std.specs.Prelude.{◌≡◌, ◌<◌, ◌≤◌, ℕ, IfOk, IsTrue, false, [], length, get_or, slice_set as set};
 ghost use Rattle.depgraph.specs.Code.Cycles.{Leads, AreLinks, IsWalked};
 ghost use Rattle.depgraph.specs.Code.Links.{link_of, all_links, links_in, AreBound, AreLinksIn};
 ghost use Rattle.depgraph.specs.Code.Waits.{no_entry};
@@ -39,6 +39,16 @@ impl<'a> Links<'a> {
             waits,
             taken: vec![in alloc; false; waits.len()]?,
         })
+    }
+
+    /// Whether an entry's move waits for another: else the entry has no link.
+    #[inline(always)]
+    fn has_wait(&self, entry: u32) -> bool
+        requires whole { AreLinksIn self.now }
+        requires entry { entry < length (links_in self.now) }
+        ensures { result ≡ false → get_or (links_in self.now) entry 0 ≡ no_entry }
+    {
+        self.waits[entry as usize].count != 0
     }
 
     /// Takes the link of an entry away. Gives the entry to which it led, or `NO_ENTRY` where there was none.
@@ -94,6 +104,10 @@ pub(crate) fn walk(
     ensures walked { IfOk result (λ found. IsWalked first (links_in links.old) (links_in links.new) trail.new.items (IsTrue found)) }
     ensures whole { AreLinksIn links.new }
 {
+    // most moves wait for nobody
+    if !links.has_wait(first) {
+        return Ok(false);
+    }
     let mut entry = first;
     'entries: loop {
         trail.push(entry)?;

@@ -9,7 +9,7 @@ ghost use Rattle.depgraph.specs.Code.Keeping.{route_in};
 ghost use Rattle.depgraph.specs.Code.Laying.{AreFound};
 
 use crate::entries::{begin_in, entry_at};
-use crate::laying::{Laid, lay_out};
+use crate::laying::{Found, find};
 use crate::numbering::cell_at;
 use crate::out_of_memory::OutOfMemory;
 use crate::part::Part;
@@ -59,13 +59,11 @@ impl Dependencies {
     pub fn build(alloc: Global, plan: &CheckedPlan) -> Result<Dependencies, OutOfMemory>
         ensures { IfOk result (λ d. d ≡ plan.now.timetable) }
     {
-        let Laid {
+        let Found {
             number,
             paths,
             needs,
-            visits: _,
-            visit_ends: _,
-        } = lay_out(alloc, plan)?;
+        } = find(alloc, plan)?;
         Ok(Dependencies::of(alloc, plan, number, paths, needs)?)
     }
 

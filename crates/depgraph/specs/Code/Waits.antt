@@ -1,8 +1,8 @@
 -- What the moves wait for, by the visit before in the cell that each enters.
-use Rattle.std.specs.Prelude.{◌≡◌, ℕ, ◌+◌, ◌-◌, ◌<◌, ◌≤◌, ◌^◌, ◌==◌, if◌then◌else◌, List, length, get_or, Option, None, Some}
+use Rattle.std.specs.Prelude.{◌≡◌, ℕ, ◌+◌, ◌-◌, ◌<◌, ◌≤◌, ◌==◌, if◌then◌else◌, List, length, get_or, Option, None, Some}
 use Rattle.model.specs.declared.visit.Visit.{Visit}
 use Rattle.depgraph.specs.declared.waiting.Wait.{Wait}
-use Rattle.depgraph.specs.Code.Entries.{begin_in, IsEntry}
+use Rattle.depgraph.specs.Code.Entries.{begin_in}
 
 abbrev pub no_visit : Visit
 no_visit = record { agent = 0; index = 0; time = 0 }
@@ -34,19 +34,10 @@ pub record AreWaits (ends : List ℕ) (visits : List Visit) (visit_ends : List �
   pub count : length waits ≡ length visits
   pub each : (n k : ℕ) → n < length visit_ends → begin_in visit_ends n ≤ k → k < get_or visit_ends n 0 → IsNoted ends visits waits (begin_in visit_ends n) k
 
--- Visits that stand cell after cell, each of an entry of its own. Who comes next into a cell finds that the other agent has left it, by one move more.
+-- The visits of each cell end among all visits, and each has one of as many entries.
 pub record AreBlocks (ends : List ℕ) (visits : List Visit) (visit_ends : List ℕ) : Type 0 where
-  pub order : (n : ℕ) → n < length visit_ends → begin_in visit_ends n ≤ get_or visit_ends n 0
   pub within : (n : ℕ) → n < length visit_ends → get_or visit_ends n 0 ≤ length visits
-  pub agents : (k : ℕ) → k < length visits → (get_or visits k no_visit).agent < length ends
   pub entries : (k : ℕ) → k < length visits → entry_for ends (get_or visits k no_visit) < length visits
-  pub apart : (j k : ℕ) → j < length visits → k < length visits → entry_for ends (get_or visits j no_visit) ≡ entry_for ends (get_or visits k no_visit) → j ≡ k
-  pub left : (n k : ℕ) → n < length visit_ends → begin_in visit_ends n < k → k < get_or visit_ends n 0
-      → ((get_or visits (k - 1) no_visit).agent ≡ (get_or visits k no_visit).agent → ⊥) → (get_or visits (k - 1) no_visit).index + 1 < 2 ^ 16
-  pub next : (n k : ℕ) → n < length visit_ends → begin_in visit_ends n < k → k < get_or visit_ends n 0
-      → ((get_or visits (k - 1) no_visit).agent ≡ (get_or visits k no_visit).agent → ⊥)
-      → IsEntry ends (get_or visits (k - 1) no_visit).agent ((get_or visits (k - 1) no_visit).index + 1) (entry_for ends (get_or visits (k - 1) no_visit) + 1)
-  pub inside : (i k e : ℕ) → IsEntry ends i k e → e < length visits
 
 -- what stands for no entry
 abbrev pub no_entry : ℕ

@@ -5,7 +5,7 @@ use Rattle.std.proofs.lemmas.Bool.{false≢true}
 use Rattle.depgraph.specs.Code.Cycles.{IsWalked}
 use Rattle.depgraph.specs.Code.Links.{links_in}
 use Rattle.depgraph.proofs.RingLemmas.{push-new}
-use Rattle.depgraph.proofs.WalkLemmas.{IsPath, AreTaken, links_left, link-taken, fewer-links, path-more, walk-ends}
+use Rattle.depgraph.proofs.WalkLemmas.{IsPath, AreTaken, links_left, link-taken, fewer-links, path-more, walk-ends, walked-none}
 use Rattle.depgraph.proofs.cycles.walk.Goals as goal
 
 pub entries-smaller : goal.entries-smaller
@@ -50,3 +50,7 @@ returns-then-next-clause-walked c =
     (walk-ends c.args.first (links_in c.args.links.now) links c.entries.trail.items c.push.new.self.items c.entries.entry (IsTrue false)
     c.requires.links c.requires.least c.entries.invariant.path c.entries.invariant.taken c.in_ok-push.ensures.items
     (inr (sym c.take-next.ensures.link ∙ c.if-next.true, λ is. false≢true is)))
+
+pub returns-then-not-has_wait-clause-walked : goal.returns-then-not-has_wait-clause-walked
+returns-then-not-has_wait-clause-walked c =
+    walked-none c.args.first (links_in c.args.links.now) c.args.trail.now.items (IsTrue false) c.requires.first (c.has_wait.ensures c.if-not-has_wait.true) (λ is. false≢true is)
