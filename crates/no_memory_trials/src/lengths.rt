@@ -2,7 +2,7 @@
 //! most one in a run.
 use crate::texts::map_of;
 use grid::{Cell, Map};
-use scen::{CertFault, Length, Listed, Proposal, agrees, certify};
+use scen::{CertFault, Length, LengthTable, Listed, Proposal, agrees, certify};
 use std::alloc::{AllocError, Global};
 use std::cmp::Ordering;
 use std::test::Fail;
@@ -20,13 +20,10 @@ const LENGTHS: [(u32, u32); 4] = [(0, 0), (1, 0), (1, 0), (0, 1)];
 
 /// The proposal of a walk with these lengths.
 fn proposal(alloc: Global, walk: &[Cell]) -> Result<Proposal, AllocError> {
-    let mut table = Vec::new(alloc);
-    for &(straight, diagonal) in &LENGTHS {
-        table.push(Length::new(straight, diagonal))?;
-    }
+    let entries = LENGTHS.map(|(straight, diagonal)| Length::new(straight, diagonal));
     Ok(Proposal {
         walk: Vec::from_slice(alloc, walk)?,
-        table,
+        table: LengthTable::from_entries(alloc, &entries)?,
     })
 }
 

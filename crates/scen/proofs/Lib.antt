@@ -17,5 +17,7 @@ pub mod DigitLemmas
 pub mod LinePuts
 pub mod WrittenLemmas
 pub mod KeyLemmas
+pub mod KeyNumbers
+pub mod BandLemmas
 pub mod TightTables
 pub mod WalkLemmas

@@ -15,7 +15,8 @@ use Rattle.scen.specs.declared.length.Length.{Length}
 use Rattle.scen.specs.declared.tightness.Corner.{Corner}
 use Rattle.scen.specs.declared.tightness.Corners.{Corners}
 use Rattle.scen.specs.Certificate.{entry_of, Bounds, IsTight}
-use Rattle.scen.specs.Code.Tightness.{Ground, open_land, open_water, no_ground, ground_of_class, ground_of, number_of, key_of_entry, corner_at, AreWithin, AreSame, KeepsSide, KeepsBlock, KeepsBlockAt, KeepsBlockIn, KeepsRows, Tells, AreCorners, corner_in}
+use Rattle.scen.specs.Code.Tightness.{Ground, open_land, open_water, no_ground, ground_of_class, ground_of, number_of, corner_at, AreWithin, AreSame, KeepsSide, KeepsBlock, KeepsBlockAt, KeepsBlockIn, KeepsRows, Tells, AreCorners, corner_in}
+use Rattle.scen.specs.Code.KeyParts.{number_of_entry}
 use Rattle.scen.proofs.KeyLemmas.{BoundEachOther, within_from, from_within}
 
 -- ---- what holds of each number below another
@@ -234,7 +235,7 @@ place_within x y width height column row =
 -- on the map it is what the character and the entry of the cell say
 pub told_on : (m : Grid) (table : List (Option Length)) (x y i : ℕ) (p : Corner) (d : Option Length) → IsMap m → length table ≡ m.width * m.height
     → x < m.width → y < m.height → i ≡ y * m.width + x
-    → p.grounds ≡ number_of (ground_of (terrain_of (get_or (map character_of m.terrain) i 0))) → p.key ≡ key_of_entry (get_or table i d)
+    → p.grounds ≡ number_of (ground_of (terrain_of (get_or (map character_of m.terrain) i 0))) → p.key ≡ number_of_entry (get_or table i d)
     → Tells p (corner_at m table x y)
 told_on m table x y i p d is_map cells column row at grounds key =
     let count = is_map.cells in
@@ -247,7 +248,54 @@ told_on m table x y i p d is_map cells column row at grounds key =
     ∙ ap (slice_get m.terrain) (sym at) ∙ slice_get-get_or m.terrain i Floor inside in (
       grounds ∙ ap (λ c. number_of (ground_of (terrain_of c))) (get_or-map character_of m.terrain i Floor 0 inside)
           ∙ ap (λ o. number_of (ground_of o)) (read_back t ∙ sym here),
-      λ some. key ∙ ap key_of_entry (get_or_default table i d None held ∙ ap (λ k. get_or table k None) at),
+      λ some. key ∙ ap number_of_entry (get_or_default table i d None held ∙ ap (λ k. get_or table k None) at),
+    )
+
+-- ---- rows of which all entries are the same
+
+-- the entries from one place to before another are the same
+abbrev pub AreEven : List (Option Length) → (from to : ℕ) → Type 0
+AreEven table from to =
+    (i j : ℕ) → from ≤ i → i < to → i < length table → from ≤ j → j < to → j < length table → get_or table i None ≡ get_or table j None
+
+within_same : (step p q : ℕ) → p ≡ q → AreWithin step p q
+within_same step p q e = (omega (arith, e), omega (arith, e))
+
+even_within : (m : Grid) (table : List (Option Length)) (step y a b i j : ℕ) → length table ≡ m.width * m.height → AreEven table (y * m.width) (y * m.width + 2 * m.width)
+    → y ≤ b → b ≤ y + 1 → y ≤ j → j ≤ y + 1 → (a < m.width) × (b < m.height) → (i < m.width) × (j < m.height)
+    → AreWithin step (corner_at m table a b).key (corner_at m table i j).key
+even_within m table step y a b i j cells even b_least b_most j_least j_most on there =
+    let w = m.width in
+    let first = place_within a b w m.height on.0 on.1 in
+    let second = place_within i j w m.height there.0 there.1 in
+    let b_from = mul-le y w b w b_least (omega arith) in
+    let b_to = mul-le b w (y + 1) w b_most (omega arith) in
+    let j_from = mul-le y w j w j_least (omega arith) in
+    let j_to = mul-le j w (y + 1) w j_most (omega arith) in
+    let a_less = on.0 in
+    let i_less = there.0 in
+    within_same step (corner_at m table a b).key (corner_at m table i j).key
+    (ap number_of_entry (even (b * w + a) (j * w + i) (omega (arith, b_from)) (omega (arith, b_to, a_less)) (omega (arith, cells, first))
+    (omega (arith, j_from)) (omega (arith, j_to, i_less)) (omega (arith, cells, second))))
+
+pub even_block : (m : Grid) (table : List (Option Length)) (x y : ℕ) → length table ≡ m.width * m.height → AreEven table (y * m.width) (y * m.width + 2 * m.width)
+    → KeepsBlockAt m table x y
+even_block m table x y cells even =
+    let on : (i j : ℕ) → Alike (ground_at m x y) (ground_at m i j) → ((x < m.width) × (y < m.height)) × ((i < m.width) × (j < m.height)) =
+    λ i j h. (on_map m x y h.0, on_map m i j (flip (ground_at m x y) (ground_at m i j) h).0) in (
+      λ same.
+          let both = on (x + 1) y (alike_from (ground_at m x y) (ground_at m (x + 1) y) same) in
+          even_within m table 6625109 y x y (x + 1) y cells even (omega arith) (omega arith) (omega arith) (omega arith) both.0 both.1,
+      λ same.
+          let both = on x (y + 1) (alike_from (ground_at m x y) (ground_at m x (y + 1)) same) in
+          even_within m table 6625109 y x y x (y + 1) cells even (omega arith) (omega arith) (omega arith) (omega arith) both.0 both.1,
+      λ same.
+          let beside = on (x + 1) y (alike_from (ground_at m x y) (ground_at m (x + 1) y) same.0) in
+          let below = on x (y + 1) (alike_from (ground_at m x y) (ground_at m x (y + 1)) same.1) in
+          let across = on (x + 1) (y + 1) (alike_from (ground_at m x y) (ground_at m (x + 1) (y + 1)) same.2) in (
+            even_within m table 9369319 y x y (x + 1) (y + 1) cells even (omega arith) (omega arith) (omega arith) (omega arith) across.0 across.1,
+            even_within m table 9369319 y (x + 1) y x (y + 1) cells even (omega arith) (omega arith) (omega arith) (omega arith) beside.1 below.1,
+          ),
     )
 
 -- ---- a tight table keeps each block
@@ -345,10 +393,10 @@ diagonals m table rows x y i j e f =
     (rows y on.1 x on.0).2
     (same_from here (ground_at m (x + 1) y) beside, same_from here (ground_at m x (y + 1)) below, same_from here (ground_at m (x + 1) (y + 1)) across)))
 
-straight_bounds : (p q : Option Length) → AreWithin 6625109 (key_of_entry p) (key_of_entry q) → BoundEachOther 1 0 p q
+straight_bounds : (p q : Option Length) → AreWithin 6625109 (number_of_entry p) (number_of_entry q) → BoundEachOther 1 0 p q
 straight_bounds p q h = from_within 1 0 p q (omega arith) (omega arith) h
 
-diagonal_bounds : (p q : Option Length) → AreWithin 9369319 (key_of_entry p) (key_of_entry q) → BoundEachOther 0 1 p q
+diagonal_bounds : (p q : Option Length) → AreWithin 9369319 (number_of_entry p) (number_of_entry q) → BoundEachOther 0 1 p q
 diagonal_bounds p q h = from_within 0 1 p q (omega arith) (omega arith) h
 
 straight_by : (m : Grid) (table : List (Option Length)) → AllBlocks m table → (u v : Cell) → IsStraightStep m u v → ShareSide u v

@@ -40,14 +40,14 @@ AreOn m start goal = IsOn m start × IsOn m goal
 -- table, its being tight, and the walk.
 abbrev pub Certifies : Grid → Cell → Cell → Proposal → Result (Option Length) CertFault → Type 0
 Certifies m start goal p (Ok answer) =
-    AreOn m start goal × IsTable m start p.table.items × IsTight m p.table.items
-    × (answer ≡ entry_of m p.table.items goal) × IsProof m start goal p.walk.items answer
+    AreOn m start goal × IsTable m start p.table × IsTight m p.table
+    × (answer ≡ entry_of m p.table goal) × IsProof m start goal p.walk.items answer
 Certifies m start goal p (Err OutOfRange) = AreOn m start goal → ⊥
-Certifies m start goal p (Err BadTable) = AreOn m start goal × (IsTable m start p.table.items → ⊥)
-Certifies m start goal p (Err NotTight) = AreOn m start goal × IsTable m start p.table.items × (IsTight m p.table.items → ⊥)
+Certifies m start goal p (Err BadTable) = AreOn m start goal × (IsTable m start p.table → ⊥)
+Certifies m start goal p (Err NotTight) = AreOn m start goal × IsTable m start p.table × (IsTight m p.table → ⊥)
 Certifies m start goal p (Err BadWalk) =
-    AreOn m start goal × IsTable m start p.table.items × IsTight m p.table.items
-    × (IsProof m start goal p.walk.items (entry_of m p.table.items goal) → ⊥)
+    AreOn m start goal × IsTable m start p.table × IsTight m p.table
+    × (IsProof m start goal p.walk.items (entry_of m p.table goal) → ⊥)
 
 -- what an accepted certificate proves
 abbrev pub IsLeast : Grid → Cell → Cell → Option Length → Type 0

@@ -8,7 +8,9 @@ pub mod OrderLaws
 pub mod ComparisonLaws
 -- what the parts of a line are seen as
 pub mod Parsing
+-- lengths as single numbers
+pub mod KeyParts
+-- what the numbers of a search say of each cell
+pub mod Bands
 -- which steps each block of four cells tests
 pub mod Tightness
--- a cell's place in the layout of a search, and those round it
-pub mod Round

@@ -7,6 +7,7 @@ ghost use Rattle.scen.specs.Walk.{IsOn, IsWalk};
 ghost use Rattle.scen.specs.Certificate.{entry_of, IsTable, IsProof, Certifies, IsLeast};
 
 use crate::Length;
+use crate::length_table::LengthTable;
 use crate::tightness::is_tight;
 use grid::{Cell, FaultWords, Map, step4, step8};
 use std::fmt;
@@ -16,7 +17,7 @@ use thiserror::Error;
 #[derive(Debug, Drop)]
 pub struct Proposal {
     pub walk: Vec<Cell>,
-    pub table: Vec<Option<Length>>,
+    pub table: LengthTable,
 }
 
 /// Why a proposal proves nothing.
@@ -68,7 +69,7 @@ pub fn certify(
     if !is_on(map, start) || !is_on(map, goal) {
         return Err(CertFault::OutOfRange);
     }
-    let table = proposal.table.as_slice();
+    let table = &proposal.table;
     if !is_table(map, start, table) {
         return Err(CertFault::BadTable);
     }
@@ -91,16 +92,13 @@ pub(crate) fn is_on(map: &Map, cell: Cell) -> bool
 }
 
 /// The entry of a cell.
-pub(crate) fn entry(map: &Map, table: &[Option<Length>], cell: Cell) -> Option<Length>
+pub(crate) fn entry(map: &Map, table: &LengthTable, cell: Cell) -> Option<Length>
     ensures { result ≡ entry_of map.now table.now cell }
 {
-    match table.get(cell.y as usize * map.width() as usize + cell.x as usize) {
-        Some(entry) => *entry,
-        None => None,
-    }
+    table.entry(cell.y as usize * map.width() as usize + cell.x as usize)
 }
 
-fn is_table(map: &Map, start: Cell, table: &[Option<Length>]) -> bool
+fn is_table(map: &Map, start: Cell, table: &LengthTable) -> bool
     ensures { IsTrue result ↔ IsTable map.now start table.now }
 {
     let count = map.width() as usize * map.height() as usize;

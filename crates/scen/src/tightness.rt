@@ -1,11 +1,11 @@
 //! Whether a table of lengths is tight: no legal step improves it.
-ghost use Rattle.std.specs.Prelude.{◌≡◌, ◌+◌, ◌*◌, ◌<◌, ◌≤◌, ◌↔◌, IsTrue, length, ℕ, slice_index};
+ghost use Rattle.std.specs.Prelude.{◌≡◌, ◌+◌, ◌*◌, ◌<◌, ◌≤◌, ◌↔◌, IfSome, IsTrue, length, ℕ, slice_index};
 ghost use Rattle.grid.specs.Terrain.{terrain_of};
 ghost use Rattle.scen.specs.Certificate.{IsTight};
-ghost use Rattle.scen.specs.Code.Tightness.{ground_of, number_of, is_land, is_water, key_of_entry, AreSame, AreWithin, KeepsSide, KeepsDiagonals, KeepsBlock, KeepsRows, IsStrip, AreCorners, KeepsStrip};
+ghost use Rattle.scen.specs.Code.Tightness.{ground_of, number_of, is_land, is_water, AreSame, AreWithin, KeepsSide, KeepsDiagonals, KeepsBlock, KeepsRows, IsStrip, AreCorners, KeepsStrip};
 
-use crate::Length;
 use crate::keys::{DIAGONAL, STRAIGHT};
+use crate::length_table::LengthTable;
 use grid::Map;
 
 /// What the map and the table say of a cell. Land and water have a bit each of its grounds, since a branch on them
@@ -15,9 +15,6 @@ pub(crate) struct Corner {
     grounds: u64,
     key: u64,
 }
-
-/// The key of a cell without a length, far from those of all lengths.
-const NO_LENGTH: u64 = 1 << 62;
 
 /// So many columns make a strip.
 const STRIP: u32 = 512;
@@ -54,7 +51,7 @@ impl Corners {
 
 /// Whether no legal step improves the table. It goes down the map strip by strip, and holds two rows, so that it looks up each cell
 /// once.
-pub(crate) fn is_tight(map: &Map, table: &[Option<Length>]) -> bool
+pub(crate) fn is_tight(map: &Map, table: &LengthTable) -> bool
     requires cells { length table.now ≡ map.now.width * map.now.height }
     ensures { IsTrue result ↔ IsTight map.now table.now }
 {
@@ -69,24 +66,52 @@ pub(crate) fn is_tight(map: &Map, table: &[Option<Length>]) -> bool
 }
 
 /// Tests each step of the columns from one to before another, and each to the column behind them.
-fn keeps_strip(map: &Map, table: &[Option<Length>], left: u32, right: u32) -> bool
+fn keeps_strip(map: &Map, table: &LengthTable, left: u32, right: u32) -> bool
     requires cells { length table.now ≡ map.now.width * map.now.height }
     requires strip { IsStrip map.now left right }
     ensures { IsTrue result ↔ KeepsStrip map.now table.now left right }
 {
-    let mut upper = corners_of(map, table, left, right, 0);
+    let width = map.width() as usize;
+    let mut upper = None;
     for y in 0..map.height() {
-        let lower = corners_of(map, table, left, right, y + 1);
-        if !keeps_row(&upper, &lower, (right - left) as usize) {
+        // where all entries are the same, no step improves one
+        if table.is_beyond(y as usize * width, 2 * width) {
+            upper = None;
+            continue;
+        }
+        let above = told_or_new(upper, map, table, left, right, y);
+        let below = corners_of(map, table, left, right, y + 1);
+        if !keeps_row(&above, &below, (right - left) as usize) {
             return false;
         }
-        upper = lower;
+        upper = Some(below);
     }
     true
 }
 
+/// What the cells of a row say, where it isn't held yet.
+fn told_or_new(
+    held: Option<Corners>,
+    map: &Map,
+    table: &LengthTable,
+    left: u32,
+    right: u32,
+    y: u32,
+) -> Corners
+    requires cells { length table.now ≡ map.now.width * map.now.height }
+    requires strip { IsStrip map.now left right }
+    requires row { y < 65536 }
+    requires held { IfSome held (λ corners. AreCorners map.now table.now left right y corners) }
+    ensures { AreCorners map.now table.now left right y result }
+{
+    match held {
+        Some(corners) => corners,
+        None => corners_of(map, table, left, right, y),
+    }
+}
+
 /// What the cells of a row say; off the map they are blocked, and no key is told.
-fn corners_of(map: &Map, table: &[Option<Length>], left: u32, right: u32, y: u32) -> Corners
+fn corners_of(map: &Map, table: &LengthTable, left: u32, right: u32, y: u32) -> Corners
     requires cells { length table.now ≡ map.now.width * map.now.height }
     requires strip { IsStrip map.now left right }
     requires row { y < 65536 }
@@ -97,10 +122,11 @@ fn corners_of(map: &Map, table: &[Option<Length>], left: u32, right: u32, y: u32
     if y < height {
         let characters = map.characters();
         let first = y as usize * width as usize + left as usize;
-        for i in 0..(width.min(right + 1) - left) as usize {
+        let count = (width.min(right + 1) - left) as usize;
+        for i in 0..count {
             corners.grounds[i] = grounds_of(characters[first + i]);
-            corners.keys[i] = key_of_entry(table[first + i]);
         }
+        table.put_numbers(first, count, &mut corners.keys);
     }
     corners
 }
@@ -134,18 +160,6 @@ fn is_water(character: u8) -> bool
     ensures { result ≡ is_water (ground_of (terrain_of character)) }
 {
     character == b'W'
-}
-
-/// An entry as a number. The keys of lengths are ordered as the lengths are.
-fn key_of_entry(entry: Option<Length>) -> u64
-    ensures { result ≡ key_of_entry entry }
-{
-    match entry {
-        Some(length) => {
-            u64::from(length.straight) * STRAIGHT + u64::from(length.diagonal) * DIAGONAL
-        }
-        None => NO_LENGTH,
-    }
 }
 
 /// Tests, of four cells that share a corner, the steps from the upper left one and the two diagonal ones.

@@ -1,65 +1,67 @@
 //! A shortest walk, found from its end.
-use crate::keys::{CLOSED, DIAGONAL, STRAIGHT, UNREACHED};
-use crate::layout::Layout;
+use crate::field::Field;
+use crate::keys::{DIAGONAL, STRAIGHT};
+use crate::sides::{east_of, north_of, south_of, west_of};
 use grid::Cell;
 use std::alloc::{AllocError, Global};
 
-/// The walk to a place, once the keys are those of shortest walks; empty where none leads there.
+/// The walk to a cell, once the keys are those of shortest walks; empty where none leads there.
 pub(crate) fn walk_back(
     alloc: Global,
-    keys: &[u64],
-    layout: Layout,
-    goal: usize,
+    field: &Field,
+    goal: Cell,
+    most: usize,
 ) -> Result<Vec<Cell>, AllocError> {
     let mut walk = Vec::new(alloc);
-    let mut next = reached(keys, goal);
-    for _ in 0..keys.len() {
-        let Some(place) = next else {
+    let mut next = reached(field, goal);
+    for _ in 0..most {
+        let Some(cell) = next else {
             break;
         };
-        if let Some(cell) = layout.cell(place) {
-            walk.push(cell).map_err(AllocError::from)?;
-        }
-        next = place_before(keys, layout, place);
+        walk.push(cell).map_err(AllocError::from)?;
+        next = cell_before(field, cell);
     }
     walk.reverse();
     Ok(walk)
 }
 
-/// The place, if some walk leads there.
-fn reached(keys: &[u64], place: usize) -> Option<usize> {
-    let key = *keys.get(place)?;
-    (key != CLOSED && key != UNREACHED).then_some(place)
+/// The cell, if some walk leads there.
+fn reached(field: &Field, cell: Cell) -> Option<Cell> {
+    let key = field.key(cell)?;
+    key.length().map(|_| cell)
 }
 
-/// A place from which one step more makes a shortest walk to this one; none at the start.
-fn place_before(keys: &[u64], layout: Layout, place: usize) -> Option<usize> {
-    let sides = layout.sides(place, keys.len())?;
-    let key = keys[place];
-    for side in [sides.north, sides.west, sides.east, sides.south] {
-        if is_step(keys, side, STRAIGHT, key) {
+/// A cell from which one step more makes a shortest walk to this one; none at the start.
+fn cell_before(field: &Field, cell: Cell) -> Option<Cell> {
+    let (north, south) = (north_of(cell), south_of(cell));
+    let (west, east) = (west_of(cell), east_of(cell));
+    for side in [north, west, east, south] {
+        if is_step(field, side, STRAIGHT, cell) {
             return Some(side);
         }
     }
     for (corner, row, column) in [
-        (sides.north - 1, sides.north, sides.west),
-        (sides.north + 1, sides.north, sides.east),
-        (sides.south - 1, sides.south, sides.west),
-        (sides.south + 1, sides.south, sides.east),
+        (west_of(north), north, west),
+        (east_of(north), north, east),
+        (west_of(south), south, west),
+        (east_of(south), south, east),
     ] {
-        let is_free = is_open(keys, row) && is_open(keys, column);
-        if is_free && is_step(keys, corner, DIAGONAL, key) {
+        let is_free = is_open(field, row) && is_open(field, column);
+        if is_free && is_step(field, corner, DIAGONAL, cell) {
             return Some(corner);
         }
     }
     None
 }
 
-fn is_open(keys: &[u64], place: usize) -> bool {
-    keys.get(place).is_some_and(|key| *key != CLOSED)
+fn is_open(field: &Field, cell: Cell) -> bool {
+    field.key(cell).is_some_and(|key| !key.is_closed())
 }
 
-/// Whether a walk to a place and a step make this key.
-fn is_step(keys: &[u64], place: usize, step: u64, key: u64) -> bool {
-    keys.get(place).is_some_and(|before| *before != CLOSED && before.checked_add(step) == Some(key))
+/// Whether a shortest walk to one cell and a step make one to another.
+fn is_step(field: &Field, from: Cell, step: u64, to: Cell) -> bool {
+    match (field.key(from), field.key(to)) {
+        (Some(before), Some(key)) => before.is_step_before(step, key),
+        _ => false,
+    }
 }

@@ -2,9 +2,8 @@
 ghost use Rattle.scen.specs.Search.{FailsSearch};
 
 use crate::certificate::{Proposal, is_on};
+use crate::field::Field;
 use crate::flood::flood;
-use crate::layout::Layout;
-use crate::lengths_found::{first_keys, table_of};
 use crate::search_fault::SearchFault;
 use crate::walk_back::walk_back;
 use grid::{Cell, Map};
@@ -22,12 +21,10 @@ pub fn search(alloc: Global, map: &Map, start: Cell, goal: Cell) -> Result<Propo
 }
 
 fn propose(alloc: Global, map: &Map, start: Cell, goal: Cell) -> Result<Proposal, AllocError> {
-    let layout = Layout::of(map);
-    let goal = layout.place(goal);
-    let mut keys = first_keys(alloc, map, layout, start)?;
-    flood(alloc, &mut keys, layout, layout.place(start), goal)?;
+    let mut field = Field::around(alloc, map, start)?;
+    flood(alloc, &mut field, start, goal)?;
     Ok(Proposal {
-        walk: walk_back(alloc, &keys, layout, goal)?,
-        table: table_of(alloc, &keys, layout, goal)?,
+        walk: walk_back(alloc, &field, goal, map.characters().len())?,
+        table: field.into_table(goal),
     })
 }

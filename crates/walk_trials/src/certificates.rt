@@ -1,6 +1,6 @@
 //! Proposals of shortest lengths, right and wrong, and what each is answered with.
 use grid::{Cell, Counted, read_map};
-use scen::{CertFault, Length, Proposal, certify};
+use scen::{CertFault, Length, LengthTable, Proposal, certify};
 use std::alloc::{AllocError, Global};
 use std::test::Fail;
 
@@ -129,13 +129,16 @@ fn parts(answer: Result<Option<Length>, CertFault>) -> Result<Entry, CertFault> 
 
 /// The proposal of this walk and these entries; an entry past the bounds of lengths is none.
 fn proposal(alloc: Global, entries: &[Entry], points: &[Point]) -> Result<Proposal, AllocError> {
-    let mut table = Vec::new(alloc);
+    let mut lengths = Vec::new(alloc);
     for entry in entries {
-        table.push(entry.and_then(|(straight, diagonal)| Length::new(straight, diagonal)))?;
+        lengths.push(entry.and_then(|(straight, diagonal)| Length::new(straight, diagonal)))?;
     }
     let mut walk = Vec::new(alloc);
     for point in points {
         walk.push(cell(*point))?;
     }
-    Ok(Proposal { walk, table })
+    Ok(Proposal {
+        walk,
+        table: LengthTable::from_entries(alloc, &lengths)?,
+    })
 }

@@ -1,6 +1,6 @@
 //! What the search proposes is certified, on all small maps; and what is changed in it is refused.
 use grid::{Cell, Counted, Map, read_map};
-use scen::{CertFault, Length, Proposal, SearchFault, certify, search};
+use scen::{CertFault, Length, LengthTable, Proposal, SearchFault, certify, search};
 use std::alloc::Global;
 use std::process::Abort;
 use std::test::Fail;
@@ -109,24 +109,25 @@ enum Change {
 }
 
 impl Change {
-    fn apply(self, proposal: &mut Proposal) -> Result<(), Fail> {
+    fn apply(self, alloc: Global, proposal: &mut Proposal) -> Result<(), Fail> {
+        let mut entries = entries_of(alloc, &proposal.table)?;
         match self {
             Change::Forget(place) => {
-                if let Some(entry) = proposal.table.get_mut(place) {
+                if let Some(entry) = entries.get_mut(place) {
                     *entry = None;
                 }
             }
             Change::Lengthen(place) => {
-                if let Some(entry) = proposal.table.get_mut(place) {
+                if let Some(entry) = entries.get_mut(place) {
                     *entry = entry.and_then(|l| Length::new(
                         l.straight.saturating_add(1),
                         l.diagonal,
                     ));
                 }
             }
-            Change::AddEntry => proposal.table.push(None)?,
+            Change::AddEntry => entries.push(None)?,
             Change::DropEntry => {
-                let _ = proposal.table.pop();
+                let _ = entries.pop();
             }
             Change::WalkOn(i) => proposal.walk.push(cell(i))?,
             Change::StopShort => {
@@ -135,8 +136,17 @@ impl Change {
             Change::TurnRound => proposal.walk.reverse(),
             Change::StayAway => proposal.walk.clear(),
         }
+        proposal.table = LengthTable::from_entries(alloc, &entries)?;
         Ok(())
     }
+}
+
+fn entries_of(alloc: Global, table: &LengthTable) -> Result<Vec<Option<Length>>, Fail> {
+    let mut entries = Vec::new(alloc);
+    for place in 0..table.len() {
+        entries.push(table.entry(place))?;
+    }
+    Ok(entries)
 }
 
 #[test]
@@ -162,7 +172,7 @@ fn changed_proposals_are_refused(rt: HostRuntime) -> Result<(), Fail> {
     ] {
         let mut proposal = search(rt.alloc(), &map, start, goal)?;
         assert!(rt; certify(&map, start, goal, &proposal).is_ok());
-        change.apply(&mut proposal)?;
+        change.apply(rt.alloc(), &mut proposal)?;
         let fault = certify(&map, start, goal, &proposal).err();
         assert_eq!(rt; fault, Some(want), "at {change:?}");
     }

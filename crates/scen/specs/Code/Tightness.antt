@@ -1,5 +1,5 @@
 -- How a table is tested to be tight: row by row, by blocks of four cells that share a corner.
-use Rattle.std.specs.Prelude.{bit_and, ℕ, ◌≡◌, ◌+◌, ◌-◌, ◌*◌, ◌^◌, ◌<◌, ◌≤◌, Bool, true, false, List, slice_index, Option, Some, None}
+use Rattle.std.specs.Prelude.{bit_and, ℕ, ◌≡◌, ◌+◌, ◌-◌, ◌<◌, ◌≤◌, Bool, true, false, List, slice_index, Option, Some, None}
 use Rattle.grid.specs.declared.terrain.Terrain.{Terrain}
 use Rattle.grid.specs.Terrain.{Class, land, swamp, water, blocked, class_of}
 use Rattle.grid.specs.Map.{Grid, terrain_at}
@@ -7,6 +7,7 @@ use Rattle.scen.specs.declared.length.Length.{Length}
 use Rattle.scen.specs.declared.tightness.Corner.{Corner}
 use Rattle.scen.specs.declared.tightness.Corners.{Corners}
 use Rattle.scen.specs.Certificate.{entry_of}
+use Rattle.scen.specs.Code.KeyParts.{number_of_entry}
 
 -- what steps hang on: land and swamp are one ground, since each joins each
 pub data Ground : Type 0 where
@@ -37,17 +38,12 @@ number_of open_land = 1
 number_of open_water = 2
 number_of no_ground = 0
 
--- an entry as a number: the keys of lengths are ordered as the lengths are, and no length has a key near that of none
-abbrev pub key_of_entry : Option Length → ℕ
-key_of_entry None = 2 ^ 62
-key_of_entry (Some l) = l.straight * 6625109 + l.diagonal * 9369319
-
 -- what map and table say of a cell
 abbrev pub corner_at : Grid → List (Option Length) → ℕ → ℕ → Corner
 corner_at m table x y =
     record {
       grounds = number_of (ground_of (terrain_at m (record { x = x; y = y })));
-      key = key_of_entry (entry_of m table (record { x = x; y = y }));
+      key = number_of_entry (entry_of m table (record { x = x; y = y }));
     }
 
 -- both cells are land, or both are water

@@ -3,14 +3,14 @@ use Rattle.std.proofs.Common.{◌*◌, sym, ap, ◌∙◌}
 use Rattle.std.proofs.lemmas.Option.{same_Some}
 use Rattle.scen.proofs.certificate.is_table.Goals as goal
 
-pub returns-then-table-count : goal.returns-then-table-count
-returns-then-table-count c =
+pub returns-then-len-count : goal.returns-then-len-count
+returns-then-len-count c =
     let m = c.args.map.now in
     let found = sym c.entry.ensures ∙ c.in-Some.is in (
       λ e.
           let h = c.is_of.ensures.0 e in
           record {
-            cells = c.if-table-count.true ∙ ap (λ w. w * c.height.result) c.width.ensures.width ∙ ap (λ h. m.width * h) c.height.ensures.height;
+            cells = sym c.len.ensures ∙ c.if-len-count.true ∙ ap (λ w. w * c.height.result) c.width.ensures.width ∙ ap (λ h. m.width * h) c.height.ensures.height;
             origin = (c.in-Some.length, found, sym h.0, sym h.1);
           },
       λ t.

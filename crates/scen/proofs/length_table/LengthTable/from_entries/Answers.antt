@@ -1,0 +1,24 @@
+-- There is one band, whose keys are those of the entries.
+use Rattle.std.proofs.Common.{◌≡◌, map, take, None, arith, ap, ◌∙◌}
+use Rattle.std.proofs.Math.Seq.{take-length}
+use Rattle.std.proofs.lemmas.List.{get_or_default}
+use Rattle.scen.specs.Code.KeyParts.{number_of_entry}
+use Rattle.scen.proofs.BandLemmas.{entries_back, values_more}
+use Rattle.scen.proofs.length_table.LengthTable.from_entries.Goals as goal
+
+pub loop-entry-preserved : goal.loop-entry-preserved
+loop-entry-preserved c =
+    let es = c.args.entries.now in
+    let i = c.loop-entry.entry-index in
+    ap (map (λ k. k.value)) c.in_ok-push.ensures.items
+    ∙ values_more c.loop-entry.keys.items c.of.result es i c.loop-entry.invariant (c.of.ensures ∙ ap number_of_entry (c.entry-item.is ∙ get_or_default es i c.entry-item.result None (omega arith))) (omega arith)
+
+pub returns : goal.returns
+returns c =
+    let es = c.args.entries.now in
+    let keys = c.loop-entry.keys.items in
+    let i = c.loop-entry.entry-index in
+    let size = c.max.ensures in
+    let all : map (λ k. k.value) keys ≡ map number_of_entry es =
+    c.loop-entry.invariant ∙ ap (λ n. map number_of_entry (take n es)) (omega arith) ∙ ap (map number_of_entry) (take-length es) in
+    entries_back c.in_ok-vec.field-0.items (record { keys = c.loop-entry.keys }) c.max.result es c.in_ok-vec.ensures.items (omega (arith, size)) (omega (arith, size)) all
