@@ -85,6 +85,18 @@ fn put(all: &mut [u8], at: usize, bytes: &[u8])
     all[at..at + bytes.len()].copy_from_slice(bytes);
 }
 
+/// Puts a record at a place, byte by byte: a copy would wait for bytes that were only just made.
+#[inline(always)]
+fn put_record(all: &mut [u8], at: usize, record: &[u8; 10])
+    requires { at + 10 ≤ length all.old }
+    ensures length { length all.new ≡ length all.old }
+    ensures bytes { take (at + 10) all.new ≡ take at all.old ++ record.now }
+{
+    for i in 0..10 {
+        all[at + i] = record[i];
+    }
+}
+
 impl Tape for MemTape {
     ghost use Rattle.agent.specs.MemTape.{mem_state, mem_reads, mem_writes, mem_within, mem_is_read, mem_is_write};
 
@@ -109,7 +121,7 @@ impl Tape for MemTape {
     }
 
     fn write_at(&mut self, at: u32, bytes: &[u8; 10]) -> Result<(), TapeError> {
-        put(&mut self.bytes, at as usize, bytes);
+        put_record(&mut self.bytes, at as usize, bytes);
         self.len = at as usize + 10;
         Ok(())
     }

@@ -2,6 +2,7 @@
 pub mod NumeralLemmas
 pub mod EventLemmas
 pub mod LineLemmas
+pub mod LeadingLemmas
 pub mod HeaderLemmas
 pub mod FirstLemmas
 pub mod TextScanned

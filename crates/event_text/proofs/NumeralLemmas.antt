@@ -37,7 +37,7 @@ value_after-least : (start : ℕ) (bytes : List ℕ) → start ≤ digits_value_
 value_after-least start [] = omega arith
 value_after-least start (b ∷ bytes) = let more = value_after-least (start * 10 + digit_value b) bytes in omega (arith, more)
 
-digit_value-is : (b digit : ℕ) → is_ascii_digit b ≡ true → digit ≡ b - 48 → digit_value b ≡ digit
+pub digit_value-is : (b digit : ℕ) → is_ascii_digit b ≡ true → digit ≡ b - 48 → digit_value b ≡ digit
 digit_value-is b digit test is =
     let parts = and_parts _ _ test in
     let value = digit_value_digit b (leb-true 48 b parts.0, leb-true b 57 parts.1) in

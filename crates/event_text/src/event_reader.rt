@@ -16,7 +16,7 @@ ghost use Rattle.event_text.specs.EventFault.{longest_event_line, EventFaultAt, 
 ghost use Rattle.event_text.specs.Taking.{IsAtStart, HasReadEvents, VersionTaken, EventTaken, LeavesFewer};
 
 use crate::EventFault;
-use crate::event_line::read_event;
+use crate::event_line::{leading_event, read_event};
 use crate::header::{Headers, version_of};
 use grid::{Counted, Source, TakenLine};
 use model::{Event, Version};
@@ -121,8 +121,36 @@ impl EventReader {
         &self.room[..count.min(LONGEST_LINE)]
     }
 
-    /// The event of the next line, behind the header.
+    /// The event of the next line, behind the header. It is told from what is at hand of the source where that has all of the line.
+    #[inline(always)]
     fn read_line<R: Read>(
+        &mut self,
+        source: &mut Source<'_, R>,
+    ) -> Result<Option<Event>, EventFault>
+        ensures same_reader { source.new.reader.ghost_name ≡ source.old.reader.ghost_name }
+        ensures next { (headers : Headers) (first : Counted R) (events : List Event) (version : Version)
+            → HasReadEvents headers R.remaining first source.old self.old events
+            → self.old.version ≡ Some version → EventTaken headers R.remaining first source.new self.new events result }
+        ensures same_version { self.new.version ≡ self.old.version }
+        ensures fewer_left { LeavesFewer result (most_left source.old) (most_left source.new) }
+    {
+        match leading_event(source.at_hand()) {
+            Some((event, count)) => {
+                source.take(count);
+                self.number = self.number.saturating_add(1);
+                Ok(Some(event))
+            }
+            None => {
+                // In a place of its own, so that an event at hand is not put into memory.
+                let other = self.read_other_line(source);
+                other
+            }
+        }
+    }
+
+    /// The same of a line that is not all at hand, or is wrong.
+    #[cold]
+    fn read_other_line<R: Read>(
         &mut self,
         source: &mut Source<'_, R>,
     ) -> Result<Option<Event>, EventFault>

@@ -1,9 +1,12 @@
 //! Numbers in a text of events.
-ghost use Rattle.std.specs.Prelude.{◌≡◌, ◌^◌, ◌≤◌, ◌⊎◌, true, false, MatchOption};
+ghost use Rattle.std.specs.Prelude.{◌≡◌, ◌^◌, ◌<◌, ◌≤◌, ◌⊎◌, length, take, true, false, IfSome, MatchOption};
 ghost use Rattle.std.specs.List.{list_all};
 ghost use Rattle.std.specs.Char.{is_ascii_digit};
 ghost use Rattle.plan_text.specs.Code.Numerals.{has_leading_zero, numeral_value};
-ghost use Rattle.event_text.specs.Code.EventLines.{numeral_below};
+ghost use Rattle.event_text.specs.Code.EventLines.{numeral_below, BeginsWithNumber};
+
+/// No sum overflows with so many digits.
+const MOST_DIGITS: usize = 19;
 
 /// The number that digits without a leading zero spell, if it is below 2^32.
 pub(crate) fn small_numeral(bytes: &[u8]) -> Option<u32>
@@ -24,6 +27,55 @@ pub(crate) fn numeral(bytes: &[u8]) -> Option<u64>
         return None;
     }
     spelled(bytes)
+}
+
+/// The number that stands before a byte, if it is below 2^32, and what stands behind that byte. `None` says nothing of the bytes.
+#[inline(always)]
+pub(crate) fn small_number_before(ending: u8, bytes: &[u8]) -> Option<(u32, &[u8])>
+    ensures { IfSome result (λ found. BeginsWithNumber (2 ^ 32) found.0 ending bytes.now found.1.now) }
+{
+    let (value, rest) = number_before(ending, bytes)?;
+    if value <= 4_294_967_295 {
+        Some((value as u32, rest))
+    } else {
+        None
+    }
+}
+
+/// The number that stands before a byte, and what stands behind that byte. `None` says nothing of the bytes: the number may only be long.
+#[inline(always)]
+pub(crate) fn number_before(ending: u8, bytes: &[u8]) -> Option<(u64, &[u8])>
+    ensures { IfSome result (λ found. BeginsWithNumber (2 ^ 64) found.0 ending bytes.now found.1.now) }
+{
+    let (value, count) = leading_digits(bytes);
+    let digits = &bytes[..count];
+    if digits.is_empty() || has_leading_zero(digits) {
+        return None;
+    }
+    if count < bytes.len() && bytes[count] == ending {
+        Some((value, &bytes[count + 1..]))
+    } else {
+        None
+    }
+}
+
+/// The number that the digits at the front spell, and how many they are, of so many at the most that no sum overflows.
+#[inline(always)]
+fn leading_digits(bytes: &[u8]) -> (u64, usize)
+    ensures within { result.1 ≤ length bytes.now }
+    ensures digits { list_all is_ascii_digit (take result.1 bytes.now) ≡ true }
+    ensures value { result.0 ≡ numeral_value (take result.1 bytes.now) }
+{
+    let most = bytes.len().min(MOST_DIGITS);
+    let mut value = 0u64;
+    for count in 0..most {
+        let b = bytes[count];
+        if !b.is_ascii_digit() {
+            return (value, count);
+        }
+        value = value * 10 + u64::from(b - b'0');
+    }
+    (value, most)
 }
 
 /// The number that the bytes spell, if each is a digit and a `u64` holds it.

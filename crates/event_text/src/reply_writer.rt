@@ -130,7 +130,7 @@ fn refusal_name(why: Why) -> &'static str
     }
 }
 
-/// Puts a word, and each number with a space before it. Where both are known, so is their number, and the word is copied without a call.
+/// Puts a word, and each number with a space before it.
 #[inline(always)]
 pub(crate) fn put_numbers<W: Write>(
     sink: &mut Sink<'_, W>,
@@ -140,11 +140,7 @@ pub(crate) fn put_numbers<W: Write>(
     ensures ok { OnOk result (Puts W.contents sink.old sink.new (word.now ++ spaced_numbers numbers.now)) }
     ensures err { OnErr result (Breaks W.contents sink.old sink.new (word.now ++ spaced_numbers numbers.now)) }
 {
-    sink.put(word)?;
-    for number in numbers {
-        sink.put_number_after(b' ', *number)?;
-    }
-    Ok(())
+    sink.put_numbers(word, b' ', numbers)
 }
 
 /// Puts two digits for each byte.

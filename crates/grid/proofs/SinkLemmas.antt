@@ -1,15 +1,18 @@
 -- What calls on a sink hand on, one after another.
-use Rattle.std.proofs.Common.{◌≡◌, ℕ, ◌+◌, ◌-◌, ◌≤◌, Bool, true, false, eqb, List, [], ◌++◌, length, take, drop, Result, Ok, Err, OnOk, OnErr, is_ok, refl, sym, ap, subst, ◌∙◌, append_assoc, append-nil, take-append-drop, arith, length-append, length-drop}
+use Rattle.std.proofs.Common.{◌≡◌, ℕ, ◌+◌, ◌-◌, ◌<◌, ◌≤◌, Bool, true, false, eqb, List, [], ◌∷◌, ◌++◌, length, take, drop, get_or, Result, Ok, Err, OnOk, OnErr, is_ok, refl, sym, ap, subst, ◌∙◌, append_assoc, append-nil, take-append-drop, arith, length-append, length-drop}
 use Rattle.std.proofs.lemmas.Bool.{ne_eqb}
-use Rattle.std.proofs.lemmas.List.{nil_from_length, take_all}
+use Rattle.std.proofs.lemmas.List.{nil_from_length, take_all, take_more}
+use Rattle.std.proofs.lemmas.List.Concat.{flat_map-append}
 use Rattle.std.proofs.lemmas.Slice.{take-put_mid}
 use Rattle.std.proofs.lemmas.Result.{on_ok_weaker, on_err_weaker}
-use Rattle.std.specs.Prelude.{Option, ◌&&◌}
+use Rattle.std.specs.Prelude.{Option, ◌&&◌, decimal}
+use Rattle.std.specs.List.{flat_map}
 use Rattle.std.proofs.KnownBytes.{Appends-nil, Appends-trans}
 use borrow.Rule.Slice.PartMut.{put_mid}
 use Rattle.grid.specs.declared.sink.Sink.{Sink}
 use Rattle.grid.specs.Counted.{Rises}
 use Rattle.grid.specs.Sink.{held_back, sink_writer, Puts, Breaks}
+use Rattle.grid.specs.Text.{separated}
 use Rattle.grid.specs.Writing.{WritesText}
 
 -- a part of a slice that ends where the slice does
@@ -29,6 +32,27 @@ written_in_place at n from k old inside text rest there count start written long
     let empty : length rest ≡ 0 = omega (arith, long, count, ap length all, length-append text rest) in
     take-put_mid at k old inside (at + n) (ap (λ m. at + m) (sym long)) there
     ∙ ap (λ l. take at old ++ l) (all ∙ ap (λ l. text ++ l) (nil_from_length rest empty) ∙ append-nil text)
+
+-- ---- numbers with a byte before each
+
+-- one more
+pub separated_more : (separator : ℕ) (numbers : List ℕ) (i : ℕ) → i < length numbers
+    → separated separator (take (i + 1) numbers) ≡ separated separator (take i numbers) ++ separator ∷ decimal (get_or numbers i 0)
+separated_more separator numbers i within =
+    let f : ℕ → List ℕ = λ n. separator ∷ decimal n in
+    ap (flat_map f) (take_more numbers i 0 within)
+    ∙ (flat_map-append f (take i numbers) (get_or numbers i 0 ∷ [])
+    ∙ ap (λ l. flat_map f (take i numbers) ++ l) (append-nil (f (get_or numbers i 0))))
+
+-- one of them, those before and those behind
+pub separated_parts : (separator : ℕ) (numbers : List ℕ) (i : ℕ) → i < length numbers
+    → separated separator numbers
+    ≡ (separated separator (take i numbers) ++ separator ∷ decimal (get_or numbers i 0)) ++ separated separator (drop (i + 1) numbers)
+separated_parts separator numbers i within =
+    let f : ℕ → List ℕ = λ n. separator ∷ decimal n in
+    ap (flat_map f) (sym (take-append-drop (i + 1) numbers))
+    ∙ (flat_map-append f (take (i + 1) numbers) (drop (i + 1) numbers)
+    ∙ ap (λ l. l ++ flat_map f (drop (i + 1) numbers)) (separated_more separator numbers i within))
 
 -- a count that is not 0 fails a test for 0
 pub not_zero_and : (n : ℕ) (b : Bool) → (n ≡ 0 → ⊥) → (eqb n 0 && b) ≡ false

@@ -59,3 +59,7 @@ IsGap gap = IsTrue (list_all is_blank gap) × (0 < length gap)
 -- numbers with a space before each
 abbrev pub spaced_numbers : List ℕ → List ℕ
 spaced_numbers numbers = flat_map (λ n. codes " " ++ decimal n) numbers
+
+-- numbers with a byte before each that separates
+abbrev pub separated : ℕ → List ℕ → List ℕ
+separated separator numbers = flat_map (λ n. separator ∷ decimal n) numbers

@@ -3,6 +3,7 @@
 
 mod cell;
 mod counted;
+mod digits;
 mod fault_words;
 mod header_line;
 pub mod laws;

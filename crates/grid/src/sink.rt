@@ -2,10 +2,12 @@
 ghost use Rattle.std.specs.Prelude.{◌≡◌, ◌+◌, ◌<◌, ◌≤◌, [], ◌∷◌, ◌++◌, decimal, length, take, Some, OnOk, OnErr, is_ok};
 ghost use Rattle.grid.specs.Counted.{counted_inner, failures_of};
 ghost use Rattle.grid.specs.FaultWords.{words_of, words_text, write_fault_words};
+ghost use Rattle.grid.specs.Text.{separated};
 ghost use Rattle.grid.specs.Writing.{WritesText};
 
+use crate::digits::write_number;
 use crate::{Counted, FaultWords};
-use itoa::{Buffer, write_digits};
+use itoa::Buffer;
 use std::fmt;
 use std::io::Write;
 use thiserror::Error;
@@ -34,6 +36,9 @@ impl fmt::Display for WriteFault {
         self.words().fmt(f)
     }
 }
+
+/// So many numbers are put with one test of room.
+const MOST_NUMBERS: usize = 4;
 
 /// Up to 65,536 bytes.
 #[derive(Drop)]
@@ -66,7 +71,8 @@ impl Piece {
     #[inline(always)]
     fn append(&mut self, bytes: &[u8])
         requires { self.old.len + length bytes.now ≤ 65536 }
-        ensures { take self.new.len self.new.bytes ≡ take self.old.len self.old.bytes ++ bytes.now }
+        ensures len { self.new.len ≡ self.old.len + length bytes.now }
+        ensures bytes { take self.new.len self.new.bytes ≡ take self.old.len self.old.bytes ++ bytes.now }
     {
         let end = self.len + bytes.len();
         self.bytes[self.len..end].copy_from_slice(bytes);
@@ -83,43 +89,27 @@ impl Piece {
     }
 
     /// Writes the digits of a number where they are to stand.
+    #[inline(always)]
     fn push_number(&mut self, number: u64)
         requires { self.old.len + 20 ≤ 65536 }
         ensures { take self.new.len self.new.bytes ≡ take self.old.len self.old.bytes ++ decimal number }
     {
-        let count = count_of_digits(number);
-        let end = self.len + count;
-        write_digits(number, &mut self.bytes[self.len..end], count);
-        self.len = end;
+        self.len = write_number(&mut self.bytes, self.len, number);
     }
-}
 
-/// With how many digits a number is written.
-fn count_of_digits(number: u64) -> usize
-    ensures { result ≡ length (decimal number) }
-{
-    let mut count = 0;
-    let mut left = number;
-    while left >= 10_000 {
-        left /= 10_000;
-        count += 4;
-    }
-    count + count_of_few(left)
-}
-
-/// The same of a number of at most four digits.
-fn count_of_few(number: u64) -> usize
-    requires { number < 10000 }
-    ensures { result ≡ length (decimal number) }
-{
-    if number < 10 {
-        1
-    } else if number < 100 {
-        2
-    } else if number < 1000 {
-        3
-    } else {
-        4
+    /// Writes a few numbers, with a byte before each that separates.
+    #[inline(always)]
+    fn push_numbers(&mut self, separator: u8, numbers: &[u64])
+        requires few { length numbers.now ≤ MOST_NUMBERS }
+        requires room { self.old.len + 84 ≤ 65536 }
+        ensures { take self.new.len self.new.bytes ≡ take self.old.len self.old.bytes ++ separated separator numbers.now }
+    {
+        let mut at = self.len;
+        for number in numbers {
+            self.bytes[at] = separator;
+            at = write_number(&mut self.bytes, at + 1, *number);
+        }
+        self.len = at;
     }
 }
 
@@ -241,6 +231,45 @@ impl<'a, W: Write> Sink<'a, W> {
         ensures err { OnErr result (Breaks W.contents self.old self.new (separator ∷ decimal number)) }
     {
         self.put_after(separator, Buffer::new().format(number).as_bytes())
+    }
+
+    /// Puts bytes, and each number behind them with a byte before it that separates. Where the bytes are known, and how many numbers there
+    /// are, nothing is called for the common ones.
+    #[inline(always)]
+    pub fn put_numbers(
+        &mut self,
+        word: &[u8],
+        separator: u8,
+        numbers: &[u64],
+    ) -> Result<(), WriteFault>
+        ensures ok { OnOk result (Puts W.contents self.old self.new (word.now ++ separated separator numbers.now)) }
+        ensures err { OnErr result (Breaks W.contents self.old self.new (word.now ++ separated separator numbers.now)) }
+    {
+        // A byte and at most twenty digits a number.
+        if numbers.len() > MOST_NUMBERS || self.piece.room() < word.len() + 21 * MOST_NUMBERS {
+            return self.put_numbers_apart(word, separator, numbers);
+        }
+        self.piece.append(word);
+        self.piece.push_numbers(separator, numbers);
+        Ok(())
+    }
+
+    /// Puts them one after another, where the piece may have no room for all.
+    #[cold]
+    fn put_numbers_apart(
+        &mut self,
+        word: &[u8],
+        separator: u8,
+        numbers: &[u64],
+    ) -> Result<(), WriteFault>
+        ensures ok { OnOk result (Puts W.contents self.old self.new (word.now ++ separated separator numbers.now)) }
+        ensures err { OnErr result (Breaks W.contents self.old self.new (word.now ++ separated separator numbers.now)) }
+    {
+        self.put(word)?;
+        for number in numbers {
+            self.put_number_after(separator, *number)?;
+        }
+        Ok(())
     }
 
     /// Hands on all that is held back.

@@ -1,10 +1,12 @@
 -- How an event is told from its line.
-use Rattle.std.specs.Prelude.{ℕ, ◌^◌, ◌==◌, ◌&&◌, nat_lt, if◌then◌else◌, List, [], ◌∷◌, codes, Option, Some, None}
-use Rattle.grid.specs.Text.{space}
+use Rattle.std.specs.Prelude.{◌≡◌, ℕ, ◌+◌, ◌^◌, ◌<◌, ◌==◌, ◌&&◌, nat_lt, if◌then◌else◌, List, [], ◌∷◌, ◌++◌, length, codes, Option, Some, None}
+use Rattle.grid.specs.Text.{space, line_feed}
 use Rattle.grid.specs.Reading.{LeadsBy}
 use Rattle.model.specs.declared.event.Event.{Event}
 use Rattle.model.specs.declared.event.Event.TheVariants.{Start, Finish, Say, Deliver, Restart, Tear}
+use Rattle.plan_text.specs.PlanText.{IsNumeral}
 use Rattle.plan_text.specs.Code.Numerals.{is_numeral, numeral_value}
+use Rattle.event_text.specs.EventText.{SpellsEvent}
 use Rattle.event_text.specs.EventFault.{EventDue, EventFollows}
 
 -- the lines of a text of events are right, one after another
@@ -65,3 +67,17 @@ event_of line =
     (told_or (two_numbers Deliver (2 ^ 64)) (behind_word (codes "deliver ") line)
     (told_or (one_number Restart) (behind_word (codes "restart ") line)
     (told_or (two_numbers Tear (2 ^ 32)) (behind_word (codes "tear ") line) None)))))
+
+-- ---- at the front of bytes of which more may follow
+
+-- a number below the limit stands at the front, then the byte that ends it, and then the rest
+abbrev pub BeginsWithNumber : ℕ → ℕ → ℕ → List ℕ → List ℕ → Type 0
+BeginsWithNumber limit n ending bytes rest = (digits : List ℕ) × (bytes ≡ digits ++ ending ∷ rest) × IsNumeral n digits × (n < limit)
+
+-- the line of the event stands at the front, then its LF, and then the rest
+abbrev pub IsBehindEvent : Event → List ℕ → List ℕ → Type 0
+IsBehindEvent event bytes rest = (line : List ℕ) × (bytes ≡ line ++ line_feed ∷ rest) × SpellsEvent event line
+
+-- the line of the event stands at the front with its LF, and they have so many bytes
+abbrev pub BeginsWithEvent : Event → ℕ → List ℕ → Type 0
+BeginsWithEvent event count bytes = (line rest : List ℕ) × (bytes ≡ line ++ line_feed ∷ rest) × SpellsEvent event line × (count ≡ length line + 1)

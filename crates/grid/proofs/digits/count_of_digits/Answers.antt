@@ -2,7 +2,7 @@
 use Rattle.std.proofs.Common.{arith, lit<}
 use Rattle.std.proofs.lemmas.Fmt.{length-decimal-le}
 use Rattle.itoa.proofs.Decimal.{length_four}
-use Rattle.grid.proofs.sink.count_of_digits.Goals as goal
+use Rattle.grid.proofs.digits.count_of_digits.Goals as goal
 
 pub overflow_add-count : goal.overflow_add-count
 overflow_add-count c =

@@ -1,7 +1,7 @@
 -- The digits that were taken off are counted.
 use Rattle.std.proofs.Common.{◌≡◌, ◌+◌, ◌<◌, ◌^◌, length}
 use Rattle.std.specs.Prelude.{decimal}
-use Rattle.grid.proofs.sink.count_of_digits.Given as goal
+use Rattle.grid.proofs.digits.count_of_digits.Given as goal
 
 abbrev pub decreases-loop-left : goal.decreases-loop-left
 decreases-loop-left l = l.left

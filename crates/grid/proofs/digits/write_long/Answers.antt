@@ -3,7 +3,7 @@ use Rattle.std.proofs.Common.{◌≤◌, ◌≡◌, length, arith, lit<, rules}
 use Rattle.std.specs.Prelude.{decimal}
 use Rattle.std.proofs.lemmas.Fmt.{length-decimal-le}
 use Rattle.grid.proofs.SinkLemmas.{written_in_place}
-use Rattle.grid.proofs.sink.Piece.push_number.Goals as goal
+use Rattle.grid.proofs.digits.write_long.Goals as goal
 
 pub overflow_add-end : goal.overflow_add-end
 overflow_add-end c =
@@ -19,9 +19,15 @@ slice_bounds-write_digits-end c =
     let room = c.requires in
     omega (arith, most, count, room)
 
-pub returns : goal.returns
-returns c =
-    let all : c.args.self.now.len ≤ length c.args.self.now.bytes = search rules in
+pub returns-clause-within : goal.returns-clause-within
+returns-clause-within c =
+    let most = length-decimal-le 20 c.args.number (lit< tt) (omega (arith, c.ranges.number.fits)) c.ranges.number.fits in
+    let count = c.count_of_digits-count.ensures in
+    omega (arith, most, count)
+
+pub returns-clause-written : goal.returns-clause-written
+returns-clause-written c =
+    let all : c.args.at ≤ length c.args.bytes.now = search rules in
     let own : length c.write_digits.new.buf ≡ c.count_of_digits-count.result = search rules in
-    written_in_place c.args.self.now.len c.count_of_digits-count.result c.write_digits.result _ c.args.self.now.bytes c.write_digits.new.buf (decimal c.args.number) _
+    written_in_place c.args.at c.count_of_digits-count.result c.write_digits.result _ c.args.bytes.now c.write_digits.new.buf (decimal c.args.number) _
     all c.count_of_digits-count.ensures c.write_digits.ensures.start c.write_digits.ensures.written own

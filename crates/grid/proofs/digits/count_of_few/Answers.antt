@@ -1,7 +1,7 @@
 -- Each case by how many digits are taken off.
 use Rattle.std.proofs.Common.{◌/◌, arith, sym}
 use Rattle.itoa.proofs.Decimal.{length_one, length_two, length_pair}
-use Rattle.grid.proofs.sink.count_of_few.Goals as goal
+use Rattle.grid.proofs.digits.count_of_few.Goals as goal
 
 pub returns-then-number-lt10 : goal.returns-then-number-lt10
 returns-then-number-lt10 c = sym (length_one c.args.number c.if-number-lt10.true)
