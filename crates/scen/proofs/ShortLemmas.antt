@@ -1,5 +1,5 @@
 -- Short numbers with a tab behind each are fields.
-use Rattle.std.proofs.Common.{◌≡◌, ℕ, zero, suc, ◌+◌, ◌-◌, ◌*◌, ◌<◌, ◌≤◌, Bool, true, false, List, [], ◌∷◌, ◌++◌, length, get_or, take, drop, min, add-one, drop-cons, None, refl, sym, ap, subst, ◌∙◌, arith, inl, inr}
+use Rattle.std.proofs.Common.{◌≡◌, ℕ, suc, ◌+◌, ◌-◌, ◌*◌, ◌<◌, ◌≤◌, Bool, true, false, List, [], ◌∷◌, ◌++◌, length, get_or, take, drop, min, add-one, drop-cons, None, refl, sym, ap, ◌∙◌, arith}
 use Rattle.std.specs.Prelude.{◌==◌, ◌&&◌, ◌||◌, nat_lt, not}
 use Rattle.std.specs.Char.{is_ascii_digit, digit_value}
 use Rattle.std.specs.List.{list_all, list_any, position_or_len}
@@ -7,11 +7,11 @@ use Rattle.std.specs.Str.Parse.{digits_value_after}
 use Rattle.std.proofs.Math.Seq.{take-append_seam, drop-append_seam}
 use Rattle.std.proofs.lemmas.Bool.{and_parts, and_from, cond-true, cond-false, leb-true, ltb-true, ne_eqb, lt-ltb}
 use Rattle.std.proofs.lemmas.List.{take_more, take-append-drop, length-take-le}
-use Rattle.std.proofs.lemmas.List.Folds.{list_all_more, list_any-append}
+use Rattle.std.proofs.lemmas.List.Folds.{list_all_more}
 use Rattle.std.proofs.lemmas.Str.{digit_value_digit}
 use Rattle.grid.specs.Text.{tab, space, is_blank}
-use Rattle.scen.specs.Fields.{without_leading, without_trailing, before_trailing, fields_between, fields_in_content, separator_of}
-use Rattle.scen.specs.ScenFault.{Fields, all_fields, is_number, is_bucket, is_size, value_of, wrong_number}
+use Rattle.scen.specs.Fields.{without_leading, without_trailing, before_trailing, fields_between, separator_of}
+use Rattle.scen.specs.ScenFault.{Fields, is_number, is_size, value_of, wrong_number}
 use Rattle.scen.specs.Code.Parsing.{IsShortNumber}
 use Rattle.scen.proofs.FieldLemmas.{fields_between-next, fields_between-blank}
 use Rattle.scen.proofs.NumberLemmas.{no_wrong_number}

@@ -1,7 +1,7 @@
 -- Each turn puts the next byte.
-use Rattle.std.proofs.Common.{◌≡◌, ◌+◌, ◌<◌, ◌++◌, ◌∷◌, [], length, take, get_or, refl, sym, ap, ◌∙◌, arith, append_assoc, append-nil, rules}
+use Rattle.std.proofs.Common.{◌≡◌, ◌+◌, ◌<◌, ◌++◌, ◌∷◌, [], length, take, get_or, sym, ap, ◌∙◌, arith, append_assoc, append-nil}
 use Rattle.std.specs.Prelude.{slice_set}
-use Rattle.std.proofs.lemmas.List.{take_all, take_more, take_more_set}
+use Rattle.std.proofs.lemmas.List.{take_more, take_more_set}
 use Rattle.agent.proofs.mem_tape.put_record.Goals as goal
 
 pub loop-i-init : goal.loop-i-init

@@ -1,5 +1,5 @@
 -- The bytes before stand in their places.
-use Rattle.std.proofs.Common.{◌≡◌, ◌+◌, ◌++◌, length, take}
+use Rattle.std.proofs.Common.{◌≡◌, ◌+◌, ◌++◌, take}
 use Rattle.agent.proofs.mem_tape.put_record.Given as goal
 
 abbrev pub invariant-loop-i : goal.invariant-loop-i

@@ -1,5 +1,5 @@
 -- Each digit is one more of the number, which has at most nineteen.
-use Rattle.std.proofs.Common.{◌≡◌, ◌-◌, ◌<◌, ◌≤◌, true, length, get_or, sym, ◌∙◌, arith}
+use Rattle.std.proofs.Common.{◌≡◌, ◌-◌, ◌<◌, true, length, get_or, sym, ◌∙◌, arith}
 use Rattle.std.specs.Char.{is_ascii_digit}
 use Rattle.event_text.proofs.LeadingLemmas.{digits_more, value_more, digit_at_most, small_more, digits_fit}
 use Rattle.event_text.proofs.numerals.leading_digits.Goals as goal

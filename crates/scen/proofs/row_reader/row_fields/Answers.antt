@@ -1,5 +1,5 @@
 -- What is wrong with a line's fields, whatever else the line is.
-use Rattle.std.proofs.Common.{◌≡◌, inr, length, refl, sym, ap, ◌∙◌}
+use Rattle.std.proofs.Common.{inr, length, refl, sym, ap, ◌∙◌}
 use Rattle.scen.specs.Fields.{fields_in_content}
 use Rattle.scen.specs.Code.Parsing.{fields_seen}
 use Rattle.scen.proofs.ReadRowLemmas.{faults-number}

@@ -1,11 +1,11 @@
 -- The fields one after another, and the numbers that they spell.
-use Rattle.std.proofs.Common.{◌≡◌, ℕ, List, [], ◌∷◌, length, true, false, refl, sym, ap, ◌∙◌, arith}
+use Rattle.std.proofs.Common.{◌≡◌, [], ◌∷◌, length, refl, sym, ap, ◌∙◌, arith}
 use Rattle.std.proofs.lemmas.Bool.{eqb-true}
 use Rattle.std.proofs.lemmas.List.{nil_from_length}
 use Rattle.grid.specs.Text.{tab}
 use Rattle.scen.specs.Fields.{fields_between}
 use Rattle.scen.specs.ScenFault.{Fields}
-use Rattle.scen.specs.Code.Parsing.{fields_seen, most_told}
+use Rattle.scen.specs.Code.Parsing.{most_told}
 use Rattle.scen.proofs.FieldLemmas.{fields_between-none}
 use Rattle.scen.proofs.ShortLemmas.{short-field, tab-field, tab-separator, no_wrong_short, told}
 use Rattle.scen.proofs.usual_fields.usual_fields.Goals as goal

@@ -1,5 +1,5 @@
 -- The line at hand is that of the event, and was taken with its LF.
-use Rattle.std.proofs.Common.{◌≡◌, ◌+◌, ◌≤◌, ◌++◌, ◌∷◌, [], Some, length, take, sym, ap, ◌∙◌, subst, arith, length-append, length-take}
+use Rattle.std.proofs.Common.{◌++◌, ◌∷◌, [], Some, length, sym, ap, ◌∙◌, subst, arith, length-append}
 use Rattle.grid.specs.Source.{at_hand, Takes}
 use Rattle.grid.specs.Text.{line_feed}
 use Rattle.event_text.specs.FirstEvents.{BeginsWithEvents}

@@ -1,5 +1,5 @@
 -- Each turn writes the byte and the next number.
-use Rattle.std.proofs.Common.{◌≡◌, ◌+◌, ◌<◌, ◌++◌, ◌∷◌, [], length, take, get_or, sym, ap, ◌∙◌, arith, append_assoc, append-nil, rules}
+use Rattle.std.proofs.Common.{◌<◌, ◌++◌, ◌∷◌, [], length, take, get_or, sym, ap, ◌∙◌, arith, append_assoc, append-nil, rules}
 use Rattle.std.specs.Prelude.{decimal}
 use Rattle.std.proofs.lemmas.List.{take_all, take_more_set}
 use Rattle.grid.specs.Text.{separated}
