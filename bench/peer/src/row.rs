@@ -29,8 +29,7 @@ pub fn solve(map: File, scen: File, number: &str) -> Result<(String, bool), Faul
     let (width, height) = (width as usize, height as usize);
     let found = search(width, height, &cells, row.start, row.goal);
     std::hint::black_box(&found.walk);
-    let goal = usize::from(row.goal.1) * width + usize::from(row.goal.0);
-    let Some(length) = found.table[goal] else {
+    let Some(length) = found.lengths.length(row.goal) else {
         return Ok(("unreachable".to_string(), false));
     };
     let agrees = agrees(row, length);

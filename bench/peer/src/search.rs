@@ -10,12 +10,11 @@ const READ_BACK: u64 = 3_880_899;
 
 /// Where no walk leads. The start counts as one straight step, so that 0 is left for what can't be entered.
 const CLOSED: u64 = 0;
-const UNREACHED: u64 = u64::MAX;
+const UNREACHED: u64 = 1 << 62;
 
 /// The key of a shortest walk from the start to each cell, with a border of closed cells.
-struct Keys {
+pub struct Keys {
     keys: Vec<u64>,
-    width: usize,
     stride: usize,
     start: usize,
 }
@@ -56,19 +55,21 @@ impl Keys {
         keys.resize(stride * (height + 2), CLOSED);
         let start = place(stride, start);
         keys[start] = STRAIGHT;
-        Keys { keys, width, stride, start }
+        Keys { keys, stride, start }
     }
 
+    /// Whether a diagonal step past the cell may be best: it isn't closed, and no straight step on from it leads as near.
     #[inline(always)]
-    fn straight(&mut self, to: usize, key: u64, wave: &mut Wave) -> bool {
+    fn straight(&mut self, to: usize, from: u64, wave: &mut Wave) -> bool {
         let old = self.keys[to];
+        let key = from + STRAIGHT;
         if key < old {
             self.keys[to] = key;
             if old >= wave.later_from {
                 wave.next.push(to as u32);
             }
         }
-        old != CLOSED
+        old + STRAIGHT > from + DIAGONAL
     }
 
     #[inline(always)]
@@ -93,10 +94,10 @@ impl Keys {
         if key < from {
             return;
         }
-        let north = self.straight(at - stride, key + STRAIGHT, wave);
-        let west = self.straight(at - 1, key + STRAIGHT, wave);
-        let east = self.straight(at + 1, key + STRAIGHT, wave);
-        let south = self.straight(at + stride, key + STRAIGHT, wave);
+        let north = self.straight(at - stride, key, wave);
+        let west = self.straight(at - 1, key, wave);
+        let east = self.straight(at + 1, key, wave);
+        let south = self.straight(at + stride, key, wave);
         if north && west {
             self.diagonal(at - stride - 1, key + DIAGONAL, wave);
         }
@@ -135,16 +136,10 @@ impl Keys {
         (straight as u32, diagonal as u32)
     }
 
-    /// For each cell, row by row, the steps of a shortest walk, if there is one.
-    fn table(&self) -> Vec<Option<(u32, u32)>> {
-        let height = self.keys.len() / self.stride - 2;
-        let mut table = Vec::with_capacity(self.width * height);
-        for row in self.keys.chunks_exact(self.stride).skip(1).take(height) {
-            for &key in &row[1..=self.width] {
-                table.push((key != CLOSED && key != UNREACHED).then(|| Keys::parts(key)));
-            }
-        }
-        table
+    /// The straight and the diagonal steps of a shortest walk to a cell, if there is one.
+    pub fn length(&self, cell: (u16, u16)) -> Option<(u32, u32)> {
+        let key = self.keys[place(self.stride, cell)];
+        (key != CLOSED && key != UNREACHED).then(|| Keys::parts(key))
     }
 
     /// A neighbour of the cell that a shortest walk comes from.
@@ -183,14 +178,14 @@ impl Keys {
     }
 }
 
-/// A shortest walk, and for each cell, row by row, the straight and the diagonal steps of one from the start.
+/// A shortest walk, and the lengths of those from the start to all cells.
 pub struct Found {
     pub walk: Vec<(u16, u16)>,
-    pub table: Vec<Option<(u32, u32)>>,
+    pub lengths: Keys,
 }
 
 pub fn search(width: usize, height: usize, cells: &[u8], start: (u16, u16), goal: (u16, u16)) -> Found {
     let mut keys = Keys::new(width, height, cells, start);
     keys.flood();
-    Found { walk: keys.walk(goal), table: keys.table() }
+    Found { walk: keys.walk(goal), lengths: keys }
 }
