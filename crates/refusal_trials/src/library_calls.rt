@@ -9,6 +9,7 @@ use grid::{Counted, read_map};
 use mapf_cmd::{Line, LineFault, Verdict, line, verdict_json};
 use plan::{CheckedPlan, check, read_plan};
 use runner::{Event, Reply, SimTape, Version, run, run_with};
+use scen::{Length, LengthTable};
 use std::alloc::Global;
 use std::test::Fail;
 
@@ -24,6 +25,7 @@ const EVENTS: [Event; 5] = [
 /// A call that takes memory.
 #[derive(Clone, Copy, Debug)]
 enum Call {
+    Table,
     Part,
     Run,
     RunWith,
@@ -32,7 +34,8 @@ enum Call {
     Json,
 }
 
-static CALLS: [Call; 6] = [
+static CALLS: [Call; 7] = [
+    Call::Table,
     Call::Part,
     Call::Run,
     Call::RunWith,
@@ -45,6 +48,14 @@ fn are_due(replies: &[Reply]) -> bool {
     let mut out = Keeper::of_size(512);
     let written = write_replies(replies, &mut Counted::new(&mut out));
     written.is_ok() && out.kept() == REPLIES.as_bytes()
+}
+
+/// Whether a table has the entries of which it is made, and no more.
+fn is_table(alloc: Global) -> Result<bool, OutOfMemory> {
+    let entries = [Length::new(0, 0), None, Length::new(3, 2)];
+    let table = LengthTable::from_entries(alloc, &entries)?;
+    let has_lengths = table.entry(0) == entries[0] && table.entry(2) == entries[2];
+    Ok(table.len() == 3 && has_lengths && table.entry(1).is_none() && table.entry(3).is_none())
 }
 
 /// What agent 1 needs of dependencies that are gone.
@@ -88,6 +99,7 @@ fn is_right(
     call: Call,
 ) -> Result<bool, OutOfMemory> {
     match call {
+        Call::Table => is_table(alloc),
         Call::Part => is_behind(alloc, plan),
         Call::Run => Ok(are_due(&run(alloc, graph, &EVENTS)?)),
         Call::RunWith => Ok(are_due(&run_with(alloc, graph, Version::One, &EVENTS)?)),
