@@ -22,3 +22,4 @@ pub mod Deciding
 pub mod LineTaking
 pub mod PlaceLemmas
 pub mod WordLemmas
+pub mod PairLemmas

@@ -3,6 +3,10 @@ ghost use Rattle.std.specs.Prelude.{◌≡◌, ◌+◌, ◌/◌, ◌%◌, ◌<�
 
 use itoa::write_digits;
 
+/// The two digits of each number below 100, one behind the other.
+static PAIRS: [u8; 200] =
+    *b"00010203040506070809101112131415161718192021222324252627282930313233343536373839404142434445464748495051525354555657585960616263646566676869707172737475767778798081828384858687888990919293949596979899";
+
 /// Writes a number, of which most are written at once, without counting their digits.
 #[inline(always)]
 pub(crate) fn write_number(bytes: &mut [u8], at: usize, number: u64) -> usize
@@ -73,8 +77,10 @@ fn write_pair(bytes: &mut [u8], at: usize, number: u64) -> usize
     ensures end { result ≡ at + 2 }
     ensures written { take result bytes.new ≡ take at bytes.old ++ (48 + number / 10) ∷ (48 + number % 10) ∷ [] }
 {
-    let tens = write_digit(bytes, at, number / 10);
-    write_digit(bytes, tens, number % 10)
+    let from = number as usize * 2;
+    let (tens, ones) = (PAIRS[from], PAIRS[from + 1]);
+    let next = write_byte(bytes, at, tens);
+    write_byte(bytes, next, ones)
 }
 
 #[inline(always)]
@@ -84,7 +90,16 @@ fn write_digit(bytes: &mut [u8], at: usize, digit: u64) -> usize
     ensures end { result ≡ at + 1 }
     ensures written { take result bytes.new ≡ take at bytes.old ++ (48 + digit) ∷ [] }
 {
-    bytes[at] = b'0' + digit as u8;
+    write_byte(bytes, at, b'0' + digit as u8)
+}
+
+#[inline(always)]
+fn write_byte(bytes: &mut [u8], at: usize, byte: u8) -> usize
+    requires { at < length bytes.old }
+    ensures end { result ≡ at + 1 }
+    ensures written { take result bytes.new ≡ take at bytes.old ++ byte ∷ [] }
+{
+    bytes[at] = byte;
     at + 1
 }
 
