@@ -1,23 +1,14 @@
 -- What stands at the front of bytes, before an LF or another byte that ends it.
 use Rattle.std.proofs.Common.{◌≡◌, ℕ, ◌+◌, ◌-◌, ◌*◌, ◌^◌, ◌<◌, ◌≤◌, true, false, List, [], ◌∷◌, ◌++◌, length, take, drop, get_or, refl, sym, ap, ◌∙◌, arith, append_assoc, length-append, add-one}
-use Rattle.std.specs.Prelude.{Option}
 use Rattle.std.specs.List.{list_all}
 use Rattle.std.specs.Char.{is_ascii_digit}
-use Rattle.std.proofs.KnownBytes.{Consumes-trans}
 use Rattle.std.proofs.Math.Nat.{pow-suc, pow-le-pow_right}
 use Rattle.std.proofs.Math.Seq.{take-append_seam}
 use Rattle.std.proofs.lemmas.Bool.{and_from, and_parts, leb-true}
 use Rattle.std.proofs.lemmas.Int.Digits.{digits_value_more}
 use Rattle.std.proofs.lemmas.List.{take_more}
 use Rattle.std.proofs.lemmas.List.Folds.{list_all-append}
-use Rattle.grid.specs.declared.counted.Counted.{Counted}
-use Rattle.grid.specs.declared.source.Source.{Source}
-use Rattle.grid.specs.Lines.{HasTaken}
-use Rattle.grid.specs.Source.{at_hand, has_failed, GoesOn, Takes}
-use Rattle.grid.specs.Text.{space, line_feed, IsLine, ended}
-use Rattle.grid.proofs.FollowLemmas.{has_failed-goes_on}
-use Rattle.grid.proofs.LineLemmas.{ended_push, AllByRecursion_push}
-use Rattle.grid.proofs.SourceLemmas.{same_failures}
+use Rattle.grid.specs.Text.{space, line_feed}
 use Rattle.model.specs.declared.event.Event.{Event}
 use Rattle.plan_text.specs.Code.Numerals.{has_leading_zero, numeral_value}
 use Rattle.plan_text.proofs.PartLemmas.{about}
@@ -106,18 +97,3 @@ taken_event bytes line rest count is count_is =
     let long : count ≡ length whole = count_is ∙ sym (length-append line (line_feed ∷ [])) in
     ap (λ n. take n bytes) long
     ∙ (ap (take (length whole)) (is ∙ sym (append_assoc line (line_feed ∷ []) rest)) ∙ take-append_seam whole rest)
-
--- one more line was taken, and its LF
-pub HasTaken-more : {R : Type 0} (remaining : R → Option (List ℕ)) (first : Counted R) (old new : Source R) (before : List (List ℕ)) (line : List ℕ)
-    → HasTaken remaining first old before → Takes remaining old new (line ++ line_feed ∷ []) → GoesOn new → IsLine line
-    → HasTaken remaining first new (before ++ line ∷ [])
-HasTaken-more remaining first old new before line h p goes_on is = record {
-  delivered = h.delivered ++ p.read;
-  consumed = Consumes-trans _ _ _ h.delivered p.read h.consumed p.delivered;
-  in_order = ap (λ l. l ++ p.read) h.in_order ∙ append_assoc (ended before) (at_hand old) p.read ∙ ap (λ l. ended before ++ l) p.in_order
-      ∙ sym (append_assoc (ended before) (line ++ line_feed ∷ []) (at_hand new)) ∙ ap (λ l. l ++ at_hand new) (sym (ended_push before line));
-  are_lines = AllByRecursion_push IsLine before line h.are_lines is;
-  failures = same_failures (has_failed old) (has_failed new) _ _ (has_failed-goes_on remaining old h.goes_on) (has_failed-goes_on remaining new goes_on) p.fails
-      ∙ h.failures;
-  goes_on = goes_on;
-}

@@ -11,6 +11,7 @@ pub mod VersionLemmas
 pub mod JudgedLines
 pub mod TextScanned
 pub mod TextFaults
+pub mod AtHandLemmas
 pub mod LinesRead
 pub mod PutLemmas
 pub mod DigitLemmas

@@ -1,20 +1,23 @@
 -- What the lines that a reader took say of the text that was delivered.
-use Rattle.std.proofs.Common.{◌≡◌, ℕ, ◌<◌, ◌⊎◌, inl, inr, Bool, true, false, List, [], ◌∷◌, ◌++◌, length, take, None, Err, Ok, refl, sym, ap, ◌∙◌, subst, arith, append-nil}
-use Rattle.std.specs.Prelude.{Option, Result, MatchResult}
+use Rattle.std.proofs.Common.{◌≡◌, ℕ, ◌+◌, ◌<◌, ◌⊎◌, inl, inr, Bool, true, false, List, [], ◌∷◌, ◌++◌, length, take, None, Err, Ok, refl, sym, ap, ◌∙◌, subst, arith, append-nil, length-append}
+use Rattle.std.specs.Prelude.{Option, Result, MatchResult, min}
 use Rattle.std.specs.List.{AllByRecursion}
 use Rattle.grid.specs.declared.counted.Counted.{Counted}
 use Rattle.grid.specs.declared.source.Source.{Source}
-use Rattle.grid.specs.Counted.{counted_inner, failures_of}
+use Rattle.grid.specs.Counted.{counted_inner, failures_of, greatest}
 use Rattle.grid.specs.Source.{source_reader}
 use Rattle.grid.specs.Text.{IsLine, lines_of}
-use Rattle.grid.specs.Lines.{HasCome, LineEnded, InputEnded, LineTooLong as LongLineTaken, ReaderFailed}
+use Rattle.grid.specs.Lines.{HasTaken, HasCome, InputEnded, LineTooLong as LongLineTaken, ReaderFailed}
 use Rattle.grid.specs.Reading.{by_input, Place, at_line_feed, at_byte, at_end, JudgedAt, line_number, ReadsText, is_fault}
 use Rattle.scen.specs.declared.scen_fault.ScenFault.{ScenFault}
+use Rattle.scen.specs.declared.scen_reader.Progress.{Progress}
 use Rattle.scen.specs.declared.scen_fault.ScenFault.TheVariants.{NoVersion, FieldCount, BadNumber, OutOfGrid, BadLength, ReadFailed, OutOfMemory, LineTooLong}
 use Rattle.scen.specs.Query.{Query, IsQuery, longest_line}
 use Rattle.scen.specs.ScenText.{AreQueries, ScenText}
 use Rattle.scen.specs.ScenFault.{ScenDue, version_due, row_due, ScenFollows, HasScenFault, ScenFaultAt, scen_outcome}
+use Rattle.scen.specs.Code.AtHand.{AddsAtHand}
 use Rattle.scen.specs.Code.Parsing.{due_after, Adds, Refuses, ScenLeads}
+use Rattle.scen.proofs.AtHandLemmas.{HasTaken-more}
 use Rattle.scen.proofs.JudgedLines.{line_next, line_rows, right-from_Follows, row_right, skipped_rows}
 use Rattle.scen.proofs.TextScanned.{rows_in, first_fault, first_fault-leads, Leads_push, rows_in_push, ScenText-from_none}
 use Rattle.scen.proofs.TextFaults.{Stands, none_decided}
@@ -31,6 +34,13 @@ Last = (text : List ℕ) (before : List (List ℕ)) (line : List ℕ) → Judged
 -- what is due after lines, and their rows
 abbrev pub ReadsUpTo : List (List ℕ) → Bool → List Query → Type 0
 ReadsUpTo lines has rows = ScenLeads version_due lines (due_after has) × (rows ≡ rows_in version_due lines)
+
+-- Lines of a source were taken, are right, and have the rows of the progress; the next one has this number.
+abbrev pub HasReadLines : {R : Type 0} → (R → Option (List ℕ)) → Source R → Source R → Progress → ℕ → Type 0
+HasReadLines remaining start now progress number =
+    (before : List (List ℕ)) × HasTaken remaining (source_reader start) now before
+    × ScenLeads version_due before (due_after progress.has_version) × (progress.rows.items ≡ rows_in version_due before)
+    × (number ≡ line_number before) × (now.reader.ghost_name ≡ start.reader.ghost_name)
 
 -- a line that was added follows
 follows : (has now : Bool) (old new : List Query) (line : List ℕ) → Adds has now old new line
@@ -50,6 +60,25 @@ reads_push before line has now old new h added =
       Leads_push version_due before (due_after has) line (due_after now) h.0 more.0,
       more.1 ∙ (ap (λ xs. xs ++ line_rows (due_after has) line) h.1 ∙ sym (rows_in_push version_due before (due_after has) line h.0)),
     )
+
+-- a line that was at hand is one more
+pub one_at_hand : {R : Type 0} (remaining : R → Option (List ℕ)) (start old new : Source R) (before now : Progress) (number next : ℕ) (there : Bool)
+    → AddsAtHand remaining old new before now number (Ok there) → there ≡ true → next ≡ min (number + 1) greatest
+    → HasReadLines remaining start old before number → HasReadLines remaining start new now next
+one_at_hand remaining start old new before now number next there added is next_is h =
+    let line = (subst (λ b. AddsAtHand remaining old new before now number (Ok b)) is added) in
+    let taken = HasTaken-more remaining (source_reader start) old new h.0 line.0 h.1 line.1 (line.2 ∙ h.1.goes_on) line.3 in
+    let more = reads_push h.0 line.0 before.has_version now.has_version before.rows.items now.rows.items (h.2, h.3) line.4 in
+    let many : next ≡ line_number (h.0 ++ line.0 ∷ []) = omega (arith, next_is, h.4, length-append h.0 (line.0 ∷ [])) in
+    (h.0 ++ line.0 ∷ [], taken, more.0, more.1, many, line.1.same_reader ∙ h.5)
+
+-- where none was at hand, all is as before
+pub none_at_hand : {R : Type 0} (remaining : R → Option (List ℕ)) (start old new : Source R) (before now : Progress) (number : ℕ) (there : Bool)
+    → AddsAtHand remaining old new before now number (Ok there) → there ≡ false
+    → HasReadLines remaining start old before number → HasReadLines remaining start new now number
+none_at_hand remaining start old new before now number there added is h =
+    let same = subst (λ b. AddsAtHand remaining old new before now number (Ok b)) is added in
+    subst (λ p. HasReadLines remaining start new p number) (sym same.1) (subst (λ s. HasReadLines remaining start s before number) (sym same.0) h)
 
 -- an empty line changes nothing
 empty_next : (due : ScenDue) → line_next due [] ≡ due
@@ -125,38 +154,38 @@ outcome-from_fault OutOfMemory place due number line h = absurd h
 
 module _ {R : Type 0} (remaining : R → Option (List ℕ)) (first : Counted R) (now : Source R) where
   -- a line was refused at its LF
-  pub refused_line : (before : List (List ℕ)) (room : List ℕ) (count : ℕ) (has : Bool) (rows : List Query) (fault : ScenFault)
-      → LineEnded remaining first now before room count → ReadsUpTo before has rows
-      → Refuses (due_after has) (line_number before) (take count room) fault
+  pub refused_line : (before : List (List ℕ)) (line : List ℕ) (has : Bool) (rows : List Query) (fault : ScenFault)
+      → HasCome remaining first now at_line_feed before line → failures_of (source_reader now) ≡ failures_of first → ReadsUpTo before has rows
+      → Refuses (due_after has) (line_number before) line fault
       → ReadsText ScenText ScenFaultAt (remaining (counted_inner first)) (remaining (counted_inner (source_reader now))) (failures_of first)
       (failures_of (source_reader now)) (scen_outcome (Err fault))
-  refused_line before room count has rows fault t h (inl none) =
+  refused_line before line has rows fault come failures h (inl none) =
       subst (λ f. ReadsText ScenText ScenFaultAt (remaining (counted_inner first)) (remaining (counted_inner (source_reader now))) (failures_of first)
       (failures_of (source_reader now)) (scen_outcome (Err f))) (sym none)
-      (record { delivered = t.come.delivered; consumed = t.come.consumed; answer = tt; failures = t.failures })
-  refused_line before room count has rows fault t h (inr faulty) =
+      (record { delivered = come.delivered; consumed = come.consumed; answer = tt; failures = failures })
+  refused_line before line has rows fault come failures h (inr faulty) =
       subst (ReadsText ScenText ScenFaultAt (remaining (counted_inner first)) (remaining (counted_inner (source_reader now))) (failures_of first)
       (failures_of (source_reader now)))
-      (sym (outcome-from_fault fault at_line_feed (due_after has) (line_number before) (take count room) (faulty at_line_feed tt)))
+      (sym (outcome-from_fault fault at_line_feed (due_after has) (line_number before) line (faulty at_line_feed tt)))
       (record {
-        delivered = t.come.delivered;
-        consumed = t.come.consumed;
+        delivered = come.delivered;
+        consumed = come.consumed;
         answer = inl (
-          t.come.front,
-          t.come.rest,
+          come.front,
+          come.rest,
           at_line_feed,
-          t.come.bytes,
+          come.bytes,
           tt,
           record {
             before = before;
-            line = take count room;
+            line = line;
             due = due_after has;
-            judged = t.come.judged by_input;
+            judged = come.judged by_input;
             right = h.0;
             faulty = faulty at_line_feed tt;
           },
         );
-        failures = t.failures;
+        failures = failures;
       })
 
   -- all that came where the input ended

@@ -8,6 +8,8 @@ pub mod OrderLaws
 pub mod ComparisonLaws
 -- what the parts of a line are seen as
 pub mod Parsing
+-- a line that is at hand
+pub mod AtHand
 -- lengths as single numbers
 pub mod KeyParts
 -- what the numbers of a search say of each cell

@@ -10,12 +10,14 @@ ghost use Rattle.scen.specs.Query.{IsQuery, longest_line};
 ghost use Rattle.scen.specs.ScenText.{ScenText};
 ghost use Rattle.scen.specs.ScenFault.{ScenFaultAt, scen_outcome};
 ghost use Rattle.scen.specs.Code.Parsing.{due_after, Adds, Refuses};
+ghost use Rattle.scen.specs.Code.AtHand.{AddsAtHand};
 
 use crate::fields::content_of;
 use crate::row_reader::read_row;
 use crate::version::is_version;
 use crate::{Row, ScenFault, Scenario};
 use grid::{Counted, Source, TakenLine};
+use memchr::memchr;
 use std::alloc::{AllocError, Global};
 use std::io::Read;
 
@@ -44,6 +46,10 @@ fn read_lines<R: Read>(alloc: Global, source: &mut Source<'_, R>) -> Result<Scen
     let mut progress = Progress::new(alloc);
     let mut number = 1u64;
     'lines: loop {
+        if progress.add_line_at_hand(alloc, source, number)? {
+            number = number.saturating_add(1);
+            continue;
+        }
         match source.take_line(&mut room) {
             TakenLine::WithLineFeed(count) => {
                 progress.add_line(alloc, &room[..count], number)?;
@@ -74,6 +80,25 @@ impl Progress {
         Progress {
             has_version: false,
             rows: Vec::new(alloc),
+        }
+    }
+
+    /// Adds a line that is all at hand, and takes it with its LF. Answers whether there was one: most lines are there, and are not copied.
+    fn add_line_at_hand<R: Read>(
+        &mut self,
+        alloc: Global,
+        source: &mut Source<'_, R>,
+        number: u64,
+    ) -> Result<bool, ScenFault>
+        ensures { AddsAtHand R.remaining source.old source.new self.old self.new number result }
+    {
+        match memchr(b'\n', source.at_hand()) {
+            Some(count) if count <= LONGEST_LINE => {
+                self.add_line(alloc, &source.at_hand()[..count], number)?;
+                source.take(count + 1);
+                Ok(true)
+            }
+            _ => Ok(false),
         }
     }
 

@@ -1,5 +1,5 @@
 //! Writing a scenario as text.
-ghost use Rattle.std.specs.Prelude.{◌≡◌, [], ◌∷◌, ◌++◌, map, decimal, OnOk, OnErr, is_ok};
+ghost use Rattle.std.specs.Prelude.{◌≡◌, ◌≤◌, [], ◌∷◌, ◌++◌, length, map, decimal, OnOk, OnErr, is_ok};
 ghost use Rattle.std.specs.List.{flat_map};
 ghost use Rattle.grid.specs.Counted.{counted_inner, failures_of};
 ghost use Rattle.grid.specs.Text.{tab, line_feed, ended};
@@ -67,15 +67,15 @@ fn put_row<W: Write>(sink: &mut Sink<'_, W>, row: &Row) -> Result<(), WriteFault
     sink.put_byte(b'\n')
 }
 
-/// Puts each number behind a tab.
+/// Puts each number behind a tab. The sink tests only once whether there is room for the first four, and once for the others.
+#[inline(always)]
 fn put_numbers<W: Write>(sink: &mut Sink<'_, W>, numbers: &[u64]) -> Result<(), WriteFault>
+    requires { 4 ≤ length numbers.now }
     ensures ok { OnOk result (Puts W.contents sink.old sink.new (flat_map (λ n. tab ∷ decimal n) numbers.now)) }
     ensures err { OnErr result (Breaks W.contents sink.old sink.new (flat_map (λ n. tab ∷ decimal n) numbers.now)) }
 {
-    for number in numbers {
-        sink.put_number_after(b'\t', *number)?;
-    }
-    Ok(())
+    sink.put_numbers(b"", b'\t', &numbers[..4])?;
+    sink.put_numbers(b"", b'\t', &numbers[4..])
 }
 
 /// Puts a listed length with as many decimals as it has.

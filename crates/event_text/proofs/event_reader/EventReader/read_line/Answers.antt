@@ -6,7 +6,8 @@ use Rattle.event_text.specs.FirstEvents.{BeginsWithEvents}
 use Rattle.event_text.specs.Taking.{SayEvents}
 use Rattle.event_text.specs.Code.EventLines.{BeginsWithEvent}
 use Rattle.event_text.proofs.FirstLemmas.{begins-read}
-use Rattle.event_text.proofs.LeadingLemmas.{taken_event, HasTaken-more}
+use Rattle.scen.proofs.AtHandLemmas.{HasTaken-more}
+use Rattle.event_text.proofs.LeadingLemmas.{taken_event}
 use Rattle.event_text.proofs.LineLemmas.{event-short}
 use Rattle.event_text.proofs.TextRead.{SayEvents-push}
 use Rattle.event_text.proofs.event_reader.EventReader.read_line.Goals as goal
