@@ -90,7 +90,8 @@ impl Turns {
         requires { self.now.first < 50 }
         ensures { IsTrue result ↔ IsOfStep self.now.first mark }
     {
-        (self.first <= mark) & (mark < self.first + 5)
+        // One comparison: a lesser mark wraps, and is then far above.
+        mark.wrapping_sub(self.first) < 5
     }
 }
 
@@ -133,12 +134,11 @@ fn lead(turns: &Turns, act: Act, walker: &mut Walker, squares: &mut [Square]) ->
         | turns.has(entered.mark())
         | (left.mark() == turn.against);
     // A mark of this step stays.
-    let kept = if turns.has(left.mark()) {
-        left.mark()
+    squares[from] = if turns.has(left.mark()) {
+        left
     } else {
-        NOBODY
+        Square::new(left.ground(), NOBODY)
     };
-    squares[from] = Square::new(left.ground(), kept);
     squares[to as usize] = Square::new(entered.ground(), turn.mark);
     walker.place = to;
     may_be_wrong
