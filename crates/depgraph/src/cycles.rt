@@ -1,5 +1,5 @@
 //! The cycles of entries that follow one another.
-ghost use Rattle.std.specs.Prelude.{◌≡◌, ◌<◌, ◌≤◌, ℕ, IfOk, IsTrue, false, [], length, get_or, slice_set as set};
+ghost use Rattle.std.specs.Prelude.{◌≡◌, ◌<◌, ◌≤◌, ℕ, IfOk, IsTrue, [], length, get_or, slice_set as set};
 ghost use Rattle.depgraph.specs.Code.Cycles.{Leads, AreLinks, IsWalked};
 ghost use Rattle.depgraph.specs.Code.Links.{link_of, all_links, links_in, AreBound, AreLinksIn};
 ghost use Rattle.depgraph.specs.Code.Waits.{no_entry};
@@ -41,14 +41,19 @@ impl<'a> Links<'a> {
         })
     }
 
-    /// Whether an entry's move waits for another: else the entry has no link.
+    /// The entry to which an entry's link leads, or `NO_ENTRY` where it has none or it was taken away.
     #[inline(always)]
-    fn has_wait(&self, entry: u32) -> bool
+    fn of(&self, entry: u32) -> u32
         requires whole { AreLinksIn self.now }
         requires entry { entry < length (links_in self.now) }
-        ensures { result ≡ false → get_or (links_in self.now) entry 0 ≡ no_entry }
+        ensures { result ≡ get_or (links_in self.now) entry 0 }
     {
-        self.waits[entry as usize].count != 0
+        let index = entry as usize;
+        if self.taken[index] {
+            NO_ENTRY
+        } else {
+            self.link(index)
+        }
     }
 
     /// Takes the link of an entry away. Gives the entry to which it led, or `NO_ENTRY` where there was none.
@@ -59,13 +64,8 @@ impl<'a> Links<'a> {
         ensures taken { links_in self.new ≡ set (links_in self.old) entry no_entry }
         ensures whole { AreLinksIn self.new }
     {
-        let index = entry as usize;
-        let next = if self.taken[index] {
-            NO_ENTRY
-        } else {
-            self.link(index)
-        };
-        self.taken[index] = true;
+        let next = self.of(entry);
+        self.taken[entry as usize] = true;
         next
     }
 
@@ -104,8 +104,8 @@ pub(crate) fn walk(
     ensures walked { IfOk result (λ found. IsWalked first (links_in links.old) (links_in links.new) trail.new.items (IsTrue found)) }
     ensures whole { AreLinksIn links.new }
 {
-    // most moves wait for nobody
-    if !links.has_wait(first) {
+    // Of most moves none leads on: they wait for nobody, or for a move of another step.
+    if links.of(first) == NO_ENTRY {
         return Ok(false);
     }
     let mut entry = first;

@@ -8,6 +8,13 @@ use Rattle.depgraph.proofs.RingLemmas.{push-new}
 use Rattle.depgraph.proofs.WalkLemmas.{IsPath, AreTaken, links_left, link-taken, fewer-links, path-more, walk-ends, walked-none}
 use Rattle.depgraph.proofs.cycles.walk.Goals as goal
 
+pub take-next-requires-clause-entry : goal.take-next-requires-clause-entry
+take-next-requires-clause-entry c =
+    let now = c.entries.invariant in
+    let inside = now.path.within (length c.entries.trail.items) c.entries.entry (push-new c.entries.trail.items c.entries.entry) in
+    let count = now.taken.count in
+    omega (arith, inside, count)
+
 pub entries-smaller : goal.entries-smaller
 entries-smaller c =
     let now = c.entries.invariant in
@@ -51,6 +58,6 @@ returns-then-next-clause-walked c =
     c.requires.links c.requires.least c.entries.invariant.path c.entries.invariant.taken c.in_ok-push.ensures.items
     (inr (sym c.take-next.ensures.link ∙ c.if-next.true, λ is. false≢true is)))
 
-pub returns-then-not-has_wait-clause-walked : goal.returns-then-not-has_wait-clause-walked
-returns-then-not-has_wait-clause-walked c =
-    walked-none c.args.first (links_in c.args.links.now) c.args.trail.now.items (IsTrue false) c.requires.first (c.has_wait.ensures c.if-not-has_wait.true) (λ is. false≢true is)
+pub returns-then-of-clause-walked : goal.returns-then-of-clause-walked
+returns-then-of-clause-walked c =
+    walked-none c.args.first (links_in c.args.links.now) c.args.trail.now.items (IsTrue false) c.requires.first (sym c.of.ensures ∙ c.if-of.true) (λ is. false≢true is)
