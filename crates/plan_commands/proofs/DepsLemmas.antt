@@ -1,30 +1,19 @@
 -- What a route's needs come to as lines, and how many there are.
 use Rattle.std.proofs.Common.{◌≡◌, ◌∙◌, ℕ, ◌+◌, ◌<◌, ◌≤◌, zero, suc, Bool, true, false, cond, List, [], ◌∷◌, ◌++◌, length, get_or, drop, take, Option, None, Some, refl, sym, ap, arith, zero-add}
-use Rattle.std.specs.Prelude.{count_by, is_some, option_and_then, option_map, slice_get, sum_by}
+use Rattle.std.specs.Prelude.{count_by, is_some, option_map, slice_get, sum_by}
 use Rattle.std.proofs.lemmas.Grind.{flat_map-append}
-use Rattle.std.proofs.lemmas.List.{at_drop_more, ext_get_or, length-append}
-use Rattle.std.proofs.lemmas.List.FromFn.{get_or-map-range_with_len, length-map-range_with_len}
+use Rattle.std.proofs.lemmas.List.{at_drop_more, length-append}
+use Rattle.std.proofs.lemmas.List.FromFn.{length-map-range_with_len}
 use Rattle.std.proofs.lemmas.List.Sums.{count_by-le-length, sum_by-cons, sum_by-drop_more, sum_by_more}
-use Rattle.std.proofs.lemmas.Option.{get_or_from_slice_get, slice_get-get_or}
+use Rattle.std.proofs.lemmas.Option.{slice_get-get_or}
 use Rattle.grid.specs.Text.{line_feed, ended}
 use Rattle.grid.specs.declared.cell.Cell.{Cell}
 use Rattle.model.specs.Timetable.{Track, Timetable, moves, moves_after, same_cell}
 use Rattle.model.specs.Dependency.{Need, need}
 use Rattle.plan.specs.Checking.{steps_in}
-use Rattle.depgraph.specs.Routes.{Route, IsRouteOf, asked, need_at}
+use Rattle.depgraph.specs.Routes.{asked, asked_by}
 use Rattle.plan_commands.specs.DepsText.{needs_of, need_lines, all_need_lines}
 use Rattle.plan_commands.specs.Code.Dependencies.{need_text}
-
--- the needs of an agent's route are those of its track
-pub needs-of_route : (tt : Timetable) (agent : ℕ) (track : Track) (route : Route) → IsRouteOf tt agent track route
-    → route.needs ≡ needs_of tt agent track
-needs-of_route tt agent track route h =
-    let same = h.need_count ∙ sym (length-map-range_with_len (need tt agent track) 0 (moves track)) in
-    ext_get_or None route.needs (needs_of tt agent track) same
-    (λ k lt.
-    let within : k < moves track = omega (arith, h.need_count) in
-    get_or_from_slice_get route.needs k (need tt agent track k) None (h.needs k within)
-    ∙ sym (get_or-map-range_with_len (need tt agent track) 0 (moves track) k k None within (zero-add k)))
 
 pub length-needs_of : (tt : Timetable) (agent : ℕ) (track : Track) → length (needs_of tt agent track) ≡ moves track
 length-needs_of tt agent track = length-map-range_with_len (need tt agent track) 0 (moves track)
@@ -43,9 +32,9 @@ pub needs-next : (agent k : ℕ) (needs : List (Option Need)) → k < length nee
 needs-next agent k needs lt =
     at_drop_more (λ ns. ended (need_lines agent k ns)) needs k None lt ∙ need-first agent k (get_or needs k None) (drop (k + 1) needs)
 
--- the need of a move, as a route tells it
-pub need-is : (route : Route) (k : ℕ) → k < length route.needs → need_at route k ≡ option_map asked (get_or route.needs k None)
-need-is route k lt = ap (option_and_then (λ o. option_map asked o)) (slice_get-get_or route.needs k None lt)
+-- the need of a move, as a part tells it
+pub need-is : (needs : List (Option Need)) (k : ℕ) → k < length needs → asked_by (slice_get needs k) ≡ option_map asked (get_or needs k None)
+need-is needs k lt = ap asked_by (slice_get-get_or needs k None lt)
 
 -- the lines of all agents from an agent on, by those of that agent
 pub all-next : (tt : Timetable) (i : ℕ) (track : Track) → i < length tt.tracks

@@ -3,7 +3,7 @@ use Rattle.std.proofs.Common.{◌≡◌, ◌∙◌, ℕ, List, [], ◌∷◌, �
 use Rattle.std.specs.Prelude.{Option, codes, decimal, sum_by}
 use Rattle.grid.specs.declared.sink.Sink.{Sink}
 use Rattle.grid.specs.Sink.{Puts, Breaks}
-use Rattle.grid.specs.Text.{line_feed, ended, spaced_numbers}
+use Rattle.grid.specs.Text.{space, line_feed, ended, spaced_numbers, separated}
 use Rattle.model.specs.declared.visit.Visit.{Visit}
 use Rattle.model.specs.Timetable.{Timetable, moves}
 use Rattle.depgraph.specs.Rotations.{Turn}
@@ -28,13 +28,11 @@ pub counts-parts : (agents moves needs rotations : ℕ)
 counts-parts agents moves needs rotations = simp append_assoc
 
 pub need-parts : (agent move : ℕ) (n : Need)
-    → four_parts (said (codes "need ") agent) (said (codes " ") move) (said (codes " ") n.agent) (said (codes " ") n.count)
-    ≡ need_line agent move n ++ line_feed ∷ []
-need-parts agent move n = simp append_assoc
+    → codes "need" ++ separated space (agent ∷ move ∷ n.agent ∷ n.count ∷ []) ≡ need_line agent move n
+need-parts agent move n = sym (joined (codes "need") (agent ∷ move ∷ n.agent ∷ n.count ∷ []))
 
-pub visit-parts : (v : Visit)
-    → four_parts (codes "visit") (said (codes " ") v.agent) (said (codes " ") v.index) (said (codes " ") v.time) ≡ visit_line v ++ line_feed ∷ []
-visit-parts v = simp append_assoc
+pub visit-parts : (v : Visit) → codes "visit" ++ separated space (v.agent ∷ v.index ∷ v.time ∷ []) ≡ visit_line v
+visit-parts v = sym (joined (codes "visit") (v.agent ∷ v.index ∷ v.time ∷ []))
 
 -- the same counts
 pub counts-same : (agents moves needs rotations a m n r : ℕ) → agents ≡ a → moves ≡ m → needs ≡ n → rotations ≡ r
@@ -113,3 +111,22 @@ module _ {W : Type 0} (contents : W → Option (List ℕ)) (a b c d text : List 
       → Puts contents two three c → Puts contents three four d → OnErr answer (Breaks contents four last (line_feed ∷ [])) → OnErr answer (Breaks contents s last text)
   line-broken s one two three four last answer p q r t =
       Breaks-last contents s four last text (line_feed ∷ []) (line_feed ∷ []) answer (four-put s one two three four p q r t) refl
+
+-- a line at once, and then its LF
+module _ {W : Type 0} (contents : W → Option (List ℕ)) (line given : List ℕ) (same : given ≡ line) where
+  all_left : (s : Sink W) → Leaves contents s s (line ++ line_feed ∷ []) (line ++ line_feed ∷ [])
+  all_left s = Leaves-all contents s (line ++ line_feed ∷ []) (line ++ line_feed ∷ []) refl
+
+  pub words-broken : (s one : Sink W) → Breaks contents s one given → Breaks contents s one (line ++ line_feed ∷ [])
+  words-broken s one p = Leaves-broken contents s s one (line ++ line_feed ∷ []) line (line_feed ∷ []) given (all_left s) same p
+
+  feed_left : (s one : Sink W) → Puts contents s one given → Leaves contents s one (line ++ line_feed ∷ []) (line_feed ∷ [])
+  feed_left s one p = Leaves-less contents s s one (line ++ line_feed ∷ []) line (line_feed ∷ []) given (all_left s) same p
+
+  pub words-put : {E : Type 0} (s one last : Sink W) (answer : Result Unit E) → Puts contents s one given
+      → OnOk answer (Puts contents one last (line_feed ∷ [])) → OnOk answer (Puts contents s last (line ++ line_feed ∷ []))
+  words-put s one last answer p = Puts-last contents s one last (line ++ line_feed ∷ []) (line_feed ∷ []) (line_feed ∷ []) answer (feed_left s one p) refl
+
+  pub feed-broken : {E : Type 0} (s one last : Sink W) (answer : Result Unit E) → Puts contents s one given
+      → OnErr answer (Breaks contents one last (line_feed ∷ [])) → OnErr answer (Breaks contents s last (line ++ line_feed ∷ []))
+  feed-broken s one last answer p = Breaks-last contents s one last (line ++ line_feed ∷ []) (line_feed ∷ []) (line_feed ∷ []) answer (feed_left s one p) refl

@@ -9,7 +9,7 @@ ghost use Rattle.depgraph.specs.Rotations.{Turn, AreRotations, turns_of};
 ghost use Rattle.plan_commands.specs.DepsText.{need_lines, all_need_lines, rotation_line, counts_line, deps_text};
 ghost use Rattle.plan_commands.specs.Code.Dependencies.{HasNeedsOf, need_text};
 
-use depgraph::{Dependencies, Rotation, Route};
+use depgraph::{Dependencies, Part, Rotation};
 use grid::{Counted, Sink, WriteFault};
 use std::io::Write;
 
@@ -70,31 +70,33 @@ fn count(graph: &Dependencies) -> Counts
     for agent in 0..graph.agents() {
         let own_moves = moves_of(graph, agent);
         moves += own_moves;
-        needs += count_needs(&route_of(graph, agent), own_moves);
+        needs += count_needs(&part_of(graph, agent), own_moves);
     }
     Counts { moves, needs }
 }
 
-/// How many of so many moves of a route have a need.
-fn count_needs(route: &Route<'_>, moves: u32) -> u32
-    requires { length route.now.needs ≡ moves }
-    ensures { result ≡ count_by is_some route.now.needs }
+/// How many of so many moves of an agent have a need.
+fn count_needs(part: &Part<'_>, moves: u32) -> u32
+    requires { length part.now.needs ≡ moves }
+    ensures { result ≡ count_by is_some part.now.needs }
 {
     let mut count = 0;
     for k in 0..moves {
-        if route.need(k).is_some() {
+        if part.need(k).is_some() {
             count += 1;
         }
     }
     count
 }
 
-/// The route of an agent.
-fn route_of(graph: &Dependencies, agent: u32) -> Route<'_>
+/// What an agent has of the dependencies.
+fn part_of(graph: &Dependencies, agent: u32) -> Part<'_>
     requires { agent < length graph.now.tracks }
     ensures { HasNeedsOf graph.now agent result }
 {
-    graph.route(agent).unwrap()
+    // There are few enough for their numbers.
+    let _agents = graph.agents();
+    graph.part(agent as u16).unwrap()
 }
 
 /// How many moves an agent makes.
@@ -128,24 +130,24 @@ fn put_all_needs<W: Write>(sink: &mut Sink<'_, W>, graph: &Dependencies) -> Resu
     ensures err { OnErr result (Breaks W.contents sink.old sink.new (ended (all_need_lines graph.now 0 graph.now.tracks))) }
 {
     for agent in 0..graph.agents() {
-        put_needs(sink, agent, &route_of(graph, agent), moves_of(graph, agent))?;
+        put_needs(sink, agent, &part_of(graph, agent), moves_of(graph, agent))?;
     }
     Ok(())
 }
 
-/// Puts those of an agent, whose route has so many moves.
+/// Puts those of an agent, which makes so many moves.
 fn put_needs<W: Write>(
     sink: &mut Sink<'_, W>,
     agent: u32,
-    route: &Route<'_>,
+    part: &Part<'_>,
     moves: u32,
 ) -> Result<(), WriteFault>
-    requires { length route.now.needs ≡ moves }
-    ensures ok { OnOk result (Puts W.contents sink.old sink.new (ended (need_lines agent 0 route.now.needs))) }
-    ensures err { OnErr result (Breaks W.contents sink.old sink.new (ended (need_lines agent 0 route.now.needs))) }
+    requires { length part.now.needs ≡ moves }
+    ensures ok { OnOk result (Puts W.contents sink.old sink.new (ended (need_lines agent 0 part.now.needs))) }
+    ensures err { OnErr result (Breaks W.contents sink.old sink.new (ended (need_lines agent 0 part.now.needs))) }
 {
     for k in 0..moves {
-        put_need(sink, agent, k, route.need(k))?;
+        put_need(sink, agent, k, part.need(k))?;
     }
     Ok(())
 }
@@ -163,10 +165,8 @@ fn put_need<W: Write>(
     let Some((other, count)) = need else {
         return Ok(());
     };
-    put_number(sink, b"need", agent as u64)?;
-    sink.put_number_after(b' ', k as u64)?;
-    sink.put_number_after(b' ', other as u64)?;
-    sink.put_number_after(b' ', count as u64)?;
+    let numbers = [agent as u64, k as u64, other as u64, count as u64];
+    sink.put_numbers(b"need", b' ', &numbers)?;
     sink.put_byte(b'\n')
 }
 

@@ -38,9 +38,7 @@ fn put_visit<W: Write>(sink: &mut Sink<'_, W>, visit: Visit) -> Result<(), Write
     ensures ok { OnOk result (Puts W.contents sink.old sink.new (visit_line visit ++ line_feed ∷ [])) }
     ensures err { OnErr result (Breaks W.contents sink.old sink.new (visit_line visit ++ line_feed ∷ [])) }
 {
-    sink.put(b"visit")?;
-    sink.put_number_after(b' ', visit.agent as u64)?;
-    sink.put_number_after(b' ', visit.index as u64)?;
-    sink.put_number_after(b' ', visit.time as u64)?;
+    let numbers = [visit.agent as u64, visit.index as u64, visit.time as u64];
+    sink.put_numbers(b"visit", b' ', &numbers)?;
     sink.put_byte(b'\n')
 }

@@ -13,7 +13,7 @@ count_needs-needs-requires c =
     let i = c.loop-agent.agent in
     let within : i < length timetable.tracks = omega (arith, c.agents-agent-end.ensures.agents) in
     let is = is-track_at timetable i within in
-    ap length (c.route_of.ensures (track_at timetable i) is) ∙ length-needs_of timetable i (track_at timetable i)
+    ap length (c.part_of.ensures (track_at timetable i) is) ∙ length-needs_of timetable i (track_at timetable i)
     ∙ sym (c.moves_of-own_moves.ensures (track_at timetable i) is)
 
 pub overflow_add-moves : goal.overflow_add-moves
@@ -33,7 +33,7 @@ overflow_add-needs c =
     let timetable = c.args.graph.now in
     let i = c.loop-agent.agent in
     let within : i < length timetable.tracks = omega (arith, c.agents-agent-end.ensures.agents) in
-    let own = c.count_needs-needs.ensures ∙ ap (count_by is_some) (c.route_of.ensures (track_at timetable i) (is-track_at timetable i within)) in
+    let own = c.count_needs-needs.ensures ∙ ap (count_by is_some) (c.part_of.ensures (track_at timetable i) (is-track_at timetable i within)) in
     let next = lines-next timetable i within in
     let limit = c.agents-agent-end.ensures.within.all_steps_limit in
     let most = moves-within_steps timetable.tracks in
@@ -48,7 +48,7 @@ loop-agent-preserved c =
     let within : i < length timetable.tracks = omega (arith, c.agents-agent-end.ensures.agents) in
     let is = is-track_at timetable i within in
     let own_moves = c.moves_of-own_moves.ensures (track_at timetable i) is in
-    let own_needs = c.count_needs-needs.ensures ∙ ap (count_by is_some) (c.route_of.ensures (track_at timetable i) is) in
+    let own_needs = c.count_needs-needs.ensures ∙ ap (count_by is_some) (c.part_of.ensures (track_at timetable i) is) in
     record {
       moves = omega (arith, own_moves, sum-next timetable i within, c.loop-agent.invariant.moves);
       needs = omega (arith, own_needs, lines-next timetable i within, c.loop-agent.invariant.needs);

@@ -7,10 +7,10 @@ use Rattle.plan_commands.proofs.deps_text.count_needs.Goals.{then-is_some, else-
 
 pub loop-k-preserved : goal.loop-k-preserved
 loop-k-preserved c =
-    let needs = c.args.route.now.needs in
+    let needs = c.args.part.now.needs in
     let k = c.loop-k.k in
     let within : k < length needs = omega arith in
-    let more = count-more needs k c.need.result within (c.need.ensures ∙ need-is c.args.route.now k within) in
+    let more = count-more needs k c.need.result within (c.need.ensures.need ∙ need-is c.args.part.now.needs k within) in
     elim c.if-is_some.branch [
       | then-is_some w ↦
           let yes : is_some c.need.result ≡ true = sym c.is_some.ensures ∙ w.if-is_some.true in

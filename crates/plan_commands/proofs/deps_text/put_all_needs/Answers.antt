@@ -13,7 +13,7 @@ put_needs-requires g c =
     let i = c.loop-agent.agent in
     let within : i < length timetable.tracks = omega (arith, c.agents-agent-end.ensures.agents) in
     let is = is-track_at timetable i within in
-    ap length (c.route_of.ensures (track_at timetable i) is) ∙ length-needs_of timetable i (track_at timetable i)
+    ap length (c.part_of.ensures (track_at timetable i) is) ∙ length-needs_of timetable i (track_at timetable i)
     ∙ sym (c.moves_of.ensures (track_at timetable i) is)
 
 pub loop-agent-init : goal.loop-agent-init
@@ -29,7 +29,7 @@ returns-in_err-put_needs-clause-err g c =
     let left = ended (all_need_lines timetable (i + 1) (drop (i + 1) timetable.tracks)) in
     let next = subst (Leaves g.W.Write.contents _ _ _) (ended-next timetable i within) c.loop-agent.invariant in
     rw p.1 (Leaves-broken g.W.Write.contents _ _ _ _ own left _ next
-    (ap (λ needs. ended (need_lines i 0 needs)) (c.route_of.ensures (track_at timetable i) (is-track_at timetable i within))) c.in_err-put_needs.ensures.err)
+    (ap (λ needs. ended (need_lines i 0 needs)) (c.part_of.ensures (track_at timetable i) (is-track_at timetable i within))) c.in_err-put_needs.ensures.err)
 
 pub loop-agent-preserved : goal.loop-agent-preserved
 loop-agent-preserved g c =
@@ -40,4 +40,4 @@ loop-agent-preserved g c =
     let left = ended (all_need_lines timetable (i + 1) (drop (i + 1) timetable.tracks)) in
     let next = subst (Leaves g.W.Write.contents _ _ _) (ended-next timetable i within) c.loop-agent.invariant in
     Leaves-less g.W.Write.contents _ _ _ _ own left _ next
-    (ap (λ needs. ended (need_lines i 0 needs)) (c.route_of.ensures (track_at timetable i) (is-track_at timetable i within))) c.in_ok-put_needs.ensures.ok
+    (ap (λ needs. ended (need_lines i 0 needs)) (c.part_of.ensures (track_at timetable i) (is-track_at timetable i within))) c.in_ok-put_needs.ensures.ok
