@@ -14,8 +14,8 @@ use hex::encode_to_slice;
 use model::{Reply, Why};
 use std::io::Write;
 
-/// So many bytes of a message are put at a time.
-const PIECE: usize = 64;
+/// So many bytes of a message are put at a time: a message of version 1 has no more.
+const PIECE: usize = 12;
 
 /// Writes the line of each reply. The writer is not flushed.
 pub fn write_replies<W: Write>(replies: &[Reply], writer: &mut Counted<W>) -> Result<(), WriteFault>
@@ -164,8 +164,13 @@ fn put_digits<W: Write>(sink: &mut Sink<'_, W>, bytes: &[u8]) -> Result<(), Writ
     ensures err { OnErr result (Breaks W.contents sink.old sink.new (encode_lower bytes.now)) }
 {
     let mut digits = [0; 2 * PIECE];
-    let digits = &mut digits[..2 * bytes.len()];
     // There is room for just so many digits, so nothing can be refused.
+    if bytes.len() == PIECE {
+        // Their number is known here, so they are copied without a call.
+        let _ = encode_to_slice(bytes, &mut digits);
+        return sink.put(&digits);
+    }
+    let digits = &mut digits[..2 * bytes.len()];
     let _ = encode_to_slice(bytes, digits);
     sink.put(digits)
 }
