@@ -385,6 +385,19 @@ def growths(library: Library) -> Iterator[Outcome]:
         yield compared(f"{words}, how often memory is taken", f"{words} with one event, and with {MANY_LINES}", sorted(counts), sorted(counts)[:1])
 
 
+def messages_said(library: Library) -> Iterator[Outcome]:
+    """The bytes of one message after another stand in the same memory, so for many messages it is taken for their list alone, which doubles."""
+    words, counts = "run M P E", []
+    for messages in (1, MANY_LINES):
+        folder = library.harness.folder({"M": LANE.encode(), "P": BEHIND.encode(), "E": events(*["say 0"] * messages).encode()})
+        ended, count = library.count(words, folder, "alloc", "out")
+        last = f"said {messages - 1} 460100000000000700000000\n".encode()
+        yield compared(f"{words}, {messages} messages", words, (ended, (folder / "out").read_bytes().endswith(last)), (Ended(0, b"", b""), True))
+        counts.append(int(count))
+    grown = counts[1] - counts[0]
+    yield compared("how often messages take memory", f"{words} with one message, and with {MANY_LINES}", grown <= MANY_LINES.bit_length(), True)
+
+
 def syncs(library: Library) -> Iterator[Outcome]:
     """A tape is synced once where it is opened with a record, its folder where it is opened without one, the tape too where it has to be a new one, and a
     tape once behind each record that is written to it."""
@@ -416,6 +429,7 @@ def outcomes(harness: Harness) -> Iterator[Outcome]:
     if library.built.fault or outcome.fault:
         return
     yield from growths(library)
+    yield from messages_said(library)
     yield from syncs(library)
     kinds = LONG_KINDS if harness.is_long else KINDS
     for call, kind in ((call, kind) for call, each in kinds.items() for kind in each):

@@ -139,6 +139,7 @@ pub(crate) fn run_events<'g, E: Read, W: Write>(
     'events: while let Some(event) = reader.next_event(source)? {
         let reply = runner.step(event)?;
         put_reply(sink, &reply)?;
+        runner.take_back(reply);
     }
     Ok(runner)
 }

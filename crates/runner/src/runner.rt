@@ -20,6 +20,7 @@ use depgraph::{Dependencies, Graph, OutOfMemory};
 use model::{Entry, Event, Held, Reply, Version, Why};
 use std::alloc::{AllocError, Global};
 use std::marker::Model;
+use std::mem;
 
 /// All agents of a graph over tapes that tear, and every message that was said.
 #[derive(Drop)]
@@ -28,6 +29,8 @@ pub struct Runner<'g> {
     graph: &'g Dependencies,
     agents: Vec<Agent<'g, SimTape>>,
     said: Said,
+    /// Memory for the bytes of a message.
+    spare: Vec<u8>,
 }
 
 impl<'g> Model for Runner<'g> {
@@ -98,6 +101,7 @@ impl<'g> Runner<'g> {
             graph,
             agents,
             said: Said::new(alloc, version),
+            spare: Vec::new(alloc),
         })
     }
 
@@ -143,6 +147,15 @@ impl<'g> Runner<'g> {
         }
         let messages = self.said.count();
         Ok(bring_all_to_ends(self.alloc, self.graph, &self.agents, messages)?)
+    }
+
+    /// Takes a reply back that isn't needed any more: the memory of its bytes serves the next message.
+    pub fn take_back(&mut self, reply: Reply)
+        ensures { self.new ≡ self.old }
+    {
+        if let Reply::Said(_, bytes) = reply {
+            self.spare = bytes;
+        }
     }
 
     fn start(&mut self, agent: u32) -> Reply
@@ -197,10 +210,11 @@ impl<'g> Runner<'g> {
     {
         let sender = &self.agents[agent as usize];
         let done = sender.done();
-        let bytes = match sender.say() {
-            Ok(bytes) => Vec::from_slice(self.alloc, &bytes)?,
+        let message = match sender.say() {
+            Ok(message) => message,
             Err(refusal) => return Ok(Reply::Refused(why_of(refusal))),
         };
+        let bytes = bytes_in(&mut self.spare, &message)?;
         let number = self.said.count();
         self.said.keep_own(Entry {
             agent: agent as u16,
@@ -317,6 +331,17 @@ impl<'g> Runner<'g> {
         reopen(agent);
         reply_to_restart(agent.held(), agent.done())
     }
+}
+
+/// These bytes, in the memory that is spare where there is enough.
+fn bytes_in(spare: &mut Vec<u8>, bytes: &[u8]) -> Result<Vec<u8>, AllocError>
+    ensures { IfOk result (λ own. own.items ≡ bytes.now) }
+{
+    let alloc = *spare.allocator();
+    let mut own = mem::replace(spare, Vec::new(alloc));
+    own.clear();
+    own.extend_from_slice(bytes)?;
+    Ok(own)
 }
 
 /// An agent over an empty tape with room for two records a move.

@@ -8,7 +8,7 @@ use Rattle.event_text.specs.declared.header.Headers.TheVariants.{Either}
 use Rattle.event_text.specs.FirstEvents.{BeginsWithEvents}
 use Rattle.event_text.specs.Taking.{EventTaken}
 use Rattle.event_text.proofs.EventsRead.{stopped_as}
-use Rattle.replay.proofs.AnswerLemmas.{answered-by, answered-so-far, break-more, fewer, none-answered, none-so-far, put-more}
+use Rattle.replay.proofs.AnswerLemmas.{SoFar, answered-by, answered-so-far, break-more, fewer, none-answered, none-so-far, put-more}
 use Rattle.replay.proofs.replaying.run_events.Goals as goal
 
 pub returns-in_err-version-clause-answers : goal.returns-in_err-version-clause-answers
@@ -113,23 +113,6 @@ returns-in_err-put_reply-clause-answers g c =
       replies = answered-so-far c.every_run_is_safe.ensures c.rotations_never_begin.ensures c.args.graph.now c.step.new.self _ _ now;
     })
 
-pub events-preserved-in_ok-put_reply : goal.events-preserved-in_ok-put_reply
-events-preserved-in_ok-put_reply g c =
-    let before = c.events.invariant in
-    let first = source_reader c.args.source.now in
-    record {
-      same_reader = c.in_ok-event.ensures.same_reader ∙ before.same_reader;
-      same_writer = c.in_ok-put_reply.ensures.ok.same_writer ∙ before.same_writer;
-      events = before.events ++ c.in-Some.event ∷ [];
-      read =
-          subst (λ r. EventTaken Either g.E.Read.remaining first c.next_event.new.source c.next_event.new.self before.events (Ok r)) c.in-Some.is
-          (c.in_ok-event.ensures.next Either first before.events before.read);
-      same_version = c.in_ok-event.ensures.same_version _ before.same_version ∙ ap Some (sym c.in_ok-reply.ensures.same_version);
-      so_far =
-          put-more g.W.Write.contents c.args.sink.now c.events.sink c.put_reply.new.sink c.args.graph.now c.events.runner c.step.new.self before.events
-          c.in-Some.event _ before.so_far c.in_ok-reply.ensures.answered c.in_ok-reply.ensures.same_graph c.in_ok-put_reply.ensures.ok;
-    }
-
 pub events-preserved : goal.events-preserved
 events-preserved g c =
     let before = c.events.invariant in
@@ -141,10 +124,13 @@ events-preserved g c =
       read =
           subst (λ r. EventTaken Either g.E.Read.remaining first c.next_event.new.source c.next_event.new.self before.events (Ok r)) c.in-Some.is
           (c.in_ok-event.ensures.next Either first before.events before.read);
-      same_version = c.in_ok-event.ensures.same_version _ before.same_version ∙ ap Some (sym c.in_ok-reply.ensures.same_version);
+      same_version = c.in_ok-event.ensures.same_version _ before.same_version ∙ ap Some (sym c.in_ok-reply.ensures.same_version)
+          ∙ ap (λ r. Some r.version) (sym c.take_back.ensures);
       so_far =
-          put-more g.W.Write.contents c.args.sink.now c.events.sink c.put_reply.new.sink c.args.graph.now c.events.runner c.step.new.self before.events
-          c.in-Some.event _ before.so_far c.in_ok-reply.ensures.answered c.in_ok-reply.ensures.same_graph c.in_ok-put_reply.ensures.ok;
+          subst (λ r. SoFar c.args.graph.now r (before.events ++ c.in-Some.event ∷ []) (Puts g.W.Write.contents c.args.sink.now c.put_reply.new.sink))
+          (sym c.take_back.ensures)
+          (put-more g.W.Write.contents c.args.sink.now c.events.sink c.put_reply.new.sink c.args.graph.now c.events.runner c.step.new.self before.events
+          c.in-Some.event _ before.so_far c.in_ok-reply.ensures.answered c.in_ok-reply.ensures.same_graph c.in_ok-put_reply.ensures.ok);
     }
 
 pub returns-clause-answers : goal.returns-clause-answers
