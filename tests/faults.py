@@ -392,7 +392,10 @@ def messages_said(library: Library) -> Iterator[Outcome]:
         folder = library.harness.folder({"M": LANE.encode(), "P": BEHIND.encode(), "E": events(*["say 0"] * messages).encode()})
         ended, count = library.count(words, folder, "alloc", "out")
         last = f"said {messages - 1} 460100000000000700000000\n".encode()
-        yield compared(f"{words}, {messages} messages", words, (ended, (folder / "out").read_bytes().endswith(last)), (Ended(0, b"", b""), True))
+        is_last = (folder / "out").read_bytes().endswith(last)
+        yield compared(f"{words}, {messages} messages", words, (ended, is_last, count.isdigit()), (Ended(0, b"", b""), True, True))
+        if not count.isdigit():
+            return
         counts.append(int(count))
     grown = counts[1] - counts[0]
     yield compared("how often messages take memory", f"{words} with one message, and with {MANY_LINES}", grown <= MANY_LINES.bit_length(), True)
