@@ -12,6 +12,7 @@ mod run;
 mod scen;
 mod search;
 mod source;
+mod toward;
 
 use source::Fault;
 use std::fs::File;

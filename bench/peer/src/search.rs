@@ -1,16 +1,17 @@
 //! Shortest walks from a cell.
+use crate::toward::toward;
 
 /// A straight step and a diagonal one as whole numbers: their ratio is so near to the root of two that no two lengths within the
 /// limits of a map compare the wrong way, or alike.
-const STRAIGHT: u64 = 6_625_109;
-const DIAGONAL: u64 = 9_369_319;
+pub const STRAIGHT: u64 = 6_625_109;
+pub const DIAGONAL: u64 = 9_369_319;
 
 /// Times the diagonal step this is one less than a multiple of the straight one.
 const READ_BACK: u64 = 3_880_899;
 
 /// Where no walk leads. The start counts as one straight step, so that 0 is left for what can't be entered.
-const CLOSED: u64 = 0;
-const UNREACHED: u64 = 1 << 62;
+pub const CLOSED: u64 = 0;
+pub const UNREACHED: u64 = 1 << 62;
 
 /// The key of a shortest walk from the start to each cell, with a border of closed cells.
 pub struct Keys {
@@ -28,7 +29,7 @@ struct Wave {
 }
 
 /// Which cells a walk may pass: 1 land and swamp, 2 water, 0 nothing.
-fn class(terrain: u8) -> u8 {
+pub fn class(terrain: u8) -> u8 {
     match terrain {
         b'.' | b'G' | b'S' => 1,
         b'W' => 2,
@@ -113,11 +114,12 @@ impl Keys {
     }
 
     /// A bucket has the keys from one multiple of the straight step to the next, so a step leads into one of the two after it.
-    fn flood(&mut self) {
+    /// It ends once the goal's key can't fall any more.
+    fn flood(&mut self, goal: usize) {
         let mut now = vec![self.start as u32];
         let mut from = STRAIGHT;
         let mut wave = Wave { next: Vec::new(), later: Vec::new(), later_from: from + 2 * STRAIGHT };
-        while !(now.is_empty() && wave.next.is_empty()) {
+        while !(now.is_empty() && wave.next.is_empty()) && (self.keys[goal] == CLOSED || self.keys[goal] >= from) {
             for &at in &now {
                 self.settle(at as usize, from, &mut wave);
             }
@@ -130,14 +132,14 @@ impl Keys {
     }
 
     /// The straight and the diagonal steps of a key.
-    fn parts(key: u64) -> (u32, u32) {
+    pub fn parts(key: u64) -> (u32, u32) {
         let diagonal = key % STRAIGHT * READ_BACK % STRAIGHT;
         let straight = (key - diagonal * DIAGONAL) / STRAIGHT - 1;
         (straight as u32, diagonal as u32)
     }
 
     /// The straight and the diagonal steps of a shortest walk to a cell, if there is one.
-    pub fn length(&self, cell: (u16, u16)) -> Option<(u32, u32)> {
+    fn length(&self, cell: (u16, u16)) -> Option<(u32, u32)> {
         let key = self.keys[place(self.stride, cell)];
         (key != CLOSED && key != UNREACHED).then(|| Keys::parts(key))
     }
@@ -178,14 +180,18 @@ impl Keys {
     }
 }
 
-/// A shortest walk, and the lengths of those from the start to all cells.
+/// A shortest walk, and its straight and its diagonal steps.
 pub struct Found {
     pub walk: Vec<(u16, u16)>,
-    pub lengths: Keys,
+    pub length: (u32, u32),
 }
 
-pub fn search(width: usize, height: usize, cells: &[u8], start: (u16, u16), goal: (u16, u16)) -> Found {
+/// Goes toward the goal as long as that helps, and else in all directions.
+pub fn search(width: usize, height: usize, cells: &[u8], start: (u16, u16), goal: (u16, u16)) -> Option<Found> {
+    if let Some(found) = toward(width, height, cells, start, goal) {
+        return found;
+    }
     let mut keys = Keys::new(width, height, cells, start);
-    keys.flood();
-    Found { walk: keys.walk(goal), lengths: keys }
+    keys.flood(place(keys.stride, goal));
+    keys.length(goal).map(|length| Found { walk: keys.walk(goal), length })
 }

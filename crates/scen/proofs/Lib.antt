@@ -19,6 +19,9 @@ pub mod LinePuts
 pub mod WrittenLemmas
 pub mod KeyLemmas
 pub mod KeyNumbers
-pub mod BandLemmas
+pub mod RoundingLemmas
+pub mod DistanceLemmas
+pub mod TileLemmas
 pub mod TightTables
+pub mod TableLemmas
 pub mod WalkLemmas

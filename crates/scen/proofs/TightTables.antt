@@ -2,7 +2,7 @@
 use Rattle.std.proofs.Common.{◌≡◌, ℕ, ◌+◌, ◌<◌, Bool, true, false, cond, zero, suc, List, replicate, get_or, length, map, ◌*◌, Some, None, inl, inr, arith, refl, sym, ap, subst, ◌∙◌}
 use Rattle.std.specs.Prelude.{Option, IsTrue, ◌↔◌, ◌&&◌, ◌-◌, ◌≤◌, nat_lt, slice_get, slice_index, bit_and}
 use Rattle.std.proofs.lemmas.Bool.{cases_lt, and_parts, and_from, ltb-true, lt-ltb, cond-true}
-use Rattle.std.proofs.lemmas.List.{get_or-map, get_or_default}
+use Rattle.std.proofs.lemmas.List.{get_or-map}
 use Rattle.std.proofs.lemmas.Nat.{mul-le}
 use Rattle.std.proofs.lemmas.Option.{slice_get-get_or}
 use Rattle.std.specs.Int.Bits.{and_zero_l, and_zero_r}
@@ -16,7 +16,11 @@ use Rattle.scen.specs.declared.tightness.Corner.{Corner}
 use Rattle.scen.specs.declared.tightness.Corners.{Corners}
 use Rattle.scen.specs.Certificate.{entry_of, Bounds, IsTight}
 use Rattle.scen.specs.Code.Tightness.{Ground, open_land, open_water, no_ground, ground_of_class, ground_of, number_of, corner_at, AreWithin, AreSame, KeepsSide, KeepsBlock, KeepsBlockAt, KeepsBlockIn, KeepsRows, Tells, AreCorners, corner_in}
+use Rattle.scen.specs.declared.length_table.Entries.{Entries}
 use Rattle.scen.specs.Code.KeyParts.{number_of_entry}
+use Rattle.scen.specs.Code.Distances.{beyond_number}
+use Rattle.scen.specs.Code.TableEntries.{told, number_on, IsBeyond}
+use Rattle.scen.proofs.DistanceLemmas.{AreBeside, beyond_near}
 use Rattle.scen.proofs.KeyLemmas.{BoundEachOther, within_from, from_within}
 
 -- ---- what holds of each number below another
@@ -59,30 +63,30 @@ block_told a e b f c g d h p q r s keeps = (
 )
 
 -- the blocks of two rows keep exactly where those of the map and the table do
-pub rows_from_held : (m : Grid) (table : List (Option Length)) (left right y : ℕ) (upper lower : Corners)
-    → AreCorners m table left right y upper → AreCorners m table left right (y + 1) lower → KeepsRows (right - left) upper lower
-    → (x : ℕ) → left ≤ x → x < right → KeepsBlockAt m table x y
-rows_from_held m table left right y upper lower above below keeps x least less =
+pub rows_from_held : (m : Grid) (numbers : ℕ → ℕ → ℕ) (left right y : ℕ) (upper lower : Corners)
+    → AreCorners m numbers left right y upper → AreCorners m numbers left right (y + 1) lower → KeepsRows (right - left) upper lower
+    → (x : ℕ) → left ≤ x → x < right → KeepsBlockAt m numbers x y
+rows_from_held m numbers left right y upper lower above below keeps x least less =
     let next : x + 1 - left ≡ x - left + 1 = omega (arith, least) in
-    block_told (corner_in upper (x - left)) (corner_at m table x y) (corner_in upper (x - left + 1)) (corner_at m table (x + 1) y)
-    (corner_in lower (x - left)) (corner_at m table x (y + 1)) (corner_in lower (x - left + 1)) (corner_at m table (x + 1) (y + 1))
-    (above x least (omega (arith, less))) (subst (λ i. Tells (corner_in upper i) (corner_at m table (x + 1) y)) next (above (x + 1) (omega (arith, least)) (omega (arith, less))))
-    (below x least (omega (arith, less))) (subst (λ i. Tells (corner_in lower i) (corner_at m table (x + 1) (y + 1))) next (below (x + 1) (omega (arith, least)) (omega (arith, less))))
+    block_told (corner_in upper (x - left)) (corner_at m numbers x y) (corner_in upper (x - left + 1)) (corner_at m numbers (x + 1) y)
+    (corner_in lower (x - left)) (corner_at m numbers x (y + 1)) (corner_in lower (x - left + 1)) (corner_at m numbers (x + 1) (y + 1))
+    (above x least (omega (arith, less))) (subst (λ i. Tells (corner_in upper i) (corner_at m numbers (x + 1) y)) next (above (x + 1) (omega (arith, least)) (omega (arith, less))))
+    (below x least (omega (arith, less))) (subst (λ i. Tells (corner_in lower i) (corner_at m numbers (x + 1) (y + 1))) next (below (x + 1) (omega (arith, least)) (omega (arith, less))))
     (keeps (x - left) (omega (arith, least, less)))
 
-pub held_from_rows : (m : Grid) (table : List (Option Length)) (left right y : ℕ) (upper lower : Corners)
-    → AreCorners m table left right y upper → AreCorners m table left right (y + 1) lower
-    → ((x : ℕ) → left ≤ x → x < right → KeepsBlockAt m table x y) → KeepsRows (right - left) upper lower
-held_from_rows m table left right y upper lower above below keeps i less =
+pub held_from_rows : (m : Grid) (numbers : ℕ → ℕ → ℕ) (left right y : ℕ) (upper lower : Corners)
+    → AreCorners m numbers left right y upper → AreCorners m numbers left right (y + 1) lower
+    → ((x : ℕ) → left ≤ x → x < right → KeepsBlockAt m numbers x y) → KeepsRows (right - left) upper lower
+held_from_rows m numbers left right y upper lower above below keeps i less =
     let x : ℕ = left + i in
     let here : x - left ≡ i = omega arith in
     let next : x + 1 - left ≡ i + 1 = omega arith in
-    block_told (corner_at m table x y) (corner_in upper i) (corner_at m table (x + 1) y) (corner_in upper (i + 1))
-    (corner_at m table x (y + 1)) (corner_in lower i) (corner_at m table (x + 1) (y + 1)) (corner_in lower (i + 1))
-    (subst (λ k. Tells (corner_at m table x y) (corner_in upper k)) here (told_back _ (corner_at m table x y) (above x (omega arith) (omega (arith, less)))))
-    (subst (λ k. Tells (corner_at m table (x + 1) y) (corner_in upper k)) next (told_back _ (corner_at m table (x + 1) y) (above (x + 1) (omega arith) (omega (arith, less)))))
-    (subst (λ k. Tells (corner_at m table x (y + 1)) (corner_in lower k)) here (told_back _ (corner_at m table x (y + 1)) (below x (omega arith) (omega (arith, less)))))
-    (subst (λ k. Tells (corner_at m table (x + 1) (y + 1)) (corner_in lower k)) next (told_back _ (corner_at m table (x + 1) (y + 1)) (below (x + 1) (omega arith) (omega (arith, less)))))
+    block_told (corner_at m numbers x y) (corner_in upper i) (corner_at m numbers (x + 1) y) (corner_in upper (i + 1))
+    (corner_at m numbers x (y + 1)) (corner_in lower i) (corner_at m numbers (x + 1) (y + 1)) (corner_in lower (i + 1))
+    (subst (λ k. Tells (corner_at m numbers x y) (corner_in upper k)) here (told_back _ (corner_at m numbers x y) (above x (omega arith) (omega (arith, less)))))
+    (subst (λ k. Tells (corner_at m numbers (x + 1) y) (corner_in upper k)) next (told_back _ (corner_at m numbers (x + 1) y) (above (x + 1) (omega arith) (omega (arith, less)))))
+    (subst (λ k. Tells (corner_at m numbers x (y + 1)) (corner_in lower k)) here (told_back _ (corner_at m numbers x (y + 1)) (below x (omega arith) (omega (arith, less)))))
+    (subst (λ k. Tells (corner_at m numbers (x + 1) (y + 1)) (corner_in lower k)) next (told_back _ (corner_at m numbers (x + 1) (y + 1)) (below (x + 1) (omega arith) (omega (arith, less)))))
     (keeps x (omega arith) (omega (arith, less)))
 
 -- of one block more
@@ -212,9 +216,9 @@ no_number open_water h = absurd (h (λ e. cc))
 no_number no_ground h = refl
 
 -- off the map there are no grounds
-pub told_off : (m : Grid) (table : List (Option Length)) (x y : ℕ) (p : Corner) → ((x < m.width) × (y < m.height) → ⊥) → p.grounds ≡ 0
-    → Tells p (corner_at m table x y)
-told_off m table x y p off none =
+pub told_off : (m : Grid) (numbers : ℕ → ℕ → ℕ) (x y : ℕ) (p : Corner) → ((x < m.width) × (y < m.height) → ⊥) → p.grounds ≡ 0
+    → Tells p (corner_at m numbers x y)
+told_off m numbers x y p off none =
     let zero = no_number (ground_at m x y) (λ some. off (on_map m x y some)) in
     (none ∙ sym zero, λ some. absurd (some zero))
 
@@ -227,75 +231,72 @@ read_back Trees = refl
 read_back Swamp = refl
 read_back Water = refl
 
-place_within : (x y width height : ℕ) → x < width → y < height → y * width + x < width * height
+pub place_within : (x y width height : ℕ) → x < width → y < height → y * width + x < width * height
 place_within x y width height column row =
     let rows = mul-le (y + 1) width height width (omega (arith, row)) (omega arith) in
     omega (arith, rows, column)
 
--- on the map it is what the character and the entry of the cell say
-pub told_on : (m : Grid) (table : List (Option Length)) (x y i : ℕ) (p : Corner) (d : Option Length) → IsMap m → length table ≡ m.width * m.height
-    → x < m.width → y < m.height → i ≡ y * m.width + x
-    → p.grounds ≡ number_of (ground_of (terrain_of (get_or (map character_of m.terrain) i 0))) → p.key ≡ number_of_entry (get_or table i d)
-    → Tells p (corner_at m table x y)
-told_on m table x y i p d is_map cells column row at grounds key =
+-- on the map it is what the character of the cell and its number say
+pub told_on : (m : Grid) (numbers : ℕ → ℕ → ℕ) (x y i : ℕ) (p : Corner) → IsMap m → x < m.width → y < m.height → i ≡ y * m.width + x
+    → p.grounds ≡ number_of (ground_of (terrain_of (get_or (map character_of m.terrain) i 0))) → p.key ≡ numbers x y
+    → Tells p (corner_at m numbers x y)
+told_on m numbers x y i p is_map column row at grounds key =
     let count = is_map.cells in
     let within = place_within x y m.width m.height column row in
     let inside : i < length m.terrain = omega (arith, count, at, within) in
-    let held : i < length table = omega (arith, cells, at, within) in
     let t = get_or m.terrain i Floor in
     let here : terrain_at m (record { x = x; y = y }) ≡ Some t =
     cond-true (nat_lt x m.width && nat_lt y m.height) _ _ (and_from (nat_lt x m.width) (nat_lt y m.height) (lt-ltb x m.width column) (lt-ltb y m.height row))
     ∙ ap (slice_get m.terrain) (sym at) ∙ slice_get-get_or m.terrain i Floor inside in (
       grounds ∙ ap (λ c. number_of (ground_of (terrain_of c))) (get_or-map character_of m.terrain i Floor 0 inside)
           ∙ ap (λ o. number_of (ground_of o)) (read_back t ∙ sym here),
-      λ some. key ∙ ap number_of_entry (get_or_default table i d None held ∙ ap (λ k. get_or table k None) at),
+      λ some. key,
     )
 
--- ---- rows of which all entries are the same
+-- ---- numbers of which those of neighbouring cells are near
 
--- the entries from one place to before another are the same
-abbrev pub AreEven : List (Option Length) → (from to : ℕ) → Type 0
-AreEven table from to =
-    (i j : ℕ) → from ≤ i → i < to → i < length table → from ≤ j → j < to → j < length table → get_or table i None ≡ get_or table j None
+-- where the numbers of two neighbouring cells are near in the one way, so are they in the other
+abbrev pub Carries : Grid → (before after : ℕ → ℕ → ℕ) → Type 0
+Carries m before after =
+    (step x y i j : ℕ) → AreBeside step x y i j → (x < m.width) × (y < m.height) → (i < m.width) × (j < m.height)
+    → AreWithin step (before x y) (before i j) → AreWithin step (after x y) (after i j)
 
-within_same : (step p q : ℕ) → p ≡ q → AreWithin step p q
-within_same step p q e = (omega (arith, e), omega (arith, e))
-
-even_within : (m : Grid) (table : List (Option Length)) (step y a b i j : ℕ) → length table ≡ m.width * m.height → AreEven table (y * m.width) (y * m.width + 2 * m.width)
-    → y ≤ b → b ≤ y + 1 → y ≤ j → j ≤ y + 1 → (a < m.width) × (b < m.height) → (i < m.width) × (j < m.height)
-    → AreWithin step (corner_at m table a b).key (corner_at m table i j).key
-even_within m table step y a b i j cells even b_least b_most j_least j_most on there =
-    let w = m.width in
-    let first = place_within a b w m.height on.0 on.1 in
-    let second = place_within i j w m.height there.0 there.1 in
-    let b_from = mul-le y w b w b_least (omega arith) in
-    let b_to = mul-le b w (y + 1) w b_most (omega arith) in
-    let j_from = mul-le y w j w j_least (omega arith) in
-    let j_to = mul-le j w (y + 1) w j_most (omega arith) in
-    let a_less = on.0 in
-    let i_less = there.0 in
-    within_same step (corner_at m table a b).key (corner_at m table i j).key
-    (ap number_of_entry (even (b * w + a) (j * w + i) (omega (arith, b_from)) (omega (arith, b_to, a_less)) (omega (arith, cells, first))
-    (omega (arith, j_from)) (omega (arith, j_to, i_less)) (omega (arith, cells, second))))
-
-pub even_block : (m : Grid) (table : List (Option Length)) (x y : ℕ) → length table ≡ m.width * m.height → AreEven table (y * m.width) (y * m.width + 2 * m.width)
-    → KeepsBlockAt m table x y
-even_block m table x y cells even =
+pub block_carried : (m : Grid) (before after : ℕ → ℕ → ℕ) → Carries m before after → (x y : ℕ) → KeepsBlockAt m before x y → KeepsBlockAt m after x y
+block_carried m before after carries x y keeps =
     let on : (i j : ℕ) → Alike (ground_at m x y) (ground_at m i j) → ((x < m.width) × (y < m.height)) × ((i < m.width) × (j < m.height)) =
     λ i j h. (on_map m x y h.0, on_map m i j (flip (ground_at m x y) (ground_at m i j) h).0) in (
       λ same.
           let both = on (x + 1) y (alike_from (ground_at m x y) (ground_at m (x + 1) y) same) in
-          even_within m table 6625109 y x y (x + 1) y cells even (omega arith) (omega arith) (omega arith) (omega arith) both.0 both.1,
+          carries 6625109 x y (x + 1) y (inl (refl, omega arith)) both.0 both.1 (keeps.0 same),
       λ same.
           let both = on x (y + 1) (alike_from (ground_at m x y) (ground_at m x (y + 1)) same) in
-          even_within m table 6625109 y x y x (y + 1) cells even (omega arith) (omega arith) (omega arith) (omega arith) both.0 both.1,
+          carries 6625109 x y x (y + 1) (inl (refl, omega arith)) both.0 both.1 (keeps.1 same),
       λ same.
           let beside = on (x + 1) y (alike_from (ground_at m x y) (ground_at m (x + 1) y) same.0) in
           let below = on x (y + 1) (alike_from (ground_at m x y) (ground_at m x (y + 1)) same.1) in
-          let across = on (x + 1) (y + 1) (alike_from (ground_at m x y) (ground_at m (x + 1) (y + 1)) same.2) in (
-            even_within m table 9369319 y x y (x + 1) (y + 1) cells even (omega arith) (omega arith) (omega arith) (omega arith) across.0 across.1,
-            even_within m table 9369319 y (x + 1) y x (y + 1) cells even (omega arith) (omega arith) (omega arith) (omega arith) beside.1 below.1,
+          let across = on (x + 1) (y + 1) (alike_from (ground_at m x y) (ground_at m (x + 1) (y + 1)) same.2) in
+          let within = keeps.2 same in (
+            carries 9369319 x y (x + 1) (y + 1) (inr (refl, omega arith, omega arith)) across.0 across.1 within.0,
+            carries 9369319 (x + 1) y x (y + 1) (inr (refl, omega arith, omega arith)) beside.1 below.1 within.1,
           ),
+    )
+
+-- where a search found no keys, each block keeps
+pub beyond_block : (m : Grid) (entries : Entries) (left right x y : ℕ) → IsBeyond entries m.width left right y → left ≤ x → x < right
+    → KeepsBlockAt m (number_on entries m.width) x y
+beyond_block m entries left right x y beyond least less =
+    let b = beyond.0 in
+    let near : (step u v i j : ℕ) → left ≤ u → u ≤ right → y ≤ v → v ≤ y + 1 → left ≤ i → i ≤ right → y ≤ j → j ≤ y + 1 → AreBeside step u v i j
+    → AreWithin step (number_on entries m.width u v) (number_on entries m.width i j) =
+    λ step u v i j u_least u_most v_least v_most i_least i_most j_least j_most beside.
+    subst (λ k. AreWithin step k (number_on entries m.width i j)) (sym (beyond.1 u v u_least u_most v_least v_most))
+    (subst (AreWithin step (beyond_number b u v)) (sym (beyond.1 i j i_least i_most j_least j_most)) (beyond_near b step u v i j beside)) in (
+      λ same. near 6625109 x y (x + 1) y (omega arith) (omega arith) (omega arith) (omega arith) (omega arith) (omega arith) (omega arith) (omega arith) (inl (refl, omega arith)),
+      λ same. near 6625109 x y x (y + 1) (omega arith) (omega arith) (omega arith) (omega arith) (omega arith) (omega arith) (omega arith) (omega arith) (inl (refl, omega arith)),
+      λ same. (
+        near 9369319 x y (x + 1) (y + 1) (omega arith) (omega arith) (omega arith) (omega arith) (omega arith) (omega arith) (omega arith) (omega arith) (inr (refl, omega arith, omega arith)),
+        near 9369319 (x + 1) y x (y + 1) (omega arith) (omega arith) (omega arith) (omega arith) (omega arith) (omega arith) (omega arith) (omega arith) (inr (refl, omega arith, omega arith)),
+      ),
     )
 
 -- ---- a tight table keeps each block
@@ -317,7 +318,7 @@ diagonal_from_same m u v columns rows first first_on second second_on =
     }
 
 pub block_from_tight : (m : Grid) (table : List (Option Length)) → IsTight m table → (x y : ℕ)
-    → KeepsBlock (corner_at m table x y) (corner_at m table (x + 1) y) (corner_at m table x (y + 1)) (corner_at m table (x + 1) (y + 1))
+    → KeepsBlock (corner_at m (told table m.width) x y) (corner_at m (told table m.width) (x + 1) y) (corner_at m (told table m.width) x (y + 1)) (corner_at m (told table m.width) (x + 1) (y + 1))
 block_from_tight m table tight x y =
     let a : Cell = record { x = x; y = y } in
     let b : Cell = record { x = x + 1; y = y } in
@@ -358,31 +359,31 @@ block_from_tight m table tight x y =
 
 -- ---- a table of which each block keeps is tight
 
-abbrev AllBlocks : Grid → List (Option Length) → Type 0
-AllBlocks m table = (y : ℕ) → y < m.height → (x : ℕ) → x < m.width → KeepsBlockAt m table x y
+abbrev pub AllBlocks : Grid → List (Option Length) → Type 0
+AllBlocks m table = (y : ℕ) → y < m.height → (x : ℕ) → x < m.width → KeepsBlockAt m (told table m.width) x y
 
 side_right : (m : Grid) (table : List (Option Length)) → AllBlocks m table → (x y i j : ℕ) → i ≡ x + 1 → j ≡ y
-    → KeepsSide (corner_at m table x y) (corner_at m table i j)
+    → KeepsSide (corner_at m (told table m.width) x y) (corner_at m (told table m.width) i j)
 side_right m table rows x y i j e f same =
     let on = on_map m x y (alike_from (ground_at m x y) (ground_at m i j) same).0 in
     let keeps = rows y on.1 x on.0 in
-    subst (λ k. KeepsSide (corner_at m table x y) (corner_at m table k j)) (sym e)
-    (subst (λ k. KeepsSide (corner_at m table x y) (corner_at m table (x + 1) k)) (sym f) keeps.0) same
+    subst (λ k. KeepsSide (corner_at m (told table m.width) x y) (corner_at m (told table m.width) k j)) (sym e)
+    (subst (λ k. KeepsSide (corner_at m (told table m.width) x y) (corner_at m (told table m.width) (x + 1) k)) (sym f) keeps.0) same
 
 side_below : (m : Grid) (table : List (Option Length)) → AllBlocks m table → (x y i j : ℕ) → i ≡ x → j ≡ y + 1
-    → KeepsSide (corner_at m table x y) (corner_at m table i j)
+    → KeepsSide (corner_at m (told table m.width) x y) (corner_at m (told table m.width) i j)
 side_below m table rows x y i j e f same =
     let on = on_map m x y (alike_from (ground_at m x y) (ground_at m i j) same).0 in
     let keeps = rows y on.1 x on.0 in
-    subst (λ k. KeepsSide (corner_at m table x y) (corner_at m table k j)) (sym e)
-    (subst (λ k. KeepsSide (corner_at m table x y) (corner_at m table x k)) (sym f) keeps.1) same
+    subst (λ k. KeepsSide (corner_at m (told table m.width) x y) (corner_at m (told table m.width) k j)) (sym e)
+    (subst (λ k. KeepsSide (corner_at m (told table m.width) x y) (corner_at m (told table m.width) x k)) (sym f) keeps.1) same
 
 abbrev Diagonals : Grid → List (Option Length) → (x y i j : ℕ) → Type 0
 Diagonals m table x y i j =
     Alike (ground_at m x y) (ground_at m i y) → Alike (ground_at m x y) (ground_at m x j)
     → Alike (ground_at m x y) (ground_at m i j)
-    → AreWithin 9369319 (corner_at m table x y).key (corner_at m table i j).key
-    × AreWithin 9369319 (corner_at m table i y).key (corner_at m table x j).key
+    → AreWithin 9369319 (corner_at m (told table m.width) x y).key (corner_at m (told table m.width) i j).key
+    × AreWithin 9369319 (corner_at m (told table m.width) i y).key (corner_at m (told table m.width) x j).key
 
 diagonals : (m : Grid) (table : List (Option Length)) → AllBlocks m table → (x y i j : ℕ) → i ≡ x + 1 → j ≡ y + 1 → Diagonals m table x y i j
 diagonals m table rows x y i j e f =

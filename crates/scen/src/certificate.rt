@@ -8,7 +8,6 @@ ghost use Rattle.scen.specs.Certificate.{entry_of, IsTable, IsProof, Certifies, 
 
 use crate::Length;
 use crate::length_table::LengthTable;
-use crate::tightness::is_tight;
 use grid::{Cell, FaultWords, Map, step4, step8};
 use std::fmt;
 use thiserror::Error;
@@ -73,7 +72,7 @@ pub fn certify(
     if !is_table(map, start, table) {
         return Err(CertFault::BadTable);
     }
-    if !is_tight(map, table) {
+    if !table.is_tight(map) {
         return Err(CertFault::NotTight);
     }
     let length = entry(map, table, goal);

@@ -1,26 +1,23 @@
 //! The cells of a map with the keys of a search, which are made where it comes near.
-ghost use Rattle.std.specs.Prelude.{◌*◌, ◌^◌, ◌<◌, ◌≤◌};
+ghost use Rattle.std.specs.Prelude.{◌≡◌, ◌*◌, ◌%◌, ◌^◌, ◌<◌, ◌≤◌, false};
 
-use crate::keys::{Key, Steps};
-use crate::length_table::{Band, LengthTable};
+use crate::beyond::Beyond;
+use crate::front::{Front, step_diagonal, step_straight};
+use crate::heading::Open;
+use crate::keys::{Key, NO_LENGTH, STRAIGHT, Steps};
+use crate::length_table::LengthTable;
 use crate::sides::{east_of, north_of, south_of, west_of};
-use crate::wave::Wave;
+use crate::tiles::{TILE_SIDE, Tiles, place_in_tile};
 use grid::{Cell, Map, Terrain};
 use std::alloc::{AllocError, Global};
 
-/// So many rows make a band.
-const BAND_ROWS: usize = 64;
-
-/// A key for each cell, in bands of rows.
+/// A key for each cell that a search came near.
 #[derive(Drop)]
 pub(crate) struct Field<'a> {
     alloc: Global,
     map: &'a Map,
     first_keys: [Key; 256],
-    width: usize,
-    bands: Vec<Band>,
-    ghost some_width: { 0 < width },
-    ghost limit: { width ≤ 65535 },
+    tiles: Tiles,
 }
 
 impl Field<'_> {
@@ -30,20 +27,11 @@ impl Field<'_> {
         map: &'a Map,
         start: Cell,
     ) -> Result<Field<'a>, AllocError> {
-        let mut bands = Vec::new(alloc);
-        for _ in 0..(map.height() as usize).div_ceil(BAND_ROWS) {
-            bands
-                .push(Band {
-                    keys: Vec::new(alloc),
-                })
-                .map_err(AllocError::from)?;
-        }
         let mut field = Field {
             alloc,
             map,
             first_keys: first_keys(map.terrain(start)),
-            width: map.width() as usize,
-            bands,
+            tiles: Tiles::bare(alloc, map.width() as usize, map.height() as usize)?,
         };
         if let Some(key) = field.reach(start)? {
             *key = Key::start();
@@ -52,181 +40,206 @@ impl Field<'_> {
     }
 
     /// The key of a cell, if the search came near it.
+    #[inline(always)]
     pub(crate) fn key(&self, cell: Cell) -> Option<Key> {
-        if usize::from(cell.x) >= self.width {
-            return None;
-        }
-        let band = self.bands.get(band_of(cell))?;
-        band.keys.get(self.place_in_band(cell)).copied()
+        self.tiles.key(cell)
     }
 
-    /// The table of the keys. Beyond the goal all entries are that of the goal: no step improves the lesser of two lengths that none improves, so the
-    /// keys of those cells need not be known.
-    pub(crate) fn into_table(self, goal: Cell) -> LengthTable {
-        let beyond = self.key(goal).and_then(|key| key.length());
-        let count = self.map.characters().len();
-        let band_size = BAND_ROWS * self.width;
-        let Field { bands, .. } = self;
-        LengthTable::from_bands(bands, band_size, count, beyond)
+    /// The number of the length of a cell so far.
+    #[inline(always)]
+    pub(crate) fn number(&self, cell: Cell) -> u64 {
+        match self.key(cell) {
+            Some(key) => key.number_within(NO_LENGTH),
+            None => NO_LENGTH,
+        }
+    }
+
+    /// The table of the keys. No step improves the lesser of two lengths that none improves, so no key counts that is greater than the goal's; nor, where the
+    /// search had a heading, one that is greater than the goal's less the distance to it.
+    pub(crate) fn into_table(self, goal: Cell, heading: Option<Cell>) -> LengthTable {
+        let beyond = self
+            .key(goal)
+            .and_then(|key| Beyond::from_key(key, heading));
+        let Field { tiles, .. } = self;
+        LengthTable::from_tiles(tiles.with_beyond(beyond))
     }
 
     /// Takes each step from a cell whose key is within a straight step above a number.
     #[inline(always)]
-    pub(crate) fn settle(
+    pub(crate) fn settle_from<F: Front>(
         &mut self,
         cell: Cell,
         from: u64,
-        wave: &mut Wave,
+        front: &mut F,
     ) -> Result<(), AllocError>
-        requires some { 0 < from }
-        requires limit { from ≤ 4194303 * 6625109 }
+        requires { from ≤ 4194303 * 6625109 }
     {
-        let width = self.width;
-        let x = usize::from(cell.x);
-        let at = self.place_in_band(cell);
-        let Some(band) = self.bands.get_mut(band_of(cell)) else {
-            return Ok(());
-        };
-        let keys = band.keys.as_mut_slice();
-        if x == 0 || x + 1 >= width || at <= width || keys.len() <= at + width + 1 {
-            return self.settle_at_edge(cell, from, wave);
+        match self.key(cell) {
+            Some(key) if key.is_from(from) && !key.is_from(from + STRAIGHT) => {
+                self.step_from(cell, key, front)
+            }
+            _ => Ok(()),
         }
-        let Some(steps) = keys[at].steps_from(from) else {
+    }
+
+    /// Takes each step from a cell whose key is still the one that it had.
+    #[inline(always)]
+    pub(crate) fn settle<F: Front>(&mut self, open: Open, front: &mut F) -> Result<(), AllocError> {
+        match self.key(open.cell) {
+            Some(key) if key.is_same(open.key) => self.step_from(open.cell, key, front),
+            _ => Ok(()),
+        }
+    }
+
+    /// Takes each step from a cell of this key.
+    #[inline(always)]
+    fn step_from<F: Front>(
+        &mut self,
+        cell: Cell,
+        key: Key,
+        front: &mut F,
+    ) -> Result<(), AllocError> {
+        let Some(steps) = key.steps() else {
             return Ok(());
         };
-        let north = wave.step_straight(&mut keys[at - width], north_of(cell), steps)?;
-        let west = wave.step_straight(&mut keys[at - 1], west_of(cell), steps)?;
-        let east = wave.step_straight(&mut keys[at + 1], east_of(cell), steps)?;
-        let south = wave.step_straight(&mut keys[at + width], south_of(cell), steps)?;
+        let at = place_in_tile(usize::from(cell.x), usize::from(cell.y));
+        let Some(tile) = self.tiles.tile_mut(cell) else {
+            return Ok(());
+        };
+        let keys = tile.keys.as_mut_slice();
+        if is_at_edge(cell) || keys.len() <= at + TILE_SIDE + 1 {
+            return self.step_from_edge(cell, steps, front);
+        }
+        let north = step_straight(front, &mut keys[at - TILE_SIDE], north_of(cell), steps)?;
+        let west = step_straight(front, &mut keys[at - 1], west_of(cell), steps)?;
+        let east = step_straight(front, &mut keys[at + 1], east_of(cell), steps)?;
+        let south = step_straight(front, &mut keys[at + TILE_SIDE], south_of(cell), steps)?;
         if north && west {
             let corner = west_of(north_of(cell));
-            wave.step_diagonal(&mut keys[at - width - 1], corner, steps.diagonal)?;
+            step_diagonal(front, &mut keys[at - TILE_SIDE - 1], corner, steps)?;
         }
         if north && east {
             let corner = east_of(north_of(cell));
-            wave.step_diagonal(&mut keys[at - width + 1], corner, steps.diagonal)?;
+            step_diagonal(front, &mut keys[at - TILE_SIDE + 1], corner, steps)?;
         }
         if south && west {
             let corner = west_of(south_of(cell));
-            wave.step_diagonal(&mut keys[at + width - 1], corner, steps.diagonal)?;
+            step_diagonal(front, &mut keys[at + TILE_SIDE - 1], corner, steps)?;
         }
         if south && east {
             let corner = east_of(south_of(cell));
-            wave.step_diagonal(&mut keys[at + width + 1], corner, steps.diagonal)?;
+            step_diagonal(front, &mut keys[at + TILE_SIDE + 1], corner, steps)?;
         }
         Ok(())
     }
 
-    /// The same for a cell that hasn't all its neighbours in its band.
-    fn settle_at_edge(&mut self, cell: Cell, from: u64, wave: &mut Wave) -> Result<(), AllocError>
-        requires some { 0 < from }
-        requires limit { from ≤ 4194303 * 6625109 }
-    {
-        let Some(key) = self.key(cell) else {
-            return Ok(());
-        };
-        let Some(steps) = key.steps_from(from) else {
-            return Ok(());
-        };
-        let north = self.step_straight(north_of(cell), steps, wave)?;
-        let west = self.step_straight(west_of(cell), steps, wave)?;
-        let east = self.step_straight(east_of(cell), steps, wave)?;
-        let south = self.step_straight(south_of(cell), steps, wave)?;
-        if north && west {
-            self.step_diagonal(west_of(north_of(cell)), steps.diagonal, wave)?;
-        }
-        if north && east {
-            self.step_diagonal(east_of(north_of(cell)), steps.diagonal, wave)?;
-        }
-        if south && west {
-            self.step_diagonal(west_of(south_of(cell)), steps.diagonal, wave)?;
-        }
-        if south && east {
-            self.step_diagonal(east_of(south_of(cell)), steps.diagonal, wave)?;
-        }
-        Ok(())
-    }
-
-    fn step_straight(
+    /// The same for a cell that hasn't all its neighbours in its tile.
+    fn step_from_edge<F: Front>(
         &mut self,
         cell: Cell,
         steps: Steps,
-        wave: &mut Wave,
+        front: &mut F,
+    ) -> Result<(), AllocError> {
+        let north = self.step_straight(north_of(cell), steps, front)?;
+        let west = self.step_straight(west_of(cell), steps, front)?;
+        let east = self.step_straight(east_of(cell), steps, front)?;
+        let south = self.step_straight(south_of(cell), steps, front)?;
+        if north && west {
+            self.step_diagonal(west_of(north_of(cell)), steps, front)?;
+        }
+        if north && east {
+            self.step_diagonal(east_of(north_of(cell)), steps, front)?;
+        }
+        if south && west {
+            self.step_diagonal(west_of(south_of(cell)), steps, front)?;
+        }
+        if south && east {
+            self.step_diagonal(east_of(south_of(cell)), steps, front)?;
+        }
+        Ok(())
+    }
+
+    fn step_straight<F: Front>(
+        &mut self,
+        cell: Cell,
+        steps: Steps,
+        front: &mut F,
     ) -> Result<bool, AllocError> {
         match self.reach(cell)? {
-            Some(key) => wave.step_straight(key, cell, steps),
+            Some(key) => step_straight(front, key, cell, steps),
             None => Ok(false),
         }
     }
 
-    fn step_diagonal(&mut self, cell: Cell, new: Key, wave: &mut Wave) -> Result<(), AllocError> {
+    fn step_diagonal<F: Front>(
+        &mut self,
+        cell: Cell,
+        steps: Steps,
+        front: &mut F,
+    ) -> Result<(), AllocError> {
         match self.reach(cell)? {
-            Some(key) => wave.step_diagonal(key, cell, new),
+            Some(key) => step_diagonal(front, key, cell, steps),
             None => Ok(()),
         }
     }
 
-    /// The key of a cell of the map; its band is made if need be.
+    /// The key of a cell of the map; its tile is filled if need be.
     fn reach(&mut self, cell: Cell) -> Result<Option<&mut Key>, AllocError> {
-        if usize::from(cell.x) >= self.width {
+        let (alloc, map) = (self.alloc, self.map);
+        let Some(tile) = self.tiles.tile_mut(cell) else {
             return Ok(None);
+        };
+        if tile.keys.is_empty() {
+            tile.keys = first_tile(alloc, map, &self.first_keys, cell)?;
         }
-        self.make_band(band_of(cell))?;
-        let at = self.place_in_band(cell);
-        match self.bands.get_mut(band_of(cell)) {
-            Some(band) => Ok(band.keys.get_mut(at)),
-            None => Ok(None),
-        }
-    }
-
-    /// Makes a band, if there is none yet.
-    fn make_band(&mut self, number: usize) -> Result<(), AllocError>
-        requires { number < 1024 }
-    {
-        let size = BAND_ROWS * self.width;
-        let alloc = self.alloc;
-        if self
-            .bands
-            .get(number)
-            .is_some_and(|band| band.keys.is_empty())
-        {
-            let keys = first_band(alloc, self.map, &self.first_keys, number * size, size)?;
-            if let Some(band) = self.bands.get_mut(number) {
-                band.keys = keys;
-            }
-        }
-        Ok(())
-    }
-
-    fn place_in_band(&self, cell: Cell) -> usize
-        ensures { result < 2 ^ 23 }
-    {
-        usize::from(cell.y) % BAND_ROWS * self.width + usize::from(cell.x)
+        Ok(
+            tile.keys
+                .get_mut(place_in_tile(usize::from(cell.x), usize::from(cell.y))),
+        )
     }
 }
 
-fn band_of(cell: Cell) -> usize
-    ensures { result < 1024 }
+/// Whether a cell hasn't all its neighbours in its tile.
+#[inline(always)]
+fn is_at_edge(cell: Cell) -> bool
+    ensures { result ≡ false → (0 < cell.x % 64) × (0 < cell.y % 64) }
 {
-    usize::from(cell.y) / BAND_ROWS
+    let x = usize::from(cell.x) % TILE_SIDE;
+    let y = usize::from(cell.y) % TILE_SIDE;
+    x == 0 || x == TILE_SIDE - 1 || y == 0 || y == TILE_SIDE - 1
 }
 
-/// The keys of so many cells before the first step; fewer at the end of the map.
-fn first_band(
+/// The keys of a cell's tile before the first step; off the map they are closed.
+fn first_tile(
     alloc: Global,
     map: &Map,
     first_keys: &[Key; 256],
-    first: usize,
-    count: usize,
+    cell: Cell,
 ) -> Result<Vec<Key>, AllocError> {
-    let characters = map.characters();
-    let count = count.min(characters.len().saturating_sub(first));
-    let mut keys = Vec::with_capacity(alloc, count)?;
-    for character in characters.iter().skip(first).take(count) {
-        keys.push(first_keys[usize::from(*character)])
-            .map_err(AllocError::from)?;
+    let left = usize::from(cell.x) / TILE_SIDE * TILE_SIDE;
+    let top = usize::from(cell.y) / TILE_SIDE * TILE_SIDE;
+    let mut keys = vec![in alloc; Key::closed(); TILE_SIDE * TILE_SIDE]?;
+    for (y, row) in keys.chunks_mut(TILE_SIDE).enumerate() {
+        put_first_keys(row, row_from(map, left, top + y), first_keys);
     }
     Ok(keys)
+}
+
+/// The characters of a row from a column on; none below the last row.
+fn row_from(map: &Map, x: usize, y: usize) -> &[u8]
+    requires { y < 2 ^ 17 }
+{
+    let width = map.width() as usize;
+    let characters = map.characters();
+    let end = ((y + 1) * width).min(characters.len());
+    let first = (y * width + x.min(width)).min(end);
+    &characters[first..end]
+}
+
+fn put_first_keys(keys: &mut [Key], characters: &[u8], first_keys: &[Key; 256]) {
+    for (key, character) in keys.iter_mut().zip(characters) {
+        *key = first_keys[usize::from(*character)];
+    }
 }
 
 /// The first key of each terrain character: closed where no walk from such a start can pass. A table takes no branch, which no one could foresee.

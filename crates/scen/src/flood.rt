@@ -28,7 +28,7 @@ pub(crate) fn flood(
             break;
         }
         for cell in &now {
-            field.settle(*cell, from, &mut wave)?;
+            field.settle_from(*cell, from, &mut wave)?;
         }
     }
     Ok(())

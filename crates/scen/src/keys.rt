@@ -1,5 +1,5 @@
 //! Lengths of a search as single whole numbers.
-ghost use Rattle.std.specs.Prelude.{◌≡◌, ◌+◌, ◌*◌, ◌^◌, ◌<◌, ◌≤◌};
+ghost use Rattle.std.specs.Prelude.{◌≡◌, ◌+◌, ◌*◌, ◌^◌, ◌<◌, ◌≤◌, ◌⊎◌, MatchOption};
 ghost use Rattle.scen.specs.Code.KeyParts.{IsKey, number_of_entry, number_within, length_of_number};
 
 use crate::Length;
@@ -17,7 +17,10 @@ const DIAGONAL_INVERSE: u64 = 3_880_899;
 const CLOSED: u64 = 0;
 
 /// The number of no length, far above those of all lengths.
-const NO_LENGTH: u64 = 1 << 62;
+pub(crate) const NO_LENGTH: u64 = 1 << 62;
+
+/// No shortest walk on a map has a number as great: for each diagonal step it leaves out two cells of its own.
+pub(crate) const MOST_STEPPED: u64 = 4_194_304 * STRAIGHT;
 
 /// A length as one whole number, in the exact order of lengths; or that there is none: a cell is closed, or no walk has reached it.
 #[derive(Clone, Copy, Debug)]
@@ -63,12 +66,10 @@ impl Key {
     pub(crate) fn length(self) -> Option<Length>
         ensures { result ≡ length_of_number self.value }
     {
-        if self.value == CLOSED || self.value == NO_LENGTH {
-            return None;
+        match self.number() {
+            Some(number) => length_of(number),
+            None => None,
         }
-        let diagonal = self.value % STRAIGHT * DIAGONAL_INVERSE % STRAIGHT;
-        let straight = (self.value - diagonal * DIAGONAL) / STRAIGHT - 1;
-        Length::new(straight as u32, diagonal as u32)
     }
 
     /// Whether no step may enter the cell.
@@ -93,6 +94,20 @@ impl Key {
         self.value >= number
     }
 
+    #[inline(always)]
+    pub(crate) fn is_same(self, other: Key) -> bool {
+        self.value == other.value
+    }
+
+    /// The number with a distance added.
+    #[inline(always)]
+    pub(crate) fn number_after(self, distance: u64) -> u64
+        requires { distance < 2 ^ 42 }
+        ensures { result < 2 ^ 63 }
+    {
+        self.value + distance
+    }
+
     /// Whether a diagonal step past the cell may be best: it isn't closed, and a straight step on from it is longer.
     #[inline(always)]
     pub(crate) fn is_passed(self, diagonal: Key) -> bool {
@@ -111,13 +126,22 @@ impl Key {
         }
     }
 
-    /// The keys of one step more, if the number is within a straight step above another.
+    /// The number, if it is that of a length.
     #[inline(always)]
-    pub(crate) fn steps_from(self, from: u64) -> Option<Steps>
-        requires some { 0 < from }
-        requires limit { from ≤ 4194303 * 6625109 }
+    pub(crate) fn number(self) -> Option<u64>
+        ensures { MatchOption result ((self.value ≡ 0) ⊎ (self.value ≡ 2 ^ 62)) (λ n. (n ≡ self.value) × (0 < n) × (n < 2 ^ 62) × IsKey n) }
     {
-        if self.value < from || self.value - from >= STRAIGHT {
+        if self.value == CLOSED || self.value == NO_LENGTH {
+            None
+        } else {
+            Some(self.value)
+        }
+    }
+
+    /// The keys of one step more, if a walk may have reached the cell.
+    #[inline(always)]
+    pub(crate) fn steps(self) -> Option<Steps> {
+        if self.value == CLOSED || self.value >= MOST_STEPPED {
             return None;
         }
         let straight = Key {
@@ -145,4 +169,16 @@ pub(crate) fn number_of(entry: Option<Length>) -> u64
         }
         None => NO_LENGTH,
     }
+}
+
+/// The length of a number.
+pub(crate) fn length_of(number: u64) -> Option<Length>
+    requires some { 0 < number }
+    requires limit { number < 2 ^ 62 }
+    requires of_length { IsKey number }
+    ensures { result ≡ length_of_number number }
+{
+    let diagonal = number % STRAIGHT * DIAGONAL_INVERSE % STRAIGHT;
+    let straight = (number - diagonal * DIAGONAL) / STRAIGHT - 1;
+    Length::new(straight as u32, diagonal as u32)
 }

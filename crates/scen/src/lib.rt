@@ -3,10 +3,15 @@
 #![tactic(auto)]
 
 mod agreement;
+mod approach;
+mod beyond;
 mod certificate;
+mod distance;
 mod field;
 mod fields;
 mod flood;
+mod front;
+mod heading;
 mod keys;
 pub mod laws;
 mod length;
@@ -14,6 +19,7 @@ mod length_table;
 mod listed;
 mod numbers;
 mod order;
+mod rounding;
 mod row;
 mod row_reader;
 mod scen_fault;
@@ -22,6 +28,7 @@ mod scen_writer;
 mod search_fault;
 mod sides;
 mod tightness;
+mod tiles;
 mod usual_fields;
 mod version;
 mod walk_back;

@@ -2,10 +2,11 @@
 ghost use Rattle.std.specs.Prelude.{◌≡◌, ◌+◌, ◌*◌, ◌<◌, ◌≤◌, ◌↔◌, IfSome, IsTrue, length, ℕ, slice_index};
 ghost use Rattle.grid.specs.Terrain.{terrain_of};
 ghost use Rattle.scen.specs.Certificate.{IsTight};
+ghost use Rattle.scen.specs.Code.TableEntries.{entries_of, number_on};
 ghost use Rattle.scen.specs.Code.Tightness.{ground_of, number_of, is_land, is_water, AreSame, AreWithin, KeepsSide, KeepsDiagonals, KeepsBlock, KeepsRows, IsStrip, AreCorners, KeepsStrip};
 
 use crate::keys::{DIAGONAL, STRAIGHT};
-use crate::length_table::LengthTable;
+use crate::length_table::Entries;
 use grid::Map;
 
 /// What the map and the table say of a cell. Land and water have a bit each of its grounds, since a branch on them
@@ -17,7 +18,7 @@ pub(crate) struct Corner {
 }
 
 /// So many columns make a strip.
-const STRIP: u32 = 512;
+const STRIP: u32 = 64;
 
 /// What the cells of one row say in a strip, and in the column behind it.
 #[derive(Clone, Copy, Debug)]
@@ -39,7 +40,7 @@ impl Corners {
     }
 
     fn at(&self, i: usize) -> Corner
-        requires { i < 513 }
+        requires { i < 65 }
         ensures { result ≡ corner_in self.now i }
     {
         Corner {
@@ -51,14 +52,14 @@ impl Corners {
 
 /// Whether no legal step improves the table. It goes down the map strip by strip, and holds two rows, so that it looks up each cell
 /// once.
-pub(crate) fn is_tight(map: &Map, table: &LengthTable) -> bool
-    requires cells { length table.now ≡ map.now.width * map.now.height }
-    ensures { IsTrue result ↔ IsTight map.now table.now }
+pub(crate) fn is_tight(map: &Map, entries: &Entries) -> bool
+    requires cells { length (entries_of entries.now) ≡ map.now.width * map.now.height }
+    ensures { IsTrue result ↔ IsTight map.now (entries_of entries.now) }
 {
     let width = map.width();
     for strip in 0..width.div_ceil(STRIP) {
         let left = strip * STRIP;
-        if !keeps_strip(map, table, left, width.min(left + STRIP)) {
+        if !keeps_strip(map, entries, left, width.min(left + STRIP)) {
             return false;
         }
     }
@@ -66,21 +67,21 @@ pub(crate) fn is_tight(map: &Map, table: &LengthTable) -> bool
 }
 
 /// Tests each step of the columns from one to before another, and each to the column behind them.
-fn keeps_strip(map: &Map, table: &LengthTable, left: u32, right: u32) -> bool
-    requires cells { length table.now ≡ map.now.width * map.now.height }
+fn keeps_strip(map: &Map, entries: &Entries, left: u32, right: u32) -> bool
+    requires cells { length (entries_of entries.now) ≡ map.now.width * map.now.height }
     requires strip { IsStrip map.now left right }
-    ensures { IsTrue result ↔ KeepsStrip map.now table.now left right }
+    ensures { IsTrue result ↔ KeepsStrip map.now (number_on entries.now map.now.width) left right }
 {
     let width = map.width() as usize;
     let mut upper = None;
     for y in 0..map.height() {
-        // where all entries are the same, no step improves one
-        if table.is_beyond(y as usize * width, 2 * width) {
+        // what stands for the keys that were not found is tight by itself
+        if entries.is_beyond(width, left as usize, right as usize, y as usize) {
             upper = None;
             continue;
         }
-        let above = told_or_new(upper, map, table, left, right, y);
-        let below = corners_of(map, table, left, right, y + 1);
+        let above = told_or_new(upper, map, entries, left, right, y);
+        let below = corners_of(map, entries, left, right, y + 1);
         if !keeps_row(&above, &below, (right - left) as usize) {
             return false;
         }
@@ -93,47 +94,48 @@ fn keeps_strip(map: &Map, table: &LengthTable, left: u32, right: u32) -> bool
 fn told_or_new(
     held: Option<Corners>,
     map: &Map,
-    table: &LengthTable,
+    entries: &Entries,
     left: u32,
     right: u32,
     y: u32,
 ) -> Corners
-    requires cells { length table.now ≡ map.now.width * map.now.height }
+    requires cells { length (entries_of entries.now) ≡ map.now.width * map.now.height }
     requires strip { IsStrip map.now left right }
     requires row { y < 65536 }
-    requires held { IfSome held (λ corners. AreCorners map.now table.now left right y corners) }
-    ensures { AreCorners map.now table.now left right y result }
+    requires held { IfSome held (λ corners. AreCorners map.now (number_on entries.now map.now.width) left right y corners) }
+    ensures { AreCorners map.now (number_on entries.now map.now.width) left right y result }
 {
     match held {
         Some(corners) => corners,
-        None => corners_of(map, table, left, right, y),
+        None => corners_of(map, entries, left, right, y),
     }
 }
 
 /// What the cells of a row say; off the map they are blocked, and no key is told.
-fn corners_of(map: &Map, table: &LengthTable, left: u32, right: u32, y: u32) -> Corners
-    requires cells { length table.now ≡ map.now.width * map.now.height }
+fn corners_of(map: &Map, entries: &Entries, left: u32, right: u32, y: u32) -> Corners
+    requires cells { length (entries_of entries.now) ≡ map.now.width * map.now.height }
     requires strip { IsStrip map.now left right }
     requires row { y < 65536 }
-    ensures { AreCorners map.now table.now left right y result }
+    ensures { AreCorners map.now (number_on entries.now map.now.width) left right y result }
 {
     let mut corners = Corners::blocked();
     let (width, height) = (map.width(), map.height());
     if y < height {
         let characters = map.characters();
-        let first = y as usize * width as usize + left as usize;
-        let count = (width.min(right + 1) - left) as usize;
+        let (x, y, width) = (left as usize, y as usize, width as usize);
+        let first = y * width + x;
+        let count = width.min(right as usize + 1) - x;
         for i in 0..count {
             corners.grounds[i] = grounds_of(characters[first + i]);
         }
-        table.put_numbers(first, count, &mut corners.keys);
+        entries.put_numbers(width, x, y, count, &mut corners.keys);
     }
     corners
 }
 
 /// Tests each step of a row and each to the row below it.
 fn keeps_row(upper: &Corners, lower: &Corners, count: usize) -> bool
-    requires { count ≤ 512 }
+    requires { count ≤ 64 }
     ensures { IsTrue result ↔ KeepsRows count upper.now lower.now }
 {
     let mut keeps = true;

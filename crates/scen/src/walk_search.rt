@@ -1,6 +1,7 @@
 //! Searching for a shortest walk.
 ghost use Rattle.scen.specs.Search.{FailsSearch};
 
+use crate::approach::approach;
 use crate::certificate::{Proposal, is_on};
 use crate::field::Field;
 use crate::flood::flood;
@@ -10,7 +11,7 @@ use grid::{Cell, Map};
 use std::alloc::{AllocError, Global};
 
 /// A walk from one cell to another that should be shortest, empty where no walk leads there, and a table of what should be the
-/// shortest lengths from the first to each cell, or that of the walk where they are greater. Whether they are is for the certificate to say.
+/// shortest lengths from the first to each cell near it, and no greater than them elsewhere. Whether they are is for the certificate to say.
 pub fn search(alloc: Global, map: &Map, start: Cell, goal: Cell) -> Result<Proposal, SearchFault>
     ensures { FailsSearch map.now start goal result }
 {
@@ -22,9 +23,24 @@ pub fn search(alloc: Global, map: &Map, start: Cell, goal: Cell) -> Result<Propo
 
 fn propose(alloc: Global, map: &Map, start: Cell, goal: Cell) -> Result<Proposal, AllocError> {
     let mut field = Field::around(alloc, map, start)?;
+    if approach(alloc, &mut field, start, goal)? {
+        return found(alloc, map, field, goal, Some(goal));
+    }
+    let mut field = Field::around(alloc, map, start)?;
     flood(alloc, &mut field, start, goal)?;
+    found(alloc, map, field, goal, None)
+}
+
+/// What a search found; the goal is given as the heading where the search went by the distance to it.
+fn found(
+    alloc: Global,
+    map: &Map,
+    field: Field,
+    goal: Cell,
+    heading: Option<Cell>,
+) -> Result<Proposal, AllocError> {
     Ok(Proposal {
         walk: walk_back(alloc, &field, goal, map.characters().len())?,
-        table: field.into_table(goal),
+        table: field.into_table(goal, heading),
     })
 }

@@ -1,5 +1,6 @@
-//! The cells that a search goes on from, in buckets of keys.
-use crate::keys::{Key, Steps};
+//! The cells that a search in all directions goes on from, in buckets of keys.
+use crate::front::Front;
+use crate::keys::Key;
 use grid::Cell;
 use std::alloc::{AllocError, Global};
 use std::mem;
@@ -31,43 +32,17 @@ impl Wave {
         self.later_from = later_from;
         now.is_empty() && self.next.is_empty()
     }
+}
 
-    /// Gives a cell the key of a straight step to it, where that is less. The answer is whether a diagonal step past it may be best.
+impl Front for Wave {
     #[inline(always)]
-    pub(crate) fn step_straight(
-        &mut self,
-        key: &mut Key,
-        cell: Cell,
-        steps: Steps,
-    ) -> Result<bool, AllocError> {
-        let old = *key;
-        if steps.straight.is_less(old) {
-            *key = steps.straight;
+    fn push(&mut self, cell: Cell, old: Key, new: Key) -> Result<(), AllocError> {
+        if !new.is_from(self.later_from) {
             if old.is_from(self.later_from) {
                 self.next.push(cell).map_err(AllocError::from)?;
             }
-        }
-        Ok(old.is_passed(steps.diagonal))
-    }
-
-    /// Gives a cell the key of a diagonal step to it, where that is less.
-    #[inline(always)]
-    pub(crate) fn step_diagonal(
-        &mut self,
-        key: &mut Key,
-        cell: Cell,
-        new: Key,
-    ) -> Result<(), AllocError> {
-        let old = *key;
-        if new.is_less(old) {
-            *key = new;
-            if !new.is_from(self.later_from) {
-                if old.is_from(self.later_from) {
-                    self.next.push(cell).map_err(AllocError::from)?;
-                }
-            } else if old.is_unreached() {
-                self.later.push(cell).map_err(AllocError::from)?;
-            }
+        } else if old.is_unreached() {
+            self.later.push(cell).map_err(AllocError::from)?;
         }
         Ok(())
     }

@@ -1,13 +1,10 @@
 -- How a table is tested to be tight: row by row, by blocks of four cells that share a corner.
-use Rattle.std.specs.Prelude.{bit_and, ℕ, ◌≡◌, ◌+◌, ◌-◌, ◌<◌, ◌≤◌, Bool, true, false, List, slice_index, Option, Some, None}
+use Rattle.std.specs.Prelude.{bit_and, ℕ, ◌≡◌, ◌+◌, ◌-◌, ◌<◌, ◌≤◌, Bool, true, false, slice_index, Option, Some, None}
 use Rattle.grid.specs.declared.terrain.Terrain.{Terrain}
 use Rattle.grid.specs.Terrain.{Class, land, swamp, water, blocked, class_of}
 use Rattle.grid.specs.Map.{Grid, terrain_at}
-use Rattle.scen.specs.declared.length.Length.{Length}
 use Rattle.scen.specs.declared.tightness.Corner.{Corner}
 use Rattle.scen.specs.declared.tightness.Corners.{Corners}
-use Rattle.scen.specs.Certificate.{entry_of}
-use Rattle.scen.specs.Code.KeyParts.{number_of_entry}
 
 -- what steps hang on: land and swamp are one ground, since each joins each
 pub data Ground : Type 0 where
@@ -38,12 +35,12 @@ number_of open_land = 1
 number_of open_water = 2
 number_of no_ground = 0
 
--- what map and table say of a cell
-abbrev pub corner_at : Grid → List (Option Length) → ℕ → ℕ → Corner
-corner_at m table x y =
+-- what the map and the numbers of a table say of a cell
+abbrev pub corner_at : Grid → (ℕ → ℕ → ℕ) → ℕ → ℕ → Corner
+corner_at m numbers x y =
     record {
       grounds = number_of (ground_of (terrain_at m (record { x = x; y = y })));
-      key = number_of_entry (entry_of m table (record { x = x; y = y }));
+      key = numbers x y;
     }
 
 -- both cells are land, or both are water
@@ -67,9 +64,9 @@ abbrev pub KeepsBlock : Corner → Corner → Corner → Corner → Type 0
 KeepsBlock a b c d = KeepsSide a b × KeepsSide a c × KeepsDiagonals a b c d
 
 -- four cells that share a corner, by the upper left one
-abbrev pub KeepsBlockAt : Grid → List (Option Length) → (x y : ℕ) → Type 0
-KeepsBlockAt m table x y =
-    KeepsBlock (corner_at m table x y) (corner_at m table (x + 1) y) (corner_at m table x (y + 1)) (corner_at m table (x + 1) (y + 1))
+abbrev pub KeepsBlockAt : Grid → (ℕ → ℕ → ℕ) → (x y : ℕ) → Type 0
+KeepsBlockAt m numbers x y =
+    KeepsBlock (corner_at m numbers x y) (corner_at m numbers (x + 1) y) (corner_at m numbers x (y + 1)) (corner_at m numbers (x + 1) (y + 1))
 
 -- what a row holds of a column of its strip
 abbrev pub corner_in : Corners → ℕ → Corner
@@ -85,16 +82,16 @@ KeepsRows count upper lower = (i : ℕ) → i < count → KeepsBlockIn upper low
 
 -- the columns of a strip, from one to before another
 abbrev pub IsStrip : Grid → (left right : ℕ) → Type 0
-IsStrip m left right = (left < right) × (right ≤ left + 512) × (right ≤ m.width)
+IsStrip m left right = (left < right) × (right ≤ left + 64) × (right ≤ m.width)
 
 -- The one tells of a cell what the other does. A key tells nothing where no step may enter.
 abbrev pub Tells : Corner → Corner → Type 0
 Tells p c = (p.grounds ≡ c.grounds) × ((c.grounds ≡ 0 → ⊥) → p.key ≡ c.key)
 
 -- what the cells of a row say, from one column to another
-abbrev pub AreCorners : Grid → List (Option Length) → (left right y : ℕ) → Corners → Type 0
-AreCorners m table left right y corners = (x : ℕ) → left ≤ x → x ≤ right → Tells (corner_in corners (x - left)) (corner_at m table x y)
+abbrev pub AreCorners : Grid → (ℕ → ℕ → ℕ) → (left right y : ℕ) → Corners → Type 0
+AreCorners m numbers left right y corners = (x : ℕ) → left ≤ x → x ≤ right → Tells (corner_in corners (x - left)) (corner_at m numbers x y)
 
 -- each block whose upper left cell is in a column from one to before another
-abbrev pub KeepsStrip : Grid → List (Option Length) → (left right : ℕ) → Type 0
-KeepsStrip m table left right = (y : ℕ) → y < m.height → (x : ℕ) → left ≤ x → x < right → KeepsBlockAt m table x y
+abbrev pub KeepsStrip : Grid → (ℕ → ℕ → ℕ) → (left right : ℕ) → Type 0
+KeepsStrip m numbers left right = (y : ℕ) → y < m.height → (x : ℕ) → left ≤ x → x < right → KeepsBlockAt m numbers x y

@@ -1,10 +1,11 @@
--- Each cell on the map is told by its character and its entry, and none off it.
-use Rattle.std.proofs.Common.{◌≡◌, ◌+◌, ◌*◌, ◌-◌, get_or, map, None, inl, inr, arith, ap, ◌∙◌}
+-- Each cell on the map is told by its character and its number, and none off it.
+use Rattle.std.proofs.Common.{◌≡◌, ◌+◌, ◌*◌, ◌-◌, get_or, map, inl, inr, arith, ap, ◌∙◌}
 use Rattle.std.proofs.lemmas.Bool.{cases_lt}
 use Rattle.std.proofs.lemmas.List.{length-set, get_or-set_other}
 use Rattle.grid.specs.Terrain.{terrain_of, character_of}
 use Rattle.scen.specs.Code.Tightness.{corner_in, ground_of, number_of}
-use Rattle.scen.proofs.BandLemmas.{told_more}
+use Rattle.scen.specs.Code.TableEntries.{number_on}
+use Rattle.scen.proofs.TileLemmas.{told_more}
 use Rattle.scen.proofs.TightTables.{told_off, told_on}
 use Rattle.scen.proofs.tightness.corners_of.Goals as goal
 
@@ -31,7 +32,7 @@ loop-i-preserved c =
 pub returns-after-loop-i : goal.returns-after-loop-i
 returns-after-loop-i c x least most =
     let m = c.args.map.now in
-    let table = c.args.table.now in
+    let numbers = number_on c.args.entries.now m.width in
     let left = c.args.left in
     let y = c.args.y in
     let now = c.loop-i.invariant in
@@ -45,14 +46,15 @@ returns-after-loop-i c x least most =
     elim (cases_lt x m.width) [
       | inl on ↦
           let first : y * c.width-width.result + left + (x - left) ≡ y * m.width + x = ap (λ w. y * w + left + (x - left)) width ∙ omega (arith, least) in
-          told_on m table x y (y * c.width-width.result + left + (x - left)) corner None c.width-width.ensures.map c.requires.cells on
+          told_on m numbers x y (y * c.width-width.result + left + (x - left)) corner c.width-width.ensures.map on
           (omega (arith, row, height)) first (now.told (x - left) (omega (arith, on, test, end, width, least, most)))
-          (c.put_numbers.ensures.told (x - left) (omega (arith, on, end, width, least, most)))
-      | inr off ↦ told_off m table x y corner (λ on. let column = on.0 in omega (arith, off, column)) (now.rest (x - left) (omega (arith, done, end, width, off, least)))
+          (c.put_numbers.ensures.told (x - left) (omega (arith, on, end, width, least, most))
+          ∙ ap (λ w. number_on c.args.entries.now w (left + (x - left)) y) width ∙ ap (λ i. number_on c.args.entries.now m.width i y) (let e : left + (x - left) ≡ x = omega (arith, least) in e))
+      | inr off ↦ told_off m numbers x y corner (λ on. let column = on.0 in omega (arith, off, column)) (now.rest (x - left) (omega (arith, done, end, width, off, least)))
     ]
 
 pub returns-else-y-height : goal.returns-else-y-height
 returns-else-y-height c x least most =
     let below = c.if-y-height.false in
     let height = c.height-height.ensures.height in
-    told_off c.args.map.now c.args.table.now x c.args.y _ (λ on. let row = on.1 in omega (arith, below, height, row)) (c.blocked-corners.ensures (x - c.args.left))
+    told_off c.args.map.now (number_on c.args.entries.now c.args.map.now.width) x c.args.y _ (λ on. let row = on.1 in omega (arith, below, height, row)) (c.blocked-corners.ensures (x - c.args.left))

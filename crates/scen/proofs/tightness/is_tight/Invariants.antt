@@ -1,7 +1,8 @@
 use Rattle.std.proofs.Common.{ℕ, ◌*◌, ◌<◌}
+use Rattle.scen.specs.Code.TableEntries.{number_on}
 use Rattle.scen.specs.Code.Tightness.{KeepsBlockAt}
 use Rattle.scen.proofs.tightness.is_tight.Given as goal
 
 -- each block whose column is in a strip before it keeps
 abbrev pub invariant-loop-strip : goal.invariant-loop-strip
-invariant-loop-strip l = (y : ℕ) → y < l.map.height → (x : ℕ) → x < 512 * l.strip → x < l.map.width → KeepsBlockAt l.map l.table x y
+invariant-loop-strip l = (y : ℕ) → y < l.map.height → (x : ℕ) → x < 64 * l.strip → x < l.map.width → KeepsBlockAt l.map (number_on l.entries l.map.width) x y

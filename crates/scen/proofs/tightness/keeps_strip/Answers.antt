@@ -1,14 +1,16 @@
--- Each row is tested with the one above it, but for rows of which all entries are the same.
-use Rattle.std.proofs.Common.{ℕ, ◌+◌, ◌*◌, ◌<◌, ◌≤◌, sym, subst, arith, ◌∙◌}
+-- Each row is tested with the one above it, but for rows to which the search didn't come near.
+use Rattle.std.proofs.Common.{ℕ, ◌<◌, ◌≤◌, sym, subst, arith, ◌∙◌}
 use Rattle.std.proofs.lemmas.Bool.{false≢true}
+use Rattle.scen.specs.Code.TableEntries.{number_on, IsBeyond}
 use Rattle.scen.specs.Code.Tightness.{KeepsBlockAt}
-use Rattle.scen.proofs.TightTables.{all_below_next, rows_from_held, held_from_rows, AreEven, even_block}
+use Rattle.scen.proofs.TightTables.{all_below_next, rows_from_held, held_from_rows, beyond_block}
 use Rattle.scen.proofs.tightness.keeps_strip.Goals as goal
 
 pub returns-then-not-keeps_row : goal.returns-then-not-keeps_row
 returns-then-not-keeps_row c = (
   λ e. absurd (false≢true e),
-  λ rows. absurd (false≢true (sym c.if-not-keeps_row.true ∙ c.keeps_row.ensures.1 (held_from_rows c.args.map.now c.args.table.now c.args.left c.args.right c.loop-y.y
+  λ rows. absurd (false≢true (sym c.if-not-keeps_row.true ∙ c.keeps_row.ensures.1
+      (held_from_rows c.args.map.now (number_on c.args.entries.now c.args.map.now.width) c.args.left c.args.right c.loop-y.y
       c.told_or_new-above.result c.corners_of-below.result c.told_or_new-above.ensures c.corners_of-below.ensures
       (rows c.loop-y.y (omega (arith, c.loop-y-test.true, c.height-y-end.ensures.height)))))),
 )
@@ -16,27 +18,27 @@ returns-then-not-keeps_row c = (
 pub loop-y-preserved-then-is_beyond : goal.loop-y-preserved-then-is_beyond
 loop-y-preserved-then-is_beyond c =
     let m = c.args.map.now in
-    let table = c.args.table.now in
+    let entries = c.args.entries.now in
     let left = c.args.left in
     let right = c.args.right in
     let y = c.loop-y.y in
-    let even : AreEven table (y * m.width) (y * m.width + 2 * m.width) =
-    subst (λ w. AreEven table (y * w) (y * w + 2 * w)) c.width-width.ensures.width (c.is_beyond.ensures c.if-is_beyond.true) in
+    let beyond : IsBeyond entries m.width left right y =
+    subst (λ w. IsBeyond entries w left right y) c.width-width.ensures.width (c.is_beyond.ensures c.if-is_beyond.true) in
     record {
       corners = tt;
-      kept = all_below_next (λ k. (x : ℕ) → left ≤ x → x < right → KeepsBlockAt m table x k) y c.loop-y.invariant.kept
-          (λ x least less. even_block m table x y c.requires.cells even);
+      kept = all_below_next (λ k. (x : ℕ) → left ≤ x → x < right → KeepsBlockAt m (number_on entries m.width) x k) y c.loop-y.invariant.kept
+          (λ x least less. beyond_block m entries left right x y beyond least less);
     }
 
 pub loop-y-preserved : goal.loop-y-preserved
 loop-y-preserved c =
     let m = c.args.map.now in
-    let table = c.args.table.now in
+    let numbers = number_on c.args.entries.now m.width in
     let left = c.args.left in
     let right = c.args.right in
     record {
       corners = c.corners_of-below.ensures;
-      kept = all_below_next (λ k. (x : ℕ) → left ≤ x → x < right → KeepsBlockAt m table x k) c.loop-y.y c.loop-y.invariant.kept
-          (rows_from_held m table left right c.loop-y.y c.told_or_new-above.result c.corners_of-below.result c.told_or_new-above.ensures c.corners_of-below.ensures
+      kept = all_below_next (λ k. (x : ℕ) → left ≤ x → x < right → KeepsBlockAt m numbers x k) c.loop-y.y c.loop-y.invariant.kept
+          (rows_from_held m numbers left right c.loop-y.y c.told_or_new-above.result c.corners_of-below.result c.told_or_new-above.ensures c.corners_of-below.ensures
           (c.keeps_row.ensures.0 c.if-not-keeps_row.false));
     }

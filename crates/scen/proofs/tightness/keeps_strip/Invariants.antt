@@ -1,11 +1,12 @@
 use Rattle.std.proofs.Common.{ℕ, ◌<◌, ◌≤◌}
 use Rattle.std.specs.Prelude.{IfSome}
+use Rattle.scen.specs.Code.TableEntries.{number_on}
 use Rattle.scen.specs.Code.Tightness.{AreCorners, KeepsBlockAt}
 use Rattle.scen.proofs.tightness.keeps_strip.Given as goal
 
 -- a row that is held is told, and each block above it keeps
 abbrev pub invariant-loop-y : goal.invariant-loop-y
 invariant-loop-y l = record {
-  corners : IfSome l.upper (AreCorners l.map l.table l.left l.right l.y);
-  kept : (k : ℕ) → k < l.y → (x : ℕ) → l.left ≤ x → x < l.right → KeepsBlockAt l.map l.table x k;
+  corners : IfSome l.upper (AreCorners l.map (number_on l.entries l.map.width) l.left l.right l.y);
+  kept : (k : ℕ) → k < l.y → (x : ℕ) → l.left ≤ x → x < l.right → KeepsBlockAt l.map (number_on l.entries l.map.width) x k;
 }

@@ -1,9 +1,10 @@
--- There is one band, whose keys are those of the entries.
+-- The keys are those of the entries.
 use Rattle.std.proofs.Common.{◌≡◌, map, take, None, arith, ap, ◌∙◌}
 use Rattle.std.proofs.Math.Seq.{take-length}
 use Rattle.std.proofs.lemmas.List.{get_or_default}
 use Rattle.scen.specs.Code.KeyParts.{number_of_entry}
-use Rattle.scen.proofs.BandLemmas.{entries_back, values_more}
+use Rattle.scen.proofs.TableLemmas.{entries_back}
+use Rattle.scen.proofs.TileLemmas.{values_more}
 use Rattle.scen.proofs.length_table.LengthTable.from_entries.Goals as goal
 
 pub loop-entry-preserved : goal.loop-entry-preserved
@@ -16,9 +17,7 @@ loop-entry-preserved c =
 pub returns : goal.returns
 returns c =
     let es = c.args.entries.now in
-    let keys = c.loop-entry.keys.items in
     let i = c.loop-entry.entry-index in
-    let size = c.max.ensures in
-    let all : map (λ k. k.value) keys ≡ map number_of_entry es =
+    let all : map (λ k. k.value) c.loop-entry.keys.items ≡ map number_of_entry es =
     c.loop-entry.invariant ∙ ap (λ n. map number_of_entry (take n es)) (omega arith) ∙ ap (map number_of_entry) (take-length es) in
-    entries_back c.in_ok-vec.field-0.items (record { keys = c.loop-entry.keys }) c.max.result es c.in_ok-vec.ensures.items (omega (arith, size)) (omega (arith, size)) all
+    entries_back c.loop-entry.keys es all

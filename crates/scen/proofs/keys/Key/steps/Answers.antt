@@ -1,7 +1,7 @@
 -- The number is that of a length, and a step more makes another one.
 use Rattle.std.proofs.Common.{◌*◌, ◌<◌, arith}
 use Rattle.scen.proofs.KeyNumbers.{straight_step, diagonal_step}
-use Rattle.scen.proofs.keys.Key.steps_from.Goals as goal
+use Rattle.scen.proofs.keys.Key.steps.Goals as goal
 
 pub invariant_of-straight : goal.invariant_of-straight
 invariant_of-straight c =
