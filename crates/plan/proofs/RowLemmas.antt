@@ -1,10 +1,10 @@
 -- Who is under way in a block, and the rows of its acts.
-use Rattle.std.proofs.Common.{◌≡◌, ◌≢◌, ℕ, zero, suc, ◌+◌, ◌<◌, ◌≤◌, ◌⊎◌, Bool, true, false, List, [], ◌∷◌, length, get_or, set, Some, arith, refl, sym, ap, subst, inl, inr, ◌∙◌}
+use Rattle.std.proofs.Common.{◌≡◌, ◌≢◌, ℕ, zero, suc, ◌+◌, ◌-◌, ◌<◌, ◌≤◌, ◌⊎◌, Bool, true, false, List, [], ◌∷◌, length, get_or, set, take, drop, replicate, Some, arith, refl, sym, ap, subst, inl, inr, ◌∙◌}
 use Rattle.std.specs.Prelude.{Contains, slice_get}
 use Rattle.std.specs.List.{filter}
 use Rattle.std.specs.List.Sorted.{IsPermutation}
 use Rattle.std.proofs.lemmas.Bool.{cases_lt, cases_eq, cases_Bool, cond-true, cond-false, cond_both}
-use Rattle.std.proofs.lemmas.List.{length-set, get_or-set_same, get_or-set_other, get_or_default}
+use Rattle.std.proofs.lemmas.List.{length-set, get_or-set_same, get_or-set_other, get_or_default, get_or-take, get_or-drop, length-replicate, get_or-replicate}
 use Rattle.std.proofs.lemmas.List.Elements.{filter_passes, All-contains, Contains-get_or}
 use Rattle.std.proofs.lemmas.List.Sorted.{Contains-permutation, IsPermutation-sym, length_permutation}
 use Rattle.std.proofs.lemmas.List.Sums.{length-filter, count_by-le-length}
@@ -16,7 +16,7 @@ use Rattle.plan.specs.declared.crowd.Walker.{Walker}
 use Rattle.plan.specs.Code.Walking.{has_act}
 use Rattle.plan.specs.Code.Squares.{ground_in, square_at}
 use Rattle.plan.specs.Code.Crowd.{walker_at, act_at}
-use Rattle.plan.specs.Code.Blocks.{block_steps, row_at, KeepRows, IsStretch, IsLinedUp}
+use Rattle.plan.specs.Code.Blocks.{block_steps, group_size, row_at, AreGroupActs, IsStretch, IsLinedUp}
 
 -- ---- held squares
 
@@ -67,50 +67,6 @@ held-more courses step walkers old now n square h within is =
           | inr kept ↦ inr (there place apart ∙ kept)
         ]
       ];
-    }
-
--- ---- rows
-
-pub record IsPutTo (stretch : List Act) (place : ℕ) (old now : List (List Act)) (n : ℕ) : Type 0 where
-  pub kept : KeepRows place old now
-  pub own : (s : ℕ) → s < n → act_at (row_at now s) place ≡ get_or stretch s Wait
-  pub rest : (s : ℕ) → n ≤ s → row_at now s ≡ row_at old s
-
-pub put-none : (stretch : List Act) (place : ℕ) (rows : List (List Act)) → IsPutTo stretch place rows rows 0
-put-none stretch place rows = record {
-  kept = record { steps = refl; sizes = λ s. refl; others = λ s k apart. refl };
-  own = λ s less. absurd (omega (arith, less));
-  rest = λ s past. refl;
-}
-
-pub put-more : (stretch : List Act) (place : ℕ) (old now : List (List Act)) (n : ℕ) (act : Act) → IsPutTo stretch place old now n → n < length old
-    → place < length (row_at old n) → act ≡ get_or stretch n Wait → IsPutTo stretch place old (set now n (set (row_at now n) place act)) (n + 1)
-put-more stretch place old now n act h within room is =
-    let row = set (row_at now n) place act in
-    let steps = h.kept.steps in
-    let size = h.kept.sizes n in
-    let here : row_at (set now n row) n ≡ row = get_or-set_same now n row [] (omega (arith, within, steps)) in
-    let there : (s : ℕ) → s ≢ n → row_at (set now n row) s ≡ row_at now s = λ s apart. get_or-set_other now n s row [] apart in
-    record {
-      kept = record {
-        steps = length-set now n row ∙ steps;
-        sizes = λ s. elim (cases_eq s n) [
-          | inl one ↦ subst (λ i. length (row_at (set now n row) i) ≡ length (row_at old i)) (sym one) (ap length here ∙ length-set (row_at now n) place act ∙ size)
-          | inr apart ↦ ap length (there s apart) ∙ h.kept.sizes s
-        ];
-        others = λ s k other. elim (cases_eq s n) [
-          | inl one ↦ subst (λ i. act_at (row_at (set now n row) i) k ≡ act_at (row_at old i) k) (sym one)
-              (ap (λ r. act_at r k) here ∙ get_or-set_other (row_at now n) place k act N other ∙ h.kept.others n k other)
-          | inr apart ↦ ap (λ r. act_at r k) (there s apart) ∙ h.kept.others s k other
-        ];
-      };
-      own = λ s less. elim (cases_lt s n) [
-        | inl before ↦ ap (λ r. act_at r place) (there s (λ e. omega (arith, before, e))) ∙ h.own s before
-        | inr after ↦ (let one : s ≡ n = omega (arith, less, after) in
-            subst (λ i. act_at (row_at (set now n row) i) place ≡ get_or stretch i Wait) (sym one)
-            (ap (λ r. act_at r place) here ∙ get_or-set_same (row_at now n) place act N (omega (arith, room, size)) ∙ is))
-      ];
-      rest = λ s past. there s (λ e. omega (arith, past, e)) ∙ h.rest s (omega (arith, past));
     }
 
 -- ---- walkers that are kept, in another order
@@ -172,6 +128,126 @@ lined-up courses step old kept new is moved = record {
   test : Walker → Bool
   test w = has_act courses step w.agent
 
+-- ---- a row of acts
+
+-- the row after the first so many stretches
+pub record IsFilledTo (stretches : List (List Act)) (step first : ℕ) (old now : List Act) (n : ℕ) : Type 0 where
+  pub count : length now ≡ length old
+  pub before : (k : ℕ) → k < first → act_at now k ≡ act_at old k
+  pub own : (k : ℕ) → k < n → act_at now (first + k) ≡ act_at (get_or stretches k []) step
+
+pub filled-none : (stretches : List (List Act)) (step first : ℕ) (row : List Act) → IsFilledTo stretches step first row row 0
+filled-none stretches step first row = record { count = refl; before = λ k less. refl; own = λ k less. absurd (omega (arith, less)) }
+
+pub filled-more : (stretches : List (List Act)) (step first : ℕ) (old now : List Act) (n : ℕ) (act : Act) → IsFilledTo stretches step first old now n
+    → first + n < length old → act ≡ act_at (get_or stretches n []) step → IsFilledTo stretches step first old (set now (first + n) act) (n + 1)
+filled-more stretches step first old now n act h within is =
+    let count = h.count in
+    let other : (k : ℕ) → k ≢ first + n → act_at (set now (first + n) act) k ≡ act_at now k = λ k apart. get_or-set_other now (first + n) k act N apart in
+    record {
+      count = length-set now (first + n) act ∙ count;
+      before = λ k less. other k (λ e. omega (arith, less, e)) ∙ h.before k less;
+      own = λ k less. elim (cases_lt k n) [
+        | inl earlier ↦ other (first + k) (λ e. omega (arith, earlier, e)) ∙ h.own k earlier
+        | inr later ↦ (let same : k ≡ n = omega (arith, less, later) in
+            subst (λ i. act_at (set now (first + n) act) (first + i) ≡ act_at (get_or stretches i []) step) (sym same)
+            (get_or-set_same now (first + n) act N (omega (arith, within, count)) ∙ is))
+      ];
+    }
+
+-- ---- the rows of a group
+
+-- each of the first so many walkers has its stretch
+abbrev pub AreFetched : List Course → ℕ → List Walker → List (List Act) → ℕ → Type 0
+AreFetched courses step group stretches n =
+    (k : ℕ) (course : Course) → k < n → slice_get courses (walker_at group k).agent ≡ Some course → IsStretch course.acts step (get_or stretches k [])
+
+-- a stretch for each walker of the largest group
+pub record AreStretches (stretches : List (List Act)) : Type 0 where
+  pub count : length stretches ≡ group_size
+  pub each : (k : ℕ) → k < group_size → length (get_or stretches k []) ≡ block_steps
+
+pub stretches-none : AreStretches (replicate group_size (replicate block_steps Wait))
+stretches-none = record {
+  count = length-replicate group_size (replicate block_steps Wait);
+  each = λ k less. ap length (get_or-replicate group_size k (replicate block_steps Wait) [] less) ∙ length-replicate block_steps Wait;
+}
+
+pub stretches-more : (stretches : List (List Act)) (n : ℕ) (stretch : List Act) → AreStretches stretches → length stretch ≡ block_steps
+    → AreStretches (set stretches n stretch)
+stretches-more stretches n stretch h long = record {
+  count = length-set stretches n stretch ∙ h.count;
+  each = λ k less. elim (cases_eq k n) [
+    | inl same ↦ (let count = h.count in
+        subst (λ i. length (get_or (set stretches n stretch) i []) ≡ block_steps) (sym same)
+        (ap length (get_or-set_same stretches n stretch [] (omega (arith, less, same, count))) ∙ long))
+    | inr apart ↦ ap length (get_or-set_other stretches n k stretch [] apart) ∙ h.each k less
+  ];
+}
+
+pub fetched-more : (courses : List Course) (step : ℕ) (group : List Walker) (stretches : List (List Act)) (n : ℕ) (own : Course) (stretch : List Act)
+    → AreFetched courses step group stretches n → n < length stretches → IsStretch own.acts step stretch
+    → slice_get courses (walker_at group n).agent ≡ Some own → AreFetched courses step group (set stretches n stretch) (n + 1)
+fetched-more courses step group stretches n own stretch h within is there k course less at = elim (cases_lt k n) [
+  | inl earlier ↦ subst (IsStretch course.acts step) (sym (get_or-set_other stretches n k stretch [] (λ e. omega (arith, earlier, e)))) (h k course earlier at)
+  | inr later ↦ (
+      let same : k ≡ n = omega (arith, less, later) in
+      let here = subst (λ i. slice_get courses (walker_at group i).agent ≡ Some course) same at in
+      let one : own ≡ course = cc in
+      subst (λ i. IsStretch course.acts step (get_or (set stretches n stretch) i [])) (sym same)
+      (subst (IsStretch course.acts step) (sym (get_or-set_same stretches n stretch [] within)) (subst (λ c. IsStretch c.acts step stretch) one is))
+      )
+]
+
+-- the rows after the first so many steps
+pub record ArePutTo (stretches : List (List Act)) (count first : ℕ) (old now : List (List Act)) (n : ℕ) : Type 0 where
+  pub steps : length now ≡ length old
+  pub sizes : (s : ℕ) → length (row_at now s) ≡ length (row_at old s)
+  pub before : (s k : ℕ) → k < first → act_at (row_at now s) k ≡ act_at (row_at old s) k
+  pub own : (s k : ℕ) → s < n → k < count → act_at (row_at now s) (first + k) ≡ act_at (get_or stretches k []) s
+
+pub put-none : (stretches : List (List Act)) (count first : ℕ) (rows : List (List Act)) → ArePutTo stretches count first rows rows 0
+put-none stretches count first rows = record {
+  steps = refl;
+  sizes = λ s. refl;
+  before = λ s k less. refl;
+  own = λ s k less. absurd (omega (arith, less));
+}
+
+pub put-more : (stretches : List (List Act)) (count first : ℕ) (old now : List (List Act)) (n : ℕ) (row : List Act) → ArePutTo stretches count first old now n
+    → n < length old → length row ≡ length (row_at now n) → ((k : ℕ) → k < first → act_at row k ≡ act_at (row_at now n) k)
+    → ((k : ℕ) → k < count → act_at row (first + k) ≡ act_at (get_or stretches k []) n) → ArePutTo stretches count first old (set now n row) (n + 1)
+put-more stretches count first old now n row h within size kept puts =
+    let steps = h.steps in
+    let here : row_at (set now n row) n ≡ row = get_or-set_same now n row [] (omega (arith, within, steps)) in
+    let there : (s : ℕ) → s ≢ n → row_at (set now n row) s ≡ row_at now s = λ s apart. get_or-set_other now n s row [] apart in
+    record {
+      steps = length-set now n row ∙ steps;
+      sizes = λ s. elim (cases_eq s n) [
+        | inl one ↦ subst (λ i. length (row_at (set now n row) i) ≡ length (row_at old i)) (sym one) (ap length here ∙ size ∙ h.sizes n)
+        | inr apart ↦ ap length (there s apart) ∙ h.sizes s
+      ];
+      before = λ s k less. elim (cases_eq s n) [
+        | inl one ↦ subst (λ i. act_at (row_at (set now n row) i) k ≡ act_at (row_at old i) k) (sym one)
+            (ap (λ r. act_at r k) here ∙ kept k less ∙ h.before n k less)
+        | inr apart ↦ ap (λ r. act_at r k) (there s apart) ∙ h.before s k less
+      ];
+      own = λ s k less among. elim (cases_lt s n) [
+        | inl earlier ↦ ap (λ r. act_at r (first + k)) (there s (λ e. omega (arith, earlier, e))) ∙ h.own s k earlier among
+        | inr later ↦ (let one : s ≡ n = omega (arith, less, later) in
+            subst (λ i. act_at (row_at (set now n row) i) (first + k) ≡ act_at (get_or stretches k []) i) (sym one)
+            (ap (λ r. act_at r (first + k)) here ∙ puts k among))
+      ];
+    }
+
+pub group-turned : (courses : List Course) (step : ℕ) (group : List Walker) (stretches : List (List Act)) (first : ℕ) (old now : List (List Act))
+    → AreStretches stretches → length group ≤ group_size → AreFetched courses step group stretches (length group)
+    → ArePutTo stretches (length group) first old now block_steps → AreGroupActs courses step group first now
+group-turned courses step group stretches first old now are few fetched put s k course less among at =
+    let stretch = get_or stretches k [] in
+    let long = are.each k (omega (arith, among, few)) in
+    put.own s k less among ∙ get_or_default stretch s N Wait (omega (arith, less, long)) ∙ (fetched k course among at).each s less
+
 -- ---- the acts of the walkers before a place
 
 abbrev pub AreTurnedTo : List Course → ℕ → List Walker → List (List Act) → ℕ → Type 0
@@ -179,16 +255,22 @@ AreTurnedTo courses step walkers rows n =
     (s k : ℕ) (course : Course) → s < block_steps → k < n → slice_get courses (walker_at walkers k).agent ≡ Some course
     → act_at (row_at rows s) k ≡ get_or course.acts (step + s) Wait
 
-pub turned-more : (courses : List Course) (step : ℕ) (walkers : List Walker) (old new : List (List Act)) (n : ℕ) (own : Course) (stretch : List Act)
-    → AreTurnedTo courses step walkers old n → KeepRows n old new → IsStretch own.acts step stretch
-    → ((s : ℕ) → s < block_steps → act_at (row_at new s) n ≡ get_or stretch s Wait) → slice_get courses (walker_at walkers n).agent ≡ Some own
-    → AreTurnedTo courses step walkers new (n + 1)
-turned-more courses step walkers old new n own stretch h kept long put is s k course less within there = elim (cases_lt k n) [
-  | inl before ↦ kept.others s k (λ e. omega (arith, before, e)) ∙ h s k course less before there
-  | inr after ↦ (
-      let same : k ≡ n = omega (arith, within, after) in
-      let here = subst (λ i. slice_get courses (walker_at walkers i).agent ≡ Some course) same there in
-      let one : own ≡ course = cc in
-      ap (act_at (row_at new s)) same ∙ put s less ∙ long.each s less ∙ ap (λ c. get_or c.acts (step + s) Wait) one
+-- a walker of a group, which is a part of the walkers
+pub in_group : (walkers : List Walker) (first end k : ℕ) → first + k < end → walker_at (take (end - first) (drop first walkers)) k ≡ walker_at walkers (first + k)
+in_group walkers first end k less =
+    get_or-take (end - first) (drop first walkers) k (record { place = 0; ground = 0; agent = 0 }) (omega (arith, less))
+    ∙ get_or-drop first walkers k (record { place = 0; ground = 0; agent = 0 })
+
+pub turned-more : (courses : List Course) (step : ℕ) (walkers group : List Walker) (old new : List (List Act)) (first end : ℕ)
+    → AreTurnedTo courses step walkers old first → ((s k : ℕ) → s < block_steps → k < first → act_at (row_at new s) k ≡ act_at (row_at old s) k)
+    → AreGroupActs courses step group first new → length group ≡ end - first → ((k : ℕ) → first + k < end → walker_at group k ≡ walker_at walkers (first + k))
+    → AreTurnedTo courses step walkers new end
+turned-more courses step walkers group old new first end h kept own size same s k course less within there = elim (cases_lt k first) [
+  | inl earlier ↦ kept s k less earlier ∙ h s k course less earlier there
+  | inr later ↦ (
+      let split : first + (k - first) ≡ k = omega (arith, later) in
+      let one : walker_at group (k - first) ≡ walker_at walkers k = same (k - first) (omega (arith, later, within)) ∙ ap (walker_at walkers) split in
+      subst (λ i. act_at (row_at new s) i ≡ get_or course.acts (step + s) Wait) split
+      (own s (k - first) course less (omega (arith, later, within, size)) (ap (λ w. slice_get courses w.agent) one ∙ there))
       )
 ]

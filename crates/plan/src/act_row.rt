@@ -1,6 +1,9 @@
 //! The acts of one step.
-ghost use Rattle.std.specs.Prelude.{◌≡◌, ◌<◌, length, set};
+ghost use Rattle.std.specs.Prelude.{◌≡◌, ◌+◌, ◌<◌, ◌≤◌, ℕ, [], length, get_or};
+ghost use Rattle.plan.specs.Code.Crowd.{act_at};
+ghost use Rattle.plan.specs.Code.Blocks.{block_steps};
 
+use crate::stretch::BLOCK;
 use model::Act;
 use std::marker::Model;
 
@@ -32,10 +35,17 @@ impl ActRow {
         self.acts.as_slice()
     }
 
-    pub(crate) fn put(&mut self, place: usize, act: Act)
-        requires { place < length self.old }
-        ensures { self.new ≡ set self.old place act }
+    /// Puts the acts that the stretches have for the step, one after another, from the place on.
+    pub(crate) fn put(&mut self, first: usize, stretches: &[[Act; BLOCK]], step: usize)
+        requires step { step < block_steps }
+        requires stretches { (k : ℕ) → k < length stretches.now → length (get_or stretches.now k []) ≡ block_steps }
+        requires room { first + length stretches.now ≤ length self.old }
+        ensures count { length self.new ≡ length self.old }
+        ensures before { (k : ℕ) → k < first → act_at self.new k ≡ act_at self.old k }
+        ensures own { (k : ℕ) → k < length stretches.now → act_at self.new (first + k) ≡ act_at (get_or stretches.now k []) step }
     {
-        self.acts[place] = act;
+        for member in 0..stretches.len() {
+            self.acts[first + member] = stretches[member][step];
+        }
     }
 }

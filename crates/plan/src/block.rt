@@ -4,7 +4,7 @@ ghost use Rattle.model.specs.declared.act.Act.TheVariants.{Wait as wait};
 ghost use Rattle.plan.specs.Code.Walking.{has_act};
 ghost use Rattle.plan.specs.Code.Squares.{ground_in, square_at};
 ghost use Rattle.plan.specs.Code.Crowd.{act_at, walker_at};
-ghost use Rattle.plan.specs.Code.Blocks.{block_steps, row_at, AreRows, KeepRows, AreBlockActs, IsHeld, IsLinedUp};
+ghost use Rattle.plan.specs.Code.Blocks.{block_steps, group_size, row_at, AreRows, AreGroupActs, AreBlockActs, IsHeld, IsLinedUp};
 
 use crate::act_row::ActRow;
 use crate::board::{HELD, Square};
@@ -13,6 +13,9 @@ use crate::stretch::{BLOCK, Stretch};
 use model::Act;
 use plan_text::Course;
 use std::alloc::{AllocError, Global};
+
+/// The acts of so many walkers are turned at once.
+const GROUP: usize = 32;
 
 /// A row of waits for each step of a block, with room for so many agents.
 pub(crate) fn rows(alloc: Global, count: usize) -> Result<Vec<ActRow>, AllocError>
@@ -56,22 +59,38 @@ pub(crate) fn turn(courses: &[Course], step: u32, walkers: &[Walker], rows: &mut
     ensures rows { AreRows (length courses.now) rows.new }
     ensures acts { AreBlockActs courses.now step walkers.now rows.new }
 {
-    for place in 0..walkers.len() {
-        let course = &courses[usize::from(walkers[place].agent)];
-        put(&Stretch::of(course.acts(), step as usize), place, rows);
+    let mut first = 0;
+    while first < walkers.len() {
+        let end = walkers.len().min(first + GROUP);
+        turn_group(courses, step, &walkers[first..end], first, rows);
+        first = end;
     }
 }
 
-/// Puts the acts of a walker into the rows.
-fn put(stretch: &Stretch, place: usize, rows: &mut [ActRow])
-    requires rows { length rows.old ≡ block_steps }
-    requires room { (s : ℕ) → s < block_steps → place < length (row_at rows.old s) }
-    ensures kept { KeepRows place rows.old rows.new }
-    ensures own { (s : ℕ) → s < block_steps → act_at (row_at rows.new s) place ≡ get_or stretch.now s wait }
+/// Turns the acts of a group of walkers, the first of which has this place in the rows. Those behind the group may change too. All acts
+/// are fetched before the first is put into a row, so that the group waits for far memory once, and not once for each walker.
+fn turn_group(
+    courses: &[Course],
+    step: u32,
+    group: &[Walker],
+    first: usize,
+    rows: &mut [ActRow],
+)
+    requires agents { (k : ℕ) → k < length group.now → (walker_at group.now k).agent < length courses.now }
+    requires size { length group.now ≤ group_size }
+    requires rows { AreRows (length courses.now) rows.old }
+    requires room { first + length group.now ≤ length courses.now }
+    ensures rows { AreRows (length courses.now) rows.new }
+    ensures before { (s k : ℕ) → s < block_steps → k < first → act_at (row_at rows.new s) k ≡ act_at (row_at rows.old s) k }
+    ensures own { AreGroupActs courses.now step group.now first rows.new }
 {
-    let acts = stretch.acts();
-    for step in 0..BLOCK {
-        rows[step].put(place, acts[step]);
+    let mut stretches = [[Act::Wait; BLOCK]; GROUP];
+    for member in 0..group.len() {
+        let course = &courses[usize::from(group[member].agent)];
+        stretches[member] = Stretch::of(course.acts(), step as usize).into_acts();
+    }
+    for taken in 0..BLOCK {
+        rows[taken].put(first, &stretches[..group.len()], taken);
     }
 }
 

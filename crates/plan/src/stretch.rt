@@ -45,4 +45,10 @@ impl Stretch {
     {
         &self.acts
     }
+    /// The acts by themselves.
+    pub(crate) fn into_acts(self) -> [Act; BLOCK]
+        ensures { result ≡ self }
+    {
+        self.acts
+    }
 }

@@ -1,6 +1,7 @@
 -- Blocks of steps: their acts, turned from a row for each agent into a row for each step, and who is under way in them.
-use Rattle.std.specs.Prelude.{◌≡◌, ◌≢◌, ℕ, ◌+◌, ◌<◌, ◌≤◌, ◌⊎◌, List, [], length, get_or, true, false}
+use Rattle.std.specs.Prelude.{◌≡◌, ℕ, ◌+◌, ◌<◌, ◌≤◌, ◌⊎◌, List, [], length, get_or, Some, slice_get, true, false}
 use Rattle.model.specs.declared.act.Act.{Act}
+use Rattle.model.specs.declared.act.Act.TheVariants.{Wait}
 use Rattle.model.specs.Plan.{Course}
 use Rattle.plan.specs.declared.board.Square.{Square}
 use Rattle.plan.specs.declared.crowd.Walker.{Walker}
@@ -20,11 +21,15 @@ pub record AreRows (count : ℕ) (rows : List (List Act)) : Type 0 where
   pub steps : length rows ≡ block_steps
   pub each : (s : ℕ) → s < block_steps → length (row_at rows s) ≡ count
 
--- the rows are as they were but for one place
-pub record KeepRows (place : ℕ) (old new : List (List Act)) : Type 0 where
-  pub steps : length new ≡ length old
-  pub sizes : (s : ℕ) → length (row_at new s) ≡ length (row_at old s)
-  pub others : (s k : ℕ) → k ≢ place → act_at (row_at new s) k ≡ act_at (row_at old s) k
+-- the acts of so many walkers are turned at once
+abbrev pub group_size : ℕ
+group_size = 32
+
+-- in each step of the block, the acts of the group from the place on
+abbrev pub AreGroupActs : List Course → ℕ → List Walker → ℕ → List (List Act) → Type 0
+AreGroupActs courses step group first rows =
+    (s k : ℕ) (course : Course) → s < block_steps → k < length group → slice_get courses (walker_at group k).agent ≡ Some course
+    → act_at (row_at rows s) (first + k) ≡ get_or course.acts (step + s) Wait
 
 -- the acts of the walkers in each step from this one on
 abbrev pub AreBlockActs : List Course → ℕ → List Walker → List (List Act) → Type 0

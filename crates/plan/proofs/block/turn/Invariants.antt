@@ -1,10 +1,14 @@
-use Rattle.std.proofs.Common.{length}
+use Rattle.std.proofs.Common.{◌-◌, ◌≤◌, length}
 use Rattle.plan.specs.Code.Blocks.{AreRows}
 use Rattle.plan.proofs.RowLemmas.{AreTurnedTo}
 use Rattle.plan.proofs.block.turn.Given as goal
 
-abbrev pub invariant-loop-place : goal.invariant-loop-place
-invariant-loop-place l = record {
+abbrev pub invariant-loop-first : goal.invariant-loop-first
+invariant-loop-first l = record {
+  within : l.first ≤ length l.walkers;
   rows : AreRows (length l.courses) l.rows;
-  turned : AreTurnedTo l.courses l.step l.walkers l.rows l.place;
+  turned : AreTurnedTo l.courses l.step l.walkers l.rows l.first;
 }
+
+abbrev pub decreases-loop-first : goal.decreases-loop-first
+decreases-loop-first l = length l.walkers - l.first
