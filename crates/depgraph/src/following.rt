@@ -14,10 +14,10 @@ use std::alloc::{AllocError, Global};
 use std::marker::Model;
 
 /// So many times make a block.
-const BLOCK: usize = 16;
+const BLOCK: usize = 64;
 
 /// So many blocks have all times.
-const BLOCKS: usize = 4096;
+const BLOCKS: usize = 1024;
 
 /// The entries of all paths, and which cells more than one agent comes into, by their numbers. Who comes into others waits for nobody.
 #[derive(Debug, Drop)]

@@ -45,6 +45,7 @@ impl Stretch {
     {
         &self.acts
     }
+
     /// The acts by themselves.
     pub(crate) fn into_acts(self) -> [Act; BLOCK]
         ensures { result ≡ self }
