@@ -108,17 +108,22 @@ def map_text(kind, width, height, seed):
     return "\n".join(["type octile", f"height {height}", f"width {width}", "map", *rows, ""])
 
 
-def walk_ends(kind, width, height):
-    """A cell in the upper left corner of a map of a kind that walks are sought on, and one in the lower right corner."""
+def far_goal(kind, width, height):
+    """A cell in the lower right corner of a map of a kind that walks are sought on."""
     if kind == "maze":
-        return (0, 0), ((width - 1) // 2 * 2, (height - 1) // 2 * 2)
-    start = (1, 1) if kind == "rooms" else (0, 0)
-    return start, (width - 1, height - 1)
+        return (width - 1) // 2 * 2, (height - 1) // 2 * 2
+    return width - 1, height - 1
 
 
-def row_text(kind, width, height, straight, diagonal):
-    """The text of a scenario with one row, from corner to corner of such a map, that lists a length."""
-    (start_x, start_y), (goal_x, goal_y) = walk_ends(kind, width, height)
+def near_goals(width, height):
+    """Cells an eighth of the way to it, one beside another, so that a walk may lead to the first of them or to a later one."""
+    return ((x, height // 8) for x in range(width // 8, width // 4))
+
+
+def row_text(kind, width, height, goal, straight, diagonal):
+    """The text of a scenario with one row, from the upper left corner of such a map to a goal, that lists a length."""
+    start_x, start_y = (1, 1) if kind == "rooms" else (0, 0)
+    goal_x, goal_y = goal
     length = straight + diagonal * 2**0.5
     fields = (0, "maps/arena.map", width, height, start_x, start_y, goal_x, goal_y, f"{length:.8f}")
     return "\n".join(["version 1", "\t".join(str(field) for field in fields), ""])

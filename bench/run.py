@@ -4,7 +4,7 @@
 Usage: run.py [--program PATH] [--rounds N] [--side N] [--rows N] [--only COMMAND]
 Both programs run in turn over the same texts, many rounds, and at least ten seconds for each text. A line for each text: the
 best time of each in milliseconds, the median of the rounds' ratios, and the most memory that each held, in megabytes. For `row`
-our program finds the lengths and certifies them, and the other one only finds them. What each program
+our program finds the walk and certifies it, and the other one only finds it. What each program
 answers to `complete` is judged by a run of it, since which events it answers with is free; a second line says how many they are. For `check`
 two more rows have a checker of all pairs of agents, and one in Python, in place of the other program.
 """
@@ -92,21 +92,34 @@ def measure_text(programs, command, kind, text, folder, rounds):
     report(f"{command} {kind}", measured, [peak_memory(command, len(written[0])) for command in commands_of(programs, words)])
 
 
+def write_row(peer, words, scen_path, kind, side, goals):
+    """Writes a row to the first goal to which a walk leads. A first run finds the length that the row is then to list."""
+    for goal in goals:
+        scen_path.write_text(generate.row_text(kind, side, side, goal, 0, 0))
+        found = subprocess.run([peer, *words], stdout=subprocess.PIPE, text=True).stdout.split()
+        if found[:1] == ["shortest"]:
+            scen_path.write_text(generate.row_text(kind, side, side, goal, int(found[1]), int(found[2])))
+            return
+    sys.exit(f"no walk leads to a goal on the map {kind} {side}")
+
+
 def measure_row(programs, kind, side, folder, rounds):
-    """Measures programs that look for a shortest walk across a map."""
-    map_path, scen_path = folder / f"{kind}.map", folder / f"{kind}.scen"
+    """Measures programs that look for a shortest walk across a map, and for one to a goal an eighth of the way."""
+    map_path = folder / f"{kind}.map"
     map_path.write_text(generate.map_text(kind, side, side, 1))
-    scen_path.write_text(generate.row_text(kind, side, side, 0, 0))
-    words = ["row", str(map_path), str(scen_path), "0"]
-    # a first run finds the length that the row is then to list
-    found = subprocess.run([programs[1], *words], stdout=subprocess.PIPE, text=True).stdout.split()
-    if found[:1] != ["shortest"]:
-        sys.exit(f"no walk leads across the map {kind} {side}")
-    scen_path.write_text(generate.row_text(kind, side, side, int(found[1]), int(found[2])))
+    goals = {"far": [generate.far_goal(kind, side, side)], "near": generate.near_goals(side, side)}
+    for name, some in goals.items():
+        scen_path = folder / f"{kind}-{name}.scen"
+        words = ["row", str(map_path), str(scen_path), "0"]
+        write_row(programs[1], words, scen_path, kind, side, some)
+        measure_walk(programs, words, f"{kind} {side} {name}", folder, rounds)
+
+
+def measure_walk(programs, words, name, folder, rounds):
     measured, written = measure(commands_of(programs, words), folder, rounds)
     if written[0] != written[1]:
-        sys.exit(f"the two programs wrote other lines for row {kind}")
-    report(f"row {kind} {side}", measured, [whole_peak_memory(command) for command in commands_of(programs, words)])
+        sys.exit(f"the two programs wrote other lines for row {name}")
+    report(f"row {name}", measured, [whole_peak_memory(command) for command in commands_of(programs, words)])
 
 
 def measure_check(programs, kind, side, agents, acts, folder, rounds):
