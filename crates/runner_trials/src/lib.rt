@@ -1,5 +1,5 @@
-//! Tests of the crates runner and replay: what an agent of a run holds, and runs while memory may be refused. What runs answer, `./test` shows by
-//! `mapf run`.
+//! Tests of the crates runner and replay: what an agent of a run holds, what a tape gives back, and runs while memory may be refused. What runs
+//! answer, `./test` shows by `mapf run`.
 #![tactic(auto)]
 
 #[cfg(test)]
@@ -8,5 +8,7 @@ mod holdings;
 mod refused_memory;
 #[cfg(test)]
 mod refused_replays;
+#[cfg(test)]
+mod tapes;
 #[cfg(test)]
 mod texts;

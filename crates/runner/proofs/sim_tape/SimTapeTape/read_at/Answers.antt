@@ -1,0 +1,35 @@
+-- Each turn puts the next byte.
+use Rattle.std.proofs.Common.{◌≡◌, ◌<◌, ◌++◌, ◌∷◌, [], length, take, drop, refl, sym, ap, ◌∙◌, arith}
+use Rattle.std.proofs.lemmas.List.{length-drop, length-set, get_or-drop, take_all, take_more, take_more_set}
+use Rattle.runner.specs.SimTape.{sim_state}
+use Rattle.runner.proofs.sim_tape.SimTapeTape.read_at.Goals as goal
+
+pub loop-i-init : goal.loop-i-init
+loop-i-init c = record { count = omega arith; same = refl }
+
+pub loop-i-preserved : goal.loop-i-preserved
+loop-i-preserved c =
+    let i = c.loop-i.i in
+    let contents = (sim_state c.args.self.now).contents in
+    let behind = drop c.args.at contents in
+    let count = length-drop c.args.at contents in
+    let inside : i < length c.loop-i.out = omega arith in
+    let there : i < length behind = omega (arith, count, c.requires) in
+    record {
+      count = length-set c.loop-i.out i c.byte.result ∙ c.loop-i.invariant.count;
+      same = take_more_set c.loop-i.out i c.byte.result inside
+          ∙ (ap (λ l. l ++ c.byte.result ∷ []) c.loop-i.invariant.same
+          ∙ (ap (λ b. take i behind ++ b ∷ []) (c.byte.ensures ∙ sym (get_or-drop c.args.at contents i 0))
+          ∙ sym (take_more behind i 0 there)));
+    }
+
+pub returns : goal.returns
+returns c =
+    let all : c.loop-i.i ≡ 10 = omega arith in
+    let behind = drop c.args.at (sim_state c.args.self.now).contents in
+    record {
+      no_failure = refl;
+      gives = sym (take_all 10 c.loop-i.out (omega arith)) ∙ (ap (λ k. take k c.loop-i.out) (sym all) ∙ (c.loop-i.invariant.same ∙ ap (λ k. take k behind) all));
+      same = refl;
+      armed = refl;
+    }
