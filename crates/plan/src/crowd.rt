@@ -1,6 +1,5 @@
 //! Agents under way, and how a step takes them on.
-ghost use Rattle.std.specs.Prelude.{◌≡◌, ◌<◌, ◌≤◌, ◌↔◌, IsTrue, length, false};
-ghost use Rattle.plan.specs.Code.Squares.{IsOfStep};
+ghost use Rattle.std.specs.Prelude.{◌≡◌, ◌<◌, ◌≤◌, length, false};
 ghost use Rattle.plan.specs.Code.Crowd.{turn_by, led_to, AreMarks, AreTurns, IsInside, AreInside, KeepGrounds, IsAllowed, IsMarked, AreLed, AreAllowed};
 
 use crate::board::{NOBODY, Square};
@@ -84,15 +83,6 @@ impl Turns {
     {
         self.by_act[act as usize]
     }
-
-    /// Whether the mark is one of the step.
-    fn has(&self, mark: u8) -> bool
-        requires { self.now.first < 50 }
-        ensures { IsTrue result ↔ IsOfStep self.now.first mark }
-    {
-        // One comparison: a lesser mark wraps, and is then far above.
-        mark.wrapping_sub(self.first) < 5
-    }
 }
 
 /// Takes all walkers a step on, each by the act in its place. Where the answer is no, nothing is wrong in the step.
@@ -131,10 +121,10 @@ fn lead(turns: &Turns, act: Act, walker: &mut Walker, squares: &mut [Square]) ->
     let left = squares[from];
     let entered = squares[to as usize];
     let may_be_wrong = (entered.ground() != walker.ground)
-        | turns.has(entered.mark())
+        | entered.is_of_step(turns.first)
         | (left.mark() == turn.against);
     // A mark of this step stays.
-    squares[from] = if turns.has(left.mark()) {
+    squares[from] = if left.is_of_step(turns.first) {
         left
     } else {
         Square::new(left.ground(), NOBODY)

@@ -54,9 +54,9 @@ returns-clause-own c =
     c.loop-member.invariant.are c.requires.size
     (let past = c.loop-member-test.false in λ k course less. fetched k course (omega (arith, less, past)))
     (let all = c.loop-taken-test.false in let was = c.loop-taken.invariant in
-        record {
-          steps = was.steps;
-          sizes = was.sizes;
-          before = was.before;
-          own = λ s k less among. was.own s k (omega (arith, less, all)) among;
-        })
+    record {
+      steps = was.steps;
+      sizes = was.sizes;
+      before = was.before;
+      own = λ s k less among. was.own s k (omega (arith, less, all)) among;
+    })
