@@ -44,8 +44,10 @@ impl ActRow {
         ensures before { (k : ℕ) → k < first → act_at self.new k ≡ act_at self.old k }
         ensures own { (k : ℕ) → k < length stretches.now → act_at self.new (first + k) ≡ act_at (get_or stretches.now k []) step }
     {
+        // Where the acts stand is asked once, and not again after each of them.
+        let acts = self.acts.as_mut_slice();
         for member in 0..stretches.len() {
-            self.acts[first + member] = stretches[member][step];
+            acts[first + member] = stretches[member][step];
         }
     }
 }

@@ -68,7 +68,9 @@ pub(crate) fn turn(courses: &[Course], step: u32, walkers: &[Walker], rows: &mut
 }
 
 /// Turns the acts of a group of walkers, the first of which has this place in the rows. Those behind the group may change too. All acts
-/// are fetched before the first is put into a row, so that the group waits for far memory once, and not once for each walker.
+/// are fetched before the first is put into a row, so that the group waits for far memory once, and not once for each walker. It is compiled
+/// by itself, so that its loops have all registers.
+#[inline(never)]
 fn turn_group(courses: &[Course], step: u32, group: &[Walker], first: usize, rows: &mut [ActRow])
     requires agents { (k : ℕ) → k < length group.now → (walker_at group.now k).agent < length courses.now }
     requires size { length group.now ≤ group_size }

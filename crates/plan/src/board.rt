@@ -1,7 +1,7 @@
 //! The map as the checker looks at it: a square for each cell, and a rim of blocked squares around them, so that no step leads off it.
-ghost use Rattle.std.specs.Prelude.{◌≡◌, ◌<◌, IfOk};
+ghost use Rattle.std.specs.Prelude.{◌≡◌, ◌<◌, ◌↔◌, IsTrue, IfOk};
 ghost use Rattle.plan.specs.Code.Standing.{IsOnGrid};
-ghost use Rattle.plan.specs.Code.Squares.{ground_in, mark_in, ground_by, most_marks, place_on, HasGround, IsBoard};
+ghost use Rattle.plan.specs.Code.Squares.{ground_in, mark_in, ground_by, most_marks, place_on, HasGround, IsBoard, IsOfStep};
 
 use grid::{Cell, Map};
 use std::alloc::{AllocError, Global};
@@ -49,6 +49,15 @@ impl Square {
         ensures less { result < most_marks }
     {
         self.code / 4
+    }
+
+    /// Whether the mark is one of the five of a step, the first of which is given.
+    pub(crate) fn is_of_step(self, first: u8) -> bool
+        requires { first < 50 }
+        ensures { IsTrue result ↔ IsOfStep first (mark_in self) }
+    {
+        // The mark isn't taken out of the code first. One comparison: a lesser code wraps, and is then far above.
+        self.code.wrapping_sub(first * 4) < 20
     }
 }
 

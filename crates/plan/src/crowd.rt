@@ -1,6 +1,5 @@
 //! Agents under way, and how a step takes them on.
-ghost use Rattle.std.specs.Prelude.{◌≡◌, ◌<◌, ◌≤◌, ◌↔◌, IsTrue, length, false};
-ghost use Rattle.plan.specs.Code.Squares.{IsOfStep};
+ghost use Rattle.std.specs.Prelude.{◌≡◌, ◌<◌, ◌≤◌, length, false};
 ghost use Rattle.plan.specs.Code.Crowd.{turn_by, led_to, AreMarks, AreTurns, IsInside, AreInside, KeepGrounds, IsAllowed, IsMarked, AreLed, AreAllowed};
 
 use crate::board::{NOBODY, Square};
@@ -84,18 +83,11 @@ impl Turns {
     {
         self.by_act[act as usize]
     }
-
-    /// Whether the mark is one of the step.
-    fn has(&self, mark: u8) -> bool
-        requires { self.now.first < 50 }
-        ensures { IsTrue result ↔ IsOfStep self.now.first mark }
-    {
-        // One comparison: a lesser mark wraps, and is then far above.
-        mark.wrapping_sub(self.first) < 5
-    }
 }
 
-/// Takes all walkers a step on, each by the act in its place. Where the answer is no, nothing is wrong in the step.
+/// Takes all walkers a step on, each by the act in its place. Where the answer is no, nothing is wrong in the step. It is compiled by
+/// itself, since its loop, which takes most of the time of a check, needs all registers.
+#[inline(never)]
 pub(crate) fn take_step(
     turns: &Turns,
     acts: &[Act],
@@ -109,9 +101,11 @@ pub(crate) fn take_step(
     ensures grounds { KeepGrounds squares.old squares.new }
     ensures allowed { result ≡ false → AreAllowed turns.now acts.now walkers.old squares.old (length walkers.old) }
 {
+    // A copy of its own, which no write to a square can change: what all walkers need of it is read once.
+    let turns = *turns;
     let mut may_be_wrong = false;
     for place in 0..walkers.len() {
-        may_be_wrong |= lead(turns, acts[place], &mut walkers[place], squares);
+        may_be_wrong |= lead(&turns, acts[place], &mut walkers[place], squares);
     }
     may_be_wrong
 }
@@ -130,16 +124,15 @@ fn lead(turns: &Turns, act: Act, walker: &mut Walker, squares: &mut [Square]) ->
     let to = walker.place + turn.ahead - turn.back;
     let left = squares[from];
     let entered = squares[to as usize];
-    let may_be_wrong = (entered.ground() != walker.ground)
-        | turns.has(entered.mark())
-        | (left.mark() == turn.against);
     // A mark of this step stays.
-    squares[from] = if turns.has(left.mark()) {
+    squares[from] = if left.is_of_step(turns.first) {
         left
     } else {
         Square::new(left.ground(), NOBODY)
     };
     squares[to as usize] = Square::new(entered.ground(), turn.mark);
     walker.place = to;
-    may_be_wrong
+    (entered.ground() != walker.ground)
+        | entered.is_of_step(turns.first)
+        | (left.mark() == turn.against)
 }

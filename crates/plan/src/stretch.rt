@@ -32,10 +32,14 @@ impl Stretch {
         requires { step < 2 ^ 32 }
         ensures { IsStretch acts.now step result }
     {
-        let begin = step.min(acts.len());
-        let end = acts.len().min(step + BLOCK);
         let mut stretch = [Act::Wait; BLOCK];
-        stretch[..end - begin].copy_from_slice(&acts[begin..end]);
+        if step + BLOCK <= acts.len() {
+            // Most blocks are whole, and a copy whose length is known takes no call.
+            stretch.copy_from_slice(&acts[step..step + BLOCK]);
+            return Stretch { acts: stretch };
+        }
+        let begin = step.min(acts.len());
+        stretch[..acts.len() - begin].copy_from_slice(&acts[begin..]);
         Stretch { acts: stretch }
     }
 

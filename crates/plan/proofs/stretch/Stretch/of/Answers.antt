@@ -1,10 +1,14 @@
 -- Behind the acts that there are come waits.
-use Rattle.std.proofs.Common.{◌-◌, ◌++◌, drop, sym, subst}
-use Rattle.plan.specs.Code.Blocks.{IsStretch}
+use Rattle.std.proofs.Common.{◌≡◌, ◌+◌, ◌-◌, ◌++◌, length, drop, min, arith, sym, subst}
+use Rattle.plan.specs.Code.Blocks.{block_steps, IsStretch}
 use Rattle.plan.proofs.StretchLemmas.{waits, stretch_of}
 use Rattle.plan.proofs.stretch.Stretch.of.Goals as goal
 
 pub returns : goal.returns
 returns c =
-    subst (λ front. IsStretch c.args.acts.now c.args.step (front ++ drop (c.min-end.result - c.min-begin.result) waits)) (sym c.copy_from_slice.ensures.after)
-    (stretch_of c.args.acts.now c.args.step c.min-begin.result c.min-end.result c.min-begin.ensures c.min-end.ensures)
+    let acts = c.args.acts.now in
+    let begin = c.min-begin.result in
+    let short = c.if-step-acts.false in
+    let end : length acts ≡ min (length acts) (c.args.step + block_steps) = omega (arith, short) in
+    subst (λ front. IsStretch acts c.args.step (front ++ drop (length acts - begin) waits)) (sym c.copy_from_slice-2.ensures.after)
+    (stretch_of acts c.args.step begin (length acts) c.min-begin.ensures end)
