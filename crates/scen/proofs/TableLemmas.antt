@@ -13,8 +13,8 @@ use Rattle.scen.specs.declared.length_table.Entries.{Entries}
 use Rattle.scen.specs.declared.length_table.Entries.TheVariants.{Listed, Found}
 use Rattle.scen.specs.Certificate.{IsTight}
 use Rattle.scen.specs.Code.KeyParts.{number_of_entry, number_within, length_of_number, length_of_parts, straight_in, diagonal_in}
-use Rattle.scen.specs.Code.TileKeys.{number_at, entry_at, length_from}
-use Rattle.scen.specs.Code.TableEntries.{entries_of, told, number_on, number_as}
+use Rattle.scen.specs.Code.TileKeys.{number_at, place_entry, length_from}
+use Rattle.scen.specs.Code.TableEntries.{table_entries, entry_number, number_on, number_as}
 use Rattle.scen.specs.Code.Tightness.{AreWithin, KeepsBlockAt}
 use Rattle.std.proofs.lemmas.Simd.{map-map}
 use Rattle.scen.proofs.KeyNumbers.{length_back, number_back}
@@ -23,25 +23,25 @@ use Rattle.scen.proofs.TightTables.{Carries, block_carried, block_from_tight, ti
 
 -- ---- the entries of all places
 
-pub found-length : (t : Tiles) → length (entries_of (Found t)) ≡ t.width * t.height
-unfolding entries_of
-found-length t = length-map-range_with_len (entry_at t) 0 (t.width * t.height)
+pub found-length : (t : Tiles) → length (table_entries (Found t)) ≡ t.width * t.height
+unfolding table_entries
+found-length t = length-map-range_with_len (place_entry t) 0 (t.width * t.height)
 
-pub listed-length : (keys : Vec Key Global) → length (entries_of (Listed keys)) ≡ length keys.items
-unfolding entries_of
+pub listed-length : (keys : Vec Key Global) → length (table_entries (Listed keys)) ≡ length keys.items
+unfolding table_entries
 listed-length keys = length-map keys.items (λ k. length_of_number k.value)
 
 pub listed_here : (keys : Vec Key Global) (place : ℕ) (key : Key) → place < length keys.items → key ≡ get_or keys.items place key
-    → get_or (entries_of (Listed keys)) place None ≡ length_of_number key.value
-unfolding entries_of
+    → get_or (table_entries (Listed keys)) place None ≡ length_of_number key.value
+unfolding table_entries
 listed_here keys place key inside is =
     get_or-map (λ k. length_of_number k.value) keys.items place key None inside ∙ ap (λ k. length_of_number k.value) (sym is)
 
-pub listed_past : (keys : Vec Key Global) (place : ℕ) → length keys.items ≤ place → get_or (entries_of (Listed keys)) place None ≡ None
-listed_past keys place past = let e = listed-length keys in get_or_past (entries_of (Listed keys)) place None (omega (arith, e, past))
+pub listed_past : (keys : Vec Key Global) (place : ℕ) → length keys.items ≤ place → get_or (table_entries (Listed keys)) place None ≡ None
+listed_past keys place past = let e = listed-length keys in get_or_past (table_entries (Listed keys)) place None (omega (arith, e, past))
 
-pub found_past : (t : Tiles) (place : ℕ) → t.width * t.height ≤ place → get_or (entries_of (Found t)) place None ≡ None
-found_past t place past = let e = found-length t in get_or_past (entries_of (Found t)) place None (omega (arith, e, past))
+pub found_past : (t : Tiles) (place : ℕ) → t.width * t.height ≤ place → get_or (table_entries (Found t)) place None ≡ None
+found_past t place past = let e = found-length t in get_or_past (table_entries (Found t)) place None (omega (arith, e, past))
 
 kept_by : (v : ℕ) (o : Option Length) (b : Bool) → (b ≡ true → number_of_entry o ≡ v) → number_of_entry (cond b o None) ≡ cond b v (2 ^ 62)
 kept_by v o true h = h refl
@@ -61,32 +61,32 @@ number_kept k =
     sym (ap number_of_entry (cond-true inside (length_of_parts (straight_in v) (diagonal_in v)) None h)) ∙ number_back v (k.of_length some small) some small)
 
 -- the tiles of a map of another width tell nothing of its cells
-pub other_width : (t : Tiles) (width x y : ℕ) → (t.width ≡ width → ⊥) → number_on (Found t) width x y ≡ told (entries_of (Found t)) width x y
+pub other_width : (t : Tiles) (width x y : ℕ) → (t.width ≡ width → ⊥) → number_on (Found t) width x y ≡ entry_number (table_entries (Found t)) width x y
 other_width t width x y other = by_test (nat_eq t.width width) refl where
-  by_test : (b : Bool) → nat_eq t.width width ≡ b → number_as b t (entries_of (Found t)) width x y ≡ told (entries_of (Found t)) width x y
+  by_test : (b : Bool) → nat_eq t.width width ≡ b → number_as b t (table_entries (Found t)) width x y ≡ entry_number (table_entries (Found t)) width x y
   by_test true e = absurd (other (eqb-true t.width width e))
   by_test false e = refl
 
 pub same_width : (t : Tiles) (width x y : ℕ) → t.width ≡ width → number_on (Found t) width x y ≡ number_at t x y
-same_width t width x y same = ap (λ b. number_as b t (entries_of (Found t)) width x y) (eq-eqb t.width width same)
+same_width t width x y same = ap (λ b. number_as b t (table_entries (Found t)) width x y) (eq-eqb t.width width same)
 
-pub found_here : (t : Tiles) (place : ℕ) → place < t.width * t.height → get_or (entries_of (Found t)) place None ≡ entry_at t place
-unfolding entries_of
-found_here t place within = get_or-map-range_with_len (entry_at t) 0 (t.width * t.height) place place None within (omega arith)
+pub found_here : (t : Tiles) (place : ℕ) → place < t.width * t.height → get_or (table_entries (Found t)) place None ≡ place_entry t place
+unfolding table_entries
+found_here t place within = get_or-map-range_with_len (place_entry t) 0 (t.width * t.height) place place None within (omega arith)
 
 all_back : (es : List (Option Length)) → map (λ e. length_of_number (number_of_entry e)) es ≡ es
 all_back [] = refl
 all_back (e ∷ es) = ap (λ f. f ∷ map (λ e. length_of_number (number_of_entry e)) es) (length_back e) ∙ ap (λ l. e ∷ l) (all_back es)
 
-pub entries_back : (keys : Vec Key Global) (es : List (Option Length)) → map (λ k. k.value) keys.items ≡ map number_of_entry es → entries_of (Listed keys) ≡ es
-unfolding entries_of
+pub entries_back : (keys : Vec Key Global) (es : List (Option Length)) → map (λ k. k.value) keys.items ≡ map number_of_entry es → table_entries (Listed keys) ≡ es
+unfolding table_entries
 entries_back keys es same =
     sym (map-map length_of_number (λ k. k.value) keys.items) ∙ ap (map length_of_number) same ∙ map-map length_of_number number_of_entry es ∙ all_back es
 
 -- ---- cells and places
 
-told_at : (t : Tiles) (m : Grid) (x y : ℕ) → t.width ≡ m.width → length (entries_of (Found t)) ≡ m.width * m.height → x < m.width → y < m.height
-    → told (entries_of (Found t)) m.width x y ≡ number_of_entry (length_from (number_at t x y))
+told_at : (t : Tiles) (m : Grid) (x y : ℕ) → t.width ≡ m.width → length (table_entries (Found t)) ≡ m.width * m.height → x < m.width → y < m.height
+    → entry_number (table_entries (Found t)) m.width x y ≡ number_of_entry (length_from (number_at t x y))
 told_at t m x y same cells column row =
     let long = found-length t in
     let within = place_within x y m.width m.height column row in
@@ -101,40 +101,40 @@ told_at t m x y same cells column row =
 tell_both : (step a b p q : ℕ) → a ≡ p → b ≡ q → AreWithin step p q → AreWithin step a b
 tell_both step a b p q e f h = subst (λ k. AreWithin step k b) (sym e) (subst (AreWithin step p) (sym f) h)
 
-forth_by : (m : Grid) (t : Tiles) (b : Bool) → nat_eq t.width m.width ≡ b → length (entries_of (Found t)) ≡ m.width * m.height
-    → Carries m (told (entries_of (Found t)) m.width) (number_as b t (entries_of (Found t)) m.width)
+forth_by : (m : Grid) (t : Tiles) (b : Bool) → nat_eq t.width m.width ≡ b → length (table_entries (Found t)) ≡ m.width * m.height
+    → Carries m (entry_number (table_entries (Found t)) m.width) (number_as b t (table_entries (Found t)) m.width)
 forth_by m t false e cells step x y i j beside here there h = h
 forth_by m t true e cells step x y i j beside here there h =
     let same = eqb-true t.width m.width e in
     (cells_tell t step x y i j beside).0
     (tell_both step _ _ _ _ (sym (told_at t m x y same cells here.0 here.1)) (sym (told_at t m i j same cells there.0 there.1)) h)
 
-back_by : (m : Grid) (t : Tiles) (b : Bool) → nat_eq t.width m.width ≡ b → length (entries_of (Found t)) ≡ m.width * m.height
-    → Carries m (number_as b t (entries_of (Found t)) m.width) (told (entries_of (Found t)) m.width)
+back_by : (m : Grid) (t : Tiles) (b : Bool) → nat_eq t.width m.width ≡ b → length (table_entries (Found t)) ≡ m.width * m.height
+    → Carries m (number_as b t (table_entries (Found t)) m.width) (entry_number (table_entries (Found t)) m.width)
 back_by m t false e cells step x y i j beside here there h = h
 back_by m t true e cells step x y i j beside here there h =
     let same = eqb-true t.width m.width e in
     tell_both step _ _ _ _ (told_at t m x y same cells here.0 here.1) (told_at t m i j same cells there.0 there.1)
     ((cells_tell t step x y i j beside).1 h)
 
-to_numbers : (m : Grid) (entries : Entries) → length (entries_of entries) ≡ m.width * m.height → Carries m (told (entries_of entries) m.width) (number_on entries m.width)
+to_numbers : (m : Grid) (entries : Entries) → length (table_entries entries) ≡ m.width * m.height → Carries m (entry_number (table_entries entries) m.width) (number_on entries m.width)
 to_numbers m (Listed keys) cells = λ step x y i j beside here there h. h
 to_numbers m (Found t) cells = forth_by m t (nat_eq t.width m.width) refl cells
 
-from_numbers : (m : Grid) (entries : Entries) → length (entries_of entries) ≡ m.width * m.height → Carries m (number_on entries m.width) (told (entries_of entries) m.width)
+from_numbers : (m : Grid) (entries : Entries) → length (table_entries entries) ≡ m.width * m.height → Carries m (number_on entries m.width) (entry_number (table_entries entries) m.width)
 from_numbers m (Listed keys) cells = λ step x y i j beside here there h. h
 from_numbers m (Found t) cells = back_by m t (nat_eq t.width m.width) refl cells
 
 -- ---- a table is tight exactly where the numbers of its cells keep
 
-pub blocks_from_tight : (m : Grid) (entries : Entries) → length (entries_of entries) ≡ m.width * m.height → IsTight m (entries_of entries)
+pub blocks_from_tight : (m : Grid) (entries : Entries) → length (table_entries entries) ≡ m.width * m.height → IsTight m (table_entries entries)
     → (x y : ℕ) → KeepsBlockAt m (number_on entries m.width) x y
 blocks_from_tight m entries cells tight x y =
-    block_carried m (told (entries_of entries) m.width) (number_on entries m.width) (to_numbers m entries cells) x y
-    (block_from_tight m (entries_of entries) tight x y)
+    block_carried m (entry_number (table_entries entries) m.width) (number_on entries m.width) (to_numbers m entries cells) x y
+    (block_from_tight m (table_entries entries) tight x y)
 
-pub tight_from_numbers : (m : Grid) (entries : Entries) → length (entries_of entries) ≡ m.width * m.height
-    → ((y : ℕ) → y < m.height → (x : ℕ) → x < m.width → KeepsBlockAt m (number_on entries m.width) x y) → IsTight m (entries_of entries)
+pub tight_from_numbers : (m : Grid) (entries : Entries) → length (table_entries entries) ≡ m.width * m.height
+    → ((y : ℕ) → y < m.height → (x : ℕ) → x < m.width → KeepsBlockAt m (number_on entries m.width) x y) → IsTight m (table_entries entries)
 tight_from_numbers m entries cells keeps =
-    tight_from_blocks m (entries_of entries)
-    (λ y row x column. block_carried m (number_on entries m.width) (told (entries_of entries) m.width) (from_numbers m entries cells) x y (keeps y row x column))
+    tight_from_blocks m (table_entries entries)
+    (λ y row x column. block_carried m (number_on entries m.width) (entry_number (table_entries entries) m.width) (from_numbers m entries cells) x y (keeps y row x column))

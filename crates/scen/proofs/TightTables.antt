@@ -19,7 +19,7 @@ use Rattle.scen.specs.Code.Tightness.{Ground, open_land, open_water, no_ground, 
 use Rattle.scen.specs.declared.length_table.Entries.{Entries}
 use Rattle.scen.specs.Code.KeyParts.{number_of_entry}
 use Rattle.scen.specs.Code.Distances.{beyond_number}
-use Rattle.scen.specs.Code.TableEntries.{told, number_on, IsBeyond}
+use Rattle.scen.specs.Code.TableEntries.{entry_number, number_on, IsBeyond}
 use Rattle.scen.proofs.DistanceLemmas.{AreBeside, beyond_near}
 use Rattle.scen.proofs.KeyLemmas.{BoundEachOther, within_from, from_within}
 
@@ -318,7 +318,7 @@ diagonal_from_same m u v columns rows first first_on second second_on =
     }
 
 pub block_from_tight : (m : Grid) (table : List (Option Length)) → IsTight m table → (x y : ℕ)
-    → KeepsBlock (corner_at m (told table m.width) x y) (corner_at m (told table m.width) (x + 1) y) (corner_at m (told table m.width) x (y + 1)) (corner_at m (told table m.width) (x + 1) (y + 1))
+    → KeepsBlock (corner_at m (entry_number table m.width) x y) (corner_at m (entry_number table m.width) (x + 1) y) (corner_at m (entry_number table m.width) x (y + 1)) (corner_at m (entry_number table m.width) (x + 1) (y + 1))
 block_from_tight m table tight x y =
     let a : Cell = record { x = x; y = y } in
     let b : Cell = record { x = x + 1; y = y } in
@@ -360,30 +360,30 @@ block_from_tight m table tight x y =
 -- ---- a table of which each block keeps is tight
 
 abbrev pub AllBlocks : Grid → List (Option Length) → Type 0
-AllBlocks m table = (y : ℕ) → y < m.height → (x : ℕ) → x < m.width → KeepsBlockAt m (told table m.width) x y
+AllBlocks m table = (y : ℕ) → y < m.height → (x : ℕ) → x < m.width → KeepsBlockAt m (entry_number table m.width) x y
 
 side_right : (m : Grid) (table : List (Option Length)) → AllBlocks m table → (x y i j : ℕ) → i ≡ x + 1 → j ≡ y
-    → KeepsSide (corner_at m (told table m.width) x y) (corner_at m (told table m.width) i j)
+    → KeepsSide (corner_at m (entry_number table m.width) x y) (corner_at m (entry_number table m.width) i j)
 side_right m table rows x y i j e f same =
     let on = on_map m x y (alike_from (ground_at m x y) (ground_at m i j) same).0 in
     let keeps = rows y on.1 x on.0 in
-    subst (λ k. KeepsSide (corner_at m (told table m.width) x y) (corner_at m (told table m.width) k j)) (sym e)
-    (subst (λ k. KeepsSide (corner_at m (told table m.width) x y) (corner_at m (told table m.width) (x + 1) k)) (sym f) keeps.0) same
+    subst (λ k. KeepsSide (corner_at m (entry_number table m.width) x y) (corner_at m (entry_number table m.width) k j)) (sym e)
+    (subst (λ k. KeepsSide (corner_at m (entry_number table m.width) x y) (corner_at m (entry_number table m.width) (x + 1) k)) (sym f) keeps.0) same
 
 side_below : (m : Grid) (table : List (Option Length)) → AllBlocks m table → (x y i j : ℕ) → i ≡ x → j ≡ y + 1
-    → KeepsSide (corner_at m (told table m.width) x y) (corner_at m (told table m.width) i j)
+    → KeepsSide (corner_at m (entry_number table m.width) x y) (corner_at m (entry_number table m.width) i j)
 side_below m table rows x y i j e f same =
     let on = on_map m x y (alike_from (ground_at m x y) (ground_at m i j) same).0 in
     let keeps = rows y on.1 x on.0 in
-    subst (λ k. KeepsSide (corner_at m (told table m.width) x y) (corner_at m (told table m.width) k j)) (sym e)
-    (subst (λ k. KeepsSide (corner_at m (told table m.width) x y) (corner_at m (told table m.width) x k)) (sym f) keeps.1) same
+    subst (λ k. KeepsSide (corner_at m (entry_number table m.width) x y) (corner_at m (entry_number table m.width) k j)) (sym e)
+    (subst (λ k. KeepsSide (corner_at m (entry_number table m.width) x y) (corner_at m (entry_number table m.width) x k)) (sym f) keeps.1) same
 
 abbrev Diagonals : Grid → List (Option Length) → (x y i j : ℕ) → Type 0
 Diagonals m table x y i j =
     Alike (ground_at m x y) (ground_at m i y) → Alike (ground_at m x y) (ground_at m x j)
     → Alike (ground_at m x y) (ground_at m i j)
-    → AreWithin 9369319 (corner_at m (told table m.width) x y).key (corner_at m (told table m.width) i j).key
-    × AreWithin 9369319 (corner_at m (told table m.width) i y).key (corner_at m (told table m.width) x j).key
+    → AreWithin 9369319 (corner_at m (entry_number table m.width) x y).key (corner_at m (entry_number table m.width) i j).key
+    × AreWithin 9369319 (corner_at m (entry_number table m.width) i y).key (corner_at m (entry_number table m.width) x j).key
 
 diagonals : (m : Grid) (table : List (Option Length)) → AllBlocks m table → (x y i j : ℕ) → i ≡ x + 1 → j ≡ y + 1 → Diagonals m table x y i j
 diagonals m table rows x y i j e f =

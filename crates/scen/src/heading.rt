@@ -5,11 +5,10 @@ use crate::keys::Key;
 use grid::Cell;
 use std::alloc::{AllocError, Global};
 
-/// A bucket is as wide as this number, and a step leads over at most four: it adds at most two diagonal steps to the length of a walk
-/// through a cell.
+/// A bucket is as wide as this number. A step adds at most two diagonal steps to the least length of a walk, so it leads at most five buckets on.
 const BUCKET_WIDTH: u64 = 4_194_304;
 
-/// More buckets than a step leads over.
+/// More buckets than a step leads on.
 const BUCKET_COUNT: u64 = 8;
 
 /// A cell, and the key that it had when it was put into a bucket.

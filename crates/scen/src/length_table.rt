@@ -2,7 +2,7 @@
 ghost use Rattle.std.specs.Prelude.{◌≡◌, ℕ, ◌+◌, ◌*◌, ◌<◌, ◌≤◌, ◌^◌, IfOk, IsTrue, ◌↔◌, MatchOption, None, length, slice_index, slice_index_or};
 ghost use Rattle.scen.specs.Certificate.{IsTight};
 ghost use Rattle.scen.specs.Code.KeyParts.{number_of_entry};
-ghost use Rattle.scen.specs.Code.TableEntries.{entries_of, told, number_on, IsBeyond};
+ghost use Rattle.scen.specs.Code.TableEntries.{table_entries, entry_number, number_on, IsBeyond};
 ghost use Rattle.scen.specs.Code.TileKeys.{number_at};
 
 use crate::Length;
@@ -32,9 +32,9 @@ impl Model for LengthTable {
 
     ghost Value = { List (Option Length) };
 
-    ghost use Rattle.scen.specs.Code.TableEntries.{entries_of};
+    ghost use Rattle.scen.specs.Code.TableEntries.{table_entries};
 
-    ghost view = { λ t. entries_of t.entries };
+    ghost view = { λ t. table_entries t.entries };
 }
 
 impl LengthTable {
@@ -86,7 +86,7 @@ impl LengthTable {
 
 impl Entries {
     fn len(&self) -> usize
-        ensures { result ≡ length (entries_of self.now) }
+        ensures { result ≡ length (table_entries self.now) }
     {
         match self {
             Entries::Listed(keys) => keys.as_slice().len(),
@@ -96,7 +96,7 @@ impl Entries {
 
     /// The entry at a place; none behind the last one.
     fn entry(&self, place: usize) -> Option<Length>
-        ensures { result ≡ slice_index_or (entries_of self.now) place None }
+        ensures { result ≡ slice_index_or (table_entries self.now) place None }
     {
         match self {
             Entries::Listed(keys) => match keys.get(place) {
@@ -115,7 +115,7 @@ impl Entries {
 
     /// The number of the entry at a place.
     fn number(&self, place: usize) -> u64
-        ensures { result ≡ number_of_entry (slice_index_or (entries_of self.now) place None) }
+        ensures { result ≡ number_of_entry (slice_index_or (table_entries self.now) place None) }
     {
         match self {
             Entries::Listed(keys) => match keys.get(place) {
@@ -167,7 +167,7 @@ impl Entries {
 
     /// The tiles, if they are those of a map of this width.
     fn tiles_of(&self, width: usize) -> Option<&Tiles>
-        ensures { MatchOption result ((x y : ℕ) → number_on self.now width x y ≡ told (entries_of self.now) width x y)
+        ensures { MatchOption result ((x y : ℕ) → number_on self.now width x y ≡ entry_number (table_entries self.now) width x y)
             (λ t. (x y : ℕ) → number_on self.now width x y ≡ number_at t.now x y) }
     {
         match self {

@@ -2,7 +2,7 @@
 ghost use Rattle.std.specs.Prelude.{◌≡◌, ◌+◌, ◌*◌, ◌<◌, ◌≤◌, ◌↔◌, IfSome, IsTrue, length, ℕ, slice_index};
 ghost use Rattle.grid.specs.Terrain.{terrain_of};
 ghost use Rattle.scen.specs.Certificate.{IsTight};
-ghost use Rattle.scen.specs.Code.TableEntries.{entries_of, number_on};
+ghost use Rattle.scen.specs.Code.TableEntries.{table_entries, number_on};
 ghost use Rattle.scen.specs.Code.Tightness.{ground_of, number_of, is_land, is_water, AreSame, AreWithin, KeepsSide, KeepsDiagonals, KeepsBlock, KeepsRows, IsStrip, AreCorners, KeepsStrip};
 
 use crate::keys::{DIAGONAL, STRAIGHT};
@@ -53,8 +53,8 @@ impl Corners {
 /// Whether no legal step improves the table. It goes down the map strip by strip, and holds two rows, so that it looks up each cell
 /// once.
 pub(crate) fn is_tight(map: &Map, entries: &Entries) -> bool
-    requires cells { length (entries_of entries.now) ≡ map.now.width * map.now.height }
-    ensures { IsTrue result ↔ IsTight map.now (entries_of entries.now) }
+    requires cells { length (table_entries entries.now) ≡ map.now.width * map.now.height }
+    ensures { IsTrue result ↔ IsTight map.now (table_entries entries.now) }
 {
     let width = map.width();
     for strip in 0..width.div_ceil(STRIP) {
@@ -68,7 +68,7 @@ pub(crate) fn is_tight(map: &Map, entries: &Entries) -> bool
 
 /// Tests each step of the columns from one to before another, and each to the column behind them.
 fn keeps_strip(map: &Map, entries: &Entries, left: u32, right: u32) -> bool
-    requires cells { length (entries_of entries.now) ≡ map.now.width * map.now.height }
+    requires cells { length (table_entries entries.now) ≡ map.now.width * map.now.height }
     requires strip { IsStrip map.now left right }
     ensures { IsTrue result ↔ KeepsStrip map.now (number_on entries.now map.now.width) left right }
 {
@@ -99,7 +99,7 @@ fn told_or_new(
     right: u32,
     y: u32,
 ) -> Corners
-    requires cells { length (entries_of entries.now) ≡ map.now.width * map.now.height }
+    requires cells { length (table_entries entries.now) ≡ map.now.width * map.now.height }
     requires strip { IsStrip map.now left right }
     requires row { y < 65536 }
     requires held { IfSome held (λ corners. AreCorners map.now (number_on entries.now map.now.width) left right y corners) }
@@ -113,7 +113,7 @@ fn told_or_new(
 
 /// What the cells of a row say; off the map they are blocked, and no key is told.
 fn corners_of(map: &Map, entries: &Entries, left: u32, right: u32, y: u32) -> Corners
-    requires cells { length (entries_of entries.now) ≡ map.now.width * map.now.height }
+    requires cells { length (table_entries entries.now) ≡ map.now.width * map.now.height }
     requires strip { IsStrip map.now left right }
     requires row { y < 65536 }
     ensures { AreCorners map.now (number_on entries.now map.now.width) left right y result }

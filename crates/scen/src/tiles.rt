@@ -33,7 +33,7 @@ pub(crate) struct Tiles {
 }
 
 impl Tiles {
-    ghost use Rattle.scen.specs.Code.TileKeys.{key_at, keys_in, tile_of, number_by, number_at, entry_at};
+    ghost use Rattle.scen.specs.Code.TileKeys.{key_at, keys_in, tile_number, number_by, number_at, place_entry};
 
     /// Tiles without keys, of a map of this size.
     pub(crate) fn bare(alloc: Global, width: usize, height: usize) -> Result<Tiles, AllocError>
@@ -141,7 +141,7 @@ impl Tiles {
     /// The entry of a place of the map.
     pub(crate) fn entry(&self, place: usize) -> Option<Length>
         requires { place < self.now.width * self.now.height }
-        ensures { result ≡ entry_at self.now place }
+        ensures { result ≡ place_entry self.now place }
     {
         let number = self.number_at(place % self.width, place / self.width);
         if number < NO_LENGTH {
@@ -188,7 +188,7 @@ impl Tiles {
     fn keys_of(&self, x: usize, y: usize) -> &[Key]
         requires column { x < 2 ^ 17 }
         requires row { y < 2 ^ 17 }
-        ensures { result.now ≡ keys_in (slice_get self.now.all.items (tile_of self.now.across x y)) }
+        ensures { result.now ≡ keys_in (slice_get self.now.all.items (tile_number self.now.across x y)) }
     {
         match self.all.get(self.tile_of(x, y)) {
             Some(tile) => tile.keys.as_slice(),
@@ -200,7 +200,7 @@ impl Tiles {
     fn tile_of(&self, x: usize, y: usize) -> usize
         requires column { x < 2 ^ 17 }
         requires row { y < 2 ^ 17 }
-        ensures { result ≡ tile_of self.now.across x y }
+        ensures { result ≡ tile_number self.now.across x y }
     {
         y / TILE_SIDE * self.across + x / TILE_SIDE
     }

@@ -22,13 +22,26 @@ pub fn search(alloc: Global, map: &Map, start: Cell, goal: Cell) -> Result<Propo
 }
 
 fn propose(alloc: Global, map: &Map, start: Cell, goal: Cell) -> Result<Proposal, AllocError> {
-    let mut field = Field::around(alloc, map, start)?;
-    if approach(alloc, &mut field, start, goal)? {
-        return found(alloc, map, field, goal, Some(goal));
+    if let Some(proposal) = propose_toward(alloc, map, start, goal)? {
+        return Ok(proposal);
     }
     let mut field = Field::around(alloc, map, start)?;
     flood(alloc, &mut field, start, goal)?;
     found(alloc, map, field, goal, None)
+}
+
+/// What a search toward the goal finds, if the distance to it helps.
+fn propose_toward(
+    alloc: Global,
+    map: &Map,
+    start: Cell,
+    goal: Cell,
+) -> Result<Option<Proposal>, AllocError> {
+    let mut field = Field::around(alloc, map, start)?;
+    if !approach(alloc, &mut field, start, goal)? {
+        return Ok(None);
+    }
+    Ok(Some(found(alloc, map, field, goal, Some(goal))?))
 }
 
 /// What a search found; the goal is given as the heading where the search went by the distance to it.

@@ -8,26 +8,26 @@ use Rattle.scen.specs.declared.length_table.Entries.{Entries}
 use Rattle.scen.specs.declared.length_table.Entries.TheVariants.{Listed, Found}
 use Rattle.scen.specs.Code.KeyParts.{number_of_entry, length_of_number}
 use Rattle.scen.specs.Code.Distances.{beyond_number}
-use Rattle.scen.specs.Code.TileKeys.{number_at, entry_at}
+use Rattle.scen.specs.Code.TileKeys.{number_at, place_entry}
 
 -- the entries of all places
-unfoldable pub entries_of : Entries → List (Option Length)
-entries_of (Listed keys) = map (λ k. length_of_number k.value) keys.items
-entries_of (Found t) = map (entry_at t) (range_with_len 0 (t.width * t.height))
+unfoldable pub table_entries : Entries → List (Option Length)
+table_entries (Listed keys) = map (λ k. length_of_number k.value) keys.items
+table_entries (Found t) = map (place_entry t) (range_with_len 0 (t.width * t.height))
 
 -- the number of the entry of a cell
-abbrev pub told : List (Option Length) → (width x y : ℕ) → ℕ
-told table width x y = number_of_entry (slice_index_or table (y * width + x) None)
+abbrev pub entry_number : List (Option Length) → (width x y : ℕ) → ℕ
+entry_number table width x y = number_of_entry (slice_index_or table (y * width + x) None)
 
 -- what tiles of a map say of a cell, or the entries where the map has another width
 abbrev pub number_as : Bool → Tiles → List (Option Length) → (width x y : ℕ) → ℕ
 number_as true t table width x y = number_at t x y
-number_as false t table width x y = told table width x y
+number_as false t table width x y = entry_number table width x y
 
 -- The number of a cell by which tightness is tested. It may be less than that of its entry, where that was rounded.
 abbrev pub number_on : Entries → (width x y : ℕ) → ℕ
-number_on (Listed keys) width x y = told (entries_of (Listed keys)) width x y
-number_on (Found t) width x y = number_as (nat_eq t.width width) t (entries_of (Found t)) width x y
+number_on (Listed keys) width x y = entry_number (table_entries (Listed keys)) width x y
+number_on (Found t) width x y = number_as (nat_eq t.width width) t (table_entries (Found t)) width x y
 
 -- in a row and the row below it a search found no key from one column to another
 abbrev pub IsBeyond : Entries → (width left right y : ℕ) → Type 0

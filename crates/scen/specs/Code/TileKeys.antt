@@ -13,12 +13,12 @@ keys_in None = []
 keys_in (Some tile) = tile.keys.items
 
 -- the tile that a cell is in, where so many stand in a row
-abbrev pub tile_of : (across x y : ℕ) → ℕ
-tile_of across x y = y / 64 * across + x / 64
+abbrev pub tile_number : (across x y : ℕ) → ℕ
+tile_number across x y = y / 64 * across + x / 64
 
 -- the key of a cell
 abbrev pub key_at : Tiles → (x y : ℕ) → Option Key
-key_at t x y = slice_get (keys_in (slice_get t.all.items (tile_of t.across x y))) (y % 64 * 64 + x % 64)
+key_at t x y = slice_get (keys_in (slice_get t.all.items (tile_number t.across x y))) (y % 64 * 64 + x % 64)
 
 abbrev pub number_by : ℕ → Option Key → ℕ
 number_by beyond None = beyond
@@ -33,5 +33,5 @@ abbrev pub length_from : ℕ → Option Length
 length_from number = if nat_lt number (2 ^ 62) then length_of_number (rounded number) else None
 
 -- the entry of a place, row by row
-abbrev pub entry_at : Tiles → ℕ → Option Length
-entry_at t place = length_from (number_at t (place % t.width) (place / t.width))
+abbrev pub place_entry : Tiles → ℕ → Option Length
+place_entry t place = length_from (number_at t (place % t.width) (place / t.width))

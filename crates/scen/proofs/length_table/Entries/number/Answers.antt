@@ -2,7 +2,7 @@
 use Rattle.std.proofs.Common.{◌<◌, ◌≤◌, length, get_or, None, sym, ap, subst, ◌∙◌}
 use Rattle.std.proofs.lemmas.Bool.{ltb-false}
 use Rattle.scen.specs.Code.KeyParts.{number_of_entry}
-use Rattle.scen.specs.Code.TableEntries.{entries_of}
+use Rattle.scen.specs.Code.TableEntries.{table_entries}
 use Rattle.scen.proofs.TableLemmas.{listed_here, listed_past, number_kept}
 use Rattle.scen.proofs.length_table.Entries.number.Goals as goal
 
@@ -13,12 +13,12 @@ returns-in-Some c =
     let key = c.in-Some.key.now in
     let found = c.in-Some.ensures.lookup in
     let value = c.deref.ensures.value in
-    c.number_within.ensures ∙ sym (number_kept key) ∙ sym (ap number_of_entry (ap (λ e. get_or (entries_of e) place None) c.in-Listed.is
+    c.number_within.ensures ∙ sym (number_kept key) ∙ sym (ap number_of_entry (ap (λ e. get_or (table_entries e) place None) c.in-Listed.is
     ∙ listed_here keys place key (subst (λ l. place < length l) value found.3.0) (found.1 ∙ ap (λ l. get_or l place key) value)))
 
 pub returns-in-None : goal.returns-in-None
 returns-in-None c =
     let place = c.args.place in
     let past = ltb-false place (length c.deref.result.now) (sym c.in-None.ensures.lookup.0) in
-    sym (ap number_of_entry (ap (λ e. get_or (entries_of e) place None) c.in-Listed.is
+    sym (ap number_of_entry (ap (λ e. get_or (table_entries e) place None) c.in-Listed.is
     ∙ listed_past c.in-Listed.keys place (subst (λ l. length l ≤ place) c.deref.ensures.value past)))
