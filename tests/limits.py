@@ -87,6 +87,27 @@ def winding_rows(width: int, height: int, is_open: bool = True) -> list[str]:
     return rows
 
 
+def walled_rows(width: int, height: int, gap: int) -> list[str]:
+    """An open map with a wall down its middle column that is free in one row alone."""
+    middle = width // 2
+    return ["." * width if y == gap else "." * middle + "@" + "." * (width - middle - 1) for y in range(height)]
+
+
+def of_detours(harness: Harness, width: int, height: int) -> list[Outcome]:
+    """Walks along the first row round a wall, by a gap that is near and by one in the last row: a little longer than the distance, and far longer."""
+    middle = width // 2
+    outcomes = []
+    for gap in (height // 8, height - 1):
+        # On each side of the wall it comes to the gap's row aslant, or as far as the width lets it, and then through the gap straight.
+        sides = (middle - 1, width - middle - 2)
+        diagonal = sum(min(side, gap) for side in sides)
+        straight = sum(abs(side - gap) for side in sides) + 2
+        files = {"M": map_text(walled_rows(width, height, gap)), "S": scen(f"m.map {width} {height} 0 0 {width - 1} 0 1").encode()}
+        due = answer(1, f"shortest {straight} {diagonal} listed 1 differs\n")
+        outcomes.append(asked(harness, f"round a wall by row {gap}, {width} x {height}", "row M S 0", files, due))
+    return outcomes
+
+
 def of_walks(harness: Harness, width: int, height: int) -> list[Outcome]:
     """Walks as long as a map lets them be: from the first cell to the last along all ways to and fro, and across an open map."""
     ways = (height + 1) // 2
@@ -514,6 +535,7 @@ def of_what_an_agent_keeps(harness: Harness) -> list[Outcome]:
 TESTS: Sequence[Test] = (
     of_maps,
     *(functools.partial(of_walks, width=width, height=height) for width, height in ((2_048, 2_047), (65_535, 63), (64, 65_535))),
+    *(functools.partial(of_detours, width=width, height=height) for width, height in ((2_048, 2_048), (65_535, 64), (64, 65_535))),
     of_scenarios,
     of_long_plans,
     of_most_acts,

@@ -7,6 +7,9 @@ use crate::plan::Plan;
 /// So many steps are prepared at a time.
 pub const BLOCK: usize = 64;
 
+/// The acts of so many agents are turned at once.
+const GROUP: usize = 32;
+
 /// The agents that have acts left, each with what is known of it, and their acts.
 pub struct Crowd<'p, W> {
     plan: &'p Plan,
@@ -43,17 +46,29 @@ impl<'p, W: Copy> Crowd<'p, W> {
         left.sort_unstable_by_key(|&(place, _, _)| place);
         self.walkers.clear();
         self.agents.clear();
-        for (at, (_, agent, walker)) in left.into_iter().enumerate() {
-            let acts = &self.plan.acts_of(agent.into())[step..];
-            let some = acts.len().min(BLOCK);
-            for (row, &act) in acts[..some].iter().enumerate() {
-                self.rows[row * self.stride + at] = act;
-            }
-            for row in some..BLOCK {
-                self.rows[row * self.stride + at] = b'-';
-            }
+        for (group, at) in left.chunks(GROUP).zip((0..).step_by(GROUP)) {
+            self.turn(step, group.iter().map(|&(_, agent, _)| agent), at);
+        }
+        for (_, agent, walker) in left {
             self.walkers.push(walker);
             self.agents.push(agent);
+        }
+    }
+
+    /// Puts the acts of a group of agents into the rows, from a place on. All are fetched before the first is put, so that the group waits for far memory once.
+    fn turn(&mut self, step: usize, agents: impl Iterator<Item = u16>, at: usize) {
+        let mut fetched = [[b'-'; BLOCK]; GROUP];
+        let mut count = 0;
+        for (stretch, agent) in fetched.iter_mut().zip(agents) {
+            let acts = &self.plan.acts_of(agent.into())[step..];
+            let some = acts.len().min(BLOCK);
+            stretch[..some].copy_from_slice(&acts[..some]);
+            count += 1;
+        }
+        for (n, row) in self.rows.chunks_exact_mut(self.stride).enumerate() {
+            for (act, stretch) in row[at..at + count].iter_mut().zip(&fetched) {
+                *act = stretch[n];
+            }
         }
     }
 
