@@ -1,6 +1,6 @@
 //! Writing replies as text.
-ghost use Rattle.std.specs.Prelude.{◌≡◌, ◌≤◌, [], ◌∷◌, ◌++◌, length, map, OnOk, OnErr, is_ok};
-ghost use Rattle.hex.specs.Hex.{encode_lower};
+ghost use Rattle.std.specs.Prelude.{◌≡◌, ◌<◌, ◌≤◌, [], ◌∷◌, ◌++◌, length, map, slice_index, OnOk, OnErr, is_ok};
+ghost use Rattle.hex.specs.Hex.{encode_lower, lower_digits};
 ghost use Rattle.grid.specs.Counted.{counted_inner, failures_of};
 ghost use Rattle.grid.specs.Text.{line_feed};
 ghost use Rattle.grid.specs.Sink.{held_back, Puts, Breaks};
@@ -39,6 +39,7 @@ fn put_replies<W: Write>(sink: &mut Sink<'_, W>, replies: &[Reply]) -> Result<()
 }
 
 /// Puts a reply's line and its LF.
+#[inline(always)]
 pub fn put_reply<W: Write>(sink: &mut Sink<'_, W>, reply: &Reply) -> Result<(), WriteFault>
     ensures ok { OnOk result (Puts W.contents sink.old sink.new (reply_line (answer_of reply.now) ++ line_feed ∷ [])) }
     ensures err { OnErr result (Breaks W.contents sink.old sink.new (reply_line (answer_of reply.now) ++ line_feed ∷ [])) }
@@ -47,6 +48,7 @@ pub fn put_reply<W: Write>(sink: &mut Sink<'_, W>, reply: &Reply) -> Result<(), 
     sink.put_byte(b'\n')
 }
 
+#[inline(always)]
 fn put_line<W: Write>(sink: &mut Sink<'_, W>, reply: &Reply) -> Result<(), WriteFault>
     ensures ok { OnOk result (Puts W.contents sink.old sink.new (reply_line (answer_of reply.now))) }
     ensures err { OnErr result (Breaks W.contents sink.old sink.new (reply_line (answer_of reply.now))) }
@@ -163,14 +165,40 @@ fn put_digits<W: Write>(sink: &mut Sink<'_, W>, bytes: &[u8]) -> Result<(), Writ
     ensures ok { OnOk result (Puts W.contents sink.old sink.new (encode_lower bytes.now)) }
     ensures err { OnErr result (Breaks W.contents sink.old sink.new (encode_lower bytes.now)) }
 {
-    let mut digits = [0; 2 * PIECE];
-    // There is room for just so many digits, so nothing can be refused.
     if bytes.len() == PIECE {
-        // Their number is known here, so they are copied without a call.
-        let _ = encode_to_slice(bytes, &mut digits);
-        return sink.put(&digits);
+        return sink.put(&digits_of(bytes));
     }
+    let mut digits = [0; 2 * PIECE];
     let digits = &mut digits[..2 * bytes.len()];
+    // There is room for just so many digits, so nothing can be refused.
     let _ = encode_to_slice(bytes, digits);
     sink.put(digits)
+}
+
+/// The digits of as many bytes as a message of version 1 has. They are computed and not looked up, so that all are made side by side and
+/// none is put into memory by itself.
+#[inline(always)]
+fn digits_of(bytes: &[u8]) -> [u8; 2 * PIECE]
+    requires { length bytes.now ≡ PIECE }
+    ensures { result ≡ encode_lower bytes.now }
+{
+    let mut digits = [0; 2 * PIECE];
+    'bytes: for i in 0..PIECE {
+        digits[2 * i] = digit(bytes[i] / 16);
+        digits[2 * i + 1] = digit(bytes[i] % 16);
+    }
+    digits
+}
+
+/// The digit of a number below 16.
+#[inline(always)]
+fn digit(number: u8) -> u8
+    requires { number < 16 }
+    ensures { result ≡ slice_index lower_digits number }
+{
+    if number < 10 {
+        b'0' + number
+    } else {
+        b'a' - 10 + number
+    }
 }

@@ -4,6 +4,7 @@
 mod complete_fault;
 mod ending;
 pub mod laws;
+mod replies;
 mod runner;
 mod runs;
 mod said;

@@ -10,11 +10,10 @@ ghost use Rattle.runner.specs.Standing.{IsMember};
 ghost use Rattle.runner.specs.Code.Reopening.{Reopens};
 
 use crate::ending::bring_all_to_ends;
+use crate::replies::{reply_to_delivery, reply_to_finish, reply_to_start};
 use crate::said::Said;
 use crate::{CompleteFault, SimTape};
-use agent::replies::{
-    reply_to_delivery, reply_to_finish, reply_to_restart, reply_to_start, why_of,
-};
+use agent::replies::{reply_to_restart, why_of};
 use agent::{Agent, Finished, TellFault};
 use depgraph::{Dependencies, Graph, OutOfMemory};
 use model::{Entry, Event, Held, Reply, Version, Why};
@@ -302,6 +301,7 @@ impl<'g> Runner<'g> {
         reply_to_delivery(self.agents[agent as usize].hear_entries(sender, entries))
     }
 
+    #[inline(never)]
     fn tear(&mut self, agent: u32, stored: u32) -> Reply
         ensures goes { GoesOn self.old self.new (event.Tear agent stored) (answer_of result) }
         ensures same_graph { self.new.timetable ≡ self.old.timetable }
@@ -318,6 +318,7 @@ impl<'g> Runner<'g> {
         Reply::Armed
     }
 
+    #[inline(never)]
     fn restart(&mut self, agent: u32) -> Reply
         ensures goes { GoesOn self.old self.new (event.Restart agent) (answer_of result) }
         ensures same_graph { self.new.timetable ≡ self.old.timetable }
