@@ -141,7 +141,7 @@ module _ {R : Type 0} (remaining : R → Option (List ℕ)) where
       → EndsAt false (has_ended new) (remaining old.reader.now.inner) (remaining new.reader.now.inner)
       → FailsOnce false (has_failed new) old.reader.now.failures new.reader.now.failures
       → new.reader.now.calls ≡ one_more old.reader.now.calls
-      → (bytes ≡ []) ⊎ ((old.reader.now.calls < greatest) × (length bytes ≤ 4096))
+      → (bytes ≡ []) ⊎ ((old.reader.now.calls < greatest) × (length bytes ≤ 65536))
       → Takes remaining old new []
   Takes-read old new bytes name empty stop at_hand_is delivered ends fails calls bound = record {
     same_reader = name;

@@ -51,7 +51,7 @@ is_stopped s = is_some s.stop
 
 -- how many more bytes can come at the most, with one for each call
 abbrev pub most_left : {R : Type 0} → Source R → ℕ
-most_left s = (greatest - s.reader.now.calls) * 4097 + length (at_hand s)
+most_left s = (greatest - s.reader.now.calls) * 65537 + length (at_hand s)
 
 -- From old to new the source gave the bytes taken, in order, and none was lost.
 pub record Takes {R : Type 0} (remaining : R → Option (List ℕ)) (old new : Source R) (taken : List ℕ) : Type 0 where

@@ -27,6 +27,6 @@ pub use map_fault::MapFault;
 pub use map_reader::read_map;
 pub use map_writer::write_map;
 pub use sink::{Sink, WriteFault};
-pub use source::{Source, Stop};
+pub use source::{LARGEST_PIECE, Source, Stop};
 pub use step::{step4, step8};
 pub use terrain::Terrain;

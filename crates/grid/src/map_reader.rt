@@ -13,7 +13,7 @@ ghost use Rattle.grid.specs.Code.Following.{TakesLine, TakesRight, StopsReading,
 
 use crate::header_line::{HeaderLine, Progress, Saying};
 use crate::terrain_scan::terrain_run;
-use crate::{Counted, Map, MapFault, Source, Stop};
+use crate::{Counted, LARGEST_PIECE, Map, MapFault, Source, Stop};
 use std::alloc::Global;
 use std::io::Read;
 
@@ -29,7 +29,7 @@ pub fn read_map<R: Read>(alloc: Global, reader: &mut Counted<R>) -> Result<Map, 
     ensures { ReadsText MapText MapFaultAt (R.remaining (counted_inner reader.old)) (R.remaining (counted_inner reader.new))
         (failures_of reader.old) (failures_of reader.new) (map_outcome result) }
 {
-    let mut source = Source::new(reader);
+    let mut source = Source::with_pieces_of(LARGEST_PIECE, reader);
     read_text(alloc, &mut source)
 }
 

@@ -1,8 +1,12 @@
 //! The bytes of a reader, a piece at a time.
 ghost use Rattle.std.specs.Prelude.{◌≡◌, ◌+◌, ◌<◌, ◌≤◌, [], ◌∷◌, length, take, drop, Some, is_some, true, false};
-ghost use Rattle.std.specs.Prelude.{MatchOption, MatchResult};
+ghost use Rattle.std.specs.Prelude.{MatchOption, MatchResult, OnOk, is_err, if◌then◌else◌};
+ghost use Rattle.std.specs.Io.{ReadsAtMost};
+ghost use Rattle.std.specs.Io.KnownBytes.{ReadConsumes};
+ghost use Rattle.grid.specs.Counted.{greatest, counted_inner, calls_of, failures_of, one_more};
 
 use crate::Counted;
+use std::io;
 use std::io::Read;
 
 /// Why no more bytes come.
@@ -14,15 +18,22 @@ pub enum Stop {
     Failure,
 }
 
-/// The bytes of a reader, of which it reads a piece of 4,096 ahead at the most.
+/// The largest piece that a source reads at a time.
+pub const LARGEST_PIECE: usize = 65_536;
+
+/// The bytes of a reader, of which it reads one piece ahead at the most.
 pub struct Source<'a, R> {
     reader: &'a mut Counted<R>,
-    piece: [u8; 4096],
+    piece: [u8; LARGEST_PIECE],
+    /// How many bytes it reads at a time.
+    size: usize,
     start: usize,
     end: usize,
     stop: Option<Stop>,
+    ghost reads_some: { 0 < size },
+    ghost has_room: { size ≤ 65536 },
     ghost ordered: { start ≤ end },
-    ghost in_piece: { end ≤ 4096 },
+    ghost in_piece: { end ≤ 65536 },
     ghost stops_empty: { is_some stop ≡ true → end ≤ start },
 }
 
@@ -33,6 +44,7 @@ impl<R> Drop for Source<'_, R> {
         let Source {
             reader: _,
             piece: _,
+            size: _,
             start: _,
             end: _,
             stop: _,
@@ -44,8 +56,21 @@ impl<'a, R: Read> Source<'a, R> {
     ghost use Rattle.grid.specs.Source.{at_hand, source_reader, is_stopped, GoesOn, Takes, StopsBy};
     ghost use Rattle.grid.specs.Lines.{HasTaken};
 
-    /// Nothing is read yet.
+    /// Nothing is read yet. It reads 4,096 bytes ahead at the most.
     pub fn new(reader: &'a mut Counted<R>) -> Source<'a, R>
+        ensures same_reader { result.reader.ghost_name ≡ reader.entry.ghost_name }
+        ensures reader { source_reader result ≡ reader.old }
+        ensures at_hand { at_hand result ≡ [] }
+        ensures stop { is_stopped result ≡ false }
+        ensures none_taken { HasTaken R.remaining reader.old result [] }
+    {
+        Source::with_pieces_of(4096, reader)
+    }
+
+    /// The same, but it reads so many bytes ahead at the most.
+    pub fn with_pieces_of(size: usize, reader: &'a mut Counted<R>) -> Source<'a, R>
+        requires some { 0 < size }
+        requires most { size ≤ LARGEST_PIECE }
         ensures same_reader { result.reader.ghost_name ≡ reader.entry.ghost_name }
         ensures reader { source_reader result ≡ reader.old }
         ensures at_hand { at_hand result ≡ [] }
@@ -54,7 +79,8 @@ impl<'a, R: Read> Source<'a, R> {
     {
         Source {
             reader,
-            piece: [0; 4096],
+            piece: [0; LARGEST_PIECE],
+            size,
             start: 0,
             end: 0,
             stop: None,
@@ -74,7 +100,7 @@ impl<'a, R: Read> Source<'a, R> {
         }
         self.start = 0;
         self.end = 0;
-        match self.reader.read(&mut self.piece) {
+        match read_up_to(self.reader, &mut self.piece, self.size) {
             Ok(0) => {
                 self.stop = Some(Stop::End);
                 Some(Stop::End)
@@ -120,4 +146,17 @@ impl<'a, R: Read> Source<'a, R> {
             Some(stop) => Err(stop),
         }
     }
+}
+
+/// Reads once, into so many bytes at the front of a piece at the most.
+fn read_up_to<R: Read>(reader: &mut Counted<R>, piece: &mut [u8], size: usize) -> io::Result<usize>
+    requires some { 0 < size }
+    requires room { size ≤ length piece.old }
+    ensures bound { ReadsAtMost result piece.new }
+    ensures bytes { ReadConsumes (R.remaining (counted_inner reader.old)) (R.remaining (counted_inner reader.new)) result piece.new }
+    ensures calls { calls_of reader.new ≡ one_more (calls_of reader.old) }
+    ensures failures { failures_of reader.new ≡ (if is_err result then one_more (failures_of reader.old) else failures_of reader.old) }
+    ensures past { OnOk result (calls_of reader.old < greatest) }
+{
+    reader.read(&mut piece[..size])
 }

@@ -12,7 +12,7 @@ ghost use Rattle.plan_text.specs.Code.PlanLines.{due_seen, PlanAdds, PlanRefuses
 use crate::agent_line::read_agent;
 use crate::header_lines::{read_agents, read_header, read_number};
 use crate::{Plan, PlanTextFault, PushFault};
-use grid::{Counted, Source, TakenLine};
+use grid::{Counted, LARGEST_PIECE, Source, TakenLine};
 use std::alloc::Global;
 use std::io::Read;
 
@@ -25,7 +25,7 @@ pub fn read_plan<R: Read>(alloc: Global, reader: &mut Counted<R>) -> Result<Plan
     ensures { ReadsText PlanText PlanTextFaultAt (R.remaining (counted_inner reader.old)) (R.remaining (counted_inner reader.new))
         (failures_of reader.old) (failures_of reader.new) (plan_outcome result) }
 {
-    let mut source = Source::new(reader);
+    let mut source = Source::with_pieces_of(LARGEST_PIECE, reader);
     read_lines(alloc, &mut source)
 }
 
