@@ -1,5 +1,5 @@
 //! How far apart two cells are on a map without obstacles.
-ghost use Rattle.std.specs.Prelude.{◌≡◌, ◌^◌, ◌<◌, ◌≤◌};
+ghost use Rattle.std.specs.Prelude.{◌≡◌, ℕ, ◌^◌, ◌<◌, ◌≤◌, IsSome, MatchOption};
 ghost use Rattle.scen.specs.Code.Distances.{distance, beyond_number};
 
 use crate::beyond::Beyond;
@@ -39,5 +39,19 @@ pub(crate) fn number_beyond(beyond: Option<Beyond>, x: usize, y: usize) -> u64
             .number
             .saturating_sub(distance(goal, x as u64, y as u64))
             .max(STRAIGHT),
+    }
+}
+
+/// The number of each cell that was not settled, where it is one and the same; none where it goes by the distance to a goal.
+#[inline(always)]
+pub(crate) fn flat_number(beyond: Option<Beyond>) -> Option<u64>
+    ensures { MatchOption result (MatchOption beyond ⊥ (λ b. IsSome b.goal)) (λ n. (x y : ℕ) → beyond_number beyond x y ≡ n) }
+{
+    let Some(beyond) = beyond else {
+        return Some(NO_LENGTH);
+    };
+    match beyond.goal {
+        None => Some(beyond.number),
+        Some(_) => None,
     }
 }

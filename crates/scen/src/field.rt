@@ -133,7 +133,8 @@ impl Field<'_> {
         Ok(())
     }
 
-    /// The same for a cell that hasn't all its neighbours in its tile.
+    /// The same for a cell that hasn't all its neighbours in its tile. Few are such cells, so it is compiled by itself.
+    #[inline(never)]
     fn step_from_edge<F: Front>(
         &mut self,
         cell: Cell,
@@ -159,6 +160,7 @@ impl Field<'_> {
         Ok(())
     }
 
+    #[inline(always)]
     fn step_straight<F: Front>(
         &mut self,
         cell: Cell,
@@ -184,6 +186,7 @@ impl Field<'_> {
     }
 
     /// The key of a cell of the map; its tile is filled if need be.
+    #[inline(always)]
     fn reach(&mut self, cell: Cell) -> Result<Option<&mut Key>, AllocError> {
         let (alloc, map) = (self.alloc, self.map);
         let Some(tile) = self.tiles.tile_mut(cell) else {
@@ -204,12 +207,14 @@ impl Field<'_> {
 fn is_at_edge(cell: Cell) -> bool
     ensures { result ≡ false → (0 < cell.x % 64) × (0 < cell.y % 64) }
 {
-    let x = usize::from(cell.x) % TILE_SIDE;
-    let y = usize::from(cell.y) % TILE_SIDE;
-    x == 0 || x == TILE_SIDE - 1 || y == 0 || y == TILE_SIDE - 1
+    let x = (usize::from(cell.x) + 1) % TILE_SIDE;
+    let y = (usize::from(cell.y) + 1) % TILE_SIDE;
+    x < 2 || y < 2
 }
 
 /// The keys of a cell's tile before the first step; off the map they are closed.
+#[cold]
+#[inline(never)]
 fn first_tile(
     alloc: Global,
     map: &Map,
@@ -218,9 +223,14 @@ fn first_tile(
 ) -> Result<Vec<Key>, AllocError> {
     let left = usize::from(cell.x) / TILE_SIDE * TILE_SIDE;
     let top = usize::from(cell.y) / TILE_SIDE * TILE_SIDE;
+    // All rows are fetched before the first of them is read. One after another, each would wait for memory by itself.
+    let mut characters = [b'@'; TILE_SIDE * TILE_SIDE];
+    for (y, row) in characters.chunks_mut(TILE_SIDE).enumerate() {
+        put_characters(row, row_from(map, left, top + y));
+    }
     let mut keys = vec![in alloc; Key::closed(); TILE_SIDE * TILE_SIDE]?;
-    for (y, row) in keys.chunks_mut(TILE_SIDE).enumerate() {
-        put_first_keys(row, row_from(map, left, top + y), first_keys);
+    for (key, character) in keys.iter_mut().zip(&characters) {
+        *key = first_keys[usize::from(*character)];
     }
     Ok(keys)
 }
@@ -236,10 +246,10 @@ fn row_from(map: &Map, x: usize, y: usize) -> &[u8]
     &characters[first..end]
 }
 
-fn put_first_keys(keys: &mut [Key], characters: &[u8], first_keys: &[Key; 256]) {
-    for (key, character) in keys.iter_mut().zip(characters) {
-        *key = first_keys[usize::from(*character)];
-    }
+/// Writes as many of the characters as there is room for.
+fn put_characters(row: &mut [u8], characters: &[u8]) {
+    let count = characters.len().min(row.len());
+    row[..count].copy_from_slice(&characters[..count]);
 }
 
 /// The first key of each terrain character: closed where no walk from such a start can pass. A table takes no branch, which no one could foresee.

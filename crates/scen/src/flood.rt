@@ -9,7 +9,8 @@ use std::alloc::{AllocError, Global};
 const MOST_BUCKETS: u64 = 4_194_304;
 
 /// Lowers the keys from the start on, until that of the goal is the key of a shortest walk: then each key that is not greater is one too, and no
-/// greater key will fall below it.
+/// greater key will fall below it. It is compiled by itself, so that what each step needs stays in registers.
+#[inline(never)]
 pub(crate) fn flood(
     alloc: Global,
     field: &mut Field,

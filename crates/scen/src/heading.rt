@@ -2,6 +2,7 @@
 use crate::distance::distance;
 use crate::front::Front;
 use crate::keys::Key;
+use crate::room::put_last;
 use grid::Cell;
 use std::alloc::{AllocError, Global};
 
@@ -83,10 +84,7 @@ impl Front for Heading {
     fn push(&mut self, cell: Cell, _old: Key, new: Key) -> Result<(), AllocError> {
         let number = bucket_of(least_through(cell, new, self.goal) / BUCKET_WIDTH);
         if let Some(bucket) = self.buckets.get_mut(number) {
-            bucket
-                .cells
-                .push(Open { key: new, cell })
-                .map_err(AllocError::from)?;
+            put_last(&mut bucket.cells, Open { key: new, cell })?;
             self.waiting = self.waiting.saturating_add(1);
         }
         Ok(())

@@ -19,6 +19,7 @@ mod length_table;
 mod listed;
 mod numbers;
 mod order;
+mod room;
 mod rounding;
 mod row;
 mod row_reader;

@@ -1,9 +1,9 @@
 //! Whether a table of lengths is tight: no legal step improves it.
-ghost use Rattle.std.specs.Prelude.{◌≡◌, ◌+◌, ◌*◌, ◌<◌, ◌≤◌, ◌↔◌, IfSome, IsTrue, length, ℕ, slice_index};
+ghost use Rattle.std.specs.Prelude.{◌≡◌, ◌+◌, ◌*◌, ◌<◌, ◌≤◌, ◌↔◌, IsTrue, length, ℕ, slice_index};
 ghost use Rattle.grid.specs.Terrain.{terrain_of};
 ghost use Rattle.scen.specs.Certificate.{IsTight};
 ghost use Rattle.scen.specs.Code.TableEntries.{table_entries, number_on};
-ghost use Rattle.scen.specs.Code.Tightness.{ground_of, number_of, is_land, is_water, AreSame, AreWithin, KeepsSide, KeepsDiagonals, KeepsBlock, KeepsRows, IsStrip, AreCorners, KeepsStrip};
+ghost use Rattle.scen.specs.Code.Tightness.{ground_of, number_of, is_land, is_water, AreSame, AreWithin, KeepsSide, KeepsDiagonals, KeepsBlock, KeepsRows, IsStrip, AreCorners, KeepsPatch, KeepsBand};
 
 use crate::keys::{DIAGONAL, STRAIGHT};
 use crate::length_table::Entries;
@@ -19,6 +19,9 @@ pub(crate) struct Corner {
 
 /// So many columns make a strip.
 const STRIP: u32 = 64;
+
+/// So many rows make a band.
+const BAND: u32 = 64;
 
 /// What the cells of one row say in a strip, and in the column behind it.
 #[derive(Clone, Copy, Debug)]
@@ -50,65 +53,64 @@ impl Corners {
     }
 }
 
-/// Whether no legal step improves the table. It goes down the map strip by strip, and holds two rows, so that it looks up each cell
-/// once.
+/// Whether no legal step improves the table. It goes over the map patch by patch, band below band, so that what is read of a row
+/// is near what was read before. In a patch it holds two rows, so that it looks up each cell once.
 pub(crate) fn is_tight(map: &Map, entries: &Entries) -> bool
     requires cells { length (table_entries entries.now) ≡ map.now.width * map.now.height }
     ensures { IsTrue result ↔ IsTight map.now (table_entries entries.now) }
 {
+    for band in 0..map.height().div_ceil(BAND) {
+        if !keeps_band(map, entries, band * BAND) {
+            return false;
+        }
+    }
+    true
+}
+
+/// Tests each step of the rows of a band, and each to the row below them.
+fn keeps_band(map: &Map, entries: &Entries, top: u32) -> bool
+    requires cells { length (table_entries entries.now) ≡ map.now.width * map.now.height }
+    requires row { top < 65536 }
+    ensures { IsTrue result ↔ KeepsBand map.now (number_on entries.now map.now.width) top }
+{
     let width = map.width();
     for strip in 0..width.div_ceil(STRIP) {
         let left = strip * STRIP;
-        if !keeps_strip(map, entries, left, width.min(left + STRIP)) {
+        if !keeps_patch(map, entries, left, width.min(left + STRIP), top) {
             return false;
         }
     }
     true
 }
 
-/// Tests each step of the columns from one to before another, and each to the column behind them.
-fn keeps_strip(map: &Map, entries: &Entries, left: u32, right: u32) -> bool
+/// Tests each step of the columns from one to before another in a band, and each to the column behind them and the row below.
+fn keeps_patch(map: &Map, entries: &Entries, left: u32, right: u32, top: u32) -> bool
     requires cells { length (table_entries entries.now) ≡ map.now.width * map.now.height }
     requires strip { IsStrip map.now left right }
-    ensures { IsTrue result ↔ KeepsStrip map.now (number_on entries.now map.now.width) left right }
+    requires row { top < 65536 }
+    ensures { IsTrue result ↔ KeepsPatch map.now (number_on entries.now map.now.width) left right top }
 {
     let width = map.width() as usize;
-    let mut upper = None;
-    for y in 0..map.height() {
+    let bottom = map.height().min(top + BAND);
+    let mut upper = Corners::blocked();
+    let mut is_held = false;
+    for y in top..bottom {
         // what stands for the keys that were not found is tight by itself
         if entries.is_beyond(width, left as usize, right as usize, y as usize) {
-            upper = None;
+            is_held = false;
             continue;
         }
-        let above = told_or_new(upper, map, entries, left, right, y);
-        let below = corners_of(map, entries, left, right, y + 1);
-        if !keeps_row(&above, &below, (right - left) as usize) {
+        if !is_held {
+            upper = corners_of(map, entries, left, right, y);
+        }
+        let lower = corners_of(map, entries, left, right, y + 1);
+        if !keeps_row(&upper, &lower, (right - left) as usize) {
             return false;
         }
-        upper = Some(below);
+        upper = lower;
+        is_held = true;
     }
     true
-}
-
-/// What the cells of a row say, where it isn't held yet.
-fn told_or_new(
-    held: Option<Corners>,
-    map: &Map,
-    entries: &Entries,
-    left: u32,
-    right: u32,
-    y: u32,
-) -> Corners
-    requires cells { length (table_entries entries.now) ≡ map.now.width * map.now.height }
-    requires strip { IsStrip map.now left right }
-    requires row { y < 65536 }
-    requires held { IfSome held (λ corners. AreCorners map.now (number_on entries.now map.now.width) left right y corners) }
-    ensures { AreCorners map.now (number_on entries.now map.now.width) left right y result }
-{
-    match held {
-        Some(corners) => corners,
-        None => corners_of(map, entries, left, right, y),
-    }
 }
 
 /// What the cells of a row say; off the map they are blocked, and no key is told.

@@ -3,7 +3,7 @@ ghost use Rattle.std.specs.Prelude.{◌≡◌, ℕ, ◌+◌, ◌-◌, ◌*◌, �
 
 use crate::Length;
 use crate::beyond::Beyond;
-use crate::distance::number_beyond;
+use crate::distance::{flat_number, number_beyond};
 use crate::keys::{Key, NO_LENGTH, length_of};
 use crate::rounding::rounded;
 use grid::Cell;
@@ -127,14 +127,42 @@ impl Tiles {
         requires row { y < 2 ^ 17 }
         ensures told { (i : ℕ) → i < count → slice_index numbers.new i ≡ number_at self.now (x + i) y }
     {
-        let beyond = self.beyond;
-        let keys = self.keys_from(x, y);
         let in_tile = count.min(TILE_SIDE - x % TILE_SIDE);
-        for i in 0..in_tile {
-            numbers[i] = Tiles::lesser(number_beyond(beyond, x + i, y), keys.get(i).copied());
-        }
+        self.put_in_tile(x, y, in_tile, numbers);
         for i in in_tile..count {
             numbers[i] = self.number_at(x + i, y);
+        }
+    }
+
+    /// The same for cells of one tile.
+    fn put_in_tile(&self, x: usize, y: usize, count: usize, numbers: &mut [u64])
+        requires room { count ≤ length numbers.old }
+        requires columns { x + count < 2 ^ 17 }
+        requires row { y < 2 ^ 17 }
+        requires tile { count ≤ 64 - x % 64 }
+        ensures told { (i : ℕ) → i < count → slice_index numbers.new i ≡ number_at self.now (x + i) y }
+    {
+        let beyond = self.beyond;
+        let keys = self.keys_from(x, y);
+        match flat_number(beyond) {
+            Some(number) if count <= keys.len() => Tiles::put_within(number, keys, count, numbers),
+            _ => {
+                for i in 0..count {
+                    let number = number_beyond(beyond, x + i, y);
+                    numbers[i] = Tiles::lesser(number, keys.get(i).copied());
+                }
+            }
+        }
+    }
+
+    /// Writes the numbers of so many keys that are less than one number, and else that number.
+    fn put_within(beyond: u64, keys: &[Key], count: usize, numbers: &mut [u64])
+        requires keys { count ≤ length keys.now }
+        requires room { count ≤ length numbers.old }
+        ensures told { (i : ℕ) → i < count → slice_index numbers.new i ≡ number_by beyond (slice_get keys.now i) }
+    {
+        for i in 0..count {
+            numbers[i] = keys[i].number_within(beyond);
         }
     }
 

@@ -1,6 +1,6 @@
 //! A shortest walk, found from its end.
 use crate::field::Field;
-use crate::keys::{DIAGONAL, STRAIGHT};
+use crate::keys::{DIAGONAL, Key, STRAIGHT};
 use crate::sides::{east_of, north_of, south_of, west_of};
 use grid::Cell;
 use std::alloc::{AllocError, Global};
@@ -33,10 +33,11 @@ fn reached(field: &Field, cell: Cell) -> Option<Cell> {
 
 /// A cell from which one step more makes a shortest walk to this one; none at the start.
 fn cell_before(field: &Field, cell: Cell) -> Option<Cell> {
+    let key = field.key(cell)?;
     let (north, south) = (north_of(cell), south_of(cell));
     let (west, east) = (west_of(cell), east_of(cell));
     for side in [north, west, east, south] {
-        if is_step(field, side, STRAIGHT, cell) {
+        if is_step(field, side, STRAIGHT, key) {
             return Some(side);
         }
     }
@@ -47,7 +48,7 @@ fn cell_before(field: &Field, cell: Cell) -> Option<Cell> {
         (east_of(south), south, east),
     ] {
         let is_free = is_open(field, row) && is_open(field, column);
-        if is_free && is_step(field, corner, DIAGONAL, cell) {
+        if is_free && is_step(field, corner, DIAGONAL, key) {
             return Some(corner);
         }
     }
@@ -58,10 +59,9 @@ fn is_open(field: &Field, cell: Cell) -> bool {
     field.key(cell).is_some_and(|key| !key.is_closed())
 }
 
-/// Whether a shortest walk to one cell and a step make one to another.
-fn is_step(field: &Field, from: Cell, step: u64, to: Cell) -> bool {
-    match (field.key(from), field.key(to)) {
-        (Some(before), Some(key)) => before.is_step_before(step, key),
-        _ => false,
-    }
+/// Whether a shortest walk to a cell and a step make one of this key.
+fn is_step(field: &Field, from: Cell, step: u64, key: Key) -> bool {
+    field
+        .key(from)
+        .is_some_and(|before| before.is_step_before(step, key))
 }

@@ -1,6 +1,7 @@
 //! The cells that a search in all directions goes on from, in buckets of keys.
 use crate::front::Front;
 use crate::keys::Key;
+use crate::room::put_last;
 use grid::Cell;
 use std::alloc::{AllocError, Global};
 use std::mem;
@@ -39,10 +40,10 @@ impl Front for Wave {
     fn push(&mut self, cell: Cell, old: Key, new: Key) -> Result<(), AllocError> {
         if !new.is_from(self.later_from) {
             if old.is_from(self.later_from) {
-                self.next.push(cell).map_err(AllocError::from)?;
+                put_last(&mut self.next, cell)?;
             }
         } else if old.is_unreached() {
-            self.later.push(cell).map_err(AllocError::from)?;
+            put_last(&mut self.later, cell)?;
         }
         Ok(())
     }

@@ -92,6 +92,10 @@ Tells p c = (p.grounds ≡ c.grounds) × ((c.grounds ≡ 0 → ⊥) → p.key �
 abbrev pub AreCorners : Grid → (ℕ → ℕ → ℕ) → (left right y : ℕ) → Corners → Type 0
 AreCorners m numbers left right y corners = (x : ℕ) → left ≤ x → x ≤ right → Tells (corner_in corners (x - left)) (corner_at m numbers x y)
 
--- each block whose upper left cell is in a column from one to before another
-abbrev pub KeepsStrip : Grid → (ℕ → ℕ → ℕ) → (left right : ℕ) → Type 0
-KeepsStrip m numbers left right = (y : ℕ) → y < m.height → (x : ℕ) → left ≤ x → x < right → KeepsBlockAt m numbers x y
+-- each block whose upper left cell is in a band of rows, and in a column from one to before another
+abbrev pub KeepsPatch : Grid → (ℕ → ℕ → ℕ) → (left right top : ℕ) → Type 0
+KeepsPatch m numbers left right top = (y : ℕ) → top ≤ y → y < top + 64 → y < m.height → (x : ℕ) → left ≤ x → x < right → KeepsBlockAt m numbers x y
+
+-- each block whose upper left cell is in a band of rows
+abbrev pub KeepsBand : Grid → (ℕ → ℕ → ℕ) → (top : ℕ) → Type 0
+KeepsBand m numbers top = (y : ℕ) → top ≤ y → y < top + 64 → y < m.height → (x : ℕ) → x < m.width → KeepsBlockAt m numbers x y

@@ -3,6 +3,6 @@ use Rattle.scen.specs.Code.TableEntries.{number_on}
 use Rattle.scen.specs.Code.Tightness.{KeepsBlockAt}
 use Rattle.scen.proofs.tightness.is_tight.Given as goal
 
--- each block whose column is in a strip before it keeps
-abbrev pub invariant-loop-strip : goal.invariant-loop-strip
-invariant-loop-strip l = (y : ℕ) → y < l.map.height → (x : ℕ) → x < 64 * l.strip → x < l.map.width → KeepsBlockAt l.map (number_on l.entries l.map.width) x y
+-- each block whose row is in a band before it keeps
+abbrev pub invariant-loop-band : goal.invariant-loop-band
+invariant-loop-band l = (y : ℕ) → y < 64 * l.band → y < l.map.height → (x : ℕ) → x < l.map.width → KeepsBlockAt l.map (number_on l.entries l.map.width) x y

@@ -6,6 +6,3 @@ use Rattle.scen.proofs.tiles.Tiles.put_numbers.Given as goal
 -- the numbers of the cells before are told
 abbrev pub invariant-loop-i : goal.invariant-loop-i
 invariant-loop-i l = (k : ℕ) → k < l.i → slice_index l.numbers k ≡ number_at l.self (l.x + k) l.y
-
-abbrev pub invariant-loop-i-2 : goal.invariant-loop-i-2
-invariant-loop-i-2 l = (k : ℕ) → k < l.i → slice_index l.numbers k ≡ number_at l.self (l.x + k) l.y
