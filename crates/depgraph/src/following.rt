@@ -14,10 +14,10 @@ use std::alloc::{AllocError, Global};
 use std::marker::Model;
 
 /// So many times make a block.
-const BLOCK: usize = 64;
+const BLOCK: usize = 32;
 
 /// So many blocks have all times.
-const BLOCKS: usize = 1024;
+const BLOCKS: usize = 2048;
 
 /// The entries of all paths, and which cells more than one agent comes into, by their numbers. Who comes into others waits for nobody.
 #[derive(Debug, Drop)]
@@ -60,12 +60,13 @@ impl Model for Comings {
 impl Comings {
     ghost use Rattle.std.specs.Prelude.{[], ◌∷◌, ◌++◌};
 
-    fn new(alloc: Global) -> Comings
-        ensures { result ≡ [] }
+    /// Nobody yet, and room for so many.
+    fn with_room(alloc: Global, room: usize) -> Result<Comings, AllocError>
+        ensures { IfOk result (λ c. c ≡ []) }
     {
-        Comings {
-            list: Vec::new(alloc),
-        }
+        Ok(Comings {
+            list: Vec::with_capacity(alloc, room)?,
+        })
     }
 
     fn as_slice(&self) -> &[Coming]
@@ -174,7 +175,7 @@ fn follow(alloc: Global, meetings: &Meetings<'_>, pass: &mut Pass) -> Result<(),
     ensures end { OnOk result (IsPast meetings.now pass.new.time) }
 {
     let mut followers = all_followers(alloc, meetings)?;
-    let mut block = empty_block(alloc)?;
+    let mut block = empty_block(alloc, followers.len())?;
     for number in 0..BLOCKS {
         let time = number * BLOCK;
         keep_under_way(meetings, time, &mut followers);
@@ -206,13 +207,13 @@ fn all_followers(alloc: Global, meetings: &Meetings<'_>) -> Result<Vec<Follower>
     Ok(followers)
 }
 
-/// Nobody comes yet.
-fn empty_block(alloc: Global) -> Result<Vec<Comings>, AllocError>
+/// Nobody comes yet. No more come at one time than there are agents, so that no list grows.
+fn empty_block(alloc: Global, agents: usize) -> Result<Vec<Comings>, AllocError>
     ensures { IfOk result (λ block. length block.items ≡ block_times) }
 {
     let mut block = Vec::with_capacity(alloc, BLOCK)?;
     for _step in 0..BLOCK {
-        block.push(Comings::new(alloc))?;
+        block.push(Comings::with_room(alloc, agents)?)?;
     }
     Ok(block)
 }

@@ -1,7 +1,7 @@
 //! Where the numbers of cells stand: those of a tile, 16 x 16 cells, side by side, so that the numbers along a path lie close.
 ghost use Rattle.std.specs.Prelude.{◌≡◌, ◌≢◌, ◌+◌, ◌/◌, ◌<◌, ◌≤◌, ◌^◌, ℕ, length, get_or, IfOk, OnOk};
 ghost use Rattle.grid.specs.declared.cell.Cell.{Cell};
-ghost use Rattle.depgraph.specs.Code.Tiles.{tile_of, offset_of, place_of, held, AreTiles, IsCovered, IsSameMap, HasRoom, IsHeld};
+ghost use Rattle.depgraph.specs.Code.Tiles.{tile_of, offset_of, part_of, place_of, held, AreTiles, IsCovered, IsSameMap, HasRoom, IsHeld};
 
 use grid::Cell;
 use std::alloc::{AllocError, Global};
@@ -73,11 +73,24 @@ impl Tiles {
     {
         let tile = tile_of(self.across, cell);
         if self.parts[tile] == 0 {
-            let end = self.numbers.len();
-            self.numbers.resize(end + TILE, 0)?;
-            self.parts[tile] = (end / TILE) as u32;
+            self.make_room(cell)?;
         }
         Ok(self.parts[tile] as usize * TILE + offset_of(cell))
+    }
+
+    /// Makes room for the tile of a cell, which has none. It is rare, so it is compiled by itself: the loop over all paths keeps its registers.
+    #[inline(never)]
+    fn make_room(&mut self, cell: Cell) -> Result<(), AllocError>
+        requires tiles { AreTiles self.old }
+        requires covered { IsCovered self.old cell }
+        requires none { part_of self.old cell ≡ 0 }
+        requires size { length self.old.numbers.items < 2 ^ 40 }
+        ensures { OnOk result (HasRoom self.old self.new cell) }
+    {
+        let end = self.numbers.len();
+        self.numbers.resize(end + TILE, 0)?;
+        self.parts[tile_of(self.across, cell)] = (end / TILE) as u32;
+        Ok(())
     }
 }
 

@@ -68,7 +68,7 @@ HasAll m t list = (i k e : ℕ) → IsEntry m.ends.now i k e → IsMeeting m.num
 -- ---- blocks of times
 
 abbrev pub block_times : ℕ
-block_times = 64
+block_times = 32
 
 abbrev pub list_at : List (List Coming) → ℕ → List Coming
 list_at block s = get_or block s []

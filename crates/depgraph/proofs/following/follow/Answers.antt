@@ -37,7 +37,7 @@ loop-number-preserved c =
     let time = was.time in
     let past = c.loop-step-test.false in
     let end = c.loop-step.auto.step-end in
-    let next : c.loop-number.number * 64 + block_times ≡ (c.loop-number.number + 1) * block_times = omega arith in
+    let next : c.loop-number.number * 32 + block_times ≡ (c.loop-number.number + 1) * block_times = omega arith in
     let followers = written c.keep_under_way.new.followers.len c.keep_under_way.new.followers.items c.gather.new.followers c.keep_under_way.new.followers.ok.0
     (c.gather.auto.followers ∙ ap length c.deref_mut.ensures.value) in
     let block = written c.loop-number.block.len c.loop-number.block.items c.gather.new.block c.loop-number.block.ok.0 (did.block.count ∙ sym c.loop-number.invariant.count) in
