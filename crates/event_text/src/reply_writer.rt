@@ -5,11 +5,11 @@ ghost use Rattle.grid.specs.Counted.{counted_inner, failures_of};
 ghost use Rattle.grid.specs.Text.{line_feed};
 ghost use Rattle.grid.specs.Sink.{held_back, Puts, Breaks};
 ghost use Rattle.grid.specs.Writing.{WritesText};
-ghost use Rattle.model.specs.History.{said, refused};
+ghost use Rattle.model.specs.History.{said, at, between, refused};
 ghost use Rattle.model.specs.Replies.{answer_of};
 ghost use Rattle.event_text.specs.ReplyText.{spaced_numbers, refusal_name, standing_line, reply_line, replies_text};
 
-use grid::{Counted, Sink, WriteFault};
+use grid::{Cell, Counted, Sink, WriteFault};
 use hex::encode_to_slice;
 use model::{Reply, Why};
 use std::io::Write;
@@ -54,23 +54,29 @@ fn put_line<W: Write>(sink: &mut Sink<'_, W>, reply: &Reply) -> Result<(), Write
     ensures err { OnErr result (Breaks W.contents sink.old sink.new (reply_line (answer_of reply.now))) }
 {
     match reply {
-        Reply::Moving(c) => put_numbers(sink, b"moving", &[u64::from(c.x), u64::from(c.y)]),
-        Reply::Arrived(c) => put_numbers(sink, b"arrived", &[u64::from(c.x), u64::from(c.y)]),
+        Reply::Moving(c) => put_two(sink, b"moving", u64::from(c.x), u64::from(c.y)),
+        Reply::Arrived(c) => put_two(sink, b"arrived", u64::from(c.x), u64::from(c.y)),
         Reply::Said(m, bytes) => put_said(sink, *m, bytes),
-        Reply::Heard(j, n) => put_numbers(sink, b"heard", &[u64::from(*j), u64::from(*n)]),
-        Reply::At(c, k) => put_standing(sink, b"at", &[u64::from(c.x), u64::from(c.y)], *k),
-        Reply::Between(u, v, k) => {
-            let places = [
-                u64::from(u.x),
-                u64::from(u.y),
-                u64::from(v.x),
-                u64::from(v.y),
-            ];
-            put_standing(sink, b"between", &places, *k)
-        }
+        Reply::Heard(j, n) => put_two(sink, b"heard", u64::from(*j), u64::from(*n)),
+        Reply::At(c, k) => put_at(sink, *c, *k),
+        Reply::Between(u, v, k) => put_between(sink, *u, *v, *k),
         Reply::Armed => sink.put(b"armed"),
         Reply::Refused(why) => put_refusal(sink, *why),
     }
+}
+
+/// Puts a word and two numbers. Their list has its place in memory here, and not in a function where another reply may have none.
+#[inline(always)]
+fn put_two<W: Write>(
+    sink: &mut Sink<'_, W>,
+    word: &[u8],
+    first: u64,
+    second: u64,
+) -> Result<(), WriteFault>
+    ensures ok { OnOk result (Puts W.contents sink.old sink.new (word.now ++ spaced_numbers (first ∷ second ∷ []))) }
+    ensures err { OnErr result (Breaks W.contents sink.old sink.new (word.now ++ spaced_numbers (first ∷ second ∷ []))) }
+{
+    put_numbers(sink, word, &[first, second])
 }
 
 /// Puts a message's number and its bytes.
@@ -81,6 +87,33 @@ fn put_said<W: Write>(sink: &mut Sink<'_, W>, number: u64, bytes: &[u8]) -> Resu
     put_numbers(sink, b"said", &[number])?;
     sink.put_byte(b' ')?;
     put_hexadecimal(sink, bytes)
+}
+
+/// Puts where an agent stands, and how many moves are finished.
+fn put_at<W: Write>(sink: &mut Sink<'_, W>, c: Cell, finished: u32) -> Result<(), WriteFault>
+    ensures ok { OnOk result (Puts W.contents sink.old sink.new (reply_line (at c finished))) }
+    ensures err { OnErr result (Breaks W.contents sink.old sink.new (reply_line (at c finished))) }
+{
+    put_standing(sink, b"at", &[u64::from(c.x), u64::from(c.y)], finished)
+}
+
+/// Puts between which cells an agent is, and how many moves are finished.
+fn put_between<W: Write>(
+    sink: &mut Sink<'_, W>,
+    u: Cell,
+    v: Cell,
+    finished: u32,
+) -> Result<(), WriteFault>
+    ensures ok { OnOk result (Puts W.contents sink.old sink.new (reply_line (between u v finished))) }
+    ensures err { OnErr result (Breaks W.contents sink.old sink.new (reply_line (between u v finished))) }
+{
+    let places = [
+        u64::from(u.x),
+        u64::from(u.y),
+        u64::from(v.x),
+        u64::from(v.y),
+    ];
+    put_standing(sink, b"between", &places, finished)
 }
 
 /// Puts a word, the columns and rows of cells, and how many moves are finished.
