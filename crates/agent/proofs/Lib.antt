@@ -1,5 +1,6 @@
 -- Lemmas that several proofs share.
 pub mod RecordLemmas
+pub mod CountedLemmas
 pub mod CounterLemmas
 pub mod MergeLemmas
 pub mod OwnLemmas

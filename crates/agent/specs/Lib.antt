@@ -12,6 +12,10 @@ pub mod Tape
 pub mod Records
 -- the tape in memory
 pub mod MemTape
+-- the records that an agent writes
+pub mod DueRecords
+-- the tape that counts them
+pub mod CountedTape
 -- what an agent has heard
 pub mod Counters
 -- what an agent's state is, and what each call answers and leaves

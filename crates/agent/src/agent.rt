@@ -6,6 +6,7 @@ ghost use Rattle.depgraph.specs.AgentParts.{IsPartOf, IsOfGraph};
 ghost use Rattle.agent.specs.States.{message_refusal};
 ghost use Rattle.agent.specs.Code.Listing.{entries_of};
 
+use crate::counted_tape::CountedTape;
 use crate::counters::Counters;
 use crate::entries::Entries;
 use crate::finished::{Finished, encode};
@@ -125,6 +126,7 @@ impl<'g, T: Tape> Agent<'g, T> {
     }
 
     /// Begins the next move, and answers the cell that the agent enters.
+    #[inline(always)]
     pub fn start(&mut self) -> Result<Cell, Refusal>
         ensures starts { (tt : Timetable) → IsPartOf tt self.old.part → Starts T.state T.may_write tt self.old self.new result }
         ensures within { IsOfGraph self.old.part }
@@ -136,6 +138,7 @@ impl<'g, T: Tape> Agent<'g, T> {
     }
 
     /// Ends the move that was begun, and answers the cell that the agent reached.
+    #[inline(always)]
     pub fn finish(&mut self) -> Result<Cell, Refusal>
         ensures finishes { (tt : Timetable) → IsPartOf tt self.old.part → Finishes T.state T.may_write tt self.old self.new result }
         ensures within { IsOfGraph self.old.part }
@@ -206,6 +209,7 @@ impl<'g, T: Tape> Agent<'g, T> {
     }
 
     /// Hears what a message of version 1 says, as `hear` does.
+    #[inline(always)]
     pub fn hear_finished(&mut self, finished: Finished) -> Result<(u16, u32), HearFault>
         ensures hears { (tt : Timetable) → IsPartOf tt self.old.part → HearsFrom T.state tt self.old self.new finished result }
         ensures within { IsOfGraph self.old.part }
@@ -233,6 +237,7 @@ impl<'g, T: Tape> Agent<'g, T> {
     }
 
     /// Takes what the sender of a message says of itself.
+    #[inline(always)]
     fn take_own(&mut self, finished: Finished) -> Result<(u16, u32), HearFault>
         ensures { (tt : Timetable) → IsPartOf tt self.old.part → Takes T.state tt self.old self.new (record { plan = finished.plan; message = own_message finished.from finished.done }) result }
     {
@@ -332,6 +337,7 @@ impl<'g, T: Tape> Agent<'g, T> {
     }
 
     /// Why the next move may not begin now.
+    #[inline(always)]
     fn start_refusal(&self) -> Option<Refusal>
         ensures within { IsOwn self.now.part (T.state self.now.tape) }
         ensures refusal { (tt : Timetable) (is : IsPartOf tt self.now.part) → result ≡ start_refusal tt self.now.part.agent is.track (state_of T.state self.now) }
@@ -357,6 +363,7 @@ impl<'g, T: Tape> Agent<'g, T> {
     }
 
     /// Stores the due record, and answers the cell of the move at hand.
+    #[inline(always)]
     fn store(&mut self) -> Result<Cell, Refusal>
         requires { whole_records (T.state self.old.tape) < 2 * length self.old.part.needs }
         ensures { (tt : Timetable) (is : IsPartOf tt self.old.part) → Moves T.state T.may_write tt is.track None self.old self.new result }
@@ -405,12 +412,28 @@ impl<'g, T: Scripted> Agent<'g, T> {
     {
         self.tape.arm(tear);
     }
+}
 
-    /// Opens the agent's own tape again, as `restart` does, without a read: its records are those that are due, and no read of such a tape
-    /// fails. Nothing is armed then.
+impl<'g> Agent<'g, CountedTape> {
+    ghost use Rattle.std.specs.Prelude.{None, Some};
+    ghost use Rattle.agent.specs.CountedTape.{counted_state, counted_armed, CountsFor};
+
+    /// The next write of the tape stores so many bytes of its record and fails.
+    pub fn tear(&mut self, stored: u8)
+        requires { stored ≤ record_length }
+        ensures armed { counted_armed self.new.tape ≡ Some stored }
+        ensures state { counted_state self.new.tape ≡ counted_state self.old.tape }
+        ensures whose { CountsFor self.old.tape.plan self.old.tape.agent self.new.tape }
+        ensures same { self.new ≡ record self.old { tape = self.new.tape } }
+    {
+        self.tape.arm(Some(stored));
+    }
+
+    /// Opens the agent's own tape again, as `restart` does, without a read: its records are those that are due. Nothing is armed then.
     pub fn reopen(&mut self)
-        ensures armed { T.armed self.new.tape ≡ None }
-        ensures state { T.state self.new.tape ≡ T.state self.old.tape }
+        ensures armed { counted_armed self.new.tape ≡ None }
+        ensures state { counted_state self.new.tape ≡ counted_state self.old.tape }
+        ensures whose { CountsFor self.old.tape.plan self.old.tape.agent self.new.tape }
         ensures opened { self.new ≡ record self.old { tape = self.new.tape; heard = []; broken = false } }
     {
         self.forget();

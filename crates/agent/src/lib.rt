@@ -2,6 +2,7 @@
 #![tactic(auto)]
 
 mod agent;
+mod counted_tape;
 mod counters;
 mod entries;
 mod finished;
@@ -16,6 +17,7 @@ mod tape;
 mod telling;
 
 pub use agent::Agent;
+pub use counted_tape::CountedTape;
 pub use finished::{Finished, decode, encode};
 pub use mem_tape::{MemTape, TapeMakeFault};
 pub use message::{Message, Told, read_message};

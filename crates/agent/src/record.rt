@@ -22,6 +22,22 @@ pub(crate) fn due_record(plan: u32, agent: u16, number: u32) -> [u8; 10]
     [0x50, (number % 2 + 1) as u8, p0, p1, p2, p3, a0, a1, d0, d1]
 }
 
+/// Whether bytes are the record with a number. Its parts are compared as numbers: where an agent has only just spelled them, they are not
+/// put into memory.
+#[inline(always)]
+pub(crate) fn is_due(bytes: &[u8; 10], plan: u32, agent: u16, number: u32) -> bool
+    requires { number < 2 * 65535 }
+    ensures { IsTrue result ↔ (bytes.now ≡ due_record plan agent number) }
+{
+    if bytes[0] != 0x50 || u32::from(bytes[1]) != number % 2 + 1 {
+        return false;
+    }
+    let plan_told = u32::from_be_bytes([bytes[2], bytes[3], bytes[4], bytes[5]]);
+    let agent_told = u16::from_be_bytes([bytes[6], bytes[7]]);
+    let moves_told = u16::from_be_bytes([bytes[8], bytes[9]]);
+    plan_told == plan && agent_told == agent && u32::from(moves_told) == (number + 1) / 2
+}
+
 /// How a record differs from the one that is due.
 pub(crate) fn compare(bytes: &[u8; 10], due: &[u8; 10]) -> Option<Difference>
     ensures { MatchOption result (bytes.now ≡ due.now) (λ found. IsDifference due.now bytes.now found) }

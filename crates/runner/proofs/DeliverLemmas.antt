@@ -26,9 +26,9 @@ use Rattle.agent.specs.States.{State, Keeps, Refuses, names_nobody, moves_of, te
 use Rattle.agent.specs.declared.finished.Finished.{Finished}
 use Rattle.agent.specs.declared.refusal.HearFault.{HearFault}
 use Rattle.agent.specs.declared.refusal.HearFault.TheVariants as fault
-use Rattle.runner.specs.declared.sim_tape.SimTape.{SimTape}
+use Rattle.agent.specs.declared.counted_tape.CountedTape.{CountedTape}
 use Rattle.agent.specs.Replies.{delivered}
-use Rattle.runner.specs.SimTape.{sim_state}
+use Rattle.agent.specs.CountedTape.{counted_state}
 use Rattle.runner.specs.Standing.{RunnerState, IsMember, StandsAt, TakesMemory}
 use Rattle.runner.proofs.GoesLemmas.{no_track, one-agent}
 use Rattle.runner.proofs.MessageLemmas.{raised-known, deliver-goes, deliver-refused}
@@ -37,54 +37,54 @@ use Rattle.depgraph.specs.AgentParts.{IsPartOf}
 -- ---- what an agent answers to a message of a run
 
 -- an agent that refuses is as it was
-same-agent : (a b : AgentOn SimTape) → b ≡ record a { heard = b.heard } → state_of sim_state b ≡ state_of sim_state a → b ≡ a
+same-agent : (a b : AgentOn CountedTape) → b ≡ record a { heard = b.heard } → state_of counted_state b ≡ state_of counted_state a → b ≡ a
 same-agent a b same state = same ∙ ap (λ l. record a { heard = l }) (ap (λ s. s.heard) state)
 
 -- what a hearing gives: a broken agent refuses, another has no memory where it has to hear of somebody new, or all entries raise their counters
-abbrev pub Gives : AgentOn SimTape → AgentOn SimTape → Message → Result (ℕ × ℕ) HearFault → Type 0
+abbrev pub Gives : AgentOn CountedTape → AgentOn CountedTape → Message → Result (ℕ × ℕ) HearFault → Type 0
 Gives a b message answer =
     ((a.broken ≡ true) × (answer ≡ Err fault.Broken) × (b ≡ a))
     ⊎ ((a.broken ≡ false) × (answer ≡ Err fault.OutOfMemory) × TellsOfNew a.heard message.entries × (b ≡ a))
     ⊎ ((a.broken ≡ false) × (answer ≡ Ok (message.sender, known_in b.heard message.sender)) × Raises a.heard b.heard message.entries × (b ≡ record a { heard = b.heard }))
 
-module _ (table : Timetable) (a b : AgentOn SimTape) (message : Message) (answer : Result (ℕ × ℕ) HearFault) (same : b ≡ record a { heard = b.heard }) where
-  kept : a.broken ≡ false → (r : Result (ℕ × ℕ) HearFault) → Keeps (state_of sim_state a) (state_of sim_state b) message r → Gives a b message r
+module _ (table : Timetable) (a b : AgentOn CountedTape) (message : Message) (answer : Result (ℕ × ℕ) HearFault) (same : b ≡ record a { heard = b.heard }) where
+  kept : a.broken ≡ false → (r : Result (ℕ × ℕ) HearFault) → Keeps (state_of counted_state a) (state_of counted_state b) message r → Gives a b message r
   kept whole (Ok pair) keeps = inr (inr (whole, ap (λ p. Ok p) keeps.0, keeps.1, same))
   kept whole (Err why) keeps = inr (inl (whole, ap (λ w. Err w) keeps.0, keeps.1, same-agent a b same keeps.2))
 
   taken : a.broken ≡ false → (plan : ℕ) → telling_refusal table (record { plan = plan; message = message }) ≡ None
-      → IsTaken table (state_of sim_state a) (state_of sim_state b) (record { plan = plan; message = message }) answer → Gives a b message answer
+      → IsTaken table (state_of counted_state a) (state_of counted_state b) (record { plan = plan; message = message }) answer → Gives a b message answer
   taken whole plan none takes =
-      kept whole answer (subst (λ o. MatchOption o (Keeps (state_of sim_state a) (state_of sim_state b) message answer) (Refuses (state_of sim_state a) (state_of sim_state b) answer)) none takes)
+      kept whole answer (subst (λ o. MatchOption o (Keeps (state_of counted_state a) (state_of counted_state b) message answer) (Refuses (state_of counted_state a) (state_of counted_state b) answer)) none takes)
 
-  refuses-broken : a.broken ≡ true → Refuses (state_of sim_state a) (state_of sim_state b) answer fault.Broken → Gives a b message answer
+  refuses-broken : a.broken ≡ true → Refuses (state_of counted_state a) (state_of counted_state b) answer fault.Broken → Gives a b message answer
   refuses-broken broken refuses = inl (broken, refuses.0, same-agent a b same refuses.1)
 
 -- of version 1
-pub from-gives : (table : Timetable) (a b : AgentOn SimTape) (f : Finished) (answer : Result (ℕ × ℕ) HearFault) → telling_refusal table (record { plan = f.plan; message = own_message f.from f.done }) ≡ None
-    → HearsFrom sim_state table a b f answer → Gives a b (own_message f.from f.done) answer
+pub from-gives : (table : Timetable) (a b : AgentOn CountedTape) (f : Finished) (answer : Result (ℕ × ℕ) HearFault) → telling_refusal table (record { plan = f.plan; message = own_message f.from f.done }) ≡ None
+    → HearsFrom counted_state table a b f answer → Gives a b (own_message f.from f.done) answer
 from-gives table a b f answer none hears = by_broken a.broken refl where
   by_broken : (broken : Bool) → a.broken ≡ broken → Gives a b (own_message f.from f.done) answer
   by_broken true broken =
       refuses-broken table a b (own_message f.from f.done) answer hears.same broken
-      (subst (λ x. MatchBool x (Refuses (state_of sim_state a) (state_of sim_state b) answer fault.Broken)
-      (IsTaken table (state_of sim_state a) (state_of sim_state b) (record { plan = f.plan; message = own_message f.from f.done }) answer)) broken hears.state)
+      (subst (λ x. MatchBool x (Refuses (state_of counted_state a) (state_of counted_state b) answer fault.Broken)
+      (IsTaken table (state_of counted_state a) (state_of counted_state b) (record { plan = f.plan; message = own_message f.from f.done }) answer)) broken hears.state)
   by_broken false whole =
       taken table a b (own_message f.from f.done) answer hears.same whole f.plan none
-      (subst (λ x. MatchBool x (Refuses (state_of sim_state a) (state_of sim_state b) answer fault.Broken)
-      (IsTaken table (state_of sim_state a) (state_of sim_state b) (record { plan = f.plan; message = own_message f.from f.done }) answer)) whole hears.state)
+      (subst (λ x. MatchBool x (Refuses (state_of counted_state a) (state_of counted_state b) answer fault.Broken)
+      (IsTaken table (state_of counted_state a) (state_of counted_state b) (record { plan = f.plan; message = own_message f.from f.done }) answer)) whole hears.state)
 
 -- of version 2
-abbrev Hearing : Timetable → AgentOn SimTape → AgentOn SimTape → Message → Result (ℕ × ℕ) HearFault → Option HearFault → Type 0
+abbrev Hearing : Timetable → AgentOn CountedTape → AgentOn CountedTape → Message → Result (ℕ × ℕ) HearFault → Option HearFault → Type 0
 Hearing table a b message answer o =
-    MatchOption o (IsTaken table (state_of sim_state a) (state_of sim_state b) (record { plan = table.number; message = message }) answer)
-    (Refuses (state_of sim_state a) (state_of sim_state b) answer)
+    MatchOption o (IsTaken table (state_of counted_state a) (state_of counted_state b) (record { plan = table.number; message = message }) answer)
+    (Refuses (state_of counted_state a) (state_of counted_state b) answer)
 
 abbrev refusal_by : Message → Bool → Option HearFault
 refusal_by message t = if t then Some fault.Broken else option_map (λ number. fault.Message (BadEntry number)) (wrong_entry 0 0 message.entries)
 
-pub of-gives : (table : Timetable) (a b : AgentOn SimTape) (message : Message) (answer : Result (ℕ × ℕ) HearFault) → wrong_entry 0 0 message.entries ≡ None
-    → telling_refusal table (record { plan = table.number; message = message }) ≡ None → HearsOf sim_state table a b message answer → Gives a b message answer
+pub of-gives : (table : Timetable) (a b : AgentOn CountedTape) (message : Message) (answer : Result (ℕ × ℕ) HearFault) → wrong_entry 0 0 message.entries ≡ None
+    → telling_refusal table (record { plan = table.number; message = message }) ≡ None → HearsOf counted_state table a b message answer → Gives a b message answer
 of-gives table a b message answer right none hears = by_broken a.broken refl where
   by_broken : (broken : Bool) → a.broken ≡ broken → Gives a b message answer
   by_broken true broken = refuses-broken table a b message answer hears.same broken (subst (Hearing table a b message answer) (ap (refusal_by message) broken) hears.state)
@@ -105,17 +105,17 @@ still-taken table old new t answer none takes = by (telling_refusal table t) tak
   by (Some why) refuses = refuses.1
 
 -- an agent that lacks memory for a message is as it was
-pub still-from : (table : Timetable) (a b : AgentOn SimTape) (f : Finished) (answer : Result (ℕ × ℕ) HearFault) → delivered answer ≡ None → HearsFrom sim_state table a b f answer → b ≡ a
+pub still-from : (table : Timetable) (a b : AgentOn CountedTape) (f : Finished) (answer : Result (ℕ × ℕ) HearFault) → delivered answer ≡ None → HearsFrom counted_state table a b f answer → b ≡ a
 still-from table a b f answer none hears = same-agent a b hears.same (by a.broken hears.state) where
-  by : (broken : Bool) → MatchBool broken (Refuses (state_of sim_state a) (state_of sim_state b) answer fault.Broken)
-      (IsTaken table (state_of sim_state a) (state_of sim_state b) (record { plan = f.plan; message = own_message f.from f.done }) answer) → state_of sim_state b ≡ state_of sim_state a
+  by : (broken : Bool) → MatchBool broken (Refuses (state_of counted_state a) (state_of counted_state b) answer fault.Broken)
+      (IsTaken table (state_of counted_state a) (state_of counted_state b) (record { plan = f.plan; message = own_message f.from f.done }) answer) → state_of counted_state b ≡ state_of counted_state a
   by true refuses = refuses.1
-  by false takes = still-taken table (state_of sim_state a) (state_of sim_state b) (record { plan = f.plan; message = own_message f.from f.done }) answer none takes
+  by false takes = still-taken table (state_of counted_state a) (state_of counted_state b) (record { plan = f.plan; message = own_message f.from f.done }) answer none takes
 
-pub still-of : (table : Timetable) (a b : AgentOn SimTape) (message : Message) (answer : Result (ℕ × ℕ) HearFault) → delivered answer ≡ None → HearsOf sim_state table a b message answer → b ≡ a
+pub still-of : (table : Timetable) (a b : AgentOn CountedTape) (message : Message) (answer : Result (ℕ × ℕ) HearFault) → delivered answer ≡ None → HearsOf counted_state table a b message answer → b ≡ a
 still-of table a b message answer none hears = same-agent a b hears.same (by (refusal_by message a.broken) hears.state) where
-  by : (o : Option HearFault) → Hearing table a b message answer o → state_of sim_state b ≡ state_of sim_state a
-  by None takes = still-taken table (state_of sim_state a) (state_of sim_state b) (record { plan = table.number; message = message }) answer none takes
+  by : (o : Option HearFault) → Hearing table a b message answer o → state_of counted_state b ≡ state_of counted_state a
+  by None takes = still-taken table (state_of counted_state a) (state_of counted_state b) (record { plan = table.number; message = message }) answer none takes
   by (Some why) refuses = refuses.1
 
 -- ---- no message of a run is refused
@@ -199,7 +199,7 @@ module _ (r : RunnerState) (h : History) (stands : StandsAt r h) (i : ℕ) (with
       let rule = sym (rule-deliver ∙ ap (deliver_answer r.version r.timetable h i) none) in
       (rule, stays why.NoSuchMessage rule)
 
-  module _ (a : AgentOn SimTape) (there : slice_get r.agents i ≡ Some a) (message : Message) (kept_there : slice_get r.messages m ≡ Some message) where
+  module _ (a : AgentOn CountedTape) (there : slice_get r.agents i ≡ Some a) (message : Message) (kept_there : slice_get r.messages m ≡ Some message) where
     is : IsMember r.version r.timetable h i a
     is = stands.members i a there
 
@@ -219,7 +219,7 @@ module _ (r : RunnerState) (h : History) (stands : StandsAt r h) (i : ℕ) (with
         (rule, stays why.Broken rule)
 
     -- another knows the greater numbers then
-    heard_on : (b : AgentOn SimTape) → a.broken ≡ false → b ≡ record a { heard = b.heard } → Raises a.heard b.heard message.entries
+    heard_on : (b : AgentOn CountedTape) → a.broken ≡ false → b ≡ record a { heard = b.heard } → Raises a.heard b.heard message.entries
         → (heard message.sender (known_in b.heard message.sender) ≡ answer r.version r.timetable h (Deliver i m))
         × StandsAt (record r { agents = set r.agents i b }) (record { event = Deliver i m; answer = heard message.sender (known_in b.heard message.sender) } ∷ h)
     heard_on b whole same raises =
@@ -233,19 +233,19 @@ module _ (r : RunnerState) (h : History) (stands : StandsAt r h) (i : ℕ) (with
     -- ---- what the agent gives for a message of the run
 
     module _ (of_runs : (v : Version) (table : Timetable) (g : History) (n : ℕ) (x : Message) → IsRun v table g → slice_get (messages v table g) n ≡ Some x → WasSaid v table g n x)
-        (b : AgentOn SimTape) (result : Result (ℕ × ℕ) HearFault) where
+        (b : AgentOn CountedTape) (result : Result (ℕ × ℕ) HearFault) where
       was : WasSaid r.version r.timetable h m message
       was = of_runs r.version r.timetable h m message stands.run said-there
 
       -- at version 1
-      pub own-gives : (f : Finished) → message ≡ own_message f.from f.done → f.plan ≡ r.timetable.number → ((tt : Timetable) → IsPartOf tt a.part → HearsFrom sim_state tt a b f result) → Gives a b message result
+      pub own-gives : (f : Finished) → message ≡ own_message f.from f.done → f.plan ≡ r.timetable.number → ((tt : Timetable) → IsPartOf tt a.part → HearsFrom counted_state tt a b f result) → Gives a b message result
       own-gives f same plan hears =
           subst (λ x. Gives a b x result) (sym same)
           (from-gives r.timetable a b f result (none-refused-by r.version r.timetable h m f.plan (own_message f.from f.done) plan (subst (WasSaid r.version r.timetable h m) same was)) (hears r.timetable is.part))
 
       -- at version 2
       pub told-gives : r.version ≡ Two → ((f : ℕ → ℕ) (first count : ℕ) → AreRising first (entries_from f first count)) → ((es : List Entry) → AreRising 0 es → wrong_entry 0 0 es ≡ None)
-          → ((tt : Timetable) → IsPartOf tt a.part → HearsOf sim_state tt a b message result) → Gives a b message result
+          → ((tt : Timetable) → IsPartOf tt a.part → HearsOf counted_state tt a b message result) → Gives a b message result
       told-gives version of_agents right hears =
           of-gives r.timetable a b message result
           (right message.entries (subst (λ x. AreRising 0 x.entries)
@@ -255,7 +255,7 @@ module _ (r : RunnerState) (h : History) (stands : StandsAt r h) (i : ℕ) (with
 
     -- ---- the delivery of a message that there is
 
-    pub delivered-on : (b : AgentOn SimTape) (result : Result (ℕ × ℕ) HearFault) (x : Answer) → Gives a b message result → delivered result ≡ Some x
+    pub delivered-on : (b : AgentOn CountedTape) (result : Result (ℕ × ℕ) HearFault) (x : Answer) → Gives a b message result → delivered result ≡ Some x
         → (x ≡ answer r.version r.timetable h (Deliver i m)) × StandsAt (record r { agents = set r.agents i b }) (record { event = Deliver i m; answer = x } ∷ h)
     delivered-on b result x given answered =
         elim given [
@@ -275,7 +275,7 @@ module _ (r : RunnerState) (h : History) (stands : StandsAt r h) (i : ℕ) (with
         ]
 
     -- what lacks memory for it tells of somebody new
-    pub wants-on : (b : AgentOn SimTape) (result : Result (ℕ × ℕ) HearFault) → Gives a b message result → delivered result ≡ None
+    pub wants-on : (b : AgentOn CountedTape) (result : Result (ℕ × ℕ) HearFault) → Gives a b message result → delivered result ≡ None
         → TakesMemory r.version r.timetable h (Deliver i m)
     wants-on b result given none =
         elim given [

@@ -22,10 +22,10 @@ use Rattle.agent.specs.States as states
 use Rattle.agent.specs.States.{State, start_refusal}
 use Rattle.agent.specs.Tape.{whole_records}
 use Rattle.agent.specs.declared.refusal.Refusal.{Refusal}
-use Rattle.runner.specs.declared.sim_tape.SimTape.{SimTape}
+use Rattle.agent.specs.declared.counted_tape.CountedTape.{CountedTape}
 use Rattle.agent.specs.Replies.{answered, stood}
 use Rattle.runner.specs.Code.Reopening.{Reopens}
-use Rattle.runner.specs.SimTape.{sim_state, sim_armed, sim_writes}
+use Rattle.agent.specs.CountedTape.{counted_state, counted_armed, counted_writes, CountsFor}
 use Rattle.runner.specs.Standing.{RunnerState, IsMember, StandsAt}
 use Rattle.runner.proofs.OtherLemmas.{member-other}
 use Rattle.runner.proofs.RestartLemmas.{tear-goes, tear-refused, held-is, restart-rule, restart-goes}
@@ -75,7 +75,7 @@ no-agent r h e stands past =
     )
 
 -- an event of one agent, by which no message is said
-pub one-agent : (r : RunnerState) (h : History) (e : Event) (i : ℕ) (b : AgentOn SimTape) (answered : Answer) → StandsAt r h → agent_of e ≡ i → i < length r.agents
+pub one-agent : (r : RunnerState) (h : History) (e : Event) (i : ℕ) (b : AgentOn CountedTape) (answered : Answer) → StandsAt r h → agent_of e ≡ i → i < length r.agents
     → answered ≡ answer r.version r.timetable h e → IsMember r.version r.timetable (record { event = e; answer = answered } ∷ h) i b → messages_of r.version r.timetable e answered h (known r.version r.timetable h) ≡ []
     → StandsAt (record r { agents = set r.agents i b }) (record { event = e; answer = answered } ∷ h)
 one-agent r h e i b answered stands own within rule is quiet = record {
@@ -97,28 +97,28 @@ no_track = record { start = record { x = 0; y = 0 }; later = [] }
 
 -- ---- starts and finishes
 
-module _ (r : RunnerState) (h : History) (stands : StandsAt r h) (i : ℕ) (a b : AgentOn SimTape) (there : slice_get r.agents i ≡ Some a) (result : Result Cell Refusal) where
+module _ (r : RunnerState) (h : History) (stands : StandsAt r h) (i : ℕ) (a b : AgentOn CountedTape) (there : slice_get r.agents i ≡ Some a) (result : Result Cell Refusal) where
   member : IsMember r.version r.timetable h i a
   member = stands.members i a there
 
-  same_refusal : (refusal : ℕ → Option Refusal) (track : Track) → Moves sim_state sim_writes r.timetable track (refusal a.part.agent) a b result
-      → Moves sim_state sim_writes r.timetable track (refusal i) a b result
-  same_refusal refusal track moves = subst (λ o. Moves sim_state sim_writes r.timetable track o a b result) (ap refusal member.id) moves
+  same_refusal : (refusal : ℕ → Option Refusal) (track : Track) → Moves counted_state counted_writes r.timetable track (refusal a.part.agent) a b result
+      → Moves counted_state counted_writes r.timetable track (refusal i) a b result
+  same_refusal refusal track moves = subst (λ o. Moves counted_state counted_writes r.timetable track o a b result) (ap refusal member.id) moves
 
   own_track : (track : Track) → track_of r.timetable a.part.agent ≡ Some track → track_of r.timetable i ≡ Some track
   own_track track is = sym (ap (track_of r.timetable) member.id) ∙ is
 
-  pub start-on : ((tt : Timetable) → IsPartOf tt a.part → Starts sim_state sim_writes tt a b result)
+  pub start-on : ((tt : Timetable) → IsPartOf tt a.part → Starts counted_state counted_writes tt a b result)
       → (answered moving result ≡ answer r.version r.timetable h (Start i)) × StandsAt (record r { agents = set r.agents i b }) (record { event = Start i; answer = answered moving result } ∷ h)
   start-on starts-by =
       let starts = starts-by r.timetable member.part in
       let track = starts.0 in
-      let moves = same_refusal (λ k. start_refusal r.timetable k track (state_of sim_state a)) track starts.1 in
+      let moves = same_refusal (λ k. start_refusal r.timetable k track (state_of counted_state a)) track starts.1 in
       let goes = start-goes r.version r.timetable h stands.run i track a b member result moves in
       let rule = goes.0 ∙ sym (ap (answer_by r.version r.timetable h (Start i)) (own_track track starts.1.is_track)) in
       (rule, one-agent r h (Start i) i b (answered moving result) stands refl (slice_get_within r.agents i a there) rule goes.1 refl)
 
-  pub finish-on : ((tt : Timetable) → IsPartOf tt a.part → Finishes sim_state sim_writes tt a b result)
+  pub finish-on : ((tt : Timetable) → IsPartOf tt a.part → Finishes counted_state counted_writes tt a b result)
       → (answered arrived result ≡ answer r.version r.timetable h (Finish i)) × StandsAt (record r { agents = set r.agents i b }) (record { event = Finish i; answer = answered arrived result } ∷ h)
   finish-on finishes-by =
       let finishes = finishes-by r.timetable member.part in
@@ -150,15 +150,15 @@ tear-refused-on r h stands i n within more =
       },
     )
 
-pub tear-on : (r : RunnerState) (h : History) (stands : StandsAt r h) (i n : ℕ) (a b : AgentOn SimTape) → slice_get r.agents i ≡ Some a → n ≤ 10
-    → b ≡ record a { tape = b.tape } → sim_state b.tape ≡ sim_state a.tape → sim_armed b.tape ≡ Some n
-    → (armed ≡ answer r.version r.timetable h (Tear i n)) × StandsAt (record r { agents = set r.agents i b }) (record { event = Tear i n; answer = armed } ∷ h)
-tear-on r h stands i n a b there most same state arms =
+pub tear-on : (r : RunnerState) (h : History) (stands : StandsAt r h) (i n : ℕ) (a b : AgentOn CountedTape) → slice_get r.agents i ≡ Some a → n ≤ 10
+    → b ≡ record a { tape = b.tape } → counted_state b.tape ≡ counted_state a.tape → counted_armed b.tape ≡ Some n
+    → CountsFor a.tape.plan a.tape.agent b.tape → (armed ≡ answer r.version r.timetable h (Tear i n)) × StandsAt (record r { agents = set r.agents i b }) (record { event = Tear i n; answer = armed } ∷ h)
+tear-on r h stands i n a b there most same state arms whose =
     let count = stands.count in
     let within = slice_get_within r.agents i a there in
     let known = slice_get-get_or r.timetable.tracks i no_track (omega (arith, count, within)) in
     let rule = sym (ap (answer_by r.version r.timetable h (Tear i n)) known ∙ cond-false (nat_lt 10 n) (refused BadTear) armed (le-ltb 10 n most)) in
-    (rule, one-agent r h (Tear i n) i b armed stands refl within rule (tear-goes r.version r.timetable h i n a b (stands.members i a there) same state arms) refl)
+    (rule, one-agent r h (Tear i n) i b armed stands refl within rule (tear-goes r.version r.timetable h i n a b (stands.members i a there) same state arms whose) refl)
 
 -- ---- restarts
 
@@ -170,27 +170,27 @@ opened-stood : (what : Held) (k : ℕ) → is_opened (stood what k) ≡ true
 opened-stood (At u) k = refl
 opened-stood (Between u v) k = refl
 
-pub restart-on : (r : RunnerState) (h : History) (stands : StandsAt r h) (i : ℕ) (a b : AgentOn SimTape) (what : Held) (k : ℕ) → slice_get r.agents i ≡ Some a → Reopens a b
-    → ((tt : Timetable) → IsPartOf tt b.part → Holds sim_state tt b what) → k ≡ states.done (state_of sim_state b)
+pub restart-on : (r : RunnerState) (h : History) (stands : StandsAt r h) (i : ℕ) (a b : AgentOn CountedTape) (what : Held) (k : ℕ) → slice_get r.agents i ≡ Some a → Reopens a b
+    → ((tt : Timetable) → IsPartOf tt b.part → Holds counted_state tt b what) → k ≡ states.done (state_of counted_state b)
     → (stood what k ≡ answer r.version r.timetable h (Restart i)) × StandsAt (record r { agents = set r.agents i b }) (record { event = Restart i; answer = stood what k } ∷ h)
 restart-on r h stands i a b what k there reopens holds-by done =
     let is = stands.members i a there in
     let holds = holds-by r.timetable (subst (IsPartOf r.timetable) (sym reopens.part) is.part) in
     let within = slice_get_within r.agents i a there in
     let track = holds.0 in
-    let same : (state_of sim_state b).records ≡ (state_of sim_state a).records = ap (λ c. whole_records (record { contents = c; room = 0; failures = 0 })) reopens.contents in
+    let same : (state_of counted_state b).records ≡ (state_of counted_state a).records = ap (λ c. whole_records (record { contents = c; room = 0; failures = 0 })) reopens.contents in
     let known : track_of r.timetable i ≡ Some track = sym (ap (track_of r.timetable) (ap (λ p. p.agent) reopens.part ∙ is.id)) ∙ holds.1 in
-    let stays = held-same track (state_of sim_state b) (state_of sim_state a) same in
-    let rule = ap (λ w. stood w k) (holds.2 ∙ stays) ∙ ap (stood (states.held track (state_of sim_state a))) (done ∙ ap (λ n. n / 2) same)
+    let stays = held-same track (state_of counted_state b) (state_of counted_state a) same in
+    let rule = ap (λ w. stood w k) (holds.2 ∙ stays) ∙ ap (stood (states.held track (state_of counted_state a))) (done ∙ ap (λ n. n / 2) same)
     ∙ sym (restart-rule r.version r.timetable h stands.run i track a is) ∙ sym (ap (answer_by r.version r.timetable h (Restart i)) known) in (
       rule,
       one-agent r h (Restart i) i b (stood what k) stands refl within rule
-          (restart-goes r.version r.timetable h i a b (stood what k) (opened-stood what k) is reopens.part reopens.contents reopens.heard reopens.broken reopens.armed) refl,
+          (restart-goes r.version r.timetable h i a b (stood what k) (opened-stood what k) is reopens.part reopens.contents reopens.heard reopens.broken reopens.armed reopens.whose) refl,
     )
 
 -- ---- what is held
 
-pub held-on : (r : RunnerState) (h : History) (stands : StandsAt r h) (i : ℕ) (a : AgentOn SimTape) (what : Held) → slice_get r.agents i ≡ Some a → ((tt : Timetable) → IsPartOf tt a.part → Holds sim_state tt a what)
+pub held-on : (r : RunnerState) (h : History) (stands : StandsAt r h) (i : ℕ) (a : AgentOn CountedTape) (what : Held) → slice_get r.agents i ≡ Some a → ((tt : Timetable) → IsPartOf tt a.part → Holds counted_state tt a what)
     → Some what ≡ option_map (λ track. held track h i) (track_of r.timetable i)
 held-on r h stands i a what there holds-by =
     let is = stands.members i a there in

@@ -18,8 +18,8 @@ use Rattle.agent.specs.Agents.{AgentOn, state_of}
 use Rattle.agent.specs.States as states
 use Rattle.runner.specs.declared.ending.Heard.{Heard}
 use Rattle.runner.specs.declared.ending.Standing.{Standing}
-use Rattle.runner.specs.declared.sim_tape.SimTape.{SimTape}
-use Rattle.runner.specs.SimTape.{sim_state, sim_armed}
+use Rattle.agent.specs.declared.counted_tape.CountedTape.{CountedTape}
+use Rattle.agent.specs.CountedTape.{counted_state, counted_armed}
 use Rattle.runner.specs.Standing.{IsMember}
 use Rattle.runner.specs.Code.Leading.{EndingState, finished_in, told_in, is_opened_anew, Begins, HasTold, StandsThere, IsUntouched, LeadsTo, Leads, LeadsOn, IsOf, HasStayed, Teaches, TeachesNeed, LeadsOnceKnown, HasLeft, NeedsNext, Awaits, HasMoved, AreUnheard, HasSameStandings}
 use Rattle.model.proofs.AfterLemmas.{history-more, accepted-more, run-more}
@@ -90,14 +90,14 @@ module _ (v : Version) (tab : Timetable) where
   }
 
 -- an agent that is where the run left it comes to rest
-pub rest-on : (v : Version) (h : History) (old new : EndingState) (i : ℕ) (a : AgentOn SimTape) (track : Track) (x : Standing)
+pub rest-on : (v : Version) (h : History) (old new : EndingState) (i : ℕ) (a : AgentOn CountedTape) (track : Track) (x : Standing)
     → i ≡ length old.standings → slice_get old.agents i ≡ Some a → track_of old.timetable i ≡ Some track
     → new.timetable ≡ old.timetable → new.agents ≡ old.agents → new.messages ≡ old.messages → AreUnheard new.heard
-    → new.events ≡ old.events ++ rest_events (is_opened_anew a) (states.is_moving (state_of sim_state a)) i
-    → new.standings ≡ old.standings ++ x ∷ [] → x.done ≡ states.done (state_of sim_state a) + one_if (states.is_moving (state_of sim_state a)) → x.told ≡ 0
+    → new.events ≡ old.events ++ rest_events (is_opened_anew a) (states.is_moving (state_of counted_state a)) i
+    → new.standings ≡ old.standings ++ x ∷ [] → x.done ≡ states.done (state_of counted_state a) + one_if (states.is_moving (state_of counted_state a)) → x.told ≡ 0
     → Begins v old.timetable old.agents h → Leads v old h → Leads v new h
 rest-on v h old new i a track x at there its table crew same_messages none_heard events standings moved untold begins was =
-    leads-more v old new h (rest_events (is_opened_anew a) (states.is_moving (state_of sim_state a)) i) events table was rest.0 after
+    leads-more v old new h (rest_events (is_opened_anew a) (states.is_moving (state_of counted_state a)) i) events table was rest.0 after
   where
     is : IsMember v old.timetable h i a
     is = begins.members i a there
@@ -111,29 +111,29 @@ rest-on v h old new i a track x at there its table crew same_messages none_heard
     bounds : (done h i ≤ kept_starts h i) × (kept_starts h i ≤ done h i + 1)
     bounds = in_step v old.timetable h i begins.run
 
-    goes_now : is_moving (history_after v old.timetable h old.events) i ≡ states.is_moving (state_of sim_state a)
+    goes_now : is_moving (history_after v old.timetable h old.events) i ≡ states.is_moving (state_of counted_state a)
     goes_now =
         ap (λ n. n == done (history_after v old.timetable h old.events) i + 1) untouched.begun ∙ ap (λ n. kept_starts h i == n + 1) untouched.finished
         ∙ sym (moving-is v old.timetable h begins.run i track a is)
 
     sound : is_opened_anew a ≡ false → (is_broken (history_after v old.timetable h old.events) i ≡ false) × (armed_of (history_after v old.timetable h old.events) i ≡ None)
     sound none =
-        let parts = or-parts a.broken (is_some (sim_armed a.tape)) none in
-        (untouched.broken ∙ sym is.broken ∙ parts.0, untouched.armed ∙ sym is.armed ∙ is_some-none (sim_armed a.tape) parts.1)
+        let parts = or-parts a.broken (is_some (counted_armed a.tape)) none in
+        (untouched.broken ∙ sym is.broken ∙ parts.0, untouched.armed ∙ sym is.armed ∙ is_some-none (counted_armed a.tape) parts.1)
 
-    rest : AreAccepted v old.timetable (history_after v old.timetable h old.events) (rest_events (is_opened_anew a) (states.is_moving (state_of sim_state a)) i)
+    rest : AreAccepted v old.timetable (history_after v old.timetable h old.events) (rest_events (is_opened_anew a) (states.is_moving (state_of counted_state a)) i)
         × ComesToRest v old.timetable (is_opened_anew a) i (history_after v old.timetable h old.events)
-        (history_after v old.timetable (history_after v old.timetable h old.events) (rest_events (is_opened_anew a) (states.is_moving (state_of sim_state a)) i))
+        (history_after v old.timetable (history_after v old.timetable h old.events) (rest_events (is_opened_anew a) (states.is_moving (state_of counted_state a)) i))
     rest =
         let begun = untouched.begun in
         let ended = untouched.finished in
         comes_to_rest v old.timetable (history_after v old.timetable h old.events) i track its
         (let low = bounds.0 in omega (arith, low, begun, ended)) (let high = bounds.1 in omega (arith, high, begun, ended))
-        (is_opened_anew a) (states.is_moving (state_of sim_state a)) goes_now sound
+        (is_opened_anew a) (states.is_moving (state_of counted_state a)) goes_now sound
 
     -- so many moves are finished then
-    moved-is : done h i + one_if (states.is_moving (state_of sim_state a)) ≡ kept_starts h i
-    moved-is = by_moving (states.is_moving (state_of sim_state a)) (sym (moving-is v old.timetable h begins.run i track a is)) where
+    moved-is : done h i + one_if (states.is_moving (state_of counted_state a)) ≡ kept_starts h i
+    moved-is = by_moving (states.is_moving (state_of counted_state a)) (sym (moving-is v old.timetable h begins.run i track a is)) where
       by_moving : (b : Bool) → is_moving h i ≡ b → done h i + one_if b ≡ kept_starts h i
       by_moving true e = sym (eqb-true (kept_starts h i) (done h i + 1) e)
       by_moving false e = (
@@ -145,7 +145,7 @@ rest-on v h old new i a track x at there its table crew same_messages none_heard
             | inr most ↦ omega (arith, most, low)
           ])
 
-    after : (end : History) → end ≡ history_after v old.timetable (history_after v old.timetable h old.events) (rest_events (is_opened_anew a) (states.is_moving (state_of sim_state a)) i)
+    after : (end : History) → end ≡ history_after v old.timetable (history_after v old.timetable h old.events) (rest_events (is_opened_anew a) (states.is_moving (state_of counted_state a)) i)
         → AreAccepted v new.timetable h new.events → end ≡ history_after v new.timetable h new.events → LeadsTo v new h end
     after end end_is accepted whole = record {
       accepted = accepted;
@@ -179,11 +179,11 @@ rest-on v h old new i a track x at there its table crew same_messages none_heard
       own : StandsThere v old.timetable end i x
       own = record {
         ready = comes.ready;
-        finished = comes.finished ∙ untouched.begun ∙ sym moved-is ∙ ap (λ n. n + one_if (states.is_moving (state_of sim_state a))) (sym (done-is v old.timetable h begins.run i track a is)) ∙ sym moved;
+        finished = comes.finished ∙ untouched.begun ∙ sym moved-is ∙ ap (λ n. n + one_if (states.is_moving (state_of counted_state a))) (sym (done-is v old.timetable h begins.run i track a is)) ∙ sym moved;
         told = inl untold;
       }
 
-      by_agent : (k : ℕ) (b : AgentOn SimTape) → slice_get old.agents k ≡ Some b → is_opened_anew b ≡ false → (j : ℕ)
+      by_agent : (k : ℕ) (b : AgentOn CountedTape) → slice_get old.agents k ≡ Some b → is_opened_anew b ≡ false → (j : ℕ)
           → known v old.timetable end k j ≡ known v old.timetable (history_after v old.timetable h old.events) k j
       by_agent k b at_k none j = elim (cases_eq k i) [
         | inl same ↦

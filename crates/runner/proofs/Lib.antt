@@ -6,7 +6,6 @@ pub mod StoreLemmas
 pub mod RestartLemmas
 pub mod MessageLemmas
 pub mod GoesLemmas
-pub mod ReopenLemmas
 pub mod SayLemmas
 pub mod DeliverLemmas
 pub mod SafeLemmas

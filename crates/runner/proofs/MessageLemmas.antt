@@ -12,18 +12,19 @@ use Rattle.agent.specs.declared.counters.Counter.{Counter}
 use Rattle.agent.specs.Agents.{AgentOn}
 use Rattle.agent.specs.Tape.{whole_records}
 use Rattle.agent.specs.Counters.{heard_of, known_in, is_heard_of, tells_of, raised, Raises}
-use Rattle.runner.specs.declared.sim_tape.SimTape.{SimTape}
-use Rattle.runner.specs.SimTape.{sim_state, sim_armed}
+use Rattle.agent.specs.declared.counted_tape.CountedTape.{CountedTape}
+use Rattle.agent.specs.CountedTape.{counted_state, counted_armed}
 use Rattle.runner.specs.Hearing.{message_tells_of, has_heard_of}
 use Rattle.runner.specs.Standing.{IsMember}
-use Rattle.runner.proofs.StoreLemmas.{own_test}
+use Rattle.runner.proofs.StoreLemmas.{own_test, counts_on, same_tape}
 use Rattle.depgraph.specs.AgentParts.{IsPartOf}
 
 -- a message that is said leaves every agent where it is
-pub say-goes : (v : Version) (table : Timetable) (h : History) (i k : ℕ) (a : AgentOn SimTape) (r : Answer) → IsMember v table h k a → IsMember v table (record { event = Say i; answer = r } ∷ h) k a
+pub say-goes : (v : Version) (table : Timetable) (h : History) (i k : ℕ) (a : AgentOn CountedTape) (r : Answer) → IsMember v table h k a → IsMember v table (record { event = Say i; answer = r } ∷ h) k a
 say-goes v table h i k a r is = record {
   part = is.part;
   id = is.id;
+  counts = is.counts;
   records = (let before = is.records in omega (arith, before));
   heard = is.heard;
   heard_of = is.heard_of;
@@ -59,11 +60,12 @@ raised-heard old new es raises j = ap is_some (raises j) ∙ by_test (tells_of e
 -- ---- deliveries
 
 -- a message that is refused leaves the agent where it is
-pub deliver-refused : (v : Version) (table : Timetable) (h : History) (i m k : ℕ) (a : AgentOn SimTape) (r : Answer) → is_heard r ≡ false → IsMember v table h k a
+pub deliver-refused : (v : Version) (table : Timetable) (h : History) (i m k : ℕ) (a : AgentOn CountedTape) (r : Answer) → is_heard r ≡ false → IsMember v table h k a
     → IsMember v table (record { event = Deliver i m; answer = r } ∷ h) k a
 deliver-refused v table h i m k a r unheard is = record {
   part = is.part;
   id = is.id;
+  counts = is.counts;
   records = (let before = is.records in omega (arith, before));
   heard = λ j. is.heard j ∙ sym (
       ap (λ t. if (i == k) && t then max (known v table h k j) (told_of (slice_get (messages v table h) m) j) else known v table h k j) unheard ∙ never (i == k) _ _);
@@ -78,17 +80,18 @@ deliver-refused v table h i m k a r unheard is = record {
     never false x y = refl
 
 -- a message that is heard
-pub deliver-goes : (v : Version) (table : Timetable) (h : History) (i m : ℕ) (message : Message) (a b : AgentOn SimTape) (r : Answer) → is_heard r ≡ true
+pub deliver-goes : (v : Version) (table : Timetable) (h : History) (i m : ℕ) (message : Message) (a b : AgentOn CountedTape) (r : Answer) → is_heard r ≡ true
     → slice_get (messages v table h) m ≡ Some message → IsMember v table h i a → b ≡ record a { heard = b.heard }
     → Raises a.heard b.heard message.entries → IsMember v table (record { event = Deliver i m; answer = r } ∷ h) i b
 deliver-goes v table h i m message a b r hears there is same raises = record {
   part = subst (IsPartOf table) (sym (ap (λ x. x.part) same)) is.part;
   id = ap (λ x. x.part.agent) same ∙ is.id;
-  records = (let tape = ap (λ x. whole_records (sim_state x.tape)) same in let before = is.records in omega (arith, tape, before));
+  counts = counts_on a b is.counts (ap (λ x. x.part) same) (same_tape a.tape b.tape (ap (λ x. x.tape) same));
+  records = (let tape = ap (λ x. whole_records (counted_state x.tape)) same in let before = is.records in omega (arith, tape, before));
   heard = λ j. raised-known a.heard b.heard message.entries raises j ∙ ap (λ n. max n (told message j)) (is.heard j) ∙ sym (rule j);
   heard_of = λ j. raised-heard a.heard b.heard message.entries raises j ∙ ap (λ t. tells_of message.entries j || t) (is.heard_of j) ∙ sym (rule_of j);
   broken = ap (λ x. x.broken) same ∙ is.broken;
-  armed = ap (λ x. sim_armed x.tape) same ∙ is.armed;
+  armed = ap (λ x. counted_armed x.tape) same ∙ is.armed;
 }
   where
     rule : (j : ℕ) → (if (i == i) && is_heard r then max (known v table h i j) (told_of (slice_get (messages v table h) m) j) else known v table h i j)

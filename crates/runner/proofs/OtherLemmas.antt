@@ -10,7 +10,7 @@ use Rattle.model.specs.Messages.{Message}
 use Rattle.model.specs.Rules.{agent_of}
 use Rattle.model.specs.Timetable.{Timetable}
 use Rattle.agent.specs.Agents.{AgentOn}
-use Rattle.runner.specs.declared.sim_tape.SimTape.{SimTape}
+use Rattle.agent.specs.declared.counted_tape.CountedTape.{CountedTape}
 use Rattle.runner.specs.Hearing.{heard_of_after, has_heard_of}
 use Rattle.runner.specs.Standing.{IsMember}
 
@@ -67,10 +67,11 @@ heard_of-other (Restart j) r ms i k before other = not_own j i _ false before ot
 heard_of-other (Tear j n) r ms i k before other = refl
 
 -- an agent that the event doesn't name stays where it is
-pub member-other : (v : Version) (table : Timetable) (h : History) (now : Happening) (i : ℕ) (a : AgentOn SimTape) → agent_of now.event ≢ i → IsMember v table h i a → IsMember v table (now ∷ h) i a
+pub member-other : (v : Version) (table : Timetable) (h : History) (now : Happening) (i : ℕ) (a : AgentOn CountedTape) → agent_of now.event ≢ i → IsMember v table h i a → IsMember v table (now ∷ h) i a
 member-other v table h now i a other is = record {
   part = is.part;
   id = is.id;
+  counts = is.counts;
   records = (let starts = starts-other now.event now.answer i (armed_of h i) other in
       let finishes = finishes-other now.event now.answer i (armed_of h i) other in
       let records = is.records in

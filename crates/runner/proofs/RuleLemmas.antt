@@ -16,9 +16,9 @@ use Rattle.agent.specs.States as states
 use Rattle.agent.specs.States.{State, waits_for, start_refusal, finish_refusal, next_cell}
 use Rattle.agent.specs.declared.refusal.Refusal.{Refusal}
 use Rattle.agent.specs.declared.refusal.Refusal.TheVariants.{Broken, AlreadyMoving, AtEnd, Waits, NotMoving}
-use Rattle.runner.specs.declared.sim_tape.SimTape.{SimTape}
+use Rattle.agent.specs.declared.counted_tape.CountedTape.{CountedTape}
 use Rattle.agent.specs.Replies.{why_of, unless}
-use Rattle.runner.specs.SimTape.{sim_state}
+use Rattle.agent.specs.CountedTape.{counted_state}
 use Rattle.runner.specs.Standing.{IsMember}
 
 -- ---- records as moves
@@ -65,9 +65,9 @@ start_by v table h i track b m k =
 abbrev finish_by : History → ℕ → Track → Bool → Bool → ℕ → Answer
 finish_by h i track b m k = if b then refused (why_of Broken) else (if m then stored (armed_of h i) (arrived (path_cell track (k + 1))) else refused (why_of NotMoving))
 
-module _ (v : Version) (table : Timetable) (h : History) (run : IsRun v table h) (i : ℕ) (track : Track) (a : AgentOn SimTape) (is : IsMember v table h i a) where
+module _ (v : Version) (table : Timetable) (h : History) (run : IsRun v table h) (i : ℕ) (track : Track) (a : AgentOn CountedTape) (is : IsMember v table h i a) where
   abbrev s : State
-  s = state_of sim_state a
+  s = state_of counted_state a
 
   step : (done h i ≤ kept_starts h i) × (kept_starts h i ≤ done h i + 1)
   step = in_step v table h i run

@@ -15,8 +15,8 @@ use Rattle.model.specs.Timetable.{Track, track_of}
 use Rattle.agent.specs.Agents.{AgentOn, state_of}
 use Rattle.agent.specs.Counters.{known_in}
 use Rattle.agent.specs.States as states
-use Rattle.runner.specs.declared.sim_tape.SimTape.{SimTape}
-use Rattle.runner.specs.SimTape.{sim_state}
+use Rattle.agent.specs.declared.counted_tape.CountedTape.{CountedTape}
+use Rattle.agent.specs.CountedTape.{counted_state}
 use Rattle.runner.specs.Standing.{RunnerState, IsMember, StandsAt, TakesMemory}
 use Rattle.runner.specs.Code.Telling.{message_told}
 use Rattle.runner.proofs.GoesLemmas.{no_track}
@@ -39,7 +39,7 @@ pub same-message : (agents i d : ℕ) (f g : ℕ → ℕ) → ((j : ℕ) → f j
 same-message agents i d f g same =
     ap {A = List Entry} {B = Message} (λ l. record { sender = i; entries = l }) (same_entries (number_told i d f) (number_told i d g) 0 agents (same_numbers i d f g same))
 
-module _ (r : RunnerState) (h : History) (stands : StandsAt r h) (i : ℕ) (a : AgentOn SimTape) (there : slice_get r.agents i ≡ Some a) where
+module _ (r : RunnerState) (h : History) (stands : StandsAt r h) (i : ℕ) (a : AgentOn CountedTape) (there : slice_get r.agents i ≡ Some a) where
   is : IsMember r.version r.timetable h i a
   is = stands.members i a there
 
@@ -91,11 +91,11 @@ module _ (r : RunnerState) (h : History) (stands : StandsAt r h) (i : ℕ) (a : 
         },
       )
 
-  done_is : states.done (state_of sim_state a) ≡ history.done h i
+  done_is : states.done (state_of counted_state a) ≡ history.done h i
   done_is = done-is r.version r.timetable h stands.run i is_there.0 a is
 
   -- at version 1 how many moves it has finished
-  pub own-on : (sender done : ℕ) → r.version ≡ One → a.broken ≡ false → sender ≡ i → done ≡ states.done (state_of sim_state a)
+  pub own-on : (sender done : ℕ) → r.version ≡ One → a.broken ≡ false → sender ≡ i → done ≡ states.done (state_of counted_state a)
       → (said (length r.messages) (message_bytes r.timetable.number a.part.agent done) ≡ answer r.version r.timetable h (Say i))
       × StandsAt (record r { messages = r.messages ++ own_message sender done ∷ [] }) (record { event = Say i; answer = said (length r.messages) (message_bytes r.timetable.number a.part.agent done) } ∷ h)
   own-on sender done version whole own is_done =
@@ -108,14 +108,14 @@ module _ (r : RunnerState) (h : History) (stands : StandsAt r h) (i : ℕ) (a : 
 
   -- the message of version 2, by the agents of the timetable
   abbrev pub message_by : Message
-  message_by = whole_message (length r.timetable.tracks) a.part.agent (states.done (state_of sim_state a)) (known_in a.heard)
+  message_by = whole_message (length r.timetable.tracks) a.part.agent (states.done (state_of counted_state a)) (known_in a.heard)
 
   told_is : message_told a ≡ message_by
-  told_is = ap (λ n. whole_message n a.part.agent (states.done (state_of sim_state a)) (known_in a.heard)) (count-agents r.timetable a.part is.part)
+  told_is = ap (λ n. whole_message n a.part.agent (states.done (state_of counted_state a)) (known_in a.heard)) (count-agents r.timetable a.part is.part)
 
   whole_is : message_by ≡ whole_message (length r.timetable.tracks) i (history.done h i) (known r.version r.timetable h i)
   whole_is =
-      ap (λ k. whole_message (length r.timetable.tracks) k (states.done (state_of sim_state a)) (known_in a.heard)) is.id
+      ap (λ k. whole_message (length r.timetable.tracks) k (states.done (state_of counted_state a)) (known_in a.heard)) is.id
       ∙ ap (λ d. whole_message (length r.timetable.tracks) i d (known_in a.heard)) done_is
       ∙ same-message (length r.timetable.tracks) i (history.done h i) (known_in a.heard) (known r.version r.timetable h i) is.heard
 

@@ -23,9 +23,9 @@ use Rattle.agent.specs.Tape.{TapeState, whole_records, IsTorn}
 use Rattle.agent.specs.declared.counters.Counter.{Counter}
 use Rattle.agent.specs.declared.refusal.Refusal.{Refusal}
 use Rattle.agent.specs.declared.refusal.Refusal.TheVariants.{Broken, AlreadyMoving, AtEnd, Waits, NotMoving, StoreFailed}
-use Rattle.runner.specs.declared.sim_tape.SimTape.{SimTape}
+use Rattle.agent.specs.declared.counted_tape.CountedTape.{CountedTape}
 use Rattle.agent.specs.Replies.{why_of, unless, answered}
-use Rattle.runner.specs.SimTape.{sim_state, sim_armed, sim_writes}
+use Rattle.agent.specs.CountedTape.{counted_state, counted_armed, counted_writes, whole-counted, CountsFor}
 use Rattle.runner.specs.Hearing.{heard_of_after, has_heard_of}
 use Rattle.runner.specs.Standing.{IsMember}
 use Rattle.runner.proofs.RuleLemmas.{start-rule, finish-rule}
@@ -54,6 +54,20 @@ torn-records old new bytes n most ten is =
 -- a test that names the agent itself is the other test
 pub own_test : {A : Type 0} (i : ℕ) (b : Bool) (x y : A) → (if (i == i) && b then x else y) ≡ (if b then x else y)
 own_test i b x y = ap (λ t. if t && b then x else y) (eq-eqb i i refl)
+
+-- ---- whose records a tape counts
+
+-- a tape that is the same
+pub same_tape : (t u : CountedTape) → u ≡ t → CountsFor t.plan t.agent u
+same_tape t u same = record { plan_is = ap (λ x. x.plan) same; agent_is = ap (λ x. x.agent) same }
+
+-- one that was written or armed goes on counting those of the agent
+pub counts_on : (a b : AgentOn CountedTape) → CountsFor a.part.number a.part.agent a.tape → b.part ≡ a.part → CountsFor a.tape.plan a.tape.agent b.tape
+    → CountsFor b.part.number b.part.agent b.tape
+counts_on a b is part whose = record {
+  plan_is = whose.plan_is ∙ is.plan_is ∙ sym (ap (λ p. p.number) part);
+  agent_is = whose.agent_is ∙ is.agent_is ∙ sym (ap (λ p. p.agent) part);
+}
 
 -- ---- where an agent is after its own event
 
@@ -119,22 +133,31 @@ finish-stores i = record {
   fine = λ c. refl;
 }
 
-module _ (v : Version) (table : Timetable) (h : History) (i : ℕ) (track : Track) (a b : AgentOn SimTape) (is : IsMember v table h i a)
+module _ (v : Version) (table : Timetable) (h : History) (i : ℕ) (track : Track) (a b : AgentOn CountedTape) (is : IsMember v table h i a)
     (event : Event) (of : Cell → Answer) (storing : IsStoring event of i) where
   abbrev due : List ℕ
-  due = due_record a.part.number a.part.agent (whole_records (sim_state a.tape))
+  due = due_record a.part.number a.part.agent (whole_records (counted_state a.tape))
 
   abbrev TornBy : Result Cell Refusal → Option ℕ → Type 0
-  TornBy answer tear = IsTorn tear (sim_armed b.tape) (sim_state a.tape) (sim_state b.tape) (10 * whole_records (sim_state a.tape)) due (is_ok answer)
+  TornBy answer tear = IsTorn tear (counted_armed b.tape) (counted_state a.tape) (counted_state b.tape) (10 * whole_records (counted_state a.tape)) due (is_ok answer)
+
+  -- it is written where the tape counts the next record
+  place : 10 * whole_records (counted_state a.tape) ≡ 10 * a.tape.records
+  place = ap (λ n. 10 * n) (whole-counted a.tape)
+
+  is_due : due ≡ due_record a.tape.plan a.tape.agent a.tape.records
+  is_due = ap (due_record a.part.number a.part.agent) (whole-counted a.tape) ∙ ap (λ p. due_record p a.part.agent a.tape.records) (sym is.counts.plan_is)
+      ∙ ap (λ k. due_record a.tape.plan k a.tape.records) (sym is.counts.agent_is)
 
   -- where the agent is, by what the answer has changed
   next : (r : Answer) (added : ℕ) → starts_of event r i (armed_of h i) + finishes_of event r i (armed_of h i) ≡ added → b.part ≡ a.part
-      → whole_records (sim_state b.tape) ≡ whole_records (sim_state a.tape) + added → b.heard ≡ a.heard
-      → b.broken ≡ (if is_store_failed r then true else a.broken) → sim_armed b.tape ≡ (if is_store_failed r then None else sim_armed a.tape)
-      → IsMember v table (record { event = event; answer = r } ∷ h) i b
-  next r added adds part records heard broken armed = record {
+      → whole_records (counted_state b.tape) ≡ whole_records (counted_state a.tape) + added → b.heard ≡ a.heard
+      → b.broken ≡ (if is_store_failed r then true else a.broken) → counted_armed b.tape ≡ (if is_store_failed r then None else counted_armed a.tape)
+      → CountsFor a.tape.plan a.tape.agent b.tape → IsMember v table (record { event = event; answer = r } ∷ h) i b
+  next r added adds part records heard broken armed whose = record {
     part = subst (IsPartOf table) (sym part) is.part;
     id = ap (λ p. p.agent) part ∙ is.id;
+    counts = counts_on a b is.counts part whose;
     records = (let before = is.records in omega (arith, adds, records, before));
     heard = λ j. ap (λ l. known_in l j) heard ∙ is.heard j ∙ sym (storing.known r (messages v table h) j (known v table h i j));
     heard_of = λ j. ap (λ l. is_heard_of l j) heard ∙ is.heard_of j ∙ sym (storing.heard_of r (messages v table h) j (has_heard_of v table h i j));
@@ -143,7 +166,7 @@ module _ (v : Version) (table : Timetable) (h : History) (i : ℕ) (track : Trac
   }
 
   -- a refusal
-  refuses : (why : Refusal) (answer : Result Cell Refusal) → IsQuiet why → Moves sim_state sim_writes table track (Some why) a b answer
+  refuses : (why : Refusal) (answer : Result Cell Refusal) → IsQuiet why → Moves counted_state counted_writes table track (Some why) a b answer
       → (answered of answer ≡ refused (why_of why)) × IsMember v table (record { event = event; answer = answered of answer } ∷ h) i b
   refuses why answer quiet moves =
       let same = ap (answered of) moves.state.0 in
@@ -151,67 +174,67 @@ module _ (v : Version) (table : Timetable) (h : History) (i : ℕ) (track : Trac
         same,
         subst (λ r. IsMember v table (record { event = event; answer = r } ∷ h) i b) (sym same)
             (next (refused (why_of why)) 0 (storing.stored_none why quiet (armed_of h i)) moves.part
-            (ap (λ t. whole_records (sim_state t)) tape ∙ omega arith) (ap (λ s. s.heard) moves.state.1)
+            (ap (λ t. whole_records (counted_state t)) tape ∙ omega arith) (ap (λ s. s.heard) moves.state.1)
             (ap (λ s. s.broken) moves.state.1 ∙ sym (ap (λ t. if t then true else a.broken) quiet.1))
-            (ap sim_armed tape ∙ sym (ap (λ t. if t then None else sim_armed a.tape) quiet.1))),
+            (ap counted_armed tape ∙ sym (ap (λ t. if t then None else counted_armed a.tape) quiet.1)) (same_tape a.tape b.tape tape)),
       )
 
   -- a write of the due record, as the tape was armed
-  stores : (cell : Cell) (answer : Result Cell Refusal) (tear : Option ℕ) → sim_armed a.tape ≡ tear → Moves sim_state sim_writes table track None a b answer
-      → (cell ≡ next_cell track (state_of sim_state a)) → (answered of answer ≡ stored tear (of cell)) × IsMember v table (record { event = event; answer = answered of answer } ∷ h) i b
+  stores : (cell : Cell) (answer : Result Cell Refusal) (tear : Option ℕ) → counted_armed a.tape ≡ tear → Moves counted_state counted_writes table track None a b answer
+      → (cell ≡ next_cell track (state_of counted_state a)) → (answered of answer ≡ stored tear (of cell)) × IsMember v table (record { event = event; answer = answered of answer } ∷ h) i b
   stores cell answer None unarmed moves is_cell = elim moves.state.outcome [
     | inl good ↦ (
         let value = good.0 ∙ ap (λ c. Ok c) (sym is_cell) in
         let same = ap (answered of) value in
-        let torn = subst (TornBy answer) unarmed moves.tape.torn in (
+        let torn = subst (TornBy answer) unarmed (moves.tape.due place is_due) in (
           same,
           subst (λ r. IsMember v table (record { event = event; answer = r } ∷ h) i b) (sym same)
               (next (of cell) 1 (storing.stored_cell cell (armed_of h i)) moves.part good.1 moves.state.heard
               (good.2 ∙ sym (ap (λ t. if t then true else a.broken) (storing.fine cell)))
-              (torn.1 ∙ sym unarmed ∙ sym (ap (λ t. if t then None else sim_armed a.tape) (storing.fine cell)))),
+              (torn.1 ∙ sym unarmed ∙ sym (ap (λ t. if t then None else counted_armed a.tape) (storing.fine cell))) moves.tape.whose),
         )
         )
     | inr bad ↦ (
-        let torn = subst (TornBy answer) unarmed moves.tape.torn in
+        let torn = subst (TornBy answer) unarmed (moves.tape.due place is_due) in
         absurd (true≢false (sym torn.0 ∙ ap is_ok bad.0))
         )
   ]
   stores cell answer (Some n) armed moves is_cell = elim moves.state.outcome [
     | inl good ↦ (
-        let torn = subst (TornBy answer) armed moves.tape.torn in
+        let torn = subst (TornBy answer) armed (moves.tape.due place is_due) in
         absurd (true≢false (sym (ap is_ok good.0) ∙ torn.0))
         )
     | inr bad ↦ (
         let same = ap (answered of) bad.0 in
-        let torn = subst (TornBy answer) armed moves.tape.torn in
+        let torn = subst (TornBy answer) armed (moves.tape.due place is_due) in
         let most = a.tape.in_record n armed in
         let added = storing.stored_torn (armed_of h i) ∙ ap (λ t. if stores_all t then 1 else 0) (sym is.armed ∙ armed) in (
           same,
           subst (λ r. IsMember v table (record { event = event; answer = r } ∷ h) i b) (sym same)
               (next (refused (why_of StoreFailed)) (if n == 10 then 1 else 0) added moves.part
-              (torn-records (sim_state a.tape) (sim_state b.tape) due n most refl torn.2) moves.state.heard bad.2 torn.1),
+              (torn-records (counted_state a.tape) (counted_state b.tape) due n most refl torn.2) moves.state.heard bad.2 torn.1 moves.tape.whose),
         )
         )
   ]
 
-module _ (v : Version) (table : Timetable) (h : History) (run : IsRun v table h) (i : ℕ) (track : Track) (a b : AgentOn SimTape) (is : IsMember v table h i a) where
+module _ (v : Version) (table : Timetable) (h : History) (run : IsRun v table h) (i : ℕ) (track : Track) (a b : AgentOn CountedTape) (is : IsMember v table h i a) where
   -- the agent answers as the rules do, and is where they leave it
   goes-by : (event : Event) (of : Cell → Answer) (storing : IsStoring event of i) (rule : Answer) (o : Option Refusal) (answer : Result Cell Refusal)
-      → ((why : Refusal) → o ≡ Some why → IsQuiet why) → rule ≡ unless o (stored (armed_of h i) (of (next_cell track (state_of sim_state a))))
-      → Moves sim_state sim_writes table track o a b answer → (answered of answer ≡ rule) × IsMember v table (record { event = event; answer = answered of answer } ∷ h) i b
+      → ((why : Refusal) → o ≡ Some why → IsQuiet why) → rule ≡ unless o (stored (armed_of h i) (of (next_cell track (state_of counted_state a))))
+      → Moves counted_state counted_writes table track o a b answer → (answered of answer ≡ rule) × IsMember v table (record { event = event; answer = answered of answer } ∷ h) i b
   goes-by event of storing rule None answer quiet by moves =
-      let found = stores v table h i track a b is event of storing (next_cell track (state_of sim_state a)) answer (sim_armed a.tape) refl moves refl in
-      (found.0 ∙ ap (λ t. stored t (of (next_cell track (state_of sim_state a)))) is.armed ∙ sym by, found.1)
+      let found = stores v table h i track a b is event of storing (next_cell track (state_of counted_state a)) answer (counted_armed a.tape) refl moves refl in
+      (found.0 ∙ ap (λ t. stored t (of (next_cell track (state_of counted_state a)))) is.armed ∙ sym by, found.1)
   goes-by event of storing rule (Some why) answer quiet by moves =
       let found = refuses v table h i track a b is event of storing why answer (quiet why refl) moves in
       (found.0 ∙ sym by, found.1)
 
-  pub start-goes : (answer : Result Cell Refusal) → Moves sim_state sim_writes table track (start_refusal table i track (state_of sim_state a)) a b answer
+  pub start-goes : (answer : Result Cell Refusal) → Moves counted_state counted_writes table track (start_refusal table i track (state_of counted_state a)) a b answer
       → (answered moving answer ≡ start_answer v table h i track) × IsMember v table (record { event = Start i; answer = answered moving answer } ∷ h) i b
   start-goes answer moves =
-      goes-by (Start i) moving (start-stores i) _ _ answer (quiet-start table i track (state_of sim_state a)) (start-rule v table h run i track a is) moves
+      goes-by (Start i) moving (start-stores i) _ _ answer (quiet-start table i track (state_of counted_state a)) (start-rule v table h run i track a is) moves
 
-  pub finish-goes : (answer : Result Cell Refusal) → Moves sim_state sim_writes table track (finish_refusal (state_of sim_state a)) a b answer
+  pub finish-goes : (answer : Result Cell Refusal) → Moves counted_state counted_writes table track (finish_refusal (state_of counted_state a)) a b answer
       → (answered arrived answer ≡ finish_answer h i track) × IsMember v table (record { event = Finish i; answer = answered arrived answer } ∷ h) i b
   finish-goes answer moves =
-      goes-by (Finish i) arrived (finish-stores i) _ _ answer (quiet-finish (state_of sim_state a)) (finish-rule v table h run i track a is) moves
+      goes-by (Finish i) arrived (finish-stores i) _ _ answer (quiet-finish (state_of counted_state a)) (finish-rule v table h run i track a is) moves

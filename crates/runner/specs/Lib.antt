@@ -1,7 +1,5 @@
 -- What has to be believed of the crate, beside the definitions of `model` and `agent`, in the order in which to read it.
 
--- the records that it counts
-pub mod DueRecords
 -- the tape that tears where it is told to
 pub mod SimTape
 -- messages as they are kept

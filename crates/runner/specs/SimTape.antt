@@ -3,15 +3,14 @@ use Rattle.std.proofs.Common.{◌≡◌, ℕ, ◌<◌, ◌≤◌, ◌++◌, Bool
 use Rattle.std.specs.Prelude.{◌⊎◌, Option}
 use Rattle.std.specs.Option.{ForSome}
 use Rattle.std.proofs.lemmas.Bool.{cases_lt, true≢false}
-use Rattle.std.proofs.lemmas.List.{length-append, length-take-le, take_all}
+use Rattle.std.proofs.lemmas.List.{length-take-le, take_all}
 use Rattle.model.specs.History.{record_length}
+use Rattle.agent.specs.MemTape.{mem_state, mem_within}
 use Rattle.agent.specs.Tape.{TapeState, MayRead, MayWrite, HasFailed, IsRead, IsWrite, IsTorn}
-use Rattle.runner.specs.DueRecords.{due_records, length-due_records}
 use Rattle.runner.specs.declared.sim_tape.SimTape.{SimTape}
 
--- its bytes are those of the records that it counts, and then those that it keeps
 abbrev pub sim_state : SimTape → TapeState
-sim_state t = record { contents = due_records t.plan t.agent t.counted ++ t.rest.items; room = t.room; failures = t.failures }
+sim_state t = record { contents = (mem_state t.tape).contents; room = (mem_state t.tape).room; failures = t.failures }
 
 abbrev pub sim_armed : SimTape → Option ℕ
 sim_armed t = t.armed
@@ -38,9 +37,7 @@ abbrev pub sim_writes : SimTape → ℕ → List ℕ → Bool → SimTape → Ty
 sim_writes t at bytes succeeds u = IsSimWrite t at bytes succeeds u
 
 pub sim_within : (t : SimTape) → length (sim_state t).contents ≤ (sim_state t).room
-sim_within t =
-    (let counted = length-due_records t.plan t.agent t.counted in let both = length-append (due_records t.plan t.agent t.counted) t.rest.items in let fits = t.in_room in
-    omega (arith, counted, both, fits))
+sim_within t = mem_within t.tape
 
 pub sim_is_read : (t u : SimTape) (at : ℕ) (succeeds : Bool) (bytes : List ℕ) → MayRead (sim_state t) at → sim_reads t at succeeds bytes u
     → IsRead (sim_state t) (sim_state u) at succeeds bytes

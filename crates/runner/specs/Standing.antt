@@ -10,8 +10,8 @@ use Rattle.model.specs.Timetable.{Timetable, IsConflictFree}
 use Rattle.agent.specs.Agents.{AgentOn}
 use Rattle.agent.specs.Counters.{known_in, is_heard_of}
 use Rattle.agent.specs.Tape.{whole_records}
-use Rattle.runner.specs.declared.sim_tape.SimTape.{SimTape}
-use Rattle.runner.specs.SimTape.{sim_state, sim_armed}
+use Rattle.agent.specs.declared.counted_tape.CountedTape.{CountedTape}
+use Rattle.agent.specs.CountedTape.{counted_state, counted_armed, CountsFor}
 use Rattle.runner.specs.Hearing.{has_heard_of}
 use Rattle.depgraph.specs.AgentParts.{IsPartOf}
 
@@ -19,19 +19,20 @@ use Rattle.depgraph.specs.AgentParts.{IsPartOf}
 pub record RunnerState : Type 0 where
   pub timetable : Timetable
   pub version : Version
-  pub agents : List (AgentOn SimTape)
+  pub agents : List (AgentOn CountedTape)
   pub messages : List Message
 
--- An agent has its part of the timetable, and is where a history leaves it: its tape has a record for each begun and each finished move, it knows what was heard and of
--- whom, and is broken and armed by what happened.
-pub record IsMember (version : Version) (tt : Timetable) (h : History) (i : ℕ) (a : AgentOn SimTape) : Type 0 where
+-- An agent has its part of the timetable, and is where a history leaves it: its tape counts its own records, one for each begun and each finished move, it knows what was
+-- heard and of whom, and is broken and armed by what happened.
+pub record IsMember (version : Version) (tt : Timetable) (h : History) (i : ℕ) (a : AgentOn CountedTape) : Type 0 where
   pub part : IsPartOf tt a.part
   pub id : a.part.agent ≡ i
-  pub records : whole_records (sim_state a.tape) ≡ kept_starts h i + done h i
+  pub counts : CountsFor a.part.number a.part.agent a.tape
+  pub records : whole_records (counted_state a.tape) ≡ kept_starts h i + done h i
   pub heard : (j : ℕ) → known_in a.heard j ≡ known version tt h i j
   pub heard_of : (j : ℕ) → is_heard_of a.heard j ≡ has_heard_of version tt h i j
   pub broken : a.broken ≡ is_broken h i
-  pub armed : sim_armed a.tape ≡ armed_of h i
+  pub armed : counted_armed a.tape ≡ armed_of h i
 
 -- A runner stands at a run of its version, over a timetable without vertex conflicts: there is an agent for each track, each where the
 -- run leaves it, and just the messages of the run were said.
@@ -39,7 +40,7 @@ pub record StandsAt (r : RunnerState) (h : History) : Type 0 where
   pub conflict_free : IsConflictFree r.timetable
   pub run : IsRun r.version r.timetable h
   pub count : length r.agents ≡ length r.timetable.tracks
-  pub members : (i : ℕ) (a : AgentOn SimTape) → slice_get r.agents i ≡ Some a → IsMember r.version r.timetable h i a
+  pub members : (i : ℕ) (a : AgentOn CountedTape) → slice_get r.agents i ≡ Some a → IsMember r.version r.timetable h i a
   pub messages : r.messages ≡ messages r.version r.timetable h
 
 -- An event is answered as the rules say after every run at which the runner stands, and then it stands at that run with the event and the answer.

@@ -4,8 +4,7 @@ ghost use Rattle.model.specs.Ready.{rest_events};
 ghost use Rattle.runner.specs.Code.Leading.{is_opened_anew};
 ghost use Rattle.runner.specs.Code.Waiting.{HasNoRotation, CompletesFrom};
 
-use crate::SimTape;
-use agent::Agent;
+use agent::{Agent, CountedTape};
 use depgraph::{Dependencies, Route};
 use model::Event;
 use std::alloc::{AllocError, Global};
@@ -42,7 +41,7 @@ struct Seen {
 #[derive(Drop)]
 pub struct Ending<'r, 'g> {
     graph: &'g Dependencies,
-    agents: &'r [Agent<'g, SimTape>],
+    agents: &'r [Agent<'g, CountedTape>],
     events: Vec<Event>,
     messages: u64,
     standings: Vec<Standing>,
@@ -434,7 +433,7 @@ fn push_rest(events: &mut Vec<Event>, opened: bool, moving: bool, id: u32) -> Re
 }
 
 /// Whether an agent has to be opened anew before it can go on.
-fn is_opened_anew(agent: &Agent<'_, SimTape>) -> bool
+fn is_opened_anew(agent: &Agent<'_, CountedTape>) -> bool
     ensures { result ≡ is_opened_anew agent.now }
 {
     agent.is_broken() || agent.tape().armed().is_some()
@@ -444,7 +443,7 @@ fn is_opened_anew(agent: &Agent<'_, SimTape>) -> bool
 pub(crate) fn bring_all_to_ends(
     alloc: Global,
     graph: &Dependencies,
-    agents: &[Agent<'_, SimTape>],
+    agents: &[Agent<'_, CountedTape>],
     messages: u64,
 ) -> Result<Vec<Event>, AllocError>
     requires count { length agents.now ≡ length graph.now.tracks }

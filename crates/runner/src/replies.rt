@@ -44,15 +44,33 @@ pub(crate) fn reply_to_delivery(answer: Result<(u16, u32), HearFault>) -> Result
     }
 }
 
-#[inline(never)]
+/// The reply to what is refused. It has its place in memory here, and none where the common events are answered.
+#[inline(always)]
 fn refused(refusal: Refusal) -> Reply
+    ensures { answer_of result ≡ refused (why_of refusal) }
+{
+    let reply = tell_refused(refusal);
+    reply
+}
+
+#[inline(never)]
+fn tell_refused(refusal: Refusal) -> Reply
     ensures { answer_of result ≡ refused (why_of refusal) }
 {
     Reply::Refused(why_of(refusal))
 }
 
-#[inline(never)]
+/// The same of a message that is not heard.
+#[inline(always)]
 fn not_heard(fault: HearFault) -> Result<Reply, AllocError>
+    ensures { MatchResult result (λ reply. delivered (Err fault) ≡ Some (answer_of reply)) (λ _. delivered (Err fault) ≡ None) }
+{
+    let reply = tell_not_heard(fault);
+    reply
+}
+
+#[inline(never)]
+fn tell_not_heard(fault: HearFault) -> Result<Reply, AllocError>
     ensures { MatchResult result (λ reply. delivered (Err fault) ≡ Some (answer_of reply)) (λ _. delivered (Err fault) ≡ None) }
 {
     replies::reply_to_delivery(Err(fault))

@@ -9,24 +9,24 @@ ghost use Rattle.model.specs.Replies.{answer_of};
 ghost use Rattle.runner.specs.Standing.{IsMember};
 ghost use Rattle.runner.specs.Code.Reopening.{Reopens};
 
+use crate::CompleteFault;
 use crate::ending::bring_all_to_ends;
 use crate::replies::{reply_to_delivery, reply_to_finish, reply_to_start};
 use crate::said::Said;
-use crate::{CompleteFault, SimTape};
 use agent::replies::{reply_to_restart, why_of};
-use agent::{Agent, Finished, TellFault};
+use agent::{Agent, CountedTape, Finished, TellFault};
 use depgraph::{Dependencies, Graph, OutOfMemory};
 use model::{Entry, Event, Held, Reply, Version, Why};
 use std::alloc::{AllocError, Global};
 use std::marker::Model;
 use std::mem;
 
-/// All agents of a graph over tapes that tear, and every message that was said.
+/// All agents of a graph, each over a tape that counts its records and tears where it is told to, and every message that was said.
 #[derive(Drop)]
 pub struct Runner<'g> {
     alloc: Global,
     graph: &'g Dependencies,
-    agents: Vec<Agent<'g, SimTape>>,
+    agents: Vec<Agent<'g, CountedTape>>,
     said: Said,
     /// Memory for the bytes of a message.
     spare: Vec<u8>,
@@ -90,7 +90,7 @@ impl<'g> Runner<'g> {
         let count = graph.agents();
         let mut agents = Vec::with_capacity(alloc, count as usize)?;
         'agents: for id in 0..count {
-            let agent = new_agent(alloc, graph, id as u16)?;
+            let agent = new_agent(alloc, graph, id as u16);
             let Ok(()) = agents.push(agent) else {
                 return Err(OutOfMemory);
             };
@@ -106,6 +106,7 @@ impl<'g> Runner<'g> {
 
     /// Answers an event. Memory is taken only where an agent says a message, and where one is delivered with an entry of an agent that was
     /// not heard of since the last restart.
+    #[inline(always)]
     pub fn step(&mut self, event: Event) -> Result<Reply, OutOfMemory>
         ensures answered { IfOk result (λ reply. GoesOn self.old self.new event (answer_of reply)) }
         ensures refused { OnErr result (self.new ≡ self.old) }
@@ -157,6 +158,7 @@ impl<'g> Runner<'g> {
         }
     }
 
+    #[inline(always)]
     fn start(&mut self, agent: u32) -> Reply
         ensures goes { GoesOn self.old self.new (event.Start agent) (answer_of result) }
         ensures same_graph { self.new.timetable ≡ self.old.timetable }
@@ -169,6 +171,7 @@ impl<'g> Runner<'g> {
         reply_to_start(self.agents[index].start())
     }
 
+    #[inline(always)]
     fn finish(&mut self, agent: u32) -> Reply
         ensures goes { GoesOn self.old self.new (event.Finish agent) (answer_of result) }
         ensures same_graph { self.new.timetable ≡ self.old.timetable }
@@ -181,6 +184,7 @@ impl<'g> Runner<'g> {
         reply_to_finish(self.agents[index].finish())
     }
 
+    #[inline(always)]
     fn say(&mut self, agent: u32) -> Result<Reply, AllocError>
         ensures said { IfOk result (λ reply. GoesOn self.old self.new (event.Say agent) (answer_of reply)) }
         ensures same_graph { self.new.timetable ≡ self.old.timetable }
@@ -198,6 +202,7 @@ impl<'g> Runner<'g> {
     }
 
     /// Says a message of version 1.
+    #[inline(always)]
     fn say_own(&mut self, agent: u32) -> Result<Reply, AllocError>
         requires there { agent < length self.old.agents }
         requires version { self.old.version ≡ One }
@@ -223,6 +228,7 @@ impl<'g> Runner<'g> {
     }
 
     /// Says a message of version 2.
+    #[inline(never)]
     fn tell(&mut self, agent: u32) -> Result<Reply, AllocError>
         requires there { agent < length self.old.agents }
         requires version { self.old.version ≡ Two }
@@ -243,6 +249,7 @@ impl<'g> Runner<'g> {
         Ok(Reply::Said(number, bytes))
     }
 
+    #[inline(always)]
     fn deliver(&mut self, agent: u32, message: u64) -> Result<Reply, AllocError>
         ensures heard { IfOk result (λ reply. GoesOn self.old self.new (event.Deliver agent message) (answer_of reply)) }
         ensures same_graph { self.new.timetable ≡ self.old.timetable }
@@ -263,6 +270,7 @@ impl<'g> Runner<'g> {
     }
 
     /// Delivers a message of version 1.
+    #[inline(always)]
     fn deliver_own(&mut self, agent: u32, message: u64) -> Result<Reply, AllocError>
         requires there { agent < length self.old.agents }
         requires said { message < length self.old.messages }
@@ -284,6 +292,7 @@ impl<'g> Runner<'g> {
     }
 
     /// Delivers a message of version 2, whose bytes are not made again.
+    #[inline(never)]
     fn deliver_told(&mut self, agent: u32, message: u64) -> Result<Reply, AllocError>
         requires there { agent < length self.old.agents }
         requires said { message < length self.old.messages }
@@ -314,7 +323,7 @@ impl<'g> Runner<'g> {
         if stored > 10 {
             return Reply::Refused(Why::BadTear);
         }
-        self.agents[index].arm(Some(stored as u8));
+        self.agents[index].tear(stored as u8);
         Reply::Armed
     }
 
@@ -346,25 +355,21 @@ fn bytes_in(spare: &mut Vec<u8>, bytes: &[u8]) -> Result<Vec<u8>, AllocError>
 }
 
 /// An agent over an empty tape with room for two records a move.
-fn new_agent(
-    alloc: Global,
-    graph: &Dependencies,
-    id: u16,
-) -> Result<Agent<'_, SimTape>, OutOfMemory>
+fn new_agent(alloc: Global, graph: &Dependencies, id: u16) -> Agent<'_, CountedTape>
     requires { id < length graph.now.tracks }
-    ensures { IfOk result (λ a. (version : Version) → IsMember version graph.now [] id a) }
+    ensures { (version : Version) → IsMember version graph.now [] id result }
 {
     let moves = graph.moves(u32::from(id)).unwrap();
-    let tape = SimTape::new(alloc, 20 * moves)?;
+    let tape = CountedTape::new(graph.number(), id, moves);
     let part = graph.part(id).unwrap();
     match Agent::open_part(alloc, part, tape) {
-        Ok(agent) => Ok(agent),
+        Ok(agent) => agent,
         Err(_) => unreachable!(),
     }
 }
 
 /// Opens an agent's own tape again. However many records it has, that takes no more time.
-fn reopen(agent: &mut Agent<'_, SimTape>)
+fn reopen(agent: &mut Agent<'_, CountedTape>)
     ensures { Reopens agent.old agent.new }
 {
     agent.reopen();

@@ -4,8 +4,7 @@ ghost use Rattle.model.specs.declared.version.Version.TheVariants.{One, Two};
 ghost use Rattle.model.specs.Messages.{own_message};
 ghost use Rattle.runner.specs.Code.Telling.{message_told};
 
-use crate::SimTape;
-use agent::Agent;
+use agent::{Agent, CountedTape};
 use model::{Entry, Version};
 use std::alloc::{AllocError, Global};
 use std::marker::Model;
@@ -79,7 +78,7 @@ impl Said {
     }
 
     /// Keeps what an agent tells at version 2.
-    pub(crate) fn keep_told(&mut self, teller: &Agent<'_, SimTape>) -> Result<(), AllocError>
+    pub(crate) fn keep_told(&mut self, teller: &Agent<'_, CountedTape>) -> Result<(), AllocError>
         requires { self.old.version ≡ Two }
         ensures ok { OnOk result (self.new ≡ record self.old { messages = self.old.messages ++ message_told teller.now ∷ [] }) }
         ensures err { OnErr result (self.new ≡ self.old) }

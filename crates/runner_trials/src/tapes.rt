@@ -1,5 +1,5 @@
-//! What a tape gives back that counts the records of an agent: those, and all other bytes.
-use agent::{Scripted, Tape};
+//! What tapes give back: one that keeps all bytes, and one that counts the records of an agent.
+use agent::{CountedTape, Scripted, Tape};
 use depgraph::OutOfMemory;
 use runner::SimTape;
 use std::alloc::Global;
@@ -13,7 +13,7 @@ const FINISH: [u8; 10] = [0x50, 2, 0, 0, 0, 7, 0, 3, 0, 1];
 const OTHER: [u8; 10] = [0x50, 2, 0, 0, 0, 7, 0, 4, 0, 1];
 
 /// Whether a record was written there.
-fn put(tape: &mut SimTape, at: u32, bytes: &[u8; 10]) -> bool {
+fn put<T: Tape>(tape: &mut T, at: u32, bytes: &[u8; 10]) -> bool {
     let len = tape.len();
     if at > len || at > 100 || len >= at + 10 || tape.room() < at + 10 {
         return false;
@@ -22,7 +22,7 @@ fn put(tape: &mut SimTape, at: u32, bytes: &[u8; 10]) -> bool {
 }
 
 /// Whether ten bytes stand there.
-fn has(tape: &mut SimTape, at: u32, due: &[u8]) -> bool {
+fn has<T: Tape>(tape: &mut T, at: u32, due: &[u8]) -> bool {
     let mut bytes = [0; 10];
     if at > 100 || tape.len() < at + 10 || tape.read_at(at, &mut bytes).is_err() {
         return false;
@@ -54,6 +54,24 @@ fn mends_tears(alloc: Global) -> Result<bool, OutOfMemory> {
     let is_whole = !put(&mut tape, 20, &OTHER) && has(&mut tape, 20, &OTHER);
     let has_failed = tape.failures() == 2 && tape.armed() == None;
     Ok(is_put && is_torn && has_tail && is_mended && is_whole && has_failed)
+}
+
+/// Writes both records, and then others behind them and over the end of the second one: neither is stored, and the second is gone.
+fn counts_its_own() -> bool {
+    let mut tape = CountedTape::new(7, 3, 2);
+    let is_put = put(&mut tape, 0, &START) && put(&mut tape, 10, &FINISH);
+    let has_both = has(&mut tape, 0, &START) && has(&mut tape, 10, &FINISH);
+    let is_behind = !put(&mut tape, 20, &OTHER) && tape.len() == 20;
+    let is_over = !put(&mut tape, 15, &OTHER) && tape.len() == 15;
+    let has_part = has(&mut tape, 5, &[7, 0, 3, 0, 0, 0x50, 2, 0, 0, 0]);
+    let is_mended = put(&mut tape, 10, &FINISH) && has(&mut tape, 10, &FINISH);
+    let has_failed = tape.failures() == 2 && tape.room() == 40 && tape.armed() == None;
+    is_put && has_both && is_behind && is_over && has_part && is_mended && has_failed
+}
+
+#[test]
+fn other_bytes_are_not_counted(rt: HostRuntime) {
+    assert!(rt; counts_its_own());
 }
 
 #[test]

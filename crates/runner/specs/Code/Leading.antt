@@ -14,15 +14,15 @@ use Rattle.agent.specs.Agents.{AgentOn}
 use Rattle.agent.specs.Counters.{known_in}
 use Rattle.runner.specs.declared.ending.Heard.{Heard}
 use Rattle.runner.specs.declared.ending.Standing.{Standing}
-use Rattle.runner.specs.declared.sim_tape.SimTape.{SimTape}
-use Rattle.runner.specs.SimTape.{sim_armed}
+use Rattle.agent.specs.declared.counted_tape.CountedTape.{CountedTape}
+use Rattle.agent.specs.CountedTape.{counted_armed}
 use Rattle.runner.specs.Standing.{IsMember}
 
 -- the agents as the run left them, the events so far, how many messages were said by then, how far each agent is, the first ones first,
 -- and what was heard
 pub record EndingState : Type 0 where
   pub timetable : Timetable
-  pub agents : List (AgentOn SimTape)
+  pub agents : List (AgentOn CountedTape)
   pub events : List Event
   pub messages : ℕ
   pub standings : List Standing
@@ -33,13 +33,13 @@ abbrev pub finished_in : List Standing → ℕ → ℕ
 finished_in standings i = unwrap_or (option_map (λ s. s.done) (slice_get standings i)) 0
 
 -- the agent is opened anew
-abbrev pub is_opened_anew : AgentOn SimTape → Bool
-is_opened_anew a = a.broken || is_some (sim_armed a.tape)
+abbrev pub is_opened_anew : AgentOn CountedTape → Bool
+is_opened_anew a = a.broken || is_some (counted_armed a.tape)
 
 -- the run left the agents so
-pub record Begins (version : Version) (tt : Timetable) (agents : List (AgentOn SimTape)) (h : History) : Type 0 where
+pub record Begins (version : Version) (tt : Timetable) (agents : List (AgentOn CountedTape)) (h : History) : Type 0 where
   pub run : IsRun version tt h
-  pub members : (i : ℕ) (a : AgentOn SimTape) → slice_get agents i ≡ Some a → IsMember version tt h i a
+  pub members : (i : ℕ) (a : AgentOn CountedTape) → slice_get agents i ≡ Some a → IsMember version tt h i a
 
 -- the message that it said last tells so many of its moves, if any at all
 abbrev pub HasTold : List Message → ℕ → Standing → Type 0
@@ -64,7 +64,7 @@ pub record LeadsTo (version : Version) (s : EndingState) (h new : History) : Typ
   pub said : length (messages version s.timetable new) ≡ s.messages
   pub stand : (i : ℕ) (x : Standing) → slice_get s.standings i ≡ Some x → StandsThere version s.timetable new i x
   pub others : (i : ℕ) → length s.standings ≤ i → i < length s.agents → IsUntouched h new i
-  pub knows : (i : ℕ) (a : AgentOn SimTape) → slice_get s.agents i ≡ Some a → is_opened_anew a ≡ false
+  pub knows : (i : ℕ) (a : AgentOn CountedTape) → slice_get s.agents i ≡ Some a → is_opened_anew a ≡ false
       → (j : ℕ) → known_in a.heard j ≤ known version s.timetable new i j
   pub heard : (n : ℕ) (x : Heard) → slice_get s.heard n ≡ Some x → x.number ≤ known version s.timetable new x.agent x.of
 

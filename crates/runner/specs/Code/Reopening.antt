@@ -1,13 +1,14 @@
 -- An agent whose own tape was opened again.
 use Rattle.std.specs.Prelude.{◌≡◌, false, [], None}
 use Rattle.agent.specs.Agents.{AgentOn}
-use Rattle.runner.specs.declared.sim_tape.SimTape.{SimTape}
-use Rattle.runner.specs.SimTape.{sim_state, sim_armed}
+use Rattle.agent.specs.declared.counted_tape.CountedTape.{CountedTape}
+use Rattle.agent.specs.CountedTape.{counted_state, counted_armed, CountsFor}
 
 -- It has what it had on the tape; nothing is heard or armed, and it isn't broken.
-pub record Reopens (old new : AgentOn SimTape) : Type 0 where
+pub record Reopens (old new : AgentOn CountedTape) : Type 0 where
   pub part : new.part ≡ old.part
-  pub contents : (sim_state new.tape).contents ≡ (sim_state old.tape).contents
+  pub contents : (counted_state new.tape).contents ≡ (counted_state old.tape).contents
   pub heard : new.heard ≡ []
   pub broken : new.broken ≡ false
-  pub armed : sim_armed new.tape ≡ None
+  pub whose : CountsFor old.tape.plan old.tape.agent new.tape
+  pub armed : counted_armed new.tape ≡ None

@@ -7,7 +7,7 @@ use Rattle.model.specs.declared.version.Version.{Version}
 use Rattle.model.specs.Completion.{IsCompletion}
 use Rattle.model.specs.History.{History, messages}
 use Rattle.agent.specs.Agents.{AgentOn}
-use Rattle.runner.specs.declared.sim_tape.SimTape.{SimTape}
+use Rattle.agent.specs.declared.counted_tape.CountedTape.{CountedTape}
 use Rattle.runner.specs.Code.Leading.{EndingState, finished_in, Begins, Leads, LeadsOn, IsOf, HasLeft}
 
 -- nobody moves in a rotation
@@ -52,10 +52,10 @@ pub record GoesNearer (agent : ℕ) (old new : EndingState) (waiting more : List
   pub nearer : way_left new more < way_left old waiting
 
 -- wherever a run left the agents after so many messages, all the events lead there
-abbrev pub LeadsFrom : Timetable → List (AgentOn SimTape) → ℕ → EndingState → Type 0
+abbrev pub LeadsFrom : Timetable → List (AgentOn CountedTape) → ℕ → EndingState → Type 0
 LeadsFrom tt agents count s = (version : Version) (h : History) → Begins version tt agents h → length (messages version tt h) ≡ count → Leads version s h
 
 -- they complete it
-abbrev pub CompletesFrom : Timetable → List (AgentOn SimTape) → ℕ → List Event → Type 0
+abbrev pub CompletesFrom : Timetable → List (AgentOn CountedTape) → ℕ → List Event → Type 0
 CompletesFrom tt agents count events =
     (version : Version) (h : History) → Begins version tt agents h → length (messages version tt h) ≡ count → IsCompletion version tt h events

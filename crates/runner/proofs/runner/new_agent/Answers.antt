@@ -5,20 +5,20 @@ use Rattle.model.specs.Timetable.{track_of}
 use Rattle.agent.specs.Opening.{IsOpened, IsRefused}
 use Rattle.agent.proofs.OwnLemmas.{told-most}
 use Rattle.depgraph.specs.AgentParts.{IsPartOf}
-use Rattle.runner.specs.SimTape.{sim_state, sim_reads}
+use Rattle.agent.specs.CountedTape.{counted_state, counted_reads}
 use Rattle.runner.proofs.runner.new_agent.Goals as goal
 
-pub overflow_mul-moves : goal.overflow_mul-moves
-overflow_mul-moves c = (let most = told-most _ _ c.unwrap-moves.result c.moves.ensures.within (sym c.unwrap-moves.ensures ∙ c.moves.ensures.moves) in omega (arith, most))
+pub new-tape-requires : goal.new-tape-requires
+new-tape-requires c = (let most = told-most _ _ c.unwrap-moves.result c.moves.ensures.within (sym c.unwrap-moves.ensures ∙ c.moves.ensures.moves) in omega (arith, most))
 
 pub unreachable-requires : goal.unreachable-requires
 unreachable-requires c =
     let is = subst (λ o. MatchOption o (track_of c.args.graph.now c.args.id ≡ None) (λ p. IsPartOf c.args.graph.now p × (p.agent ≡ c.args.id))) c.unwrap-part.ensures c.part.ensures in
-    let refused = subst (λ i. IsRefused sim_state sim_reads c.args.graph.now i c.in_ok-tape.tape c.in-Err.field-0.1 c.in-Err.field-0.0) is.1 (c.in-Err.ensures.refused c.args.graph.now is.0) in
+    let refused = subst (λ i. IsRefused counted_state counted_reads c.args.graph.now i c.new-tape.result c.in-Err.field-0.1 c.in-Err.field-0.0) is.1 (c.in-Err.ensures.refused c.args.graph.now is.0) in
     search rules
 
 pub returns : goal.returns
 returns c =
     let is = subst (λ o. MatchOption o (track_of c.args.graph.now c.args.id ≡ None) (λ p. IsPartOf c.args.graph.now p × (p.agent ≡ c.args.id))) c.unwrap-part.ensures c.part.ensures in
-    let opened = subst (λ i. IsOpened sim_state sim_reads c.args.graph.now i c.in_ok-tape.tape c.in-Ok.agent) is.1 (c.in-Ok.ensures.opened c.args.graph.now is.0) in
+    let opened = subst (λ i. IsOpened counted_state counted_reads c.args.graph.now i c.new-tape.result c.in-Ok.agent) is.1 (c.in-Ok.ensures.opened c.args.graph.now is.0) in
     search rules

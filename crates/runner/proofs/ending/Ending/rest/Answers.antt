@@ -5,7 +5,7 @@ use Rattle.agent.specs.Agents.{state_of}
 use Rattle.agent.specs.States as states
 use Rattle.model.specs.Ready.{rest_events}
 use Rattle.model.specs.Timetable.{Track}
-use Rattle.runner.specs.SimTape.{sim_state}
+use Rattle.agent.specs.CountedTape.{counted_state}
 use Rattle.std.proofs.lemmas.Option.{slice_get-get_or}
 use Rattle.runner.specs.Code.Leading.{is_opened_anew, Begins, Leads, AreUnheard}
 use Rattle.runner.proofs.LeadLemmas.{one_if, rest-on}
@@ -32,5 +32,5 @@ returns-clause-leads c version h begins was =
     (c.in_ok-push_rest.ensures.put ∙ ap (λ b. c.self.inside.events.items ++ rest_events b c.is_moving-moving.result c.args.id) c.is_opened_anew.ensures
     ∙ ap (λ b. c.self.inside.events.items ++ rest_events (is_opened_anew a) b c.args.id) c.is_moving-moving.ensures)
     c.in_ok-push.ensures.items
-    (ap (λ n. n + c.from.result) c.done.ensures.done ∙ ap (λ n. states.done (state_of sim_state a) + n) (c.from.ensures ∙ as_number c.is_moving-moving.result ∙ ap one_if c.is_moving-moving.ensures))
+    (ap (λ n. n + c.from.result) c.done.ensures.done ∙ ap (λ n. states.done (state_of counted_state a) + n) (c.from.ensures ∙ as_number c.is_moving-moving.result ∙ ap one_if c.is_moving-moving.ensures))
     refl begins_in was_in

@@ -9,9 +9,9 @@ use Rattle.runner.proofs.runner.Runner.over.Goals as goal
 
 pub agents-preserved : goal.agents-preserved
 agents-preserved c =
-    let here = subst (λ n. (v : Version) → IsMember v c.args.graph.now [] n c.in_ok-agent.agent) (sym c.agents.invariant.count) c.in_ok-agent.ensures in record {
-      count = (let more = ap length c.in-Ok.ensures.items in let one = length-append c.agents.agents.items (c.in_ok-agent.agent ∷ []) in let count = c.agents.invariant.count in omega (arith, more, one, count));
-      members = λ i a there. each-pushed (λ n x. (v : Version) → IsMember v c.args.graph.now [] n x) c.agents.agents.items c.in_ok-agent.agent c.agents.invariant.members here i a
+    let here = subst (λ n. (v : Version) → IsMember v c.args.graph.now [] n c.new_agent-agent.result) (sym c.agents.invariant.count) c.new_agent-agent.ensures in record {
+      count = (let more = ap length c.in-Ok.ensures.items in let one = length-append c.agents.agents.items (c.new_agent-agent.result ∷ []) in let count = c.agents.invariant.count in omega (arith, more, one, count));
+      members = λ i a there. each-pushed (λ n x. (v : Version) → IsMember v c.args.graph.now [] n x) c.agents.agents.items c.new_agent-agent.result c.agents.invariant.members here i a
           (sym (ap (λ l. slice_get l i) c.in-Ok.ensures.items) ∙ there);
     }
 
@@ -30,9 +30,6 @@ returns-clause-stands c = record {
 
 pub returns-in_err-agents-clause-safe : goal.returns-in_err-agents-clause-safe
 returns-in_err-agents-clause-safe c = (c.args.version, safe-by c.every_run_is_safe.ensures c.rotations_never_begin.ensures c.args.version c.args.graph.now [] c.agents-count.ensures.within.conflict_free tt)
-
-pub returns-in_err-agent-clause-safe : goal.returns-in_err-agent-clause-safe
-returns-in_err-agent-clause-safe c = (c.args.version, safe-by c.every_run_is_safe.ensures c.rotations_never_begin.ensures c.args.version c.args.graph.now [] c.agents-count.ensures.within.conflict_free tt)
 
 pub returns-in_default-clause-safe : goal.returns-in_default-clause-safe
 returns-in_default-clause-safe c = (c.args.version, safe-by c.every_run_is_safe.ensures c.rotations_never_begin.ensures c.args.version c.args.graph.now [] c.agents-count.ensures.within.conflict_free tt)

@@ -2,7 +2,7 @@ use Rattle.std.proofs.Common.{◌≡◌, ℕ, [], length, Some}
 use Rattle.std.specs.Prelude.{slice_get}
 use Rattle.agent.specs.Agents.{AgentOn}
 use Rattle.model.specs.declared.version.Version.{Version}
-use Rattle.runner.specs.declared.sim_tape.SimTape.{SimTape}
+use Rattle.agent.specs.declared.counted_tape.CountedTape.{CountedTape}
 use Rattle.runner.specs.Standing.{IsMember}
 use Rattle.runner.proofs.runner.Runner.over.Given as goal
 
@@ -10,5 +10,5 @@ use Rattle.runner.proofs.runner.Runner.over.Given as goal
 abbrev pub invariant-agents : goal.invariant-agents
 invariant-agents l = record {
   count : length l.agents.items ≡ l.id;
-  members : (i : ℕ) (a : AgentOn SimTape) → slice_get l.agents.items i ≡ Some a → (v : Version) → IsMember v l.graph [] i a;
+  members : (i : ℕ) (a : AgentOn CountedTape) → slice_get l.agents.items i ≡ Some a → (v : Version) → IsMember v l.graph [] i a;
 }

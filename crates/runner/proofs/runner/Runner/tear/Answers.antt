@@ -19,5 +19,5 @@ returns-clause-goes c h stands =
     let inside = subst (λ r. StandsAt r h) (sym c.self.view_is) stands in
     let there = slice_get-get_or c.self.inside.agents.items c.args.agent c.index_mut.result.now (let past = c.if-index-len.false in let count = c.len.ensures in omega (arith, past, count)) ∙ ap (λ a. Some a) (sym c.index_mut.ensures.value) in
     let most = c.if-stored-gt10.false in
-    let found = tear-on _ h inside c.args.agent c.args.stored c.index_mut.result.now c.arm.new.self there (omega (arith, most)) c.arm.ensures.same c.arm.ensures.state c.arm.ensures.armed in
+    let found = tear-on _ h inside c.args.agent c.args.stored c.index_mut.result.now c.tear.new.self there (omega (arith, most)) c.tear.ensures.same c.tear.ensures.state c.tear.ensures.armed c.tear.ensures.whose in
     (found.0 ∙ ap (λ r. answer r.version r.timetable h (Tear c.args.agent c.args.stored)) c.self.view_is, found.1)

@@ -7,7 +7,7 @@ use Rattle.model.specs.History.{refused, said}
 use Rattle.model.specs.Rules.{answer}
 use Rattle.agent.specs.Agents.{state_of}
 use Rattle.agent.specs.States.{IsToldBy}
-use Rattle.runner.specs.SimTape.{sim_state}
+use Rattle.agent.specs.CountedTape.{counted_state}
 use Rattle.runner.specs.Standing.{StandsAt, TakesMemory}
 use Rattle.runner.specs.Code.Telling.{message_told}
 use Rattle.runner.proofs.SayLemmas.{say-refused-on, say-takes, told-on, err-so}
@@ -19,7 +19,7 @@ returns-in-Err-Broken-clause-said c h stands =
     let within : c.args.agent < length c.self.inside.agents.items = (let less = c.requires.there in let same = ap (λ r. length r.agents) c.self.view_is in omega (arith, less, same)) in
     let there = slice_get-get_or c.self.inside.agents.items c.args.agent c.index-sender.result.now within ∙ ap (λ a. Some a) (sym c.index-sender.ensures) in
     let found = say-refused-on _ h inside c.args.agent c.index-sender.result.now there
-    (subst (λ f. IsToldBy c.self.inside.graph.now c.index-sender.result.now.part.agent (state_of sim_state c.index-sender.result.now) (Err f)) c.in-Err-Broken.field-0-is (c.in-Err-Broken.ensures.tells _ (inside.members c.args.agent c.index-sender.result.now there).part)) in
+    (subst (λ f. IsToldBy c.self.inside.graph.now c.index-sender.result.now.part.agent (state_of counted_state c.index-sender.result.now) (Err f)) c.in-Err-Broken.field-0-is (c.in-Err-Broken.ensures.tells _ (inside.members c.args.agent c.index-sender.result.now there).part)) in
     subst (λ r. (refused why.Broken ≡ answer r.version r.timetable h (Say c.args.agent)) × StandsAt r (record { event = Say c.args.agent; answer = refused why.Broken } ∷ h)) c.self.view_is found
 
 pub returns-clause-said : goal.returns-clause-said
@@ -50,5 +50,5 @@ returns-in-Err-OutOfMemory-clause-memory c h stands =
     let inside = subst (λ r. StandsAt r h) (sym c.self.view_is) stands in
     let within : c.args.agent < length c.self.inside.agents.items = (let less = c.requires.there in let same = ap (λ r. length r.agents) c.self.view_is in omega (arith, less, same)) in
     let there = slice_get-get_or c.self.inside.agents.items c.args.agent c.index-sender.result.now within ∙ ap (λ a. Some a) (sym c.index-sender.ensures) in
-    let whole = subst (λ f. IsToldBy c.self.inside.graph.now c.index-sender.result.now.part.agent (state_of sim_state c.index-sender.result.now) (Err f)) c.in-Err-OutOfMemory.field-0-is (c.in-Err-OutOfMemory.ensures.tells _ (inside.members c.args.agent c.index-sender.result.now there).part) in
+    let whole = subst (λ f. IsToldBy c.self.inside.graph.now c.index-sender.result.now.part.agent (state_of counted_state c.index-sender.result.now) (Err f)) c.in-Err-OutOfMemory.field-0-is (c.in-Err-OutOfMemory.ensures.tells _ (inside.members c.args.agent c.index-sender.result.now there).part) in
     subst (λ r. TakesMemory r.version r.timetable h (Say c.args.agent)) c.self.view_is (say-takes _ h inside c.args.agent c.index-sender.result.now there whole)
