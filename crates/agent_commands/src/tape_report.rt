@@ -114,6 +114,8 @@ fn report_of(agent: &Agent<'_, MemTape>, len: u32) -> TapeReport
 }
 
 /// Writes the two lines. The writer is not flushed.
+// Compiled by itself, for its room on the stack.
+#[inline(never)]
 pub(crate) fn write_report<W: Write>(
     report: TapeReport,
     writer: &mut Counted<W>,

@@ -46,6 +46,8 @@ fn room(alloc: Global, count: usize) -> Result<Vec<u8>, AllocError>
 }
 
 /// Leads a dialogue, with room for a line and for a message.
+// Compiled by itself, for its room on the stack.
+#[inline(never)]
 fn talk_with_room<R: Read, W: Write, T: Tape>(
     agent: &mut Agent<'_, T>,
     input: &mut Counted<R>,

@@ -15,6 +15,8 @@ use tape_claim::{LockFile, TapeClaim};
 use text_commands::{map_cmd, row_cmd, scen_cmd};
 
 /// Performs `map` on its file, or on the input where that is `-`.
+// Compiled by itself, for its room on the stack.
+#[inline(never)]
 pub(crate) fn map_on_file<R: Files + AllocGlobal, I: Read, W: Write, E: Write>(
     rt: &R,
     file: &str,
@@ -34,6 +36,8 @@ pub(crate) fn map_on_file<R: Files + AllocGlobal, I: Read, W: Write, E: Write>(
 }
 
 /// Performs `scen` on its file, or on the input where that is `-`.
+// Compiled by itself, for its room on the stack.
+#[inline(never)]
 pub(crate) fn scen_on_file<R: Files + AllocGlobal, I: Read, W: Write, E: Write>(
     rt: &R,
     file: &str,

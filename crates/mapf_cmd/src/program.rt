@@ -83,6 +83,8 @@ fn asks_to_explain(line: &Line) -> bool
 }
 
 /// Explains what was told of a command, by its files in the order in which it opens them.
+// Compiled by itself, for its room on the stack.
+#[inline(never)]
 fn explain_fault<R: Files + AllocGlobal, E: Write>(
     rt: &R,
     line: &Line,

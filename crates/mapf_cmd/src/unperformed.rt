@@ -10,6 +10,8 @@ use std::io::Write;
 use text_commands::{Status, finish, report, write_text};
 
 /// Shows help on a fault, where the words ask for that, and else what `refuse` does. The answer is the exit status.
+// Compiled by itself, for its room on the stack.
+#[inline(never)]
 pub(crate) fn end_unperformed<W: Write, E: Write>(
     words: &[String],
     fault: LineFault,

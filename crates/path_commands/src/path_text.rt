@@ -20,6 +20,8 @@ use plan_text::Course;
 use std::io::Write;
 
 /// Writes the line of each time, from the starts on, and leaves the agents behind the last of them. The writer is not flushed.
+// Compiled by itself, for its room on the stack.
+#[inline(never)]
 pub(crate) fn write_rows<W: Write>(
     courses: &[Course],
     cells: &mut [Cell],

@@ -26,6 +26,8 @@ pub(crate) fn write_deps<W: Write>(
 }
 
 /// Writes it with these rotations.
+// Compiled by itself, for its room on the stack.
+#[inline(never)]
 fn write_with_rotations<W: Write>(
     graph: &Dependencies,
     rotations: &[Rotation],

@@ -11,6 +11,8 @@ use grid::{Counted, Sink, WriteFault};
 use std::io::Write;
 
 /// Writes a line for each visit. The writer is not flushed.
+// Compiled by itself, for its room on the stack.
+#[inline(never)]
 pub(crate) fn write_visits<W: Write>(
     visits: &[Visit],
     writer: &mut Counted<W>,

@@ -36,6 +36,8 @@ pub fn complete_text<M: Read, P: Read, E: Read, W: Write>(
 }
 
 /// Answers the events on the graph, and says how their run ends.
+// Compiled by itself, for its room on the stack.
+#[inline(never)]
 fn complete<E: Read, W: Write>(
     alloc: Global,
     graph: &Dependencies,

@@ -49,6 +49,8 @@ pub(crate) fn read_dependencies<M: Read, P: Read>(
 }
 
 /// Answers the events on the graph.
+// Compiled by itself, for its room on the stack.
+#[inline(never)]
 fn replay<E: Read, W: Write>(
     alloc: Global,
     graph: &Dependencies,

@@ -11,6 +11,8 @@ use grid::{Counted, FaultWords, Sink, WriteFault};
 use std::io::Write;
 
 /// Writes the line of a fault, as `mapf: ShortRow 6`, by one write where the writer takes it whole.
+// Compiled by itself, for its room on the stack.
+#[inline(never)]
 pub fn report<E: Write>(err: &mut Counted<E>, words: FaultWords)
     ensures { Tells E.contents err.old err.new (Some (words_of words)) }
 {

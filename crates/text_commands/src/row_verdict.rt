@@ -53,6 +53,8 @@ impl RowVerdict {
 }
 
 /// Writes the line of a verdict. The writer is not flushed.
+// Compiled by itself, for its room on the stack.
+#[inline(never)]
 pub(crate) fn write_row_verdict<W: Write>(
     verdict: RowVerdict,
     writer: &mut Counted<W>,

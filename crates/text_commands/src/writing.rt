@@ -13,6 +13,8 @@ use grid::{Counted, Sink, WriteFault};
 use std::io::Write;
 
 /// Writes a text. The writer is not flushed.
+// Compiled by itself: what it reads and writes has room on the stack, for which a caller would pay at each of its calls.
+#[inline(never)]
 pub fn write_text<W: Write>(text: &[u8], writer: &mut Counted<W>) -> Result<(), WriteFault>
     ensures { WritesText (is_ok result) (W.contents (counted_inner writer.old)) (W.contents (counted_inner writer.new)) (failures_of writer.old) (failures_of writer.new) text.now }
 {
