@@ -47,7 +47,7 @@ def bad_calls(harness: Harness) -> Iterator[Outcome]:
 
 def full_disk(harness: Harness) -> Iterator[Outcome]:
     """Whatever isn't stored is waited out, and then all arrive."""
-    program = failing_program(harness, Chances(unopened=0.1, lost=0.05, stored=0.05))
+    program = failing_program(harness, Chances(unopened=0.2, lost=0.1, stored=0.1))
     command = [sys.executable, str(FLEET), "--agents", "3", "--kills", "0", "--quiet", "--program", str(program)]
     ended = harness.run(command)
     wrote = (ended.status, ended.out.startswith(b"seed 1: 3 robots arrived"), b": failed, and is started again\n" in ended.err)

@@ -143,6 +143,7 @@ class Report:
 
     def __init__(self) -> None:
         self.passed = self.failed = self.skipped = 0
+        self.faults: list[str] = []
         self.is_terminal = sys.stdout.isatty()
 
     def take(self, part: str, outcomes: Iterator[Outcome]) -> None:
@@ -179,6 +180,7 @@ class Report:
 
     def fail(self, why: str) -> None:
         self.failed += 1
+        self.faults.append(why)
         self.say(f"FAILED {why}")
 
     def count(self, passed: int, failed: int) -> None:
@@ -187,6 +189,8 @@ class Report:
         self.failed += failed
 
     def end(self) -> int:
-        """Writes the last line, and answers the status."""
+        """Writes the faults once more, since much may have been written since, and the last line. Answers the status."""
+        for why in self.faults:
+            self.say(f"FAILED {why}")
         self.say(f"{self.passed} passed, {self.failed} failed")
         return 1 if self.failed or not (self.passed or self.skipped) else 0

@@ -87,6 +87,8 @@ BAD_LISTS = {
     "half.jsonl": b'{"map":"lane.map"}\n',
 }
 STOPS = 12
+# The time that a job has where that is tested: far more than any of them needs.
+SECONDS = 5
 
 
 class Room:
@@ -100,6 +102,13 @@ class Room:
     def file(self, name: str, content: bytes) -> str:
         (self.folder / name).write_bytes(content)
         return name
+
+    def script(self, name: str, lines: str) -> str:
+        """A program of the shell."""
+        path = self.folder / name
+        path.write_text(f"#!/bin/sh\n{lines}\n", encoding="utf-8")
+        path.chmod(0o755)
+        return str(path)
 
     def words(self, *words: str, program: str = "") -> list[str]:
         return [sys.executable, str(TOOL), "--processes", "2", *words, "--program", program or str(self.harness.program)]
@@ -218,8 +227,8 @@ def of_processes(room: Room) -> Iterator[Outcome]:
     os.mkfifo(room.folder / "fifo")
     jobs = [("lane.map", "", "behind.plan", ""), ("lane.map", "", "fifo", "")]
     room.file("slow.csv", csv_of(jobs))
-    due = [(jobs[0], ACCEPTED), (jobs[1], ("failed", "time limit of 1 seconds", "", ""))]
-    yield judged(room, "a plan that nobody writes", ["slow.csv", "--seconds", "1"], "slow.out.csv", due)
+    due = [(jobs[0], ACCEPTED), (jobs[1], ("failed", f"time limit of {SECONDS} seconds", "", ""))]
+    yield judged(room, "a plan that nobody writes", ["slow.csv", "--seconds", str(SECONDS)], "slow.out.csv", due)
     room.file("one.csv", csv_of(jobs[:1]))
     for name, script, fault in (
         ("killed", "kill -9 $$", "`mapf check` ended by signal 9"),
@@ -227,12 +236,9 @@ def of_processes(room: Room) -> Iterator[Outcome]:
         ("silent", "exit 5", "`mapf check` ended with status 5"),
         ("lying", "echo accepted", "`mapf check` ended with status 0"),
         ("group", "kill -9 0", "ended by signal 9"),
-        ("sleepy", "sleep 60", "time limit of 1 seconds"),
+        ("sleepy", "sleep 60", f"time limit of {SECONDS} seconds"),
     ):
-        program = room.folder / name
-        program.write_text(f"#!/bin/sh\n{script}\n", encoding="utf-8")
-        program.chmod(0o755)
-        ended = room.judge("one.csv", "-o", f"{name}.csv", "--seconds", "1", program=str(program))
+        ended = room.judge("one.csv", "-o", f"{name}.csv", "--seconds", str(SECONDS), program=room.script(name, script))
         yield compared(f"a program that is {name}", script, (ended.status, [row[3:5] for row in verdicts(room.rows(f"{name}.csv"))]), (0, [("failed", fault)]))
     ended = room.judge("one.csv", "-o", "unstarted.csv", program=str(room.folder / "no"))
     yield compared("a program that is not there", "judge.py one.csv", (ended.status, [row[3] for row in verdicts(room.rows("unstarted.csv"))]), (0, ["failed"]))
@@ -242,9 +248,11 @@ def of_stops(room: Room) -> Iterator[Outcome]:
     """A judge that is killed again and again, its last line torn, has each job once at its end."""
     rng = random.Random(39)
     output = room.folder / "stopped.csv"
+    # So slow that it is still at work when it is looked at, however busy the machine is.
+    slow = room.script("slow", f'sleep 0.1\nexec {shlex.quote(str(room.harness.program))} "$@"')
     stops = 0
     for turn in range(STOPS * 10):
-        process = subprocess.Popen(room.words("jobs.csv", "-o", output.name), cwd=room.folder, stderr=subprocess.PIPE, start_new_session=True)
+        process = subprocess.Popen(room.words("jobs.csv", "-o", output.name, program=slow), cwd=room.folder, stderr=subprocess.PIPE, start_new_session=True)
         kind = rng.choice((signal.SIGKILL, signal.SIGTERM, signal.SIGINT))
         before = len(room.rows(output.name))
         # Let it come a few jobs further each time.

@@ -94,13 +94,14 @@ def of_udp(harness: Harness) -> Iterator[Callable[[], list[Outcome]]]:
         return Fleet(harness, words).judged(name, robots, **least)
 
     yield functools.partial(run, "two robots, killed", 2, [*TWO, "--moves", "0.3", "--kills", "8"], **{KILLS: 1})
-    three = ["--robots", "3", "--kills", "5", "--moves", "0.07"]
-    yield functools.partial(run, "three robots, killed", 3, [*three, "--slips", "0.3"], **{KILLS: 3, "restarts": 1, "slips": 1})
-    yield functools.partial(run, "three robots that tell, killed", 3, [*three, "--tell", "--seed", "2"], **{KILLS: 3, "restarts": 1})
-    yield functools.partial(run, "three robots, multicast, killed", 3, [*three, "--link", "multicast", "--seed", "3"], **{KILLS: 3, "restarts": 1})
+    # The moves are so slow that many processes are killed in each run.
+    three = ["--robots", "3", "--kills", "5", "--moves", "0.15"]
+    yield functools.partial(run, "three robots, killed", 3, [*three, "--slips", "0.3"], **{KILLS: 1, "restarts": 1, "slips": 1})
+    yield functools.partial(run, "three robots that tell, killed", 3, [*three, "--tell", "--seed", "2"], **{KILLS: 1, "restarts": 1})
+    yield functools.partial(run, "three robots, multicast, killed", 3, [*three, "--link", "multicast", "--seed", "3"], **{KILLS: 1, "restarts": 1})
     for seed in LONG if harness.is_long else ():
-        twelve = ["--kills", "3", "--seed", str(seed), *(["--tell"] if seed % 2 else [])]
-        yield functools.partial(run, f"twelve robots, seed {seed}, killed", 12, twelve, **{KILLS: 3, "restarts": 2})
+        twelve = ["--kills", "3", "--moves", "0.15", "--seed", str(seed), *(["--tell"] if seed % 2 else [])]
+        yield functools.partial(run, f"twelve robots, seed {seed}, killed", 12, twelve, **{KILLS: 1, "restarts": 1})
 
 
 def of_numbers(harness: Harness) -> list[Outcome]:
