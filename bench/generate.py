@@ -2,9 +2,9 @@
 """Makes maps, scenarios and plans of any size, the same for the same seed.
 
 Usage: generate.py KIND WIDTH HEIGHT [--seed N] [--rows N] [--agents N] [--acts N]
-(KIND: open, random, rooms, terrain, sparse, maze, mixed, scen, boxes, blocks, trains, crowd)
-The text goes to standard output; `scen` makes a scenario of so many rows for a map of that size; `boxes`, `blocks`, `trains` and `crowd`
-make a valid plan of so many agents with so many acts each on an open map of that size, none a wait but in `crowd`.
+(KIND: open, random, rooms, terrain, sparse, maze, corridors, mixed, patches, scen, boxes, blocks, trains, regions, crowd, loops)
+The text goes to standard output; `scen` makes a scenario of so many rows for a map of that size; `boxes`, `blocks`, `trains`, `regions`, `crowd` and
+`loops` make a valid plan of so many agents with so many acts each on an open map of that size, none a wait but in `crowd` and `loops`.
 """
 import argparse
 import itertools
@@ -12,8 +12,12 @@ import random
 import sys
 
 KINDS = ("open", "random", "rooms", "terrain")
-WALKED_KINDS = ("open", "sparse", "rooms", "maze", "mixed")
-PLAN_KINDS = ("boxes", "blocks", "trains", "crowd")
+WALKED_KINDS = ("open", "sparse", "rooms", "maze", "corridors", "mixed", "patches")
+PLAN_KINDS = ("boxes", "blocks", "trains", "regions", "crowd", "loops")
+# In these an agent that turns back near its end meets another.
+CLOSE_KINDS = ("blocks", "trains", "regions", "loops")
+# By how much each act but a wait changes a column and a row.
+STEPS = {"n": (0, -1), "e": (1, 0), "s": (0, 1), "w": (-1, 0)}
 
 
 def table(shares):
@@ -93,6 +97,46 @@ def maze_rows(rng, width, height):
     return [row.decode() for row in rows]
 
 
+def corridor_rows(rng, width, height):
+    """A maze like that, whose corridors are three cells wide and its walls one."""
+    columns, lines = (width - 1) // 4, (height - 1) // 4
+    rows = [bytearray(b"@" * width) for _ in range(height)]
+
+    def open_box(left, top, wide, high):
+        for y in range(top, top + high):
+            rows[y][left : left + wide] = b"." * wide
+
+    open_box(1, 1, 3, 3)
+    seen, path = {(0, 0)}, [(0, 0)]
+    while path:
+        x, y = path[-1]
+        sides = [(x + 1, y), (x - 1, y), (x, y + 1), (x, y - 1)]
+        free = [(u, v) for u, v in sides if 0 <= u < columns and 0 <= v < lines and (u, v) not in seen]
+        if not free:
+            path.pop()
+            continue
+        u, v = rng.choice(free)
+        # From the lesser of the two boxes on, over the wall, to the end of the other.
+        wide, high = (7, 3) if v == y else (3, 7)
+        open_box(4 * min(x, u) + 1, 4 * min(y, v) + 1, wide, high)
+        seen.add((u, v))
+        path.append((u, v))
+    return [row.decode() for row in rows]
+
+
+def patch_rows(rng, width, height):
+    """Floor with round patches of each other terrain."""
+    rows = [bytearray(b"." * width) for _ in range(height)]
+    for _ in range(width * height // 900):
+        terrain, radius = rng.choice("GGSSSWWWWTT@O."), rng.choice([2, 3, 5, 8, 13, 21])
+        x, y = rng.randrange(width), rng.randrange(height)
+        for line in range(max(0, y - radius), min(height, y + radius + 1)):
+            half = int((radius**2 - (line - y) ** 2) ** 0.5)
+            left, right = max(0, x - half), min(width, x + half + 1)
+            rows[line][left:right] = terrain.encode() * (right - left)
+    return cleared([row.decode() for row in rows])
+
+
 def map_text(kind, width, height, seed):
     """The text of a map."""
     makers = {
@@ -102,7 +146,9 @@ def map_text(kind, width, height, seed):
         "terrain": terrain_rows,
         "sparse": sparse_rows,
         "maze": maze_rows,
+        "corridors": corridor_rows,
         "mixed": mixed_rows,
+        "patches": patch_rows,
     }
     rows = makers[kind](random.Random(f"{kind} {width} {height} {seed}"), width, height)
     return "\n".join(["type octile", f"height {height}", f"width {width}", "map", *rows, ""])
@@ -112,6 +158,8 @@ def far_goal(kind, width, height):
     """A cell in the lower right corner of a map of a kind that walks are sought on."""
     if kind == "maze":
         return (width - 1) // 2 * 2, (height - 1) // 2 * 2
+    if kind == "corridors":
+        return (width - 1) // 4 * 4 - 1, (height - 1) // 4 * 4 - 1
     return width - 1, height - 1
 
 
@@ -122,7 +170,7 @@ def near_goals(width, height):
 
 def row_text(kind, width, height, goal, straight, diagonal):
     """The text of a scenario with one row, from the upper left corner of such a map to a goal, that lists a length."""
-    start_x, start_y = (1, 1) if kind == "rooms" else (0, 0)
+    start_x, start_y = (1, 1) if kind in ("rooms", "corridors") else (0, 0)
     goal_x, goal_y = goal
     length = straight + diagonal * 2**0.5
     fields = (0, "maps/arena.map", width, height, start_x, start_y, goal_x, goal_y, f"{length:.8f}")
@@ -186,17 +234,102 @@ def train_courses(width, height, count, acts, cars=100):
         yield loop_cell(x, y, side, car), loop_acts(side, acts, car)
 
 
+def wandering_acts(rng, x, y, width, height, acts):
+    """Acts that go about a box from a cell of it on, a few steps in a direction and then in another."""
+    course, left = [], acts
+    while left:
+        act = rng.choice("nesw")
+        room = {"n": y, "e": width - 1 - x, "s": height - 1 - y, "w": x}[act]
+        run = min(room, left, rng.randrange(1, 9))
+        course.append(act * run)
+        dx, dy = STEPS[act]
+        x, y, left = x + dx * run, y + dy * run, left - run
+    return "".join(course)
+
+
+def winding_loop(width, height):
+    """A closed walk through all cells of a box of an even height: along the first row, then to and fro, and back along the first column."""
+    cells = [(x, 0) for x in range(width)]
+    for y in range(1, height):
+        row = [(x, y) for x in range(1, width)]
+        cells += reversed(row) if y % 2 else row
+    return cells + [(0, y) for y in range(height - 1, 0, -1)]
+
+
+def looping_courses(rng, cells, left, top, count, beats):
+    """Trains of agents on a closed walk, mostly of eight, with gaps between them. All of them step on where a beat is 1, and wait where it is 0."""
+    cells = cells[::-1] if rng.random() < 0.5 else cells
+    first = rng.randrange(len(cells))
+    cells = cells[first:] + cells[:first]
+    act_by_step = {step: act for act, step in STEPS.items()}
+    ways = [act_by_step[after[0] - x, after[1] - y] for (x, y), after in zip(cells, cells[1:] + cells[:1])]
+    # Free cells lie behind agents, more of them behind the last of a train; there is one at the least.
+    gaps = [0] * count
+    for _ in range(len(cells) - count):
+        gaps[rng.choice([rng.randrange(count), rng.randrange(count) // 8 * 8])] += 1
+    place = 0
+    for gap in gaps:
+        at, course = place, []
+        for beat in beats:
+            course.append(ways[at] if beat else "-")
+            at = (at + beat) % len(cells)
+        yield (left + cells[place][0], top + cells[place][1]), "".join(course)
+        place += 1 + gap
+
+
+def region_courses(width, height, count, acts, seed, side=204):
+    """A hundred agents in each region of so many cells a side. In most regions each agent goes about a box of its own; in others all move as
+    one, close together or apart, or they are trains on a winding loop."""
+    rng = random.Random(f"regions {width} {height} {seed}")
+    across = width // side
+    kinds = (["boxes"] * 84 + ["apart"] * 6 + ["loop"] * 5 + ["close"] * 5) * (count // 10_000 + 1)
+    rng.shuffle(kinds)
+    courses = []
+    for region, kind in zip(range(count // 100), kinds):
+        left, top = region % across * side, region // across * side
+        if kind == "boxes":
+            for box in range(100):
+                x, y = rng.randrange(20), rng.randrange(20)
+                start = (left + box % 10 * 20 + x, top + box // 10 * 20 + y)
+                courses.append((start, wandering_acts(rng, x, y, 20, 20, acts)))
+        elif kind == "loop":
+            courses += looping_courses(rng, winding_loop(60, 60), left, top, 100, [1] * acts)
+        else:
+            gap = 3 if kind == "apart" else 1
+            room = side - 9 * gap
+            x, y = rng.randrange(room), rng.randrange(room)
+            course = wandering_acts(rng, x, y, room, room, acts)
+            courses += [((left + x + i % 10 * gap, top + y + i // 10 * gap), course) for i in range(100)]
+    rng.shuffle(courses)
+    return courses
+
+
+def loop_courses(width, height, count, acts, seed):
+    """Trains on winding loops, 50 agents in each box of 32 cells a side and 30 in each of 8, as many as there is room for. In most steps all of a
+    loop step on, so nearly each move is into a cell that another agent came to before, and none is a part of a rotation."""
+    rng = random.Random(f"loops {width} {height} {seed}")
+    half = height // 2
+    wide = [(x, y, 32, 50) for y in range(0, half - 31, 32) for x in range(0, width - 31, 32)]
+    narrow = [(x, y, 8, 30) for y in range(half, height - 7, 8) for x in range(0, width - 7, 8)]
+    courses = []
+    for left, top, side, agents in wide + narrow:
+        beats = [int(rng.random() >= 0.02) for _ in range(acts)]
+        courses += looping_courses(rng, winding_loop(side, side), left, top, agents, beats)
+    courses = courses[:count]
+    rng.shuffle(courses)
+    return courses
+
+
 def crowd_courses(width, height, count, acts, seed):
     """Agents that wander close together: each goes to a free cell beside it where there is one."""
     rng = random.Random(f"crowd {width} {height} {seed}")
     starts = [(at % width, at // width) for at in rng.sample(range(width * height), count)]
     now, courses = list(starts), [[] for _ in starts]
-    steps = {"n": (0, -1), "e": (1, 0), "s": (0, 1), "w": (-1, 0)}
     for _ in range(acts):
         # a cell that somebody is in or goes to is nobody else's, so that none conflict
         taken = set(now)
         for agent, (x, y) in enumerate(now):
-            choices = [(act, (x + dx, y + dy)) for act, (dx, dy) in steps.items()]
+            choices = [(act, (x + dx, y + dy)) for act, (dx, dy) in STEPS.items()]
             free = [(act, c) for act, c in choices if 0 <= c[0] < width and 0 <= c[1] < height and c not in taken]
             act, cell = rng.choice(free) if free else ("-", (x, y))
             taken.add(cell)
@@ -208,23 +341,32 @@ def crowd_courses(width, height, count, acts, seed):
 def plan_text(kind, width, height, seed, count, acts, number=7):
     """The text of a valid plan on an open map."""
     makers = {"boxes": box_courses, "blocks": block_courses, "trains": train_courses}
-    courses = crowd_courses(width, height, count, acts, seed) if kind == "crowd" else makers[kind](width, height, count, acts)
+    seeded = {"regions": region_courses, "crowd": crowd_courses, "loops": loop_courses}
+    courses = seeded[kind](width, height, count, acts, seed) if kind in seeded else makers[kind](width, height, count, acts)
     lines = [f"agent {x} {y} {course or '='}" for (x, y), course in courses]
     return "\n".join(["mapf-plan 1", f"number {number}", f"agents {len(lines)}", *lines, ""])
 
 
 def with_late_fault(text):
-    """The same plan, but that the last agent's last act but one leads the other way, or to another agent's cell."""
+    """The same plan, but that the last act but one of an agent leads the other way: of one that another follows close by with the same acts, or
+    else of the last."""
     lines = text.split("\n")
-    line = lines[-2]
+    fields = [line.split(" ") for line in lines[3:-1]]
+    course_at = {(int(x), int(y)): course for _, x, y, course in fields}
+    chosen = len(fields) - 1
+    for agent, (_, x, y, course) in enumerate(fields):
+        dx, dy = STEPS.get(course[-2:-1], (0, 0))
+        if (dx or dy) and course_at.get((int(x) - dx, int(y) - dy)) == course:
+            chosen = agent
+            break
+    line = lines[3 + chosen]
     other = {"n": "s", "s": "n", "e": "w", "w": "e", "-": "n"}
-    lines[-2] = line[:-2] + other[line[-2]] + line[-1]
+    lines[3 + chosen] = line[:-2] + other[line[-2]] + line[-1]
     return "\n".join(lines)
 
 
 def moves_of(text):
     """The starts of a plan's agents, and for each step who moves in it and into which cell."""
-    steps = {"n": (0, -1), "e": (1, 0), "s": (0, 1), "w": (-1, 0)}
     starts, courses = [], []
     for line in text.split("\n")[3:-1]:
         _, x, y, acts = line.split(" ")
@@ -234,8 +376,8 @@ def moves_of(text):
     for step in range(max(map(len, courses), default=0)):
         moves.append([])
         for agent, acts in enumerate(courses):
-            if acts[step : step + 1] in steps:
-                dx, dy = steps[acts[step]]
+            if acts[step : step + 1] in STEPS:
+                dx, dy = STEPS[acts[step]]
                 now[agent] = (now[agent][0] + dx, now[agent][1] + dy)
                 moves[-1].append((agent, now[agent]))
     return starts, moves

@@ -123,11 +123,14 @@ def measure_walk(programs, words, name, folder, rounds):
 
 
 def measure_check(programs, kind, side, agents, acts, folder, rounds):
-    """Measures programs that check a valid plan, and the same with one act changed near its end."""
+    """Measures programs that check a valid plan, and one with a fault near its end where a changed act makes one."""
     map_path, plan_path = folder / f"{kind}.map", folder / f"{kind}.plan"
     map_path.write_text(generate.map_text("open", side, side, 1))
     text = generate.plan_text(kind, side, side, 1, agents, acts)
-    for name, plan in ((kind, text), (f"{kind}, late fault", generate.with_late_fault(text))):
+    plans = {kind: text}
+    if kind in generate.CLOSE_KINDS:
+        plans[f"{kind}, late fault"] = generate.with_late_fault(text)
+    for name, plan in plans.items():
         plan_path.write_text(plan)
         words = ["check", str(map_path), str(plan_path)]
         measured, written = measure(commands_of(programs, words), folder, rounds, statuses=(0, 1))
@@ -163,18 +166,18 @@ def measure_deps(programs, kind, side, agents, acts, folder, rounds):
     report(f"deps {kind} {acts}", measured, [whole_peak_memory(command) for command in commands_of(programs, words)])
 
 
-def write_dense_plan(folder, name):
-    """Writes the map and the plan of a crowd of 1,000 agents, and names a file for events. Answers the words, and the plan."""
-    map_path, plan_path, events_path = (folder / f"{name}.{kind}" for kind in ("map", "plan", "events"))
-    plan = generate.plan_text("crowd", 48, 48, 1, 1_000, 400)
-    map_path.write_text(generate.map_text("open", 48, 48, 1))
+def write_dense_plan(folder, name, kind="crowd", side=48):
+    """Writes the map and the plan of 1,000 agents close together, and names a file for events. Answers the words, and the plan."""
+    map_path, plan_path, events_path = (folder / f"{name}.{ending}" for ending in ("map", "plan", "events"))
+    plan = generate.plan_text(kind, side, side, 1, 1_000, 400)
+    map_path.write_text(generate.map_text("open", side, side, 1))
     plan_path.write_text(plan)
     return ["run", str(map_path), str(plan_path), str(events_path)], plan
 
 
-def measure_run(programs, name, events, mishaps, folder, rounds, version=1):
+def measure_run(programs, name, events, mishaps, folder, rounds, version=1, plan=("crowd", 48)):
     """Measures programs that answer events which bring a dense plan of 1,000 agents to its end, or so many of them."""
-    words, plan = write_dense_plan(folder, name)
+    words, plan = write_dense_plan(folder, name, *plan)
     pathlib.Path(words[-1]).write_text(generate.events_text(plan, 1, events, mishaps, version))
     measured, written = measure(commands_of(programs, words), folder, rounds)
     if written[0] != written[1]:
@@ -250,17 +253,23 @@ def main():
             for acts in (400, 800, 1600):
                 for kind in ("boxes", "blocks", "trains"):
                     measure_check(programs, kind, given.side, 10_000, acts, folder, given.rounds)
+            measure_check(programs, "regions", given.side, 10_000, 1600, folder, given.rounds)
             measure_check(programs, "crowd", 128, 1_000, 400, folder, given.rounds)
+            measure_check(programs, "loops", 128, 1_000, 2000, folder, given.rounds)
             measure_usual_checkers(programs, folder, given.rounds)
         if given.only in (None, "deps"):
             for acts in (400, 800, 1600):
                 for kind in ("boxes", "blocks", "trains"):
                     measure_deps(programs, kind, given.side, 10_000, acts, folder, given.rounds)
+            measure_deps(programs, "regions", given.side, 10_000, 1600, folder, given.rounds)
             measure_deps(programs, "crowd", 128, 1_000, 400, folder, given.rounds)
+            measure_deps(programs, "loops", 128, 1_000, 2000, folder, given.rounds)
         if given.only in (None, "run"):
             for events in (100_000, 1_000_000):
                 measure_run(programs, "plain", events, 0.0, folder, given.rounds)
             measure_run(programs, "mishaps", 100_000, 0.2, folder, given.rounds)
+            measure_run(programs, "loops", 1_000_000, 0.0, folder, given.rounds, plan=("loops", 128))
+            measure_run(programs, "loops, mishaps", 100_000, 0.2, folder, given.rounds, plan=("loops", 128))
             measure_run(programs, "telling", 100_000, 0.0, folder, given.rounds, version=2)
             for restarts in (1_000, 4_000):
                 measure_restarts(programs, 60_000, restarts, folder, given.rounds)

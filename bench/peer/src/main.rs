@@ -34,8 +34,8 @@ fn run(words: &[&str]) -> Result<Option<bool>, Fault> {
     let failed = |_| Fault::Device("WriteFailed");
     match *words {
         ["map", path] => {
-            let (width, height, cells) = map::read_map(open(path)?)?;
-            map::write_map(output().map_err(failed)?, width, height, &cells).map_err(failed)?;
+            let (width, height, lines) = map::read_lines(open(path)?)?;
+            map::write_map(output().map_err(failed)?, width, height, &lines).map_err(failed)?;
             Ok(Some(true))
         }
         ["scen", path] => {

@@ -1,5 +1,5 @@
 //! Maps.
-use crate::source::{fault, Fault, Source, PIECE};
+use crate::source::{fault, Fault, Source};
 use std::io::{self, Read, Write};
 
 const MOST_SIDE: u64 = 65_535;
@@ -111,7 +111,18 @@ fn read_row<R: Read>(source: &mut Source<R>, cells: &mut Vec<u8>, width: usize, 
     }
 }
 
+/// The width, the height and the cells, row behind row.
 pub fn read_map<R: Read>(reader: R) -> Result<(u64, u64, Vec<u8>), Fault> {
+    read_rows(reader, b"")
+}
+
+/// The width, the height and the lines of the rows, as they are written.
+pub fn read_lines<R: Read>(reader: R) -> Result<(u64, u64, Vec<u8>), Fault> {
+    read_rows(reader, b"\n")
+}
+
+/// The same with these bytes behind each row.
+fn read_rows<R: Read>(reader: R, end: &[u8]) -> Result<(u64, u64, Vec<u8>), Fault> {
     let mut source = Source::new(reader);
     if after_word(&header_line(&mut source, 1)?, b"type") != Some(b"octile") {
         return fault("BadHeader", &[1]);
@@ -124,9 +135,10 @@ pub fn read_map<R: Read>(reader: R) -> Result<(u64, u64, Vec<u8>), Fault> {
     if header_line(&mut source, 4)? != b"map" {
         return fault("BadHeader", &[4]);
     }
-    let mut cells = Vec::with_capacity((width * height) as usize);
+    let mut cells = Vec::with_capacity((width as usize + end.len()) * height as usize);
     for row in 0..height {
         read_row(&mut source, &mut cells, width as usize, row + 5)?;
+        cells.extend_from_slice(end);
     }
     let mut line = height + 5;
     while let Some(byte) = source.next()? {
@@ -139,17 +151,9 @@ pub fn read_map<R: Read>(reader: R) -> Result<(u64, u64, Vec<u8>), Fault> {
     Ok((width, height, cells))
 }
 
-pub fn write_map<W: Write>(mut writer: W, width: u64, height: u64, cells: &[u8]) -> io::Result<()> {
-    let mut piece = Vec::with_capacity(PIECE);
-    piece.extend_from_slice(format!("type octile\nheight {height}\nwidth {width}\nmap\n").as_bytes());
-    for row in cells.chunks_exact(width as usize) {
-        if piece.len() + row.len() + 1 > PIECE {
-            writer.write_all(&piece)?;
-            piece.clear();
-        }
-        piece.extend_from_slice(row);
-        piece.push(b'\n');
-    }
-    writer.write_all(&piece)?;
+/// Writes a map by the lines of its rows.
+pub fn write_map<W: Write>(mut writer: W, width: u64, height: u64, lines: &[u8]) -> io::Result<()> {
+    writer.write_all(format!("type octile\nheight {height}\nwidth {width}\nmap\n").as_bytes())?;
+    writer.write_all(lines)?;
     writer.flush()
 }

@@ -3,7 +3,7 @@ use crate::check::check;
 use crate::map;
 use crate::source::{fault, Fault, Source};
 use std::fs::File;
-use std::io::Read;
+use std::io::{BufRead, Read};
 
 const MOST_AGENTS: u64 = 10_000;
 const MOST_ACTS: usize = 65_535;
@@ -26,6 +26,13 @@ impl Plan {
     }
 }
 
+/// The place of the first LF, by the search that the standard library has for readers.
+fn line_feed(bytes: &[u8]) -> Option<usize> {
+    let mut rest = bytes;
+    let passed = rest.skip_until(b'\n').ok()?.checked_sub(1)?;
+    (bytes[passed] == b'\n').then_some(passed)
+}
+
 /// Takes a line into `line`, without its LF.
 fn take_line<R: Read>(source: &mut Source<R>, line: &mut Vec<u8>, number: u64) -> Result<(), Fault> {
     line.clear();
@@ -36,19 +43,16 @@ fn take_line<R: Read>(source: &mut Source<R>, line: &mut Vec<u8>, number: u64) -
         }
         let room = LONGEST_LINE + 1 - line.len();
         let most = &piece[..piece.len().min(room)];
-        match most.iter().position(|&b| b == b'\n') {
-            Some(at) => {
-                line.extend_from_slice(&most[..at]);
-                source.start += at + 1;
-                return Ok(());
-            }
-            None => {
-                line.extend_from_slice(most);
-                source.start += most.len();
-                if line.len() > LONGEST_LINE {
-                    return fault("TooMany", &[number]);
-                }
-            }
+        if let Some(at) = line_feed(most) {
+            line.extend_from_slice(&most[..at]);
+            source.start += at + 1;
+            return Ok(());
+        }
+        let taken = most.len();
+        line.extend_from_slice(most);
+        source.start += taken;
+        if line.len() > LONGEST_LINE {
+            return fault("TooMany", &[number]);
         }
     }
 }
@@ -62,8 +66,10 @@ fn numeral(digits: &[u8]) -> Option<u64> {
     })
 }
 
-fn read_plan<R: Read>(reader: R) -> Result<Plan, Fault> {
-    let mut source = Source::new(reader);
+fn read_plan(file: File) -> Result<Plan, Fault> {
+    // There are fewer acts than bytes. Memory that no act is put into is not touched.
+    let room = file.metadata().map_or(0, |about| about.len() as usize).min(MOST_ACTS_IN_ALL);
+    let mut source = Source::new(file);
     let mut line = Vec::with_capacity(LONGEST_LINE + 1);
     take_line(&mut source, &mut line, 1)?;
     if line != b"mapf-plan 1" {
@@ -86,7 +92,7 @@ fn read_plan<R: Read>(reader: R) -> Result<Plan, Fault> {
     if count > MOST_AGENTS {
         return fault("TooMany", &[3]);
     }
-    let mut plan = Plan { number: plan_number, starts: Vec::new(), acts: Vec::new(), ends: Vec::new() };
+    let mut plan = Plan { number: plan_number, starts: Vec::new(), acts: Vec::with_capacity(room), ends: Vec::new() };
     for agent in 0..count {
         let number = agent + 4;
         take_line(&mut source, &mut line, number)?;
