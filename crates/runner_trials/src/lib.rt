@@ -9,6 +9,8 @@ mod refused_memory;
 #[cfg(test)]
 mod refused_replays;
 #[cfg(test)]
+mod scripted_agents;
+#[cfg(test)]
 mod tapes;
 #[cfg(test)]
 mod texts;
