@@ -10,6 +10,7 @@ pub mod TimetableLemmas
 pub mod KeptLemmas
 pub mod FitLemmas
 pub mod CrowdLemmas
+pub mod MarkLemmas
 pub mod BoardLemmas
 pub mod SquareLemmas
 pub mod RowLemmas

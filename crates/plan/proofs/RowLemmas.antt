@@ -14,17 +14,17 @@ use Rattle.model.specs.Plan.{Course}
 use Rattle.plan.specs.declared.board.Square.{Square}
 use Rattle.plan.specs.declared.crowd.Walker.{Walker}
 use Rattle.plan.specs.Code.Walking.{has_act}
-use Rattle.plan.specs.Code.Squares.{ground_in, square_at}
-use Rattle.plan.specs.Code.Crowd.{walker_at, act_at}
-use Rattle.plan.specs.Code.Blocks.{block_steps, group_size, row_at, AreGroupActs, IsStretch, IsLinedUp}
+use Rattle.plan.specs.Code.Squares.{ground_in, mark_in, square_at, IsOfStep}
+use Rattle.plan.specs.Code.Crowd.{walker_at, act_at, AreMarksOf}
+use Rattle.plan.specs.Code.Blocks.{block_steps, group_size, row_at, AreGroupActs, IsStretch, IsHeldSquare, IsOver, IsHeld, IsLinedUp}
 
 -- ---- held squares
 
 -- the same of the first so many walkers
 pub record IsHeldTo (courses : List Course) (step : ℕ) (walkers : List Walker) (old now : List Square) (n : ℕ) : Type 0 where
   pub count : length now ≡ length old
-  pub held : (k : ℕ) → k < n → has_act courses step (walker_at walkers k).agent ≡ false → ground_in (square_at now (walker_at walkers k).place) ≡ 3
-  pub others : (place : ℕ) → (ground_in (square_at now place) ≡ 3) ⊎ (ground_in (square_at now place) ≡ ground_in (square_at old place))
+  pub held : (k : ℕ) → k < n → has_act courses step (walker_at walkers k).agent ≡ false → IsHeldSquare (square_at now (walker_at walkers k).place)
+  pub others : (place : ℕ) → ((k : ℕ) × (k < n) × IsOver courses step walkers k place) ⊎ (square_at now place ≡ square_at old place)
 
 pub held-none : (courses : List Course) (step : ℕ) (walkers : List Walker) (squares : List Square) → IsHeldTo courses step walkers squares squares 0
 held-none courses step walkers squares = record { count = refl; held = λ k less. absurd (omega (arith, less)); others = λ place. inr refl }
@@ -39,35 +39,60 @@ held-on courses step walkers old now n h acts = record {
     | inr after ↦ (let same : k ≡ n = omega (arith, less, after) in
         let other : has_act courses step (walker_at walkers k).agent ≡ true = ap (λ i. has_act courses step (walker_at walkers i).agent) same ∙ acts in cc)
   ];
-  others = h.others;
+  others = λ place. elim (h.others place) [ inl (k, less, over) ↦ inl (k, omega (arith, less), over) | inr same ↦ inr same ];
 }
 
 pub held-more : (courses : List Course) (step : ℕ) (walkers : List Walker) (old now : List Square) (n : ℕ) (square : Square) → IsHeldTo courses step walkers old now n
-    → (walker_at walkers n).place < length old → ground_in square ≡ 3 → IsHeldTo courses step walkers old (set now (walker_at walkers n).place square) (n + 1)
-held-more courses step walkers old now n square h within is =
+    → (walker_at walkers n).place < length old → has_act courses step (walker_at walkers n).agent ≡ false → IsHeldSquare square
+    → IsHeldTo courses step walkers old (set now (walker_at walkers n).place square) (n + 1)
+held-more courses step walkers old now n square h within over is =
     let own = (walker_at walkers n).place in
     let count = h.count in
-    let here : ground_in (square_at (set now own square) own) ≡ 3 =
-    ap ground_in (get_or-set_same now own square (record { code = 0 }) (omega (arith, within, count))) ∙ is in
-    let there : (place : ℕ) → place ≢ own → ground_in (square_at (set now own square) place) ≡ ground_in (square_at now place) = λ place apart.
-    ap ground_in (get_or-set_other now own place square (record { code = 0 }) apart) in
+    let here : IsHeldSquare (square_at (set now own square) own) =
+    subst IsHeldSquare (sym (get_or-set_same now own square (record { code = 0 }) (omega (arith, within, count)))) is in
+    let there : (place : ℕ) → place ≢ own → square_at (set now own square) place ≡ square_at now place = λ place apart.
+    get_or-set_other now own place square (record { code = 0 }) apart in
     record {
       count = length-set now own square ∙ count;
       held = λ k less none. elim (cases_eq (walker_at walkers k).place own) [
-        | inl one ↦ subst (λ p. ground_in (square_at (set now own square) p) ≡ 3) (sym one) here
+        | inl one ↦ subst (λ p. IsHeldSquare (square_at (set now own square) p)) (sym one) here
         | inr apart ↦ elim (cases_lt k n) [
-          | inl before ↦ there (walker_at walkers k).place apart ∙ h.held k before none
+          | inl before ↦ subst IsHeldSquare (sym (there (walker_at walkers k).place apart)) (h.held k before none)
           | inr after ↦ (let same : k ≡ n = omega (arith, less, after) in absurd (apart (ap (λ i. (walker_at walkers i).place) same)))
         ]
       ];
       others = λ place. elim (cases_eq place own) [
-        | inl one ↦ inl (subst (λ p. ground_in (square_at (set now own square) p) ≡ 3) (sym one) here)
+        | inl one ↦ inl (n, omega arith, (over, sym one))
         | inr apart ↦ elim (h.others place) [
-          | inl held ↦ inl (there place apart ∙ held)
+          | inl (k, less, is) ↦ inl (k, omega (arith, less), is)
           | inr kept ↦ inr (there place apart ∙ kept)
         ]
       ];
     }
+
+-- ---- what a square is after the walkers without an act hold theirs
+
+pub held_or_kept : (courses : List Course) (step : ℕ) (walkers : List Walker) (old new : List Square) → IsHeld courses step walkers old new
+    → (place : ℕ) → (ground_in (square_at new place) ≡ 3) ⊎ (ground_in (square_at new place) ≡ ground_in (square_at old place))
+held_or_kept courses step walkers old new h place = elim (h.others place) [
+  | inl (k, less, (over, at)) ↦ inl (ap (λ p. ground_in (square_at new p)) (sym at) ∙ (h.held k less over).ground)
+  | inr same ↦ inr (ap ground_in same)
+]
+
+-- the marks that are left are those of walkers that go on
+pub marks-lined : (courses : List Course) (step first : ℕ) (old new : List Walker) (squares after : List Square) → IsHeld courses step old squares after
+    → IsLinedUp courses step old new → AreMarksOf first old squares → AreMarksOf first new after
+marks-lined courses step first old new squares after held lined marks place = elim (held.others place) [
+  | inl (k, less, (over, at)) ↦ inl (ap (λ p. mark_in (square_at after p)) (sym at) ∙ (held.held k less over).unmarked)
+  | inr same ↦ elim (marks place) [
+    | inl none ↦ inl (ap mark_in same ∙ none)
+    | inr (of, (k, less, at)) ↦ elim (cases_Bool (has_act courses step (walker_at old k).agent)) [
+      | inl acts ↦ (let to = lined.all k less acts in
+          inr (subst (IsOfStep first) (sym (ap mark_in same)) of, (to.0, to.1, ap (λ w. w.place) to.2 ∙ at)))
+      | inr over ↦ inl (ap (λ p. mark_in (square_at after p)) (sym at) ∙ (held.held k less over).unmarked)
+    ]
+  ]
+]
 
 -- ---- walkers that are kept, in another order
 

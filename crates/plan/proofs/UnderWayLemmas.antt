@@ -26,12 +26,14 @@ use Rattle.plan.specs.Code.Walking.{AreAt, ArePassable, has_act}
 use Rattle.plan_text.specs.Limits.{IsPlan}
 use Rattle.plan.specs.Code.Blocks.{block_steps, IsHeld, IsLinedUp}
 use Rattle.plan.specs.Code.Squares.{ground_in, square_at, ground_by, wide_of, place_on, IsOpen, HasGround, IsSquareOf, IsBoard}
-use Rattle.plan.specs.Code.Crowd.{number_of, against_of, led_to, walker_at, act_at, comes_to, AreTurns, KeepGrounds, IsInside, AreInside, AreLed, AreAllowed}
+use Rattle.plan.specs.Code.Crowd.{number_of, against_of, led_to, walker_at, act_at, comes_to, AreTurns, KeepGrounds, IsInside, AreInside, AreLed, AreAllowed, first_mark, AreMarksOf}
 use Rattle.plan.specs.Code.UnderWay.{IsWalker, AreWalkers, IsAtRest, AreUnderWay, AreActs, AreAllAgents}
 use Rattle.plan.specs.Code.Watching.{IsClean, IsPast, IsSeen, AreSameAgents}
 use Rattle.plan.proofs.WalkingLemmas.{bad-has_act, has_act-over, step_limit, beside_by, step_from_legal, legal_from_step, terrain_on, position_at-start, position-moved, position-stays}
 use Rattle.plan.proofs.FaultLemmas.{clean_more, good_start, valid_at_end}
 use Rattle.plan.proofs.BoardLemmas.{from_place, to_place, inside}
+use Rattle.plan.proofs.RowLemmas.{held_or_kept}
+use Rattle.plan.proofs.SquareLemmas.{one_ground}
 
 -- ---- grounds
 
@@ -100,11 +102,6 @@ grounds_joined m u v g h hu hv joined =
     let one = subst (λ o. AreJoined o (terrain_at m v)) hu.has joined in
     let both = subst (λ o. AreJoined (Some hu.terrain) o) hv.has one in
     hu.ground ∙ ground-character hu.terrain ∙ ground_by_joins (class_of hu.terrain) (class_of hv.terrain) both ∙ sym (ground-character hv.terrain) ∙ sym hv.ground
-
-pub one_ground : (m : Grid) (u : Cell) (g h : ℕ) → HasGround m u g → HasGround m u h → g ≡ h
-one_ground m u g h hg hh =
-    let same : hg.terrain ≡ hh.terrain = (let a = hg.has in let b = hh.has in cc) in
-    hg.ground ∙ ap (λ t. ground_by (character_of t)) same ∙ sym hh.ground
 
 -- ---- where an agent comes
 
@@ -552,7 +549,7 @@ pub block-begun : (m : Grid) (courses : List Course) (step : ℕ) (old new : Lis
 block-begun m courses step old new squares after now held lined = record {
   board = record {
     size = held.count ∙ now.board.size;
-    cells = λ place may_go. elim (held.others place) [
+    cells = λ place may_go. elim (held_or_kept courses step old squares after held place) [
       | inl is ↦ absurd (elim may_go [ inl e ↦ omega (arith, is, e) | inr e ↦ omega (arith, is, e) ])
       | inr same ↦ subst (IsSquareOf m place) (sym same) (now.board.cells place (subst IsOpen same may_go))
     ];
@@ -568,7 +565,7 @@ block-begun m courses step old new squares after now held lined = record {
             over = has_act-over courses step (walker_at old j).agent course none (ap (slice_get courses) is ∙ there);
             cell = w.cell;
             at = w.at ∙ ap (λ c. position_at c step) same;
-            held = ap (λ place. ground_in (square_at after place)) (sym w.place) ∙ held.held j less none;
+            held = ap (λ place. ground_in (square_at after place)) (sym w.place) ∙ (held.held j less none).ground;
           })
           )
     ]
@@ -576,7 +573,7 @@ block-begun m courses step old new squares after now held lined = record {
       over = rest.over;
       cell = rest.cell;
       at = rest.at;
-      held = elim (held.others (place_on m rest.cell)) [ inl is ↦ is | inr same ↦ same ∙ rest.held ];
+      held = elim (held_or_kept courses step old squares after held (place_on m rest.cell)) [ inl is ↦ is | inr same ↦ same ∙ rest.held ];
     })
   ];
 }
@@ -679,21 +676,23 @@ if_past (Err e) A B P f h = h
 
 pub seen-past : (m : Grid) (p : Plan) (step : ℕ) (turns : Turns) (acts : List Act) (old new : List Walker) (squares after : List Square) → IsMap m
     → AreTurns (wide_of m) turns → AreUnderWay m p.courses step old squares → AreActs p.courses step old acts → AreLed turns acts old new
-    → KeepGrounds squares after → IsPast m p (step + 1) → IsSeen m p (step + 1) new after
-seen-past m p step turns acts old new squares after is_map h now are led kept past = record {
+    → KeepGrounds squares after → AreMarksOf (first_mark (step + 1 + 1)) new after → IsPast m p (step + 1) → IsSeen m p (step + 1) new after
+seen-past m p step turns acts old new squares after is_map h now are led kept marks past = record {
   under_way = go_on m p.courses step turns acts old new squares after now
       (come_clean m p step turns acts old squares past.cells is_map h now are past.at past.on_map past.clean) led kept;
   clean = past.clean;
+  marks = marks;
 }
 
 pub seen-allowed : (m : Grid) (p : Plan) (step : ℕ) (turns : Turns) (acts : List Act) (old new : List Walker) (squares after : List Square)
     → AreTurns (wide_of m) turns → IsSeen m p step old squares → AreActs p.courses step old acts → AreLed turns acts old new
-    → KeepGrounds squares after → AreAllowed turns acts old squares (length old) → IsSeen m p (step + 1) new after
-seen-allowed m p step turns acts old new squares after h seen are led kept allowed =
+    → KeepGrounds squares after → AreMarksOf (first_mark (step + 1 + 1)) new after → AreAllowed turns acts old squares (length old) → IsSeen m p (step + 1) new after
+seen-allowed m p step turns acts old new squares after h seen are led kept marks allowed =
     let come = come_allowed m p.courses step turns acts old squares h seen.under_way are allowed in
     record {
       under_way = go_on m p.courses step turns acts old new squares after seen.under_way come led kept;
       clean = clean_after m p step turns acts old squares h seen.under_way are allowed come seen.clean;
+      marks = marks;
     }
 
 pub same-led : (turns : Turns) (acts : List Act) (old new : List Walker) → AreLed turns acts old new → AreSameAgents old new

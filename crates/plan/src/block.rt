@@ -7,7 +7,7 @@ ghost use Rattle.plan.specs.Code.Crowd.{act_at, walker_at};
 ghost use Rattle.plan.specs.Code.Blocks.{block_steps, group_size, row_at, AreRows, AreGroupActs, AreBlockActs, IsHeld, IsLinedUp};
 
 use crate::act_row::ActRow;
-use crate::board::{HELD, Square};
+use crate::board::{HELD, NOBODY, Square};
 use crate::crowd::Walker;
 use crate::stretch::{BLOCK, Stretch};
 use model::Act;
@@ -36,8 +36,7 @@ pub(crate) fn hold(courses: &[Course], step: u32, walkers: &[Walker], squares: &
 {
     for walker in walkers {
         if !has_act(courses, walker.agent, step) {
-            let place = walker.place as usize;
-            squares[place] = Square::new(HELD, squares[place].mark());
+            squares[walker.place as usize] = Square::new(HELD, NOBODY);
         }
     }
 }

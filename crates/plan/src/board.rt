@@ -1,7 +1,7 @@
 //! The map as the checker looks at it: a square for each cell, and a rim of blocked squares around them, so that no step leads off it.
-ghost use Rattle.std.specs.Prelude.{◌≡◌, ◌<◌, ◌↔◌, IsTrue, IfOk};
+ghost use Rattle.std.specs.Prelude.{◌≡◌, ◌+◌, ◌*◌, ◌<◌, ◌↔◌, IsTrue, IfOk};
 ghost use Rattle.plan.specs.Code.Standing.{IsOnGrid};
-ghost use Rattle.plan.specs.Code.Squares.{ground_in, mark_in, ground_by, most_marks, place_on, HasGround, IsBoard, IsOfStep};
+ghost use Rattle.plan.specs.Code.Squares.{ground_in, mark_in, ground_by, most_marks, place_on, HasGround, IsLaid, IsOfStep};
 
 use grid::{Cell, Map};
 use std::alloc::{AllocError, Global};
@@ -77,7 +77,7 @@ pub(crate) fn ground_by(character: u8) -> u8
 
 /// The board of the map, on which nobody is yet.
 pub(crate) fn board(alloc: Global, map: &Map) -> Result<Vec<Square>, AllocError>
-    ensures { IfOk result (λ squares. IsBoard map.now squares.items) }
+    ensures { IfOk result (λ squares. IsLaid map.now squares.items (map.now.height * map.now.width)) }
 {
     let count = (map.height() as usize + 2) * (map.width() as usize + 2);
     let mut squares = vec![in alloc; Square::new(BLOCKED, NOBODY); count]?;
@@ -90,8 +90,8 @@ pub(crate) fn board(alloc: Global, map: &Map) -> Result<Vec<Square>, AllocError>
 /// Lays the squares of a row of cells.
 fn lay_row(map: &Map, row: u32, squares: &mut [Square])
     requires row { row < map.now.height }
-    requires board { IsBoard map.now squares.old }
-    ensures { IsBoard map.now squares.new }
+    requires laid { IsLaid map.now squares.old (row * map.now.width) }
+    ensures { IsLaid map.now squares.new ((row + 1) * map.now.width) }
 {
     let width = map.width() as usize;
     let characters = map.characters();

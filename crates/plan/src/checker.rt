@@ -3,8 +3,8 @@ ghost use Rattle.std.specs.Prelude.{◌≡◌, ◌+◌, ◌^◌, ◌<◌, ◌≤
 ghost use Rattle.model.specs.declared.act.Act.TheVariants.{Wait as wait};
 ghost use Rattle.plan.specs.Checking.{IsCheckOf, IsRefusedFor};
 ghost use Rattle.plan.specs.Code.Walking.{ArePassable};
-ghost use Rattle.plan.specs.Code.Squares.{IsBoard};
-ghost use Rattle.plan.specs.Code.Crowd.{act_at};
+ghost use Rattle.plan.specs.Code.Squares.{AreUnmarked, IsBoard};
+ghost use Rattle.plan.specs.Code.Crowd.{act_at, first_mark};
 ghost use Rattle.plan.specs.Code.UnderWay.{AreWalkers, AreAllAgents, AreActs};
 ghost use Rattle.plan.specs.Code.Blocks.{block_steps, row_at, AreRows, AreBlockActs};
 ghost use Rattle.plan.specs.Code.Watching.{IsVerdict, IsSeen, IsSeenAt, AreSameAgents};
@@ -71,6 +71,7 @@ fn look_through(
 ) -> Result<Option<PlanFault>, AllocError>
     requires starts { ArePassable map.now plan.now.courses }
     requires board { IsBoard map.now squares.old }
+    requires unmarked { AreUnmarked squares.old }
     requires walkers { AreWalkers map.now plan.now.courses 0 walkers.old.items }
     requires agents { AreAllAgents (length plan.now.courses) walkers.old.items }
     requires rows { AreRows (length plan.now.courses) rows.old }
@@ -187,6 +188,7 @@ fn take_starts(
 ) -> Result<Option<PlanFault>, AllocError>
     requires starts { ArePassable map.now plan.now.courses }
     requires board { IsBoard map.now squares.old }
+    requires unmarked { AreUnmarked squares.old }
     requires walkers { AreWalkers map.now plan.now.courses 0 walkers.old }
     requires agents { AreAllAgents (length plan.now.courses) walkers.old }
     requires room { length walkers.old ≤ length waits.now }
@@ -204,7 +206,7 @@ fn take_starts(
 
 /// The least mark of a step. Those of two steps one after another differ.
 fn first_mark(step: u32) -> u8
-    ensures { result < 50 }
+    ensures { result ≡ first_mark step }
 {
     if step % 2 == 0 { 1 } else { 6 }
 }

@@ -1,6 +1,6 @@
 //! Agents under way, and how a step takes them on.
-ghost use Rattle.std.specs.Prelude.{◌≡◌, ◌<◌, ◌≤◌, length, false};
-ghost use Rattle.plan.specs.Code.Crowd.{turn_by, led_to, AreMarks, AreTurns, IsInside, AreInside, KeepGrounds, IsAllowed, IsMarked, AreLed, AreAllowed};
+ghost use Rattle.std.specs.Prelude.{◌≡◌, ◌<◌, ◌≤◌, length, true, false};
+ghost use Rattle.plan.specs.Code.Crowd.{turn_by, led_to, AreMarks, AreTurns, AreMarksOf, AreOldMarks, IsInside, AreInside, KeepGrounds, IsAllowed, IsRefused, IsMarked, AreLed, AreAllowed, AreSuspect};
 
 use crate::board::{NOBODY, Square};
 use model::Act;
@@ -85,7 +85,8 @@ impl Turns {
     }
 }
 
-/// Takes all walkers a step on, each by the act in its place. Where the answer is no, nothing is wrong in the step. It is compiled by
+/// Takes all walkers a step on, each by the act in its place. Where the answer is no, nothing is wrong in the step; where it is yes, two of
+/// the walkers are in one another's way, or one comes to ground that isn't its own. It is compiled by
 /// itself, since its loop, which takes most of the time of a check, needs all registers.
 #[inline(never)]
 pub(crate) fn take_step(
@@ -96,10 +97,14 @@ pub(crate) fn take_step(
 ) -> bool
     requires marks { AreMarks turns.now }
     requires acts { length walkers.old ≤ length acts.now }
+    requires some { 0 < turns.now.first }
+    requires old { AreOldMarks turns.now.first walkers.old squares.old }
     requires inside { AreInside turns.now (length squares.old) walkers.old }
     ensures led { AreLed turns.now acts.now walkers.old walkers.new }
     ensures grounds { KeepGrounds squares.old squares.new }
     ensures allowed { result ≡ false → AreAllowed turns.now acts.now walkers.old squares.old (length walkers.old) }
+    ensures suspect { result ≡ true → AreSuspect turns.now acts.now walkers.old squares.old }
+    ensures marks { AreMarksOf turns.now.first walkers.new squares.new }
 {
     // A copy of its own, which no write to a square can change: what all walkers need of it is read once.
     let turns = *turns;
@@ -118,6 +123,7 @@ fn lead(turns: &Turns, act: Act, walker: &mut Walker, squares: &mut [Square]) ->
     ensures grounds { KeepGrounds squares.old squares.new }
     ensures marks { IsMarked turns.now act walker.old.place squares.old squares.new }
     ensures allowed { result ≡ false → IsAllowed turns.now act walker.old squares.old }
+    ensures refused { result ≡ true → IsRefused turns.now act walker.old squares.old }
 {
     let turn = turns.of(act);
     let from = walker.place as usize;

@@ -6,7 +6,7 @@ use Rattle.model.specs.Plan.{Course}
 use Rattle.plan.specs.declared.board.Square.{Square}
 use Rattle.plan.specs.declared.crowd.Walker.{Walker}
 use Rattle.plan.specs.Code.Walking.{has_act}
-use Rattle.plan.specs.Code.Squares.{ground_in, square_at}
+use Rattle.plan.specs.Code.Squares.{ground_in, mark_in, square_at}
 use Rattle.plan.specs.Code.Crowd.{act_at, walker_at}
 use Rattle.plan.specs.Code.UnderWay.{AreActs}
 pub use Rattle.plan.specs.Moving.{block_steps, IsStretch}
@@ -35,11 +35,20 @@ AreGroupActs courses step group first rows =
 abbrev pub AreBlockActs : List Course → ℕ → List Walker → List (List Act) → Type 0
 AreBlockActs courses step walkers rows = (s : ℕ) → s < block_steps → AreActs courses (step + s) walkers (row_at rows s)
 
--- the squares of the walkers without an act in the step are held, and the other grounds are as they were
+-- an agent holds the square, and nobody came there lately
+pub record IsHeldSquare (square : Square) : Type 0 where
+  pub ground : ground_in square ≡ 3
+  pub unmarked : mark_in square ≡ 0
+
+-- the walker has no act in the step, and this is its square
+abbrev pub IsOver : List Course → ℕ → List Walker → ℕ → ℕ → Type 0
+IsOver courses step walkers k place = (has_act courses step (walker_at walkers k).agent ≡ false) × ((walker_at walkers k).place ≡ place)
+
+-- the squares of the walkers without an act in the step are held, and the others are as they were
 pub record IsHeld (courses : List Course) (step : ℕ) (walkers : List Walker) (old new : List Square) : Type 0 where
   pub count : length new ≡ length old
-  pub held : (k : ℕ) → k < length walkers → has_act courses step (walker_at walkers k).agent ≡ false → ground_in (square_at new (walker_at walkers k).place) ≡ 3
-  pub others : (place : ℕ) → (ground_in (square_at new place) ≡ 3) ⊎ (ground_in (square_at new place) ≡ ground_in (square_at old place))
+  pub held : (k : ℕ) → k < length walkers → has_act courses step (walker_at walkers k).agent ≡ false → IsHeldSquare (square_at new (walker_at walkers k).place)
+  pub others : (place : ℕ) → ((k : ℕ) × (k < length walkers) × IsOver courses step walkers k place) ⊎ (square_at new place ≡ square_at old place)
 
 -- those of the walkers that have an act in the step, in any order
 pub record IsLinedUp (courses : List Course) (step : ℕ) (old new : List Walker) : Type 0 where

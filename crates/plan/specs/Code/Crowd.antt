@@ -1,5 +1,5 @@
 -- What a step does to walkers, and to the squares among which they go.
-use Rattle.std.specs.Prelude.{◌≡◌, ◌≢◌, ℕ, ◌+◌, ◌-◌, ◌^◌, ◌<◌, ◌≤◌, List, length, get_or}
+use Rattle.std.specs.Prelude.{◌≡◌, ◌≢◌, ℕ, ◌+◌, ◌-◌, ◌%◌, ◌^◌, ◌<◌, ◌≤◌, ◌⊎◌, List, length, get_or, cond, ◌==◌}
 use Rattle.model.specs.declared.act.Act.{Act}
 use Rattle.model.specs.declared.act.Act.TheVariants.{N, E, S, W, Wait}
 use Rattle.plan.specs.declared.board.Square.{Square}
@@ -52,10 +52,11 @@ pub record IsTurn (wide first : ℕ) (act : Act) (turn : Turn) : Type 0 where
   pub mark : turn.mark ≡ first + number_of act
   pub against : turn.against ≡ against_of first act
 
--- each act has its own mark
+-- each act has its own mark, and looks for that of the act against it
 pub record AreMarks (turns : Turns) : Type 0 where
   pub small : turns.first < 50
   pub each : (act : Act) → (turn_by turns act).mark ≡ turns.first + number_of act
+  pub against : (act : Act) → (turn_by turns act).against ≡ against_of turns.first act
 
 pub record AreTurns (wide : ℕ) (turns : Turns) : Type 0 where
   pub marks : AreMarks turns
@@ -92,11 +93,20 @@ pub record IsAllowed (turns : Turns) (act : Act) (walker : Walker) (squares : Li
   pub nobody : IsOfStep turns.first (mark_in (square_at squares (led_to turns act walker.place))) → ⊥
   pub against : mark_in (square_at squares walker.place) ≢ (turn_by turns act).against
 
--- the act left its mark where it led, and the other marks of the step stay
+-- the act is not allowed, for one of these reasons
+abbrev pub IsRefused : Turns → Act → Walker → List Square → Type 0
+IsRefused turns act walker squares =
+    (ground_in (square_at squares (led_to turns act walker.place)) ≢ walker.ground)
+    ⊎ IsOfStep turns.first (mark_in (square_at squares (led_to turns act walker.place)))
+    ⊎ (mark_in (square_at squares walker.place) ≡ (turn_by turns act).against)
+
+-- The act left its mark where it led; where the walker was, a mark of the step stays, and any other is gone; all other marks stay.
 pub record IsMarked (turns : Turns) (act : Act) (place : ℕ) (old new : List Square) : Type 0 where
   pub own : mark_in (square_at new (led_to turns act place)) ≡ (turn_by turns act).mark
   pub others : (other : ℕ) → other ≢ led_to turns act place → IsOfStep turns.first (mark_in (square_at old other))
       → mark_in (square_at new other) ≡ mark_in (square_at old other)
+  pub left : place ≢ led_to turns act place → (IsOfStep turns.first (mark_in (square_at old place)) → ⊥) → mark_in (square_at new place) ≡ 0
+  pub elsewhere : (other : ℕ) → other ≢ led_to turns act place → other ≢ place → mark_in (square_at new other) ≡ mark_in (square_at old other)
 
 -- ---- a step of all walkers
 
@@ -124,3 +134,38 @@ pub record AreAllowed (turns : Turns) (acts : List Act) (walkers : List Walker) 
 abbrev pub AreMarked : Turns → List Act → List Walker → List Square → ℕ → Type 0
 AreMarked turns acts walkers squares count =
     (k : ℕ) → k < count → mark_in (square_at squares (comes_to turns acts walkers k)) ≡ (turn_by turns (act_at acts k)).mark
+
+-- ---- what is suspected
+
+-- A walker comes to ground that isn't its own, or two come to one square, or one goes against another that came before it to where it was.
+abbrev pub AreSuspect : Turns → List Act → List Walker → List Square → Type 0
+AreSuspect turns acts walkers squares =
+    ((k : ℕ) × (k < length walkers) × (ground_in (square_at squares (comes_to turns acts walkers k)) ≢ (walker_at walkers k).ground))
+    ⊎ ((j : ℕ) × (k : ℕ) × (j < k) × (k < length walkers) × (comes_to turns acts walkers j ≡ comes_to turns acts walkers k))
+    ⊎ ((j : ℕ) × (k : ℕ) × (j < k) × (k < length walkers) × (comes_to turns acts walkers j ≡ (walker_at walkers k).place)
+    × ((turn_by turns (act_at acts j)).mark ≡ (turn_by turns (act_at acts k)).against))
+
+-- ---- the marks of one step after another
+
+-- the least mark of a step
+abbrev pub first_mark : ℕ → ℕ
+first_mark step = cond (step % 2 == 0) 1 6
+
+abbrev pub IsWalkerAt : List Walker → ℕ → Type 0
+IsWalkerAt walkers place = (k : ℕ) × (k < length walkers) × ((walker_at walkers k).place ≡ place)
+
+-- each mark is one of the step whose marks begin with the first, and a walker is there
+abbrev pub AreMarksOf : ℕ → List Walker → List Square → Type 0
+AreMarksOf first walkers squares =
+    (place : ℕ) → (mark_in (square_at squares place) ≡ 0) ⊎ (IsOfStep first (mark_in (square_at squares place)) × IsWalkerAt walkers place)
+
+-- no mark is one of both steps
+abbrev pub AreApart : ℕ → ℕ → Type 0
+AreApart first other = (mark : ℕ) → IsOfStep first mark → IsOfStep other mark → ⊥
+
+-- All marks are those of a step before this one, none of which could be taken for one of this step.
+pub record AreOldMarks (first : ℕ) (walkers : List Walker) (squares : List Square) : Type 0 where
+  pub before : ℕ
+  pub small : before < 50
+  pub apart : AreApart before first
+  pub marks : AreMarksOf before walkers squares

@@ -5,7 +5,7 @@ use Rattle.grid.specs.Map.{Grid, terrain_at}
 use Rattle.grid.specs.declared.terrain.Terrain.{Terrain}
 use Rattle.grid.specs.Terrain.{character_of}
 use Rattle.plan.specs.declared.board.Square.{Square}
-use Rattle.plan.specs.Code.Standing.{IsOnGrid}
+use Rattle.plan.specs.Code.Standing.{IsOnGrid, place_in}
 use Rattle.plan.specs.Code.Walking.{is_land}
 
 -- ---- a square
@@ -62,3 +62,18 @@ pub record IsSquareOf (m : Grid) (place number : ℕ) : Type 0 where
 pub record IsBoard (m : Grid) (squares : List Square) : Type 0 where
   pub size : length squares ≡ (m.height + 2) * wide_of m
   pub cells : (place : ℕ) → IsOpen (ground_in (square_at squares place)) → IsSquareOf m place (ground_in (square_at squares place))
+
+-- each of the first so many cells, row by row, is told by its square: a cell that is open is not taken for one that is blocked
+abbrev pub ShowsCells : Grid → List Square → ℕ → Type 0
+ShowsCells m squares count =
+    (cell : Cell) (number : ℕ) → place_in m.width cell < count → HasGround m cell number → ground_in (square_at squares (place_on m cell)) ≡ number
+
+-- nobody came to any square
+abbrev pub AreUnmarked : List Square → Type 0
+AreUnmarked squares = (place : ℕ) → mark_in (square_at squares place) ≡ 0
+
+-- a board on which the first so many cells are laid, and nobody is yet
+pub record IsLaid (m : Grid) (squares : List Square) (count : ℕ) : Type 0 where
+  pub board : IsBoard m squares
+  pub cells : ShowsCells m squares count
+  pub unmarked : AreUnmarked squares

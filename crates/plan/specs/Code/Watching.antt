@@ -8,7 +8,7 @@ use Rattle.plan.specs.Code.Standing.{AreOnGrid, IsStandingTable}
 use Rattle.plan.specs.declared.board.Square.{Square}
 use Rattle.plan.specs.declared.crowd.Walker.{Walker}
 use Rattle.plan.specs.Code.Walking.{AreAt}
-use Rattle.plan.specs.Code.Crowd.{walker_at}
+use Rattle.plan.specs.Code.Crowd.{walker_at, first_mark, AreMarksOf}
 use Rattle.plan.specs.Code.UnderWay.{AreUnderWay}
 
 -- the least fault, if there is one
@@ -38,10 +38,12 @@ pub record IsPast (m : Grid) (p : Plan) (t : ℕ) : Type 0 where
   pub on_map : AreOnGrid m cells
   pub clean : IsClean m p (t + 1)
 
--- there was no fault up to the time, and the agents under way are where they are at the time
+-- There was no fault up to the time, the agents under way are where they are at the time, and all marks are of the step that led there,
+-- which has the marks of the step after the next.
 pub record IsSeen (m : Grid) (p : Plan) (t : ℕ) (walkers : List Walker) (squares : List Square) : Type 0 where
   pub under_way : AreUnderWay m p.courses t walkers squares
   pub clean : IsClean m p (t + 1)
+  pub marks : AreMarksOf (first_mark (t + 1)) walkers squares
 
 -- the same, or the least fault
 abbrev pub IsSeenAt : Grid → Plan → ℕ → List Walker → List Square → Option PlanFault → Type 0

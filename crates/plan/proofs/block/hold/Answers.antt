@@ -14,7 +14,9 @@ loop-walker-preserved c =
     let was = c.loop-walker.invariant in
     elim c.if-not-has_act.branch [
       | then-not-has_act w ↦ subst (λ now. IsHeldTo courses c.args.step walkers c.args.squares.now now (n + 1)) (sym w.squares-is)
-          (held-more courses c.args.step walkers c.args.squares.now c.loop-walker.squares n w.new.result was (c.requires n c.loop-walker-test.true) w.new.ensures.ground)
+          (let e = w.if-not-has_act.true in let f = c.has_act.ensures in
+          held-more courses c.args.step walkers c.args.squares.now c.loop-walker.squares n w.new.result was (c.requires n c.loop-walker-test.true) (sym f ∙ e)
+          (record { ground = w.new.ensures.ground; unmarked = w.new.ensures.mark }))
       | else-not-has_act w ↦ subst (λ now. IsHeldTo courses c.args.step walkers c.args.squares.now now (n + 1)) (sym w.squares-is)
           (let e = w.if-not-has_act.false in let f = c.has_act.ensures in held-on courses c.args.step walkers c.args.squares.now c.loop-walker.squares n was (sym f ∙ e))
     ]

@@ -1,7 +1,7 @@
 -- At first all squares are blocked, and so none is a cell's.
-use Rattle.std.proofs.Common.{◌≡◌, ◌+◌, ◌*◌, rules, replicate, sym, ap, subst, ◌∙◌}
-use Rattle.plan.specs.Code.Squares.{wide_of, IsBoard}
-use Rattle.plan.proofs.SquareLemmas.{board-blank}
+use Rattle.std.proofs.Common.{◌≡◌, ◌+◌, ◌*◌, arith, rules, replicate, sym, ap, subst, ◌∙◌}
+use Rattle.plan.specs.Code.Squares.{wide_of, IsLaid}
+use Rattle.plan.proofs.SquareLemmas.{laid-none}
 use Rattle.plan.proofs.board.board.Goals as goal
 
 pub loop-row-init : goal.loop-row-init
@@ -11,7 +11,19 @@ loop-row-init c =
     let is : c.in_ok-squares.squares.items ≡ replicate count c.new.result = c.in_ok-squares.ensures.items_if_clones_equal (search rules) in
     let size : count ≡ (m.height + 2) * wide_of m =
     ap (λ h. (h + 2) * (c.width.result + 2)) c.height.ensures.height ∙ ap (λ w. (m.height + 2) * (w + 2)) c.width.ensures.width in
-    subst (IsBoard m) (sym is) (board-blank m count c.new.result size c.new.ensures.ground)
+    let none : 0 ≡ 0 * m.width = omega arith in
+    subst (IsLaid m c.in_ok-squares.squares.items) none
+    (subst (λ squares. IsLaid m squares 0) (sym is) (laid-none m count c.new.result size c.new.ensures.ground c.new.ensures.mark))
 
-pub lay_row-requires-clause-board : goal.lay_row-requires-clause-board
-lay_row-requires-clause-board c = subst (IsBoard c.args.map.now) (sym c.deref_mut.ensures.value) c.loop-row.invariant
+pub lay_row-requires-clause-laid : goal.lay_row-requires-clause-laid
+lay_row-requires-clause-laid c =
+    subst (λ squares. IsLaid c.args.map.now squares (c.loop-row.row * c.args.map.now.width)) (sym c.deref_mut.ensures.value) c.loop-row.invariant
+
+pub returns : goal.returns
+returns c =
+    let m = c.args.map.now in
+    let height = c.height-row-end.ensures.height in
+    let past = c.loop-row-test.false in
+    let within = c.loop-row.auto.row-end in
+    let all : c.loop-row.row ≡ m.height = omega (arith, past, within, height) in
+    subst (λ n. IsLaid m c.loop-row.squares.items (n * m.width)) all c.loop-row.invariant

@@ -1,5 +1,6 @@
-use Rattle.plan.specs.Code.Squares.{IsBoard}
+use Rattle.std.proofs.Common.{◌*◌}
+use Rattle.plan.specs.Code.Squares.{IsLaid}
 use Rattle.plan.proofs.board.board.Given as goal
 
 abbrev pub invariant-loop-row : goal.invariant-loop-row
-invariant-loop-row l = IsBoard l.map l.squares.items
+invariant-loop-row l = IsLaid l.map l.squares.items (l.row * l.map.width)

@@ -3,9 +3,9 @@ use Rattle.std.proofs.Common.{◌≡◌, ◌+◌, ◌*◌, get_or, set, map, ari
 use Rattle.grid.specs.Terrain.{character_of}
 use Rattle.grid.specs.declared.cell.Cell.{Cell}
 use Rattle.plan.specs.Code.Standing.{IsOnGrid, place_in}
-use Rattle.plan.specs.Code.Squares.{ground_in, ground_by, wide_of, place_on, HasGround, IsBoard}
+use Rattle.plan.specs.Code.Squares.{ground_in, ground_by, wide_of, place_on, HasGround, IsLaid}
 use Rattle.plan.proofs.BoardLemmas.{within_board}
-use Rattle.plan.proofs.SquareLemmas.{ground_here, board-laid}
+use Rattle.plan.proofs.SquareLemmas.{ground_here, laid-more}
 use Rattle.plan.proofs.board.lay_row.Goals as goal
 
 pub loop-column-preserved : goal.loop-column-preserved
@@ -21,13 +21,24 @@ loop-column-preserved c =
     let on : IsOnGrid m cell = record { column = omega (arith, less, width); row = in_row } in
     let rows : row * (c.width-width.result + 2) ≡ row * wide_of m = ap (λ w. row * (w + 2)) width in
     let at : place_on m cell ≡ row * (c.width-width.result + 2) + c.width-width.result + 3 + column = omega (arith, rows, width) in
-    let size = c.loop-column.invariant.size in
+    let size = c.loop-column.invariant.board.size in
     let within = within_board m cell on in
     let place : row * c.width-width.result + column ≡ place_in m.width cell = ap (λ w. row * w + column) width in
     let ground : ground_in c.new.result ≡ ground_by (get_or (map character_of m.terrain) (place_in m.width cell) 0) =
     c.new.ensures.ground ∙ c.ground_by.ensures
     ∙ ap (λ l. ground_by (get_or l (row * c.width-width.result + column) 0)) c.characters-characters.ensures
     ∙ ap (λ p. ground_by (get_or (map character_of m.terrain) p 0)) place in
-    subst (λ p. IsBoard m (set squares p c.new.result)) at
-    (board-laid m squares cell c.new.result c.loop-column.invariant (omega (arith, size, within))
-    (subst (HasGround m cell) (sym ground) (ground_here m cell c.width-width.ensures.map on)))
+    subst (λ p. IsLaid m (set squares p c.new.result) (row * m.width + (column + 1))) at
+    (subst (IsLaid m (set squares (place_on m cell) c.new.result)) (omega arith)
+    (laid-more m squares cell c.new.result c.loop-column.invariant (omega (arith, size, within))
+    (subst (HasGround m cell) (sym ground) (ground_here m cell c.width-width.ensures.map on)) c.new.ensures.mark))
+
+pub returns : goal.returns
+returns c =
+    let m = c.args.map.now in
+    let row = c.args.row in
+    let width = c.width-width.ensures.width in
+    let past = c.loop-column-test.false in
+    let within = c.loop-column.auto.column-end in
+    let all : c.loop-column.column ≡ m.width = omega (arith, past, within, width) in
+    subst (IsLaid m c.loop-column.squares) (ap (λ n. row * m.width + n) all ∙ omega arith) c.loop-column.invariant

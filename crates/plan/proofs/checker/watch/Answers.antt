@@ -4,9 +4,10 @@ use Rattle.std.specs.Prelude.{Option, MatchOption, is_some, vec_len}
 use Rattle.std.proofs.lemmas.Bool.{eqb-true, eqb-false, false≢true}
 use Rattle.std.proofs.lemmas.List.{nil_from_length, with_items_is}
 use Rattle.plan.specs.Code.Blocks.{block_steps, AreRows, IsHeld, IsLinedUp}
-use Rattle.plan.specs.Code.Crowd.{walker_at}
+use Rattle.plan.specs.Code.Crowd.{walker_at, first_mark}
 use Rattle.plan.specs.Code.UnderWay.{AreUnderWay}
 use Rattle.plan.specs.Code.Watching.{IsSeen, AreSameAgents}
+use Rattle.plan.proofs.RowLemmas.{marks-lined}
 use Rattle.plan.proofs.UnderWayLemmas.{AreRecent, step_bound, recent-after, are_agents, block-begun, none_under_way}
 use Rattle.plan.proofs.checker.watch.Goals as goal
 
@@ -49,6 +50,7 @@ take_block-requires-clause-seen c =
     subst (λ l. IsSeen m p step l c.hold.new.squares) (sym c.deref_mut.ensures.value) (record {
       under_way = block-begun m p.courses step old new c.loop-courses.squares c.hold.new.squares c.loop-courses.invariant.seen.under_way held lined;
       clean = c.loop-courses.invariant.seen.clean;
+      marks = marks-lined p.courses step (first_mark (step + 1)) old new c.loop-courses.squares c.hold.new.squares held lined c.loop-courses.invariant.seen.marks;
     })
 
 pub overflow_add-step : goal.overflow_add-step

@@ -1,6 +1,6 @@
-use Rattle.std.proofs.Common.{◌≡◌, false}
-use Rattle.plan.specs.Code.Crowd.{KeepGrounds}
-use Rattle.plan.proofs.CrowdLemmas.{IsPassed, AreLedTo}
+use Rattle.std.proofs.Common.{◌≡◌, true, false}
+use Rattle.plan.specs.Code.Crowd.{KeepGrounds, AreSuspect}
+use Rattle.plan.proofs.CrowdLemmas.{IsPassed, AreLedTo, AreMarkedTo}
 use Rattle.plan.proofs.crowd.take_step.Given as goal
 
 -- those before the place were led, and the others are as they were
@@ -9,4 +9,6 @@ invariant-loop-place l = record {
   led : AreLedTo l.turns l.acts l.initial.walkers l.walkers l.place;
   grounds : KeepGrounds l.initial.squares l.squares;
   passed : l.may_be_wrong ≡ false → IsPassed l.turns l.acts l.initial.walkers l.initial.squares l.squares l.place;
+  marked : AreMarkedTo l.turns l.acts l.initial.walkers l.squares l.place;
+  suspect : l.may_be_wrong ≡ true → AreSuspect l.turns l.acts l.initial.walkers l.initial.squares;
 }
