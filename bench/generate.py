@@ -2,9 +2,9 @@
 """Makes maps, scenarios and plans of any size, the same for the same seed.
 
 Usage: generate.py KIND WIDTH HEIGHT [--seed N] [--rows N] [--agents N] [--acts N]
-(KIND: open, random, rooms, terrain, sparse, maze, corridors, mixed, patches, scen, boxes, blocks, trains, regions, crowd, loops)
-The text goes to standard output; `scen` makes a scenario of so many rows for a map of that size; `boxes`, `blocks`, `trains`, `regions`, `crowd` and
-`loops` make a valid plan of so many agents with so many acts each on an open map of that size, none a wait but in `crowd` and `loops`.
+(KIND: open, random, rooms, terrain, sparse, maze, corridors, mixed, patches, scen, boxes, waits, blocks, trains, regions, crowd, loops)
+The text goes to standard output; `scen` makes a scenario of so many rows for a map of that size; `boxes`, `waits`, `blocks`, `trains`, `regions`, `crowd` and
+`loops` make a valid plan of so many agents with so many acts each on an open map of that size, none a wait but in `waits`, `crowd` and `loops`.
 """
 import argparse
 import itertools
@@ -13,7 +13,7 @@ import sys
 
 KINDS = ("open", "random", "rooms", "terrain")
 WALKED_KINDS = ("open", "sparse", "rooms", "maze", "corridors", "mixed", "patches")
-PLAN_KINDS = ("boxes", "blocks", "trains", "regions", "crowd", "loops")
+PLAN_KINDS = ("boxes", "waits", "blocks", "trains", "regions", "crowd", "loops")
 # In these an agent that turns back near its end meets another.
 CLOSE_KINDS = ("blocks", "trains", "regions", "loops")
 # By how much each act but a wait changes a column and a row.
@@ -213,6 +213,13 @@ def box_courses(width, height, count, acts):
         yield (x, y), loop_acts(side - 2, acts)
 
 
+def waiting_courses(width, height, count, acts, beat=8):
+    """Each agent goes round in a box of its own, and moves once in so many steps, not all of them in the same ones."""
+    for agent, (start, course) in enumerate(box_courses(width, height, count, acts)):
+        moves = iter(course)
+        yield start, "".join(next(moves) if step % beat == agent % beat else "-" for step in range(acts))
+
+
 def block_courses(width, height, count, acts, block=10):
     """Blocks of agents, each of which follows the one before it, that go round as one."""
     across = int((count / block**2) ** 0.5 + 0.999)
@@ -340,7 +347,7 @@ def crowd_courses(width, height, count, acts, seed):
 
 def plan_text(kind, width, height, seed, count, acts, number=7):
     """The text of a valid plan on an open map."""
-    makers = {"boxes": box_courses, "blocks": block_courses, "trains": train_courses}
+    makers = {"boxes": box_courses, "waits": waiting_courses, "blocks": block_courses, "trains": train_courses}
     seeded = {"regions": region_courses, "crowd": crowd_courses, "loops": loop_courses}
     courses = seeded[kind](width, height, count, acts, seed) if kind in seeded else makers[kind](width, height, count, acts)
     lines = [f"agent {x} {y} {course or '='}" for (x, y), course in courses]

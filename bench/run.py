@@ -251,7 +251,7 @@ def main():
                     measure_row(programs, kind, side, folder, given.rounds)
         if given.only in (None, "check"):
             for acts in (400, 800, 1600):
-                for kind in ("boxes", "blocks", "trains"):
+                for kind in ("boxes", "waits", "blocks", "trains"):
                     measure_check(programs, kind, given.side, 10_000, acts, folder, given.rounds)
             measure_check(programs, "regions", given.side, 10_000, 1600, folder, given.rounds)
             measure_check(programs, "crowd", 128, 1_000, 400, folder, given.rounds)
