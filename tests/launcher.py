@@ -1,6 +1,7 @@
 """./mapf: it hands its words, streams and status to the program of dist/, and says in a line what it needs where that does not start."""
 import os
 import pathlib
+import resource
 import shutil
 import signal
 import subprocess
@@ -51,6 +52,19 @@ def ordinary_calls(harness: Harness) -> Iterator[Outcome]:
         process.send_signal(signal.SIGTERM)
         status = process.wait(LONGEST)
     yield compared("a signal", "mapf agent M P 0 T, ended by SIGTERM", status, -signal.SIGTERM)
+    yield tape_at_a_limit(harness, folder, elsewhere)
+
+
+def tape_at_a_limit(harness: Harness, folder: pathlib.Path, elsewhere: pathlib.Path) -> Outcome:
+    """A limit on the size of files is a write that fails: no signal ends the agent."""
+    how = {"cwd": elsewhere, "input": b"start\nfinish\n", "capture_output": True, "env": {**os.environ, **bare_path(harness)}, "timeout": LONGEST}
+    done = subprocess.run([str(folder / "mapf"), "agent", "M", "P", "0", "small"], preexec_fn=least_files, **how)
+    due = Ended(3, b"at 1 0 done 0\nmoving 2 0\nrefused StoreFailed\n", b"")
+    return ended_as("a tape at a limit", "mapf agent M P 0 small, files of at most 15 bytes", Ended(done.returncode, done.stdout, done.stderr), due)
+
+
+def least_files() -> None:
+    resource.setrlimit(resource.RLIMIT_FSIZE, (15, 15))
 
 
 def cut_off(program: pathlib.Path) -> None:
