@@ -13,6 +13,7 @@ import threading
 import time
 from typing import Callable, Iterator, Optional, Sequence
 
+import lone_robots
 import networking
 import watching
 from failing_agents import Chances, failing_program
@@ -192,7 +193,9 @@ turn = 0
 while time.time() < end and (not is_sender or os.getppid() == int(sys.argv[4])):
     turn += 1
     if is_sender:
-        client.publish(f"mapf/{number}/said/{turn % 5}", (near + [os.urandom(turn % 40), b"x" * 70000])[turn % 7], retain=turn % 2 == 0)
+        # A right message, but of another than the topic's.
+        forged = bytes.fromhex("4601%04x%08x%08x" % ((turn % 5 + 1) % 3, int(number), 1))
+        client.publish(f"mapf/{number}/said/{turn % 5}", (near + [forged, os.urandom(turn % 40), b"x" * 70000])[turn % 8], retain=turn % 2 == 0)
     time.sleep(0.005)
 print(len(kept), flush=True)
 """
@@ -264,6 +267,7 @@ def of_mqtt(harness: Harness) -> Iterator[Callable[[], list[Outcome]]]:
     yield functools.partial(of_stops, harness)
     yield functools.partial(of_one_broker, harness, python)
     yield functools.partial(of_topics, harness, python)
+    yield functools.partial(of_a_kill, harness)
 
 
 # A robot by itself
@@ -355,21 +359,39 @@ def of_plans(harness: Harness) -> list[Outcome]:
     return outcomes
 
 
-def of_a_signal(harness: Harness, number: int) -> list[Outcome]:
-    """Whatever asks the fleet to end, nothing that it started is left."""
-    fleet = Fleet(harness, ["--robots", "3", "--moves", "5"])
+def started(fleet: Fleet) -> "tuple[subprocess.Popen[bytes], bool]":
+    """A fleet that runs, and whether its three agents do."""
     environment = {**os.environ, "TMPDIR": str(fleet.folder)}
     pipes = {"stdin": subprocess.DEVNULL, "stdout": subprocess.DEVNULL, "stderr": subprocess.PIPE}
     process = subprocess.Popen(heeding(fleet.command), cwd=fleet.folder, env=environment, start_new_session=True, **pipes)
-    runs = wait_until(lambda: len([it for it in processes_of(fleet.folder) if " agent " in it[1]]) == 3)
+    return process, wait_until(lambda: len([it for it in processes_of(fleet.folder) if " agent " in it[1]]) == 3)
+
+
+def of_a_signal(harness: Harness, number: int) -> list[Outcome]:
+    """Whatever asks the fleet to end, nothing that it started is left."""
+    fleet = Fleet(harness, ["--robots", "3", "--moves", "5"])
+    process, runs = started(fleet)
     process.send_signal(number)
     _, err = process.communicate(timeout=60)
     name = f"{signal.Signals(number).name} to a fleet"
     return [compared(name, shown(fleet.command), (runs, process.returncode, b"Traceback" in err, left_in(fleet.folder)), (True, 128 + number, False, []))]
 
 
+def of_a_kill(harness: Harness) -> list[Outcome]:
+    """A fleet that is killed leaves no process, and no broker."""
+    fleet = Fleet(harness, ["--robots", "3", "--moves", "5", "--link", "mqtt"])
+    process, runs = started(fleet)
+    brokers = [command for _, command in processes_of(fleet.folder) if "mosquitto -c" in command]
+    process.kill()
+    is_over = wait_until(lambda: not processes_of(fleet.folder))
+    process.communicate(timeout=60)
+    ran = f"{shown(fleet.command)}, of which {processes_of(fleet.folder)} are left"
+    return [compared("a fleet that is killed", ran, (runs, len(brokers) > 0, is_over), (True, True, True))]
+
+
 def outcomes(harness: Harness) -> Iterator[Outcome]:
     alone = [functools.partial(test, harness) for test in (of_plans, of_numbers, of_failing_tapes, of_strangers, of_one_tape, of_bad_calls)]
     numbers = (signal.SIGTERM, signal.SIGINT, signal.SIGHUP) if harness.is_long else (signal.SIGTERM,)
     signals = [functools.partial(of_a_signal, harness, number) for number in numbers]
-    yield from side_by_side([*of_udp(harness), *of_mqtt(harness), *alone, *signals, *networking.tests(harness), *watching.tests(harness)])
+    lone = lone_robots.tests(harness, free_port)
+    yield from side_by_side([*of_udp(harness), *of_mqtt(harness), *alone, *signals, *lone, *networking.tests(harness), *watching.tests(harness)])

@@ -2,9 +2,12 @@
 import fcntl
 import subprocess
 import sys
-from typing import IO, Optional, Sequence
+import time
+from typing import IO, Callable, Optional, Sequence
 
 STORE_FAILED = "refused StoreFailed"
+# Seconds after which a lock that is held is asked for again.
+LOOK = 0.05
 
 
 class Ended(Exception):
@@ -22,13 +25,20 @@ class Unfit(Exception):
 class Lock:
     """Held as long as a robot or its agent lives, since the agent inherits it: no two agents are ever on one tape."""
 
-    def __init__(self, path: str, waits: str):
+    def __init__(self, path: str, waits: str, lives: Callable[[], None]):
         self.file: IO[str] = open(path, "w", encoding="ascii")
+        if not self._is_taken():
+            print(waits, file=sys.stderr, flush=True)
+            while not self._is_taken():
+                lives()
+                time.sleep(LOOK)
+
+    def _is_taken(self) -> bool:
         try:
             fcntl.flock(self.file, fcntl.LOCK_EX | fcntl.LOCK_NB)
         except BlockingIOError:
-            print(waits, file=sys.stderr, flush=True)
-            fcntl.flock(self.file, fcntl.LOCK_EX)
+            return False
+        return True
 
     def fileno(self) -> int:
         return self.file.fileno()

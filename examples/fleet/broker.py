@@ -1,7 +1,16 @@
-"""A broker of MQTT beside a fleet: Debian's mosquitto, which keeps nothing on a disk."""
+#!/usr/bin/env python3
+"""A broker of MQTT beside a fleet: Debian's mosquitto, which keeps nothing on a disk.
+
+Usage: broker.py COMMAND ..
+
+As a program it runs a command until its own input ends, as it does when who started it is killed, and then kills it. A signal that the system would
+send instead goes lost where a broker changes its user.
+"""
 import pathlib
+import select
 import shutil
 import subprocess
+import sys
 import time
 from typing import Optional, Sequence
 
@@ -15,6 +24,8 @@ log_dest stderr
 # Where Debian has it, also where that is on nobody's path.
 PLACES = "/usr/sbin:/usr/local/sbin"
 SOON = 0.3
+# Seconds between two looks at a broker.
+LOOK = 0.1
 
 
 class NoBroker(Exception):
@@ -29,7 +40,7 @@ class Broker:
         host, _, port = address.rpartition(":")
         configuration = folder / "mosquitto.conf"
         configuration.write_text(CONFIGURATION.format(host=host, port=port), encoding="ascii")
-        self.address, self.command = address, [*words, program, "-c", str(configuration)]
+        self.address, self.command = address, [sys.executable, __file__, *words, program, "-c", str(configuration)]
         self.log = folder / "mosquitto.log"
         self.process: Optional["subprocess.Popen[bytes]"] = None
         self.start()
@@ -42,10 +53,24 @@ class Broker:
     def start(self) -> None:
         if self.process is None:
             with open(self.log, "wb") as log:
-                self.process = subprocess.Popen(self.command, stdin=subprocess.DEVNULL, stdout=log, stderr=log, start_new_session=True)
+                self.process = subprocess.Popen(self.command, stdin=subprocess.PIPE, stdout=log, stderr=log, start_new_session=True)
 
     def stop(self) -> None:
         if self.process is not None:
-            self.process.kill()
+            self.process.stdin.close()
             self.process.wait()
             self.process = None
+
+
+def guard(command: Sequence[str]) -> int:
+    """Runs a command until the input ends."""
+    process = subprocess.Popen(command, stdin=subprocess.DEVNULL)
+    while process.poll() is None:
+        if select.select([0], [], [], LOOK)[0]:
+            process.kill()
+    # The status of a signal as a shell has it.
+    return process.returncode if process.returncode >= 0 else 128 - process.returncode
+
+
+if __name__ == "__main__":
+    sys.exit(guard(sys.argv[1:]))

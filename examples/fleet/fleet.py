@@ -21,6 +21,9 @@ import sys
 import tempfile
 import time
 
+sys.dont_write_bytecode = True
+from program import usual_program  # noqa: E402
+
 HERE = pathlib.Path(__file__).resolve().parent
 STEP_OF = {"n": (0, -1), "s": (0, 1), "e": (1, 0), "w": (-1, 0), "-": (0, 0)}
 NAMES = "0123456789abcdefghijklmnopqrstuvwxyz"
@@ -269,7 +272,7 @@ def main():
     parser.add_argument("--kills", type=rate, default=0.02, help="how many questions end in a kill of the process (0.02)")
     parser.add_argument("--tell", action="store_true", help="each message has all that its sender knows, and not only what it has finished itself")
     parser.add_argument("--quiet", action="store_true", help="shows no map, only how it ended")
-    parser.add_argument("--program", default=str(HERE.parent.parent / "mapf"), help="the program `mapf`")
+    parser.add_argument("--program", default=usual_program(), help="the program mapf (%(default)s)")
     parser.add_argument("--map", type=pathlib.Path, default=HERE / "warehouse.map")
     parser.add_argument("--plan", type=pathlib.Path, default=HERE / "warehouse.plan")
     parser.add_argument("--folder", type=pathlib.Path, help="where a folder for the tapes is made, as on a disk that is full (where temporary files are)")

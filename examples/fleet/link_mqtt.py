@@ -1,6 +1,7 @@
 """A link by MQTT: each robot says on a topic of its own, of which the broker keeps the last message for those that come later.
 
-The topics name the run, so that what the broker keeps of another run is never heard in this one.
+The topics name the run, so that what the broker keeps of another run is never heard in this one. And they name the sender: a message that names
+another one is dropped, so that a broker which lets each client write on one topic alone keeps it to one name.
 """
 import collections
 import os
@@ -8,6 +9,7 @@ import time
 from typing import Any, Deque
 
 from addresses import Address
+from letters import Letter, sender_of
 
 try:
     import paho.mqtt.client as mqtt
@@ -17,6 +19,8 @@ except ImportError:
 # Seconds after which a broker that says nothing is taken to be gone, and between two tries to reach it.
 KEEPALIVE = 4
 SOONEST, LATEST = 0.2, 1
+# Why a message is dropped that another one says than it names.
+NOT_ITS_TOPIC = "NotItsTopic"
 
 
 class NoClient(Exception):
@@ -45,7 +49,7 @@ class MqttLink:
     def __init__(self, broker: Address, run: int, agent: int, patience: float):
         self.run, self.own = run, topic_of(run, str(agent))
         self.unsent = 0
-        self.waiting: Deque[bytes] = collections.deque()
+        self.waiting: Deque[Letter] = collections.deque()
         self.woken, self.waker = os.pipe()
         os.set_blocking(self.woken, False)
         os.set_blocking(self.waker, False)
@@ -72,7 +76,8 @@ class MqttLink:
 
     def _take(self, _: Any, __: Any, message: Any) -> None:
         if message.topic != self.own:
-            self.waiting.append(message.payload)
+            is_its_own = message.topic == topic_of(self.run, str(sender_of(message.payload)))
+            self.waiting.append(Letter(message.payload, "" if is_its_own else NOT_ITS_TOPIC))
             try:
                 os.write(self.waker, b".")
             except BlockingIOError:
@@ -88,7 +93,7 @@ class MqttLink:
         if self.client.publish(self.own, message, qos=0, retain=True).rc != mqtt.MQTT_ERR_SUCCESS:
             self.unsent += 1
 
-    def received(self) -> list[bytes]:
+    def received(self) -> list[Letter]:
         """The messages that wait."""
         try:
             os.read(self.woken, 65_536)

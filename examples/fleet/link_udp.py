@@ -3,6 +3,7 @@ import socket
 from typing import Optional, Sequence
 
 from addresses import Address
+from letters import Letter
 
 # No datagram is longer.
 LONGEST = 65_535
@@ -45,16 +46,16 @@ class UdpLink:
             except OSError:
                 self.unsent += 1
 
-    def received(self) -> list[bytes]:
+    def received(self) -> list[Letter]:
         """The messages that wait."""
-        messages = []
+        letters = []
         while True:
             try:
                 message, sender = self.ears.recvfrom(LONGEST)
             except OSError:
-                return messages
+                return letters
             if sender != self.mouth.getsockname():
-                messages.append(message)
+                letters.append(Letter(message))
 
     def close(self) -> None:
         self.ears.close()

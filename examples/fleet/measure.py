@@ -16,7 +16,6 @@ from typing import Iterator, Sequence
 
 HERE = pathlib.Path(__file__).resolve().parent
 sys.dont_write_bytecode = True
-sys.path.append(str(HERE.parent.parent / "tools"))
 from leaving import heed_signals  # noqa: E402
 
 FAILED = 3

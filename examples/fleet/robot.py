@@ -6,28 +6,31 @@ Usage: robot.py MAP PLAN ID TAPE --drive SOCKET --listen HOST:PORT (--peers HOST
 
 It knows its own agent, its own drive and a link on which it says what it has finished and hears what others say; it may be killed at any moment
 and started again. Its tape was made before, once, by `mapf agent MAP PLAN ID TAPE --tape new`. What arrives on the link is given to the agent alone:
-bytes that are no message of the plan are dropped.
+bytes that are no message of the plan are dropped, and the tenth of a kind is told, the hundredth and so on. As a service of systemd it says that it
+lives.
 
 Status 1: the map, the plan or the tape has a fault. 2: a bad command line. 3: a file, a socket or a program failed. It ends when it is asked to.
 """
 import argparse
+import collections
 import contextlib
-import pathlib
+import dataclasses
 import random
 import selectors
 import sys
 import time
-from typing import Optional, Sequence, Union
+from typing import Counter, Optional, Sequence, Union
 
-HERE = pathlib.Path(__file__).resolve().parent
 sys.dont_write_bytecode = True
-sys.path.append(str(HERE.parent.parent / "tools"))
 from addresses import address, addresses  # noqa: E402
 from agent import STORE_FAILED, Agent, Ended, Lock, Unfit  # noqa: E402
 from drive import Cell, NoWatcher, Wire  # noqa: E402
 from leaving import heed_signals  # noqa: E402
+from letters import Letter  # noqa: E402
 from link_mqtt import MqttLink, NoBroker, NoClient  # noqa: E402
 from link_udp import UdpLink  # noqa: E402
+from program import usual_program  # noqa: E402
+from service import Supervisor  # noqa: E402
 
 Link = Union[UdpLink, MqttLink]
 BAD_LINE, FAILED = 2, 3
@@ -35,6 +38,8 @@ BAD_LINE, FAILED = 2, 3
 LONGEST_MESSAGE = 65_533
 # Seconds after which the drive is told again where to go, and after which an agent that has ended is started again.
 AGAIN, PAUSE = 0.5, 0.05
+# So many messages that were dropped for one reason are told of first; then ten times as many, and so on.
+TOLD_FIRST = 10
 
 
 class Misplaced(Exception):
@@ -62,7 +67,7 @@ def read_words(words: Sequence[str]) -> argparse.Namespace:
     parser.add_argument("--patience", type=seconds, default=10.0, metavar="S", help="how long a broker may be away at first (%(default)g)")
     parser.add_argument("--tell", action="store_true", help="says all that it knows, and not only what it has finished")
     parser.add_argument("--every", type=seconds, default=0.2, metavar="S", help="says so again after so many seconds (%(default)g)")
-    parser.add_argument("--program", default=str(HERE.parent.parent / "mapf"), metavar="PATH", help="the program mapf (that of this checkout)")
+    parser.add_argument("--program", default=usual_program(), metavar="PATH", help="the program mapf (%(default)s)")
     given = parser.parse_args(words)
     if (given.broker is None) == (given.listen is None):
         parser.error("either --listen or --broker is wanted")
@@ -88,11 +93,37 @@ def cell_of(words: Sequence[str]) -> Cell:
     return int(words[0]), int(words[1])
 
 
+class Dropped:
+    """Counts the messages that were dropped, by the reason, and tells of many. It may mean that two plans are driven on one network."""
+
+    def __init__(self, robot: int):
+        self.robot = robot
+        self.counts: Counter[str] = collections.Counter()
+        self.next = collections.defaultdict(lambda: TOLD_FIRST)
+
+    def take(self, why: str) -> None:
+        kind = " ".join(why.split()[:2])
+        self.counts[kind] += 1
+        if self.counts[kind] == self.next[kind]:
+            self.next[kind] *= 10
+            print(f"robot {self.robot}: {self.counts[kind]} messages were dropped: {kind}", file=sys.stderr, flush=True)
+
+
+@dataclasses.dataclass(frozen=True)
+class World:
+    """What a robot keeps while one agent ends and the next is started."""
+
+    link: Link
+    wire: Wire
+    supervisor: Supervisor
+    dropped: Dropped
+
+
 class Robot:
     """The loop, from a start of the agent to its end. Each answer of the agent is told to the watcher before anything is done with it."""
 
-    def __init__(self, given: argparse.Namespace, link: Link, wire: Wire, agent: Agent):
-        self.link, self.wire, self.agent = link, wire, agent
+    def __init__(self, given: argparse.Namespace, world: World, agent: Agent):
+        self.link, self.wire, self.supervisor, self.dropped, self.agent = world.link, world.wire, world.supervisor, world.dropped, agent
         self.question, self.every = "tell" if given.tell else "say", given.every
         # Where the drive is to go, and whether something has changed since a start was refused.
         self.target: Optional[Cell] = None
@@ -126,15 +157,17 @@ class Robot:
         # Robots that were started together don't speak together for ever.
         self.says_at = time.monotonic() + self.every * random.uniform(0.8, 1.2)
 
-    def hear(self, message: bytes) -> None:
+    def hear(self, letter: Letter) -> None:
         """Gives a message to the agent. What it refuses is none of this plan, and is dropped."""
-        digits = message.hex()
-        answer = self.agent.ask(f"hear {digits}") if len(message) <= LONGEST_MESSAGE else "refused BadLine"
+        answer, digits = f"refused {letter.fault}", letter.message.hex()
+        if not letter.fault:
+            answer = self.agent.ask(f"hear {digits}") if len(letter.message) <= LONGEST_MESSAGE else "refused BadLine"
         if answer.startswith("heard "):
             self.wire.tell(f"hear {digits} {answer}")
             self.may_start = True
         else:
             self.wire.tell(f"dropped {answer}")
+            self.dropped.take(answer)
 
     def start(self) -> None:
         self.may_start = False
@@ -173,6 +206,7 @@ class Robot:
                 selector.register(source.fileno(), selectors.EVENT_READ, source)
             while True:
                 self.do_what_is_due()
+                self.supervisor.lives()
                 due = self.says_at if self.target is None else min(self.says_at, self.goes_at)
                 for key, _ in selector.select(max(0.0, due - time.monotonic())):
                     if key.data is self.agent:
@@ -180,20 +214,21 @@ class Robot:
                     elif key.data is self.wire:
                         self.heed_drive()
                     else:
-                        for message in self.link.received():
-                            self.hear(message)
+                        for letter in self.link.received():
+                            self.hear(letter)
 
 
 def drive(given: argparse.Namespace) -> None:
     """One agent after another, each started when the one before has ended."""
-    lock = Lock(f"{given.tape}.lock", f"robot {given.id}: waits until the robot before it and its agent have ended")
+    supervisor = Supervisor()
+    lock = Lock(f"{given.tape}.lock", f"robot {given.id}: waits until the robot before it and its agent have ended", supervisor.lives)
     with contextlib.closing(link_of(given)) as link:
-        wire = Wire(given.drive, given.id)
+        world = World(link, Wire(given.drive, given.id), supervisor, Dropped(given.id))
         while True:
             with contextlib.suppress(Ended):
-                agent = Agent([given.program, "agent", given.map, given.plan, str(given.id), given.tape, "--tape", "kept"], lock)
+                agent = Agent([given.program, "agent", given.map, given.plan, str(given.id), given.tape, "--tape", "kept", "--explain"], lock)
                 try:
-                    Robot(given, link, wire, agent).live()
+                    Robot(given, world, agent).live()
                 finally:
                     agent.end()
             time.sleep(PAUSE)

@@ -25,13 +25,13 @@ from typing import Counter, Iterator, Optional, Sequence
 
 HERE = pathlib.Path(__file__).resolve().parent
 sys.dont_write_bytecode = True
-sys.path.append(str(HERE.parent.parent / "tools"))
 import cables as cable_kinds  # noqa: E402
 from addresses import Address, address  # noqa: E402
 from broker import Broker, NoBroker  # noqa: E402
 from fleet_run import Failed, Run, Settings, Wrong  # noqa: E402
 from leaving import heed_signals  # noqa: E402
 from places import Loopback, Namespaces, NoRoom, Place  # noqa: E402
+from program import usual_program  # noqa: E402
 
 WRONG, FAILED = 1, 3
 # Where Debian's packages for Python are found, if not by the one that runs this.
@@ -73,7 +73,7 @@ def read_words(words: Sequence[str]) -> argparse.Namespace:
     parser.add_argument("--keep", type=pathlib.Path, metavar="FOLDER", help="keeps the plan, the log and the replies of each run there")
     parser.add_argument("--map", type=pathlib.Path, default=HERE / "warehouse.map")
     parser.add_argument("--plan", type=pathlib.Path, default=HERE / "warehouse.plan")
-    parser.add_argument("--program", default=str(HERE.parent.parent / "mapf"), metavar="PATH", help="the program mapf (that of this checkout)")
+    parser.add_argument("--program", default=usual_program(), metavar="PATH", help="the program mapf (%(default)s)")
     parser.add_argument("--namespaces", metavar="PREFIX", help=argparse.SUPPRESS)
     parser.add_argument("--cables", default="", metavar="KIND:WHERE", help=argparse.SUPPRESS)
     given = parser.parse_args(words)

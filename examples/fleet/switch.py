@@ -21,7 +21,6 @@ import time
 from typing import Optional, Sequence
 
 sys.dont_write_bytecode = True
-sys.path.append(os.path.join(os.path.dirname(os.path.realpath(__file__)), "..", "..", "tools"))
 from leaving import heed_signals  # noqa: E402
 
 DEVICE = b"link"

@@ -12,7 +12,6 @@ arrived.
 """
 import argparse
 import os
-import pathlib
 import random
 import selectors
 import socket
@@ -21,12 +20,11 @@ import sys
 import time
 from typing import Iterator, Sequence
 
-HERE = pathlib.Path(__file__).resolve().parent
 sys.dont_write_bytecode = True
-sys.path.append(str(HERE.parent.parent / "tools"))
 from drive import Cell, Drive  # noqa: E402
 from journal import Journal, Untrue  # noqa: E402
 from leaving import heed_signals  # noqa: E402
+from program import usual_program  # noqa: E402
 
 MET, FAILED = 1, 3
 LONGEST = 1 << 18
@@ -49,7 +47,7 @@ def read_words(words: Sequence[str]) -> argparse.Namespace:
     parser.add_argument("--moves", type=float, default=0.05, metavar="S", help="how long a move takes, in the mean (%(default)g seconds)")
     parser.add_argument("--slips", type=float, default=0.05, metavar="RATE", help="how many moves slip (%(default)g)")
     parser.add_argument("--seed", type=int, default=1)
-    parser.add_argument("--program", default=str(HERE.parent.parent / "mapf"), metavar="PATH", help="the program mapf (that of this checkout)")
+    parser.add_argument("--program", default=usual_program(), metavar="PATH", help="the program mapf (%(default)s)")
     return parser.parse_args(words)
 
 

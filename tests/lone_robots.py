@@ -1,0 +1,219 @@
+"""One robot of examples/fleet by itself: in a copy of its folder, as a service with a drive of its own, and what it says of others on its network."""
+import functools
+import os
+import pathlib
+import re
+import select
+import shlex
+import shutil
+import signal
+import socket
+import subprocess
+import sys
+import time
+from typing import Callable, Iterator, Sequence
+
+import watching
+from harness import ROOT, Harness, Outcome, compared, shown
+from processes import children, processes_of, wait_until
+
+FLEET = ROOT / "examples" / "fleet"
+SYSTEMD = FLEET / "systemd"
+UNIT, SETTINGS = SYSTEMD / "mapf-robot@.service", SYSTEMD / "robot.conf"
+MAP, PLAN = ROOT / "examples" / "plain.map", ROOT / "examples" / "behind.plan"
+# Where each robot of the plan starts, and what its tape says when it has arrived.
+STARTS, ENDS = ("1 0", "0 0"), (b"at 2 0 done 1\n", b"at 1 0 done 1\n")
+# A right message of a plan with another number.
+OTHERS = bytes.fromhex("460100010000000500000001")
+# Seconds in which a robot that lives says so more than once.
+WHILE = 3
+
+
+class Copied:
+    """A folder with nothing but a copy of examples/fleet, and what runs there until it is ended."""
+
+    def __init__(self, harness: Harness):
+        self.folder = harness.folder()
+        self.fleet = self.folder / "fleet"
+        shutil.copytree(FLEET, self.fleet, ignore=shutil.ignore_patterns("__pycache__"))
+        (self.folder / "bin").mkdir()
+        os.symlink(harness.program, self.folder / "bin" / "mapf")
+        self.program = str(harness.program)
+        self.environment = {**os.environ, "PATH": f"{self.folder / 'bin'}:{os.environ['PATH']}", "PYTHONPATH": ""}
+        self.running: list["subprocess.Popen[bytes]"] = []
+
+    def start(self, words: Sequence[str]) -> None:
+        with open(self.folder / "said", "ab") as said:
+            self.running.append(subprocess.Popen(words, cwd=self.folder, env=self.environment, stdin=subprocess.DEVNULL, stdout=said, stderr=said))
+
+    def make_tape(self, robot: int) -> pathlib.Path:
+        tape = self.folder / f"{robot}.tape"
+        words = [self.program, "agent", str(MAP), str(PLAN), str(robot), str(tape), "--tape", "new"]
+        subprocess.run(words, stdin=subprocess.DEVNULL, stdout=subprocess.DEVNULL, check=True)
+        return tape
+
+    def state_of(self, robot: int) -> bytes:
+        """What the robot's tape says."""
+        words = [self.program, "tape", str(MAP), str(PLAN), str(robot), f"{robot}.tape"]
+        return subprocess.run(words, cwd=self.folder, stdout=subprocess.PIPE, check=False).stdout.partition(b"records")[0]
+
+    def end(self) -> str:
+        for process in self.running:
+            process.kill()
+            process.wait()
+        return (self.folder / "said").read_text(encoding="utf-8", errors="replace")
+
+
+def unit() -> dict[str, str]:
+    """The lines of the unit, each by its name."""
+    pairs = [line.partition("=") for line in UNIT.read_text(encoding="ascii").splitlines() if line[:1].isalpha()]
+    return {name: value for name, _, value in pairs}
+
+
+def words_of_unit(settings: dict[str, str], robot: int, fleet: pathlib.Path) -> list[str]:
+    """What the unit starts, with these settings in place of its own: those of an unbraced name become words."""
+    own = dict(line.split("=", 1) for line in SETTINGS.read_text(encoding="ascii").splitlines() if line[:1].isalpha())
+    if sorted(own) != sorted(settings):
+        raise ValueError(f"{SETTINGS.name} has {sorted(own)}, and {sorted(settings)} were due")
+    words = []
+    for word in unit()["ExecStart"].split():
+        name = word.strip("${}")
+        words += shlex.split(settings[name]) if re.fullmatch(r"\$\w+", word) else [settings.get(name, word)] if word[0] == "$" else [word]
+    words = [str(robot) if word == "%i" else word.replace("/opt/mapf/fleet", str(fleet)) for word in words]
+    return [sys.executable, *words[1:]]
+
+
+def of_services(harness: Harness, ports: Callable[[], int]) -> list[Outcome]:
+    """Two robots, each from a copy of the folder and with the drive of ten lines: one as the unit starts it, the other with the program on the path."""
+    copied, port = Copied(harness), ports()
+    for robot, start in enumerate(STARTS):
+        drive, other = copied.folder / f"drive{robot}", f"127.0.0.1:{port + 1 - robot}"
+        copied.start([sys.executable, str(copied.fleet / "own_drive.py"), str(drive), *start.split()])
+        tape, link = str(copied.make_tape(robot)), f"--listen 127.0.0.1:{port + robot} --peers {other}"
+        wait_until(drive.exists)
+        settings = {"MAP": str(MAP), "PLAN": str(PLAN), "TAPE": tape, "DRIVE": str(drive), "PROGRAM": copied.program, "LINK": link}
+        words = words_of_unit(settings, robot, copied.fleet)
+        if robot == 1:
+            at = words.index("--program")
+            del words[at : at + 2]
+        copied.start(words)
+    wait_until(lambda: [copied.state_of(robot) for robot in (0, 1)] == list(ENDS))
+    states = [copied.state_of(robot) for robot in (0, 1)]
+    said = copied.end()
+    return [compared("robots of a copied folder, with drives of their own", f"{shown(words)}, which told {said[-800:]!r}", states, list(ENDS))]
+
+
+def of_the_unit(harness: Harness) -> list[Outcome]:
+    """What a unit for robots must have, and must not."""
+    lines = unit()
+    due = {"StartLimitIntervalSec": "0", "Restart": "always", "RestartPreventExitStatus": "1 2", "LimitFSIZE": "infinity", "WatchdogSignal": "SIGKILL"}
+    found = {name: lines.get(name) for name in due}
+    outcomes = [compared("the unit's lines", UNIT.name, (found, "ExecStartPre" in lines, int(lines["WatchdogSec"]) > 30), (due, False, True))]
+    if shutil.which("systemd-analyze"):
+        folder = harness.folder({"mapf-robot@.service": UNIT.read_bytes().replace(b"/usr/bin/python3", sys.executable.encode())})
+        ended = harness.run(["systemd-analyze", "verify", "--man=no", "mapf-robot@1.service"], folder=folder, more={"SYSTEMD_UNIT_PATH": f"{folder}:"})
+        told = [line for line in ended.err.decode().splitlines() if "mapf-robot" in line]
+        outcomes.append(compared("the unit, as systemd reads it", "systemd-analyze verify", told, []))
+    return outcomes
+
+
+class Alone:
+    """A robot of the test's own, with a watcher that nobody but it tells anything."""
+
+    def __init__(self, harness: Harness, port: int, more: dict[str, str]):
+        self.watched = watching.Watched(harness)
+        self.watched.socket.close()
+        os.unlink(f"{self.watched.path}.0")
+        (self.watched.folder / "tape").touch()
+        words = [sys.executable, str(FLEET / "robot.py"), str(MAP), str(PLAN), "0", "tape", "--drive", "watcher"]
+        self.words = [*words, "--program", str(harness.program), "--listen", f"127.0.0.1:{port}", "--peers", ""]
+        with open(self.watched.folder / "said", "wb") as err:
+            environment = {**os.environ, **more}
+            self.process = subprocess.Popen(self.words, cwd=self.watched.folder, env=environment, stdin=subprocess.DEVNULL, stderr=err)
+        wait_until(lambda: children(self.process.pid))
+
+    def said(self) -> bytes:
+        return (self.watched.folder / "said").read_bytes()
+
+    def end(self) -> None:
+        self.process.terminate()
+        self.process.wait()
+        self.watched.end()
+
+
+def signs(ears: socket.socket) -> list[bytes]:
+    """The signs of life that have come."""
+    found = []
+    while select.select([ears], [], [], 0)[0]:
+        found.append(ears.recv(100))
+    return found
+
+
+def of_signs_of_life(harness: Harness, ports: Callable[[], int]) -> list[Outcome]:
+    """A robot says to systemd that it lives, and is silent while its agent hangs."""
+    path = str(harness.folder() / "notify")
+    with socket.socket(socket.AF_UNIX, socket.SOCK_DGRAM) as ears:
+        ears.bind(path)
+        alone = Alone(harness, ports(), {"NOTIFY_SOCKET": path})
+        ears.settimeout(60)
+        lives = [ears.recv(100) for _ in range(2)]
+        agent = children(alone.process.pid)[0]
+        os.kill(agent, signal.SIGSTOP)
+        time.sleep(WHILE)
+        # One may have been on its way.
+        is_silent = len(signs(ears)) <= 1
+        os.kill(agent, signal.SIGCONT)
+        again = ears.recv(100)
+        alone.end()
+    found = (lives, is_silent, again)
+    return [compared("signs of life", shown(alone.words), found, ([b"WATCHDOG=1"] * 2, True, b"WATCHDOG=1"))]
+
+
+def of_another_plan(harness: Harness, ports: Callable[[], int]) -> list[Outcome]:
+    """Many messages of another plan are told of, and once."""
+    port = ports()
+    alone = Alone(harness, port, {})
+    with socket.socket(socket.AF_INET, socket.SOCK_DGRAM) as other:
+        for _ in range(12):
+            other.sendto(OTHERS, ("127.0.0.1", port))
+    due = b"robot 0: 10 messages were dropped: refused WrongPlan\n"
+    wait_until(lambda: due in alone.said())
+    alone.end()
+    return [compared("messages of another plan", shown(alone.words), alone.said(), due)]
+
+
+# A broker's process, and who starts it until it is killed itself.
+STARTER = """
+import pathlib, sys, time
+sys.path.insert(0, sys.argv[1])
+from broker import Broker
+Broker("127.0.0.1:1", [], pathlib.Path(sys.argv[2]))
+print("up", flush=True)
+time.sleep(600)
+"""
+
+
+def of_a_lone_broker(harness: Harness) -> list[Outcome]:
+    """A broker ends with who started it, also where that is killed."""
+    folder = harness.folder({"mosquitto": b"#!/bin/sh\nwhile :; do sleep 1; done\n"})
+    (folder / "mosquitto").chmod(0o755)
+    environment = {**os.environ, "PATH": f"{folder}:{os.environ['PATH']}"}
+    with subprocess.Popen([sys.executable, "-c", STARTER, str(FLEET), str(folder)], env=environment, stdout=subprocess.PIPE) as starter:
+        up = starter.stdout.readline()
+        runs = [command for _, command in processes_of(folder) if "/mosquitto -c" in command]
+        starter.kill()
+    is_gone = wait_until(lambda: not processes_of(folder))
+    return [compared("a broker whose starter is killed", "broker.py", (up, len(runs) > 0, is_gone), (b"up\n", True, True))]
+
+
+def of_one_text(_: Harness) -> list[Outcome]:
+    """Two folders are copied alone, and have this text each."""
+    texts = {(ROOT / name / "leaving.py").read_bytes() for name in ("tools", "examples/fleet")}
+    return [compared("how tools end", "looked at both leaving.py", len(texts), 1)]
+
+
+def tests(harness: Harness, ports: Callable[[], int]) -> Iterator[Callable[[], Sequence[Outcome]]]:
+    for with_ports in (of_services, of_signs_of_life, of_another_plan):
+        yield functools.partial(with_ports, harness, ports)
+    for test in (of_the_unit, of_a_lone_broker, of_one_text):
+        yield functools.partial(test, harness)
