@@ -188,6 +188,26 @@ def turning(page: Page, browser: Chromium) -> Iterator[Outcome]:
     yield compared("how a blocked run ends", file.name, told, "Blocked: rotation 0 can never begin, so no events bring this run to its end.")
 
 
+MOVES_LEFT = "2 moves are left, and nothing blocks them."
+LAST_MOVE = "1 move is left, and nothing blocks it."
+ALL_ARRIVED = "Every agent has arrived at the end of its path."
+# The events of a run, and what is told of how it ends: the moves that are left, whatever events bring them about.
+ENDINGS: Sequence[tuple[str, str]] = (
+    ("none.events", MOVES_LEFT),
+    ("hang.events", MOVES_LEFT),
+    ("half.events", LAST_MOVE),
+    ("stored.events", "No move is left: a restart will show that every agent has arrived at the end of its path."),
+    # Both are told to tear a write, which none of them makes any more.
+    ("armed.events", ALL_ARRIVED),
+)
+
+
+def endings(page: Page, browser: Chromium) -> Iterator[Outcome]:
+    for events, due in ENDINGS:
+        browser.open(page("ending.html", "lane.map", "behind.plan", events))
+        yield compared(f"how a run ends: {events}", events, browser.value(text_of("ending")), due)
+
+
 def running(page: Page, browser: Chromium) -> Iterator[Outcome]:
     file = page("run.html", "lane.map", "behind.plan", "run.events")
     browser.open(file)
@@ -208,7 +228,7 @@ def running(page: Page, browser: Chromium) -> Iterator[Outcome]:
     browser.value("page.seek(11), page.draw()")
     yield compared("who hears a message", file.name, "heard by nobody" in browser.value(text_of("event")), True)
     told = browser.value(text_of("ending"))
-    yield compared("how the run ends", file.name, told, "Complete: behind the last event each agent is at the end of its path.")
+    yield compared("how the run ends", file.name, told, "Every agent has arrived at the end of its path.")
     # A moving agent holds both cells, and is drawn in both; a broken one has the colour of faults, and form besides.
     browser.value("page.wish('goals'), page.seek(6)")
     yield compared("a moving agent is in both cells", file.name, [pixel(browser, x, 0.3) == LAND for x in (1, 1.5, 2)], [False] * 3)
@@ -376,5 +396,5 @@ def frames(browser: Chromium, page: pathlib.Path, name: str) -> Iterator[Outcome
 
 
 def outcomes(page: Page, browser: Chromium) -> Iterator[Outcome]:
-    for test in (accepted, faults, terrain, turning, running, keys, fingers, playing, readers):
+    for test in (accepted, faults, terrain, turning, running, endings, keys, fingers, playing, readers):
         yield from test(page, browser)

@@ -27,6 +27,8 @@ TOOL = ROOT / "tools" / "show.py"
 TERRAIN = "type octile\nheight 4\nwidth 8\nmap\n........\n.GGSSWW.\n.TT@@OO.\n..S.W.T.\n"
 OLD = b"old"
 MOST_PAGE = 10_000_000
+# Agent 0 goes, and agent 1 behind it up to its last record.
+WENT = ("start 0", "finish 0", "say 0", "deliver 1 0", "start 1")
 TEXTS = {
     "lane.map": LANE,
     "wall.map": WALL,
@@ -51,6 +53,9 @@ TEXTS = {
     "none.events": events(),
     "bad.events": events("start 0", "stop 0"),
     "hang.events": events("start 0"),
+    "half.events": events("start 0", "finish 0"),
+    "stored.events": events(*WENT, "tear 1 10", "finish 1"),
+    "armed.events": events(*WENT, "finish 1", "tear 1 0", "restart 0", "tear 0 3"),
 }
 
 

@@ -13,7 +13,7 @@ class Show {
     const courses = new Courses(facts, sections), rotations = rotationsOf(sections.rotations);
     this.facts = facts;
     this.world = facts.run
-      ? new RunWorld(courses, rotations, new Log(linesOf(sections.events), linesOf(sections.replies), courses.count), facts.run.ending)
+      ? new RunWorld(courses, rotations, new Log(linesOf(sections.events), linesOf(sections.replies), courses.count), facts.run)
       : new PlanWorld(courses, rotations);
     this.faults = facts.faults;
     this.ground = new Ground(facts, sections.terrain);

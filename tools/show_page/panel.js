@@ -55,7 +55,7 @@ class Panel {
 
   showRun() {
     this.element("events").hidden = false;
-    this.element("ending").textContent = endingInWords(this.world.ending);
+    this.element("ending").textContent = this.world.ending;
     const list = this.element("rows");
     this.rows = Array.from({ length: Math.min(ROWS, this.world.end) }, () => {
       const row = button("", () => this.act.seek(Number(row.dataset.event) + 1));

@@ -7,14 +7,13 @@ const X = 0, Y = 1, TO_X = 2, TO_Y = 3, LOOK = 4, WAIT_FOR = 5, WAIT_MOVES = 6, 
 const LEAST_SEEN = 3, MOST_SEEN = 24;
 
 class RunWorld {
-  constructor(courses, rotations, log, ending) {
+  constructor(courses, rotations, log, facts) {
     this.courses = courses;
     this.log = log;
-    this.ending = ending;
     this.end = log.kind.length;
     this.isRun = true;
     this.rotations = rotations;
-    const [word, number] = ending.split(" ");
+    const [word, number] = facts.ending.split(" ");
     this.blocking = word === "blocked" ? [rotations[Number(number)]] : [];
     this.post = new Post(log);
     this.moment = new Moment(courses.count);
@@ -23,6 +22,7 @@ class RunWorld {
     this.ends = new Int32Array(this.end);
     this.marks = [];
     this.replay();
+    this.ending = endingInWords(facts, courses.moves.every((moves, agent) => this.finished(agent) === moves));
     this.seek(0);
   }
 
@@ -32,7 +32,7 @@ class RunWorld {
     this.state = new Int32Array(STRIDE * courses.count);
     for (let agent = 0; agent < courses.count; agent += 1) {
       const [x, y] = courses.cell(agent, 0);
-      this.state.set([x, y, x, y, 0, -1, 0, 0, 0, -1, -1], STRIDE * agent);
+      this.state.set([x, y, x, y, courses.moves[agent] ? 0 : HOME, -1, 0, 0, 0, -1, -1], STRIDE * agent);
     }
     this.every = Math.max(512, 4 * courses.count);
     this.kept = [];

@@ -34,10 +34,10 @@ function button(text, act, title = "") {
   return element;
 }
 
-/** What the line says of how a run can end. */
-function endingInWords(ending) {
+/** How a run can end, as the program says, and how many moves are left; whether each agent is seen at its end. */
+function endingInWords({ ending, left }, isSeen) {
   const [word, number] = ending.split(" ");
   if (word === "blocked") return `Blocked: rotation ${number} can never begin, so no events bring this run to its end.`;
-  if (number === "0") return "Complete: behind the last event each agent is at the end of its path.";
-  return `Not complete: ${counted(Number(number), "more event brings", "more events bring")} each agent to the end of its path.`;
+  if (left) return `${counted(left, "move is left, and nothing blocks it", "moves are left, and nothing blocks them")}.`;
+  return isSeen ? "Every agent has arrived at the end of its path." : "No move is left: a restart will show that every agent has arrived at the end of its path.";
 }

@@ -68,7 +68,7 @@ def facts(shown: Shown, parts: Sequence[tuple[str, bytes]]) -> dict[str, object]
         "words": in_words(shown.verdict, shown.faults),
         "faults": [dataclasses.asdict(fault) for fault in shown.faults],
         "told": shown.courses.told,
-        "run": run and {"version": run.version, "events": len(run.events), "ending": run.ending},
+        "run": run and {"version": run.version, "events": len(run.events), "ending": run.ending, "left": run.left},
         "sizes": {name: len(part) for name, part in parts},
     }
 

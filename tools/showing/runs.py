@@ -9,17 +9,18 @@ MOST_EVENTS = 1_000_000
 # A longer reply is shortened: a message may tell of ten thousand agents.
 MOST_REPLY = 240
 KEPT = 120
-ENDS = (b"complete ", b"blocked ")
+ENDS, FINISH = (b"complete ", b"blocked "), b"finish "
 
 
 @dataclasses.dataclass(frozen=True)
 class Run:
-    """The events and the replies, a line each, and the line that says how the run can end."""
+    """The events and the replies, a line each, the line that says how the run can end, and how many moves are left then."""
 
     version: str
     events: list[bytes]
     replies: list[bytes]
     ending: str
+    left: int
 
 
 def shortened(line: bytes) -> bytes:
@@ -43,8 +44,8 @@ def read_run(program: Program, files: Sequence[str], events_name: str) -> Run:
         # A line behind the replies is read before the lines of how the run ends, which may be many.
         replies = [shortened(line) for _, line in zip(events[1:], talk.lines)]
         ending = next(talk.lines, b"")
-        for _ in talk.lines:
-            pass
+        # None of these events is refused, so each of them finishes a move.
+        left = sum(line.startswith(FINISH) for line in talk.lines)
     if talk.told or not ending.startswith(ENDS):
         talk.refuse(events_name)
-    return Run(events[0].decode(), events[1:], replies, ending.decode().rstrip("\n"))
+    return Run(events[0].decode(), events[1:], replies, ending.decode().rstrip("\n"), left)
