@@ -71,13 +71,18 @@ def text_of(name: str) -> str:
     return f"document.getElementById('{name}').textContent"
 
 
-def pixel(browser: Chromium, x: float, y: float) -> list[int]:
+def pixel(browser: Chromium, x: object, y: object) -> list[int]:
     """The colour of the page at a place between cells: whole numbers are the middles of cells."""
     script = f"""(() => {{ page.draw(); const [x, y] = page.view.pixel({x}, {y}).map(Math.round);
       const copy = new OffscreenCanvas(1, 1).getContext("2d", {{ willReadFrequently: true }});
       copy.drawImage(page.canvas, -x, -y);
       return [...copy.getImageData(0, 0, 1, 1).data].slice(0, 3); }})()"""
     return browser.value(script)
+
+
+def pixel_at(browser: Chromium, x: str, y: str) -> list[int]:
+    """The colour of the page at a pixel, which scripts tell."""
+    return pixel(browser, f"page.view.place({x}, {y})[0]", f"page.view.place({x}, {y})[1]")
 
 
 def quiet(browser: Chromium, name: str, page: pathlib.Path) -> Iterator[Outcome]:
@@ -188,15 +193,15 @@ def turning(page: Page, browser: Chromium) -> Iterator[Outcome]:
     yield compared("how a blocked run ends", file.name, told, "Blocked: rotation 0 can never begin, so no events bring this run to its end.")
 
 
-MOVES_LEFT = "2 moves are left, and nothing blocks them."
-LAST_MOVE = "1 move is left, and nothing blocks it."
-ALL_ARRIVED = "Every agent has arrived at the end of its path."
+MOVES_LEFT = "Behind the last event 2 moves are left, and nothing blocks them."
+LAST_MOVE = "Behind the last event 1 move is left, and nothing blocks it."
+ALL_ARRIVED = "Behind the last event every agent has arrived."
 # The events of a run, and what is told of how it ends: the moves that are left, whatever events bring them about.
 ENDINGS: Sequence[tuple[str, str]] = (
     ("none.events", MOVES_LEFT),
     ("hang.events", MOVES_LEFT),
     ("half.events", LAST_MOVE),
-    ("stored.events", "No move is left: a restart will show that every agent has arrived at the end of its path."),
+    ("stored.events", "Behind the last event no move is left: a restart will show that every agent has arrived."),
     # Both are told to tear a write, which none of them makes any more.
     ("armed.events", ALL_ARRIVED),
 )
@@ -228,7 +233,7 @@ def running(page: Page, browser: Chromium) -> Iterator[Outcome]:
     browser.value("page.seek(11), page.draw()")
     yield compared("who hears a message", file.name, "heard by nobody" in browser.value(text_of("event")), True)
     told = browser.value(text_of("ending"))
-    yield compared("how the run ends", file.name, told, "Every agent has arrived at the end of its path.")
+    yield compared("how the run ends", file.name, told, ALL_ARRIVED)
     # A moving agent holds both cells, and is drawn in both; a broken one has the colour of faults, and form besides.
     browser.value("page.wish('goals'), page.seek(6)")
     yield compared("a moving agent is in both cells", file.name, [pixel(browser, x, 0.3) == LAND for x in (1, 1.5, 2)], [False] * 3)
@@ -336,6 +341,82 @@ def fingers(page: Page, browser: Chromium) -> Iterator[Outcome]:
         yield compared(f"the button {name}", file.name, (browser.value("page.view.scale") > scale), grows)
 
 
+# What makes the space bar play again: an agent's number that was typed, and clicks.
+WAYS_BACK: Sequence[tuple[str, Callable[[Chromium], None]]] = (
+    ("a number that was typed", lambda browser: [browser.key(it) for it in ("/", "1", "Enter")] and None),
+    ("a click that zooms", lambda browser: click_on(browser, "closer")),
+    ("a click on what is drawn", lambda browser: click_on(browser, "legend")),
+    ("a click on the theme", lambda browser: click_on(browser, "theme")),
+)
+
+
+def click_on(browser: Chromium, name: str) -> None:
+    """A click near the upper left corner of an element."""
+    x, y = browser.value(f"[document.getElementById('{name}').getBoundingClientRect()].flatMap((it) => [it.left, it.top])")
+    browser.click(x + 16, y + 16)
+
+
+def focus(page: Page, browser: Chromium) -> Iterator[Outcome]:
+    """Behind whatever was done by hand the space bar plays; but who went to a button by a key stays there."""
+    file = page("keys.html", "hall.map", "keys.plan")
+    for name, act in WAYS_BACK:
+        browser.open(file)
+        act(browser)
+        before = browser.value("page.playing")
+        browser.key(" ")
+        yield compared(f"the space bar plays behind {name}", file.name, (before, browser.value("page.playing")), (False, True))
+    browser.open(file)
+    browser.value("document.getElementById('closer').focus()")
+    browser.key("Enter")
+    yield compared("a button that was pressed by a key keeps the focus", file.name, browser.value("document.activeElement.id"), "closer")
+
+
+# What is written behind the address of an open page, one after another, and the time, the agent and the theme that are seen then.
+ADDRESSES = (
+    ("time=2&agent=1", [2, 1, "auto"]),
+    ("time=3", [3, 1, "auto"]),
+    ("agent=0&theme=dark", [3, 0, "dark"]),
+    ("time=9&agent=9", [4, 0, "dark"]),
+    ("time=x&theme=red", [4, 0, "dark"]),
+)
+
+
+def addresses(page: Page, browser: Chromium) -> Iterator[Outcome]:
+    """What stands behind the address of a page is obeyed when it opens, and when it changes."""
+    file = page("keys.html", "hall.map", "keys.plan")
+    browser.open(file)
+    for address, due in ADDRESSES:
+        browser.value(f"location.hash = '{address}'")
+        browser.settle()
+        yield compared(f"#{address} in an open page", file.name, browser.value("[page.time, page.wishes.agent, page.theme]"), due)
+
+
+def numbers(page: Page, browser: Chromium) -> Iterator[Outcome]:
+    """Numbers have one form, and those of columns and rows stand over no cell."""
+    file = page("keys.html", "hall.map", "keys.plan")
+    browser.open(file)
+    told = [browser.value(f"(page.seek({moment}), page.draw(), {text_of('now')}.split(':')[0])") for moment in (2.02, 2.5)]
+    yield compared("a time between two times", file.name, told, ["Time 2 of 4", "Time 2.5 of 4"])
+    told = browser.value("[counted(1000, 'agent', 'agents'), shownNumber(2510), shownNumber(68.04), shownNumber(0.25, 2)]")
+    yield compared("amounts", file.name, told, ["1,000 agents", "2,510", "68", "0.25"])
+    # The map goes on above the picture and to its left; there is ground, and nobody is there.
+    browser.value("page.wish('goals'), page.seek(0), page.zoom(2), page.view.x = page.view.y = -0.4 * page.view.scale")
+    above, beside, inside = (pixel_at(browser, x, y) for x, y in (("page.view.pixel(2.2, 0)[0]", "5"), ("2", "page.view.pixel(0, 1.2)[1]"), ("40", "40")))
+    yield compared("numbers stand beside cells", file.name, (above, beside, inside == BESIDE), (BESIDE, BESIDE, False))
+
+
+def lists(page: Page, browser: Chromium) -> Iterator[Outcome]:
+    """The list of events has room for each refusal, also on a phone."""
+    file = page("many.html", "wide.map", "twelve.plan", "waits.events")
+    for width in (1280, PHONE):
+        browser.open(file, width, 844)
+        browser.value("page.seek(1009), page.draw()")
+        cut = "[...document.querySelectorAll('#rows span')].filter((it) => it.scrollWidth > it.clientWidth).map((it) => it.textContent)"
+        yield compared(f"nothing in the list is cut, {width} wide", file.name, browser.value(cut), [])
+        rows = browser.value("[...document.querySelectorAll('#rows button')].map((it) => it.innerText.replace(/\\s+/g, ' ')).pop()")
+        yield compared(f"a refusal in the list, {width} wide", file.name, rows, "1,010 start 11 refused Waits 10 12")
+
+
 def playing(page: Page, browser: Chromium) -> Iterator[Outcome]:
     file = page("keys.html", "hall.map", "keys.plan")
     browser.open(file)
@@ -396,5 +477,5 @@ def frames(browser: Chromium, page: pathlib.Path, name: str) -> Iterator[Outcome
 
 
 def outcomes(page: Page, browser: Chromium) -> Iterator[Outcome]:
-    for test in (accepted, faults, terrain, turning, running, endings, keys, fingers, playing, readers):
+    for test in (accepted, faults, terrain, turning, running, endings, focus, addresses, numbers, lists, keys, fingers, playing, readers):
         yield from test(page, browser)

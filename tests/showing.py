@@ -52,6 +52,10 @@ TEXTS = {
     "run.events": events(*show_pages.RUN),
     "none.events": events(),
     "bad.events": events("start 0", "stop 0"),
+    "wide.map": "type octile\nheight 2\nwidth 12\nmap\n............\n............\n",
+    # Agent 11 comes into the cell that agent 10 leaves for good by its twelfth move.
+    "twelve.plan": plan(*(f"{2 + agent} 0 =" for agent in range(10)), f"1 1 {6 * 'ns'}", f"0 0 {12 * '-'}e"),
+    "waits.events": events(*1009 * ["start 0"], "start 11"),
     "hang.events": events("start 0"),
     "half.events": events("start 0", "finish 0"),
     "stored.events": events(*WENT, "tear 1 10", "finish 1"),

@@ -10,6 +10,16 @@ class Controls {
     this.wireButtons();
     this.wirePointers();
     document.addEventListener("keydown", (event) => this.key(event));
+    this.wireFocus();
+  }
+
+  /** Who clicks wants no focus there: the space bar is to play. Who presses a key on a button keeps it. */
+  wireFocus() {
+    const giveBack = (target) => target.closest("button, summary, select")?.blur();
+    document.addEventListener("pointerdown", () => { this.isPointing = true; });
+    document.addEventListener("keydown", () => { this.isPointing = false; }, { capture: true });
+    document.addEventListener("click", (event) => { if (event.detail && event.target.tagName !== "SELECT") giveBack(event.target); });
+    document.addEventListener("change", (event) => { if (this.isPointing) giveBack(event.target); });
   }
 
   wireButtons() {
@@ -39,7 +49,10 @@ class Controls {
     const isAgent = /^\d+$/.test(text) && Number(text) < this.show.world.courses.count;
     field.setCustomValidity(isAgent ? "" : `There is no agent '${text}'.`);
     field.reportValidity();
-    if (isAgent) this.show.choose(Number(text), true);
+    if (isAgent) {
+      this.show.choose(Number(text), true);
+      field.blur();
+    }
     field.addEventListener("input", () => field.setCustomValidity(""), { once: true });
   }
 

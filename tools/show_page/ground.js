@@ -3,6 +3,8 @@
 const TILE = 1024;
 // From this size of a cell on its sides and signs are drawn, and from the next on the numbers of columns and rows.
 const SIDES_FROM = 7, SIGNS_FROM = 12, NUMBERS_FROM = 9;
+// How high the band is on which the numbers of columns stand.
+const BAND = 16;
 const TREES = 84, SWAMP = 83, WATER = 87, LAND = [46, 71];
 
 class Ground {
@@ -135,25 +137,26 @@ function asPixel(colour) {
   return (0xff000000 | (number & 255) << 16 | (number & 0xff00) | number >> 16) >>> 0;
 }
 
-/** The numbers of columns and rows, along the sides of the map that are seen. */
+/** The numbers of columns and rows, along the sides of the map that are seen. Where the map reaches there, they stand on a band above it. */
 function drawNumbers(context, view, ground, width, height, colours) {
   if (view.scale < 2) return;
   const seen = ground.seen(view, width, height);
   const every = [1, 2, 5, 10, 20, 50, 100, 200].find((it) => it * view.scale >= 22) || 500;
   context.font = `${NUMBERS_FROM + 1}px system-ui, "DejaVu Sans", sans-serif`;
-  context.fillStyle = colours.faint;
   context.textBaseline = "middle";
+  const wide = context.measureText(seen.bottom).width + 6, top = Math.max(view.y, BAND), left = Math.max(view.x, wide);
+  context.fillStyle = colours.off;
+  if (view.y < BAND) context.fillRect(0, 0, width, BAND);
+  if (view.x < wide) context.fillRect(0, 0, wide, height);
+  context.fillStyle = colours.faint;
   context.textAlign = "center";
-  const top = Math.max(view.y - 8, 8), left = Math.max(view.x - 6, 18);
-  const number = (value, x, y) => {
-    context.lineWidth = 3;
-    context.strokeStyle = colours.off;
-    context.strokeText(value, x, y);
-    context.fillText(value, x, y);
-  };
-  for (let x = Math.ceil(seen.left / every) * every; x < seen.right; x += every) number(x, view.x + (x + 0.5) * view.scale, top);
+  for (let x = Math.ceil(seen.left / every) * every; x < seen.right; x += every) {
+    const place = view.x + (x + 0.5) * view.scale;
+    if (place > left) context.fillText(x, place, top - BAND / 2);
+  }
   context.textAlign = "right";
   for (let y = Math.ceil(seen.top / every) * every; y < seen.bottom; y += every) {
-    if (view.y + (y + 0.5) * view.scale > top + 8) number(y, left, view.y + (y + 0.5) * view.scale);
+    const place = view.y + (y + 0.5) * view.scale;
+    if (place > top) context.fillText(y, left - 4, place);
   }
 }

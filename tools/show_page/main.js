@@ -30,7 +30,7 @@ class Show {
     this.panel = new Panel(facts, this.world, this.faults, this);
     this.signs = signsOf(this.world, sections.terrain, this.faults);
     this.offerSpeeds();
-    this.setTheme(this.storedTheme());
+    this.setTheme("auto");
     for (const name of ["first", "back", "play", "on", "last", "slider", "speed"]) document.getElementById(name).disabled = !this.world.end;
     for (const name of ["sooner", "later"]) document.getElementById(name).disabled = !this.world.marks.length;
     this.controls = new Controls(this);
@@ -48,7 +48,7 @@ class Show {
     const most = Math.max(8, this.world.end / AT_LEAST_IN), usual = Math.max(this.world.isRun ? 1 : 2, this.world.end / PLAYED_IN);
     this.speeds = SPEEDS.filter((it) => it <= most);
     const select = document.getElementById("speed");
-    for (const speed of this.speeds) select.add(new Option(`${speed}/s`, speed));
+    for (const speed of this.speeds) select.add(new Option(`${shownNumber(speed, 2)}/s`, speed));
     this.setSpeed(this.speeds.find((it) => it >= usual) || this.speeds[this.speeds.length - 1]);
   }
 
@@ -214,12 +214,15 @@ class Show {
     this.touch();
   }
 
-  // Light and dark
-
-  storedTheme() {
-    const given = new URLSearchParams(location.hash.slice(1)).get("theme");
-    return THEMES.includes(given) ? given : "auto";
+  /** Goes to what stands behind the address of the page, as `#time=11&agent=12`. What doesn't stand there stays as it is. */
+  obeyAddress() {
+    const given = new URLSearchParams(location.hash.slice(1)), agent = parseInt(given.get("agent"), 10), time = parseFloat(given.get("time"));
+    if (THEMES.includes(given.get("theme"))) this.setTheme(given.get("theme"));
+    if (time >= 0) this.seek(time);
+    if (agent >= 0 && agent < this.world.courses.count) this.choose(agent, true);
   }
+
+  // Light and dark
 
   nextTheme() {
     this.setTheme(THEMES[(THEMES.indexOf(this.theme) + 1) % THEMES.length]);
@@ -265,7 +268,7 @@ class Show {
     const now = performance.now();
     if (this.playing && now - this.told < PANEL_EACH) return;
     this.told = now;
-    this.slider.setAttribute("aria-valuetext", `${this.world.isRun ? "event" : "time"} ${shownTime(this.world.time)} of ${this.world.end}`);
+    this.slider.setAttribute("aria-valuetext", `${this.world.isRun ? "event" : "time"} ${shownNumber(this.world.time)} of ${shownNumber(this.world.end)}`);
     this.panel.update(this.wishes.agent, this.playing);
   }
 
@@ -312,9 +315,8 @@ async function start() {
   const sections = await unpack(facts.sizes);
   window.page = new Show(facts, sections);
   window.page.showFault();
-  const given = new URLSearchParams(location.hash.slice(1)), agent = parseInt(given.get("agent"), 10), time = parseFloat(given.get("time"));
-  if (time >= 0) window.page.seek(time);
-  if (agent >= 0 && agent < facts.agents) window.page.choose(agent, true);
+  window.page.obeyAddress();
+  window.addEventListener("hashchange", () => window.page.obeyAddress());
   window.page.draw();
 }
 

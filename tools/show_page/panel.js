@@ -1,6 +1,8 @@
 // What stands beside the drawing: the fault, rotations, events, and the agent that was chosen.
 
 const ROWS = 9, MOST_TURNS = 6;
+// The most letters of an event and of a reply that the list makes room for.
+const MOST_EVENT = 20, MOST_LISTED = 30;
 
 class Panel {
   constructor(facts, world, faults, act) {
@@ -29,7 +31,7 @@ class Panel {
     section.append(made("h2", "", "Rejected"));
     for (const fault of faults) {
       if (faults.length > 1) section.append(made("p", "", fault.words));
-      section.append(made("p", "row", made("code", "", fault.said), button(`Show time ${fault.time}`, () => this.act.showFault(fault), "to the fault (x)")));
+      section.append(made("p", "row", made("code", "", fault.said), button(`Show time ${shownNumber(fault.time)}`, () => this.act.showFault(fault), "to the fault (x)")));
     }
     const faint = (text) => section.append(made("p", "faint", text));
     if (facts.told) faint("Of such a plan no path is answered. The paths are drawn as the text of the plan gives them.");
@@ -46,16 +48,17 @@ class Panel {
     section.append(made("p", "", "Each of its agents moves into the cell of the next one, all in one step. "
       + "Agents that wait for one another can't begin that: no run of this plan comes to its end."));
     for (const it of rotations.slice(0, MOST_TURNS)) {
-      const line = made("p", "", `Step ${it.step}: agents ${listed(it.agents)} `);
+      const line = made("p", "", `Step ${shownNumber(it.step)}: agents ${listed(it.agents)} `);
       if (!this.world.isRun) line.append(button("Show", () => this.act.seek(it.step), "to this rotation"));
       section.append(line);
     }
-    if (rotations.length > MOST_TURNS) section.append(made("p", "faint", `and ${rotations.length - MOST_TURNS} more: the key r goes to the next one`));
+    if (rotations.length > MOST_TURNS) section.append(made("p", "faint", `and ${shownNumber(rotations.length - MOST_TURNS)} more: the key r goes to the next one`));
   }
 
   showRun() {
     this.element("events").hidden = false;
     this.element("ending").textContent = this.world.ending;
+    this.makeRoom();
     const list = this.element("rows");
     this.rows = Array.from({ length: Math.min(ROWS, this.world.end) }, () => {
       const row = button("", () => this.act.seek(Number(row.dataset.event) + 1));
@@ -63,6 +66,17 @@ class Panel {
       list.append(made("li", "", row));
       return row;
     });
+  }
+
+  /** Makes the list wide enough for all events and replies whole, but for messages. */
+  makeRoom() {
+    const { log } = this.world;
+    const longest = (lines, most) => Math.min(most, lines.reduce((length, line) => Math.max(length, line.length), 0));
+    const letters = [shownNumber(this.world.end).length, longest(log.events, MOST_EVENT)];
+    letters.push(longest(log.replies.filter((_, event) => log.reply[event] !== SAID), MOST_LISTED));
+    const { style } = document.documentElement;
+    style.setProperty("--columns", `${letters[0]}ch ${letters[1]}ch minmax(0, 1fr)`);
+    style.setProperty("--letters", letters.reduce((sum, it) => sum + it));
   }
 
   /** Brings everything to the moment. While it plays, what is read aloud is left alone. */
@@ -87,7 +101,7 @@ class Panel {
       row.classList.toggle("current", event === current);
       row.setAttribute("aria-current", event === current ? "step" : "false");
       reply.classList.toggle("refused", world.log.reply[event] === REFUSED);
-      this.put(number, String(event + 1));
+      this.put(number, shownNumber(event + 1));
       this.put(what, world.log.events[event]);
       this.put(reply, world.log.replies[event]);
     });
@@ -105,7 +119,7 @@ class Panel {
     }
     const { log, post } = this.world;
     const isRefused = log.reply[current] === REFUSED;
-    const lines = [made("div", "", `${current + 1}. ${log.events[current]}`), made("div", isRefused ? "reply refused" : "reply", log.replies[current])];
+    const lines = [made("div", "", `${shownNumber(current + 1)}. ${log.events[current]}`), made("div", isRefused ? "reply refused" : "reply", log.replies[current])];
     if (log.reply[current] === SAID) lines.push(made("div", "faint", this.heardInWords(log.who[current], post.hearers(current))));
     box.replaceChildren(...lines);
   }

@@ -83,16 +83,16 @@ class PlanWorld {
       else if (courses.isMove(agent, step)) moving += 1;
     }
     const rest = courses.count - home - moving;
-    const moves = `${counted(moving, "agent moves", "agents move")} in this step, ${rest} wait, ${home} at the end`;
+    const moves = `${counted(moving, "agent moves", "agents move")} in this step, ${shownNumber(rest)} wait, ${shownNumber(home)} at the end`;
     const turning = this.turning().map((it) => ` Agents ${listed(it.agents)} turn round together.`);
-    return `Time ${shownTime(this.time)} of ${this.end}: ${moves}.${turning.join("")}`;
+    return `Time ${shownNumber(this.time)} of ${shownNumber(this.end)}: ${moves}.${turning.join("")}`;
   }
 
   /** What there is to say of an agent: a list of texts and elements. */
   about(agent, choose) {
     const { courses } = this;
     const done = this.finished(agent);
-    const lines = [`${courses.inWords(agent)}, and is there from time ${courses.lengths[agent]} on`];
+    const lines = [`${courses.inWords(agent)}, and is there from time ${shownNumber(courses.lengths[agent])} on`];
     lines.push(`now in ${shownCell(courses.cell(agent, Math.floor(this.time)))}, ${counted(done, "move", "moves")} finished`);
     for (let move = done; move < Math.min(done + 3, courses.moves[agent]); move += 1) lines.push(this.needLine(agent, move, choose));
     if (done === courses.moves[agent]) lines.push("it makes no more moves");
@@ -101,7 +101,7 @@ class PlanWorld {
 
   needLine(agent, move, choose) {
     const step = this.courses.stepOf(agent, move), need = this.courses.need(agent, move);
-    const line = made("span", "", `move ${move}, in step ${step}, to ${shownCell(this.courses.cell(agent, step + 1))}`);
+    const line = made("span", "", `move ${shownNumber(move)}, in step ${shownNumber(step)}, to ${shownCell(this.courses.cell(agent, step + 1))}`);
     if (!this.courses.needs.length) return line;
     if (!need) line.append(": waits for nobody");
     else line.append(": waits until ", choose(need.agent), ` has finished ${counted(need.moves, "move", "moves")}`);

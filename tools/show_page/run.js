@@ -185,17 +185,17 @@ class RunWorld {
   inWords() {
     const { moment } = this;
     const having = (bit) => moment.look.reduce((sum, look) => sum + (look & bit ? 1 : 0), 0);
-    const parts = [`${having(MOVES)} on the way`, `${having(WAITS)} waiting`, `${having(HOME)} at the end`];
-    if (having(BROKEN)) parts.push(`${having(BROKEN)} broken`);
+    const parts = [[MOVES, "on the way"], [WAITS, "waiting"], [HOME, "at the end"]].map(([bit, words]) => `${shownNumber(having(bit))} ${words}`);
+    if (having(BROKEN)) parts.push(`${shownNumber(having(BROKEN))} broken`);
     const count = Math.floor(this.time);
     const last = count ? ` Last: ${this.log.events[count - 1]}: ${this.log.replies[count - 1].slice(0, 60)}.` : "";
-    return `${count} of ${counted(this.end, "event", "events")}: ${parts.join(", ")}.${last}`;
+    return `${shownNumber(count)} of ${counted(this.end, "event", "events")}: ${parts.join(", ")}.${last}`;
   }
 
   about(agent, choose) {
     const at = STRIDE * agent, { courses, state } = this;
     const look = state[at + LOOK];
-    const lines = [`${courses.inWords(agent)}, of which it has finished ${state[at + DONE]}`];
+    const lines = [`${courses.inWords(agent)}, of which it has finished ${shownNumber(state[at + DONE])}`];
     const cells = this.moment.held(agent).map(shownCell);
     lines.push(look & MOVES ? `is on its way from ${cells[0]} to ${cells[1]}, and holds both cells` : `stands in ${cells[0]}`);
     if (look & BROKEN) lines.push("is broken: a write failed, and it has not been restarted since");
@@ -216,7 +216,7 @@ class RunWorld {
     const at = STRIDE * agent, move = this.state[at + DONE] + (this.state[at + LOOK] & MOVES ? 1 : 0);
     const need = this.courses.need(agent, move);
     if (move >= this.courses.moves[agent]) return [];
-    if (!need) return [`its move ${move} will wait for nobody`];
-    return [made("span", "", `its move ${move} has to hear that `, choose(need.agent), ` has finished ${counted(need.moves, "move", "moves")}`)];
+    if (!need) return [`its move ${shownNumber(move)} will wait for nobody`];
+    return [made("span", "", `its move ${shownNumber(move)} has to hear that `, choose(need.agent), ` has finished ${counted(need.moves, "move", "moves")}`)];
   }
 }

@@ -4,18 +4,19 @@ function shownCell(cell) {
   return `column ${cell[0]}, row ${cell[1]}`;
 }
 
+/** An amount, a time or a place in an order. Numbers of agents, columns and rows are names, and have no commas. */
+function shownNumber(number, digits = 1) {
+  return number.toLocaleString("en", { maximumFractionDigits: digits });
+}
+
 function counted(number, one, many) {
-  return `${number.toLocaleString("en")} ${number === 1 ? one : many}`;
+  return `${shownNumber(number)} ${number === 1 ? one : many}`;
 }
 
 /** Numbers of agents as a list, cut where it gets long. */
 function listed(agents, most = 12) {
   const shown = Array.from(agents.slice(0, most)).join(", ");
-  return agents.length > most ? `${shown} and ${agents.length - most} more` : shown;
-}
-
-function shownTime(time) {
-  return Number.isInteger(time) ? String(time) : time.toFixed(1);
+  return agents.length > most ? `${shown} and ${shownNumber(agents.length - most)} more` : shown;
 }
 
 /** An element with a class and children, each a text or an element. */
@@ -38,6 +39,6 @@ function button(text, act, title = "") {
 function endingInWords({ ending, left }, isSeen) {
   const [word, number] = ending.split(" ");
   if (word === "blocked") return `Blocked: rotation ${number} can never begin, so no events bring this run to its end.`;
-  if (left) return `${counted(left, "move is left, and nothing blocks it", "moves are left, and nothing blocks them")}.`;
-  return isSeen ? "Every agent has arrived at the end of its path." : "No move is left: a restart will show that every agent has arrived at the end of its path.";
+  if (left) return `Behind the last event ${counted(left, "move is left, and nothing blocks it", "moves are left, and nothing blocks them")}.`;
+  return isSeen ? "Behind the last event every agent has arrived." : "Behind the last event no move is left: a restart will show that every agent has arrived.";
 }

@@ -53,17 +53,17 @@ def bad_move(said: str, agent: int, step: int, courses: Courses, ground: Ground)
     act = chr(courses.acts[agent][step])
     other = one[0] + STEPS[act][0], one[1] + STEPS[act][1]
     here, there = (f"{shown(cell)} ({ground.name(cell)})" for cell in (one, other))
-    words = f"In step {step} agent {agent} is to go {TOWARDS[act]}, from {here} to {there}: that is no legal step."
+    words = f"In step {step:,} agent {agent} is to go {TOWARDS[act]}, from {here} to {there}: that is no legal step."
     return Fault(said, words, step, [agent], [other], [(one, other)])
 
 
 def vertex(said: str, one: int, other: int, time: int, cell: Cell) -> Fault:
-    return Fault(said, f"Agents {one} and {other} both stand in {shown(cell)} at time {time}.", time, [one, other], [cell], [])
+    return Fault(said, f"Agents {one} and {other} both stand in {shown(cell)} at time {time:,}.", time, [one, other], [cell], [])
 
 
 def swap(said: str, one: int, other: int, step: int, courses: Courses) -> Fault:
     cells = [courses.cell(agent, step) for agent in (one, other)]
-    words = f"In step {step} agents {one} and {other} exchange their cells, {shown(cells[0])} and {shown(cells[1])}."
+    words = f"In step {step:,} agents {one} and {other} exchange their cells, {shown(cells[0])} and {shown(cells[1])}."
     return Fault(said, words, step, [one, other], cells, [(cells[0], cells[1]), (cells[1], cells[0])])
 
 
@@ -109,4 +109,4 @@ def in_words(verdict: dict[str, object], faults: Sequence[Fault]) -> str:
     if faults:
         return " ".join(fault.words for fault in faults)
     agents, cost, makespan = (verdict[name] for name in ("agents", "cost", "makespan"))
-    return f"The plan is accepted: {agents} {'agent' if agents == 1 else 'agents'}, sum of costs {cost}, makespan {makespan}."
+    return f"The plan is accepted: {agents:,} {'agent' if agents == 1 else 'agents'}, sum of costs {cost:,}, makespan {makespan:,}."
