@@ -111,6 +111,10 @@ LATER = f"In step 2 agent 0 is to go west, from column 0, row 0 (land) to column
 EXCHANGE = "In step 0 agents 0 and 1 exchange their cells, column 0, row 0 and column 1, row 0."
 INTO_TREES = f"In step 2 agent 0 is to go south, from column 1, row 1 (land) to column 1, row 2 (trees): {NO_STEP}"
 OFF = f"In step 0 agent 0 is to go east, from column 7, row 3 (land) to column 8, row 3 (off the map): {NO_STEP}"
+OTHER_START = "Agent 0 starts in column 1, row 0, and the start of row 0 of start.scen is column 0, row 0."
+OTHER_GOAL = "Agent 1 ends in column 1, row 0, and the goal of row 1 of goal.scen is column 2, row 0."
+OTHER_SIZE = "In row 0 of size.scen the map has 4 columns and 1 rows, and this one has 3 and 1."
+TOO_FEW = "The plan has 2 agents, and one.scen has 1 rows."
 FAULTS = (
     Faulty("vertex", ["lane.map", "vertex.plan"], 2, "Agents 0 and 1 both stand in column 0, row 0 at time 2.", [(0, 0)], [(1, 0), (2, 0)], [0, 1]),
     Faulty("swap", ["lane.map", "swap.plan"], 0, EXCHANGE, [(0, 0), (1, 0)], [(2, 0)], [0, 1]),
@@ -118,6 +122,10 @@ FAULTS = (
     Faulty("off the map", ["terrain.map", "beside.plan"], 0, OFF, [(8, 3)], [(7, 3)], [0]),
     Faulty("a bad start", ["terrain.map", "start.plan"], 0, "Agent 1 starts in column 3, row 2: out of bounds.", [(3, 2)], [(3, 1), (0, 0)], [1]),
     Faulty("a fault and a later step", ["lane.map", "both.plan"], 1, f"{TOGETHER} {LATER}", [(1, 0), (-1, 0)], [(0, 0), (2, 0)], [0, 1, 0]),
+    Faulty("a start that isn't the row's", ["lane.map", "behind.plan", "--scen", "start.scen"], 0, OTHER_START, [(1, 0), (0, 0)], [(2, 0)], [0]),
+    Faulty("a goal that is missed", ["lane.map", "behind.plan", "--scen", "goal.scen"], 1, OTHER_GOAL, [(1, 0), (2, 0)], [(0, 0)], [1]),
+    Faulty("a row of another map", ["lane.map", "behind.plan", "--scen", "size.scen"], 0, OTHER_SIZE, [], [(0, 0)], []),
+    Faulty("too few rows", ["lane.map", "behind.plan", "--scen", "one.scen"], 0, TOO_FEW, [], [(0, 0)], []),
     Faulty("a start far off", ["terrain.map", "far.plan"], 0, "Agent 0 starts in column 60000, row 2: off the map.", [], [(0, 0)], [0]),
 )
 
@@ -133,6 +141,21 @@ def faults(page: Page, browser: Chromium) -> Iterator[Outcome]:
         found = [pixel(browser, x - 0.48, y - 0.4) == FAULT for x, y in [*it.marked, *it.others]]
         yield compared(f"the cells of the fault: {it.name}", ran, found, [True] * len(it.marked) + [False] * len(it.others))
         yield compared(f"who has the fault: {it.name}", ran, browser.value("page.faults.flatMap((it) => it.agents)"), it.agents)
+
+
+def scenarios(page: Page, browser: Chromium) -> Iterator[Outcome]:
+    """A plan that solves a scenario, and a run of one that doesn't: it is valid, so its run is shown."""
+    browser.open(page("tasks.html", "lane.map", "behind.plan", "--scen", "tasks.scen"))
+    told = browser.value(text_of("verdict"))
+    yield compared("a scenario that is solved", "--scen tasks.scen", told, "The plan is accepted, and solves tasks.scen: 2 agents, sum of costs 2, makespan 1.")
+    file = page("goal.html", "lane.map", "behind.plan", "run.events", "--scen", "goal.scen")
+    browser.open(file)
+    yield from quiet(browser, "a run of a plan that misses a goal", file)
+    found = [browser.value(it) for it in (text_of("verdict"), "document.getElementById('verdict').className", "page.time", text_of("ending"))]
+    yield compared("a run of a plan that misses a goal", file.name, found, [OTHER_GOAL, "bad", 0, ALL_ARRIVED])
+    browser.open(page("goal.html", "lane.map", "behind.plan", "--scen", "goal.scen"))
+    about = browser.value(f"(page.choose(1), page.seek(0), page.draw(), {text_of('about')})")
+    yield compared("who waits for whom, where a goal is missed", file.name, "waits until agent 0 has finished 1 move" in about, True)
 
 
 def accepted(page: Page, browser: Chromium) -> Iterator[Outcome]:
@@ -477,5 +500,5 @@ def frames(browser: Chromium, page: pathlib.Path, name: str) -> Iterator[Outcome
 
 
 def outcomes(page: Page, browser: Chromium) -> Iterator[Outcome]:
-    for test in (accepted, faults, terrain, turning, running, endings, focus, addresses, numbers, lists, keys, fingers, playing, readers):
+    for test in (accepted, faults, scenarios, terrain, turning, running, endings, focus, addresses, numbers, lists, keys, fingers, playing, readers):
         yield from test(page, browser)

@@ -21,7 +21,7 @@ import gif_reader
 import show_pages
 import show_replays
 from harness import ROOT, Ended, Harness, Outcome, compared, ended_as, shown, side_by_side
-from texts import BEHIND, HALL, LANE, NOBODY, SHORT, SQUARE, SWAP, TURN, VERTEX, WALL, events, plan
+from texts import BEHIND, HALL, LANE, NOBODY, SHORT, SQUARE, SWAP, TASKS, TURN, VERTEX, WALL, events, plan, scen
 
 TOOL = ROOT / "tools" / "show.py"
 TERRAIN = "type octile\nheight 4\nwidth 8\nmap\n........\n.GGSSWW.\n.TT@@OO.\n..S.W.T.\n"
@@ -48,6 +48,12 @@ TEXTS = {
     "train.plan": plan("1 0 ee", "0 0 ee"),
     "both.plan": plan("0 0 eww", "1 0 ="),
     "bad.plan": BEHIND.replace("e-", "ex"),
+    "old.plan": BEHIND.replace("mapf-plan 1", "mapf-plan 0"),
+    "tasks.scen": TASKS,
+    "start.scen": scen("m.map 3 1 0 0 2 0 2", "m.map 3 1 0 0 1 0 1"),
+    "goal.scen": scen("m.map 3 1 1 0 2 0 1", "m.map 3 1 0 0 2 0 2"),
+    "size.scen": scen("m.map 4 1 1 0 2 0 1", "m.map 3 1 0 0 1 0 1"),
+    "one.scen": scen("m.map 3 1 1 0 2 0 1"),
     "keys.plan": plan("0 0 eee-", "0 1 -eee"),
     "run.events": events(*show_pages.RUN),
     "none.events": events(),
@@ -125,7 +131,9 @@ REFUSED: list[tuple[list[str], str, int]] = [
     (["no.map", "behind.plan"], "no.map: mapf: OpenFailed", 3),
     (["lane.map", "bad.plan"], "bad.plan: mapf: BadAct 4 12", 1),
     (["lane.map", "no.plan"], "no.plan: mapf: OpenFailed", 3),
-    (["lane.map", "lane.map"], "lane.map: mapf: BadHeader 1", 1),
+    (["lane.map", "old.plan"], "old.plan: mapf: BadHeader 1", 1),
+    (["lane.map", "behind.plan", "--scen", "lane.map"], "lane.map: mapf: NoVersion", 1),
+    (["lane.map", "behind.plan", "--scen", "no.scen"], "no.scen: mapf: OpenFailed", 3),
     (["lane.map", "behind.plan", "bad.events"], "bad.events: mapf: BadEvent 3", 1),
     (["lane.map", "behind.plan", "behind.plan"], "behind.plan: mapf: NoHeader", 1),
     (["lane.map", "behind.plan", "no.events"], "no.events: mapf: OpenFailed", 3),
@@ -174,6 +182,39 @@ def without_browser(room: Room) -> list[Outcome]:
 def refused(room: Room) -> Iterator[Outcome]:
     tests = [functools.partial(refuses, room.harness, *it) for it in REFUSED]
     yield from side_by_side([*tests, *(functools.partial(bad_line, room, it) for it in BAD_LINES), functools.partial(without_browser, room)])
+
+
+EXAMPLES = ROOT / "examples"
+# What planners wrote, all of the same plan; whether the starts are those of a scenario; and what each is.
+PLANNERS = (("corner.paths", False, "paths"), ("corner.lacam", False, "lacam"), ("corner.tracker", True, "tracker"))
+
+
+def converted(room: Room, name: str, has_scen: bool, source: str) -> list[Outcome]:
+    """The page of what a planner wrote is that of the plan, and it is said what it was read as."""
+    scen = ["--scen", str(EXAMPLES / "corner.scen")] if has_scen else []
+    words = [str(EXAMPLES / "corner.map"), str(EXAMPLES / "planners" / name), *scen]
+    ended = room.show(*words)
+    own, due = (sections(page)[1] for page in (ended.out, room.show(str(EXAMPLES / "corner.map"), str(EXAMPLES / "corner.plan")).out))
+    told = f"convert: {EXAMPLES / 'planners' / name} is read as {source}\n".encode()
+    wrote = (ended.status, own, sections(ended.out)[0]["source"], ended.err.startswith(told))
+    return [compared(f"what a planner wrote: {name}", f"{shown(words)}, which told {ended.err!r}", wrote, (0, due, source, True))]
+
+
+def not_converted(room: Room, words: list[str], told: str, status: int) -> list[Outcome]:
+    """What can't be converted is told in the line of the converter."""
+    ended = room.show(*words)
+    wrote = (ended.status, ended.out, ended.err.startswith(told.encode()), ended.err.count(b"\n"))
+    return [compared(f"no planner's text: {' '.join(words)}", f"{shown(words)}, which told {ended.err!r}", wrote, (status, b"", True, 1))]
+
+
+def planners(room: Room) -> Iterator[Outcome]:
+    bad = (
+        (["lane.map", "lane.map"], "lane.map:1: no format is known", 1),
+        (["lane.map", "lane.map", "--from", "paths"], "lane.map:1: ", 1),
+        ([str(EXAMPLES / "corner.map"), str(EXAMPLES / "planners" / "corner.tracker")], "convert: the format tracker leaves out where agents start", 2),
+    )
+    tests = [functools.partial(converted, room, *it) for it in PLANNERS]
+    yield from side_by_side([*tests, *(functools.partial(not_converted, room, *it) for it in bad)])
 
 
 def written(room: Room) -> Iterator[Outcome]:
@@ -323,7 +364,7 @@ def largest(room: Room, browser: Optional[chromium.Chromium]) -> Iterator[Outcom
 
 def outcomes(harness: Harness) -> Iterator[Outcome]:
     room = Room(harness)
-    for test in (held, refused, written):
+    for test in (held, refused, planners, written):
         yield from test(room)
     if not chromium.found():
         yield Outcome("pages in a browser, and pictures", lacks="Chromium")

@@ -1,34 +1,37 @@
 #!/usr/bin/env python3
 """Shows a plan, or a run of it, as one page for a browser, or as pictures. docs/SHOWING.md says what is drawn how.
 
-Usage: show.py MAP PLAN [EVENTS] [-o PAGE.html]
+Usage: show.py MAP PLAN [EVENTS] [--scen SCEN] [--from FORMAT] [-o PAGE.html]
        show.py MAP PLAN [EVENTS] --png TIME -o PICTURE.png
        show.py MAP PLAN [EVENTS] --gif FROM TO -o PICTURE.gif
 
-All that is shown is what `mapf` says of the files. The page opens at the fault of a plan that is rejected. With EVENTS it shows a run: TIME is then
-how many events have been answered. A picture is drawn by a Chromium, which has to be there; a page needs nothing but a browser to look at it.
+All that is shown is what `mapf` says of the files. PLAN may also be what a planner wrote: convert.py makes a plan of it first, and says so. The page
+opens at the fault of a plan that is rejected, also for a scenario that it doesn't solve. With EVENTS it shows a run: TIME is then how many events have
+been answered. A picture is drawn by a Chromium, which has to be there; a page needs nothing but a browser to look at it.
 
-Status 0: done. 1: a text has a fault, told in the line of `mapf` with the file. 2: a bad command line. 3: a file or a tool failed, or there is no
-browser for a picture. Unless it is 0, nothing is written.
+Status 0: done. 1: a text has a fault, told in the line of `mapf` or of convert.py with the file. 2: a bad command line. 3: a file or a tool failed, or
+there is no browser for a picture. Unless it is 0, nothing is written.
 """
 import argparse
 import contextlib
+import dataclasses
 import pathlib
 import shutil
 import sys
 import tempfile
-from typing import Optional, Sequence
+from typing import Sequence
 
 sys.dont_write_bytecode = True
 from leaving import heed_signals  # noqa: E402
+from plan_formats import formats  # noqa: E402
 from showing import pictures  # noqa: E402
 from showing.browser import Browser, find  # noqa: E402
-from showing.courses import read_courses  # noqa: E402
 from showing.page import Shown, page  # noqa: E402
+from showing.planners import Converter  # noqa: E402
 from showing.program import Failed, Program, Refused, copied  # noqa: E402
-from showing.runs import Run, read_run  # noqa: E402
-from showing.verdicts import faults_of, read_ground, read_verdict  # noqa: E402
-from showing.waits import no_waits, read_waits  # noqa: E402
+from showing.runs import read_run  # noqa: E402
+from showing.sides import Side, read_side  # noqa: E402
+from showing.verdicts import Ground, read_ground, read_scenario  # noqa: E402
 from whole_file import draft  # noqa: E402
 
 ROOT = pathlib.Path(__file__).resolve().parent.parent
@@ -54,8 +57,10 @@ def time(word: str) -> float:
 def read_words(words: Sequence[str]) -> argparse.Namespace:
     parser = argparse.ArgumentParser(prog="show.py", description=__doc__, formatter_class=argparse.RawDescriptionHelpFormatter)
     parser.add_argument("map", metavar="MAP", help="the map of the plan")
-    parser.add_argument("plan", metavar="PLAN", help="the plan; tools/convert.py makes one of what planners write")
+    parser.add_argument("plan", metavar="PLAN", help="the plan, or what a planner wrote")
     parser.add_argument("events", metavar="EVENTS", nargs="?", help="the events of a run of the plan")
+    parser.add_argument("--scen", metavar="SCEN", help="the scenario that the plan is to solve")
+    parser.add_argument("--from", dest="source", choices=list(formats()), metavar="FORMAT", help="what a planner wrote (guessed by its beginning)")
     parser.add_argument("-o", "--output", type=pathlib.Path, metavar="FILE", help="where the page (standard output) or the picture goes")
     kind = parser.add_mutually_exclusive_group()
     kind.add_argument("--png", type=time, metavar="TIME", help="a picture of this time, in place of the page")
@@ -78,21 +83,25 @@ def read_words(words: Sequence[str]) -> argparse.Namespace:
 def look(given: argparse.Namespace, folder: pathlib.Path) -> Shown:
     """All that the program says of the files."""
     program = Program(given.program)
-    plan_file = copied(given.plan, folder, "plan")
     ground, map_text = read_ground(program, given.map, given.map)
     (folder / "map").write_bytes(map_text)
-    files = [str(folder / "map"), plan_file]
-    verdict = read_verdict(program, files, given.plan)
-    courses = read_courses(program, files, given.plan)
-    is_valid = bool(verdict["accepted"])
-    waits = read_waits(program, files, courses.acts, given.plan) if is_valid else no_waits()
-    run: Optional[Run] = None
-    if given.events and is_valid:
-        run = read_run(program, [*files, copied(given.events, folder, "events")], given.events)
-    elif given.events:
+    names = {name: pathlib.Path(getattr(given, name)).name for name in ("map", "plan", "events", "scen") if getattr(given, name)}
+    return Shown(names, ground, look_at_plan(given, program, folder, given.plan, ground))
+
+
+def look_at_plan(given: argparse.Namespace, program: Program, folder: pathlib.Path, plan: str, ground: Ground) -> Side:
+    """All that the program says of a plan, and of its run."""
+    file, source, told = Converter(program, given.map, given.source, given.scen).plan_of(plan, folder, "plan")
+    if told:
+        tell(told)
+    files = [str(folder / "map"), file]
+    scenario = read_scenario(program, copied(given.scen, folder, "scen"), given.scen) if given.scen else None
+    side = read_side(program, files, plan, source, ground, scenario)
+    if given.events and side.is_valid:
+        return dataclasses.replace(side, run=read_run(program, [*files, copied(given.events, folder, "events")], given.events))
+    if given.events:
         tell(f"show: {given.events}: not shown, since a plan that is rejected has no runs")
-    names = {name: pathlib.Path(getattr(given, name)).name for name in ("map", "plan", "events") if getattr(given, name)}
-    return Shown(names, ground, courses, verdict, faults_of(verdict, courses, ground), waits, run)
+    return side
 
 
 def write_page(given: argparse.Namespace, shown: Shown) -> None:

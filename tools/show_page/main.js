@@ -115,9 +115,10 @@ class Show {
 
   showFault(fault = this.faults[0]) {
     if (!fault) return;
-    this.seek(fault.time);
+    // A plan whose run is shown has a fault of its scenario alone, and its time is none of the run.
+    if (!this.world.isRun) this.seek(fault.time);
     this.fit();
-    if (this.view.scale < FAULT_SCALE / 2) {
+    if (this.view.scale < FAULT_SCALE / 2 && fault.cells.length) {
       this.view.scale = FAULT_SCALE;
       this.view.centre(...fault.cells[0], this.width, this.height);
       this.isWhole = false;
@@ -277,7 +278,7 @@ class Show {
     const strip = document.getElementById("strip"), { world } = this;
     const marks = [
       ...world.marks.map((time) => [time, world.log.isFailure(time - 1) ? this.colours.fault : this.colours.accent]),
-      ...this.faults.map((it) => [it.time, this.colours.fault]),
+      ...(world.isRun ? [] : this.faults.map((it) => [it.time, this.colours.fault])),
       ...(world.isRun ? [] : world.rotations.map((it) => [it.step, this.colours.ring])),
     ];
     strip.hidden = !marks.length;

@@ -14,6 +14,7 @@ class Panel {
     this.said = "";
     this.element = (name) => document.getElementById(name);
     this.showVerdict();
+    this.showSource();
     this.showFaults();
     this.showTurns();
     if (world.isRun) this.showRun();
@@ -21,6 +22,12 @@ class Panel {
 
   showVerdict() {
     this.element("verdict").className = this.faults.length ? "bad" : "good";
+  }
+
+  showSource() {
+    const { name, source } = this.facts;
+    this.element("source").hidden = !source;
+    this.element("source").textContent = `${name} was converted: it has the format ${source}.`;
   }
 
   showFaults() {
@@ -31,10 +38,12 @@ class Panel {
     section.append(made("h2", "", "Rejected"));
     for (const fault of faults) {
       if (faults.length > 1) section.append(made("p", "", fault.words));
-      section.append(made("p", "row", made("code", "", fault.said), button(`Show time ${shownNumber(fault.time)}`, () => this.act.showFault(fault), "to the fault (x)")));
+      const show = button(this.world.isRun ? "Show" : `Show time ${shownNumber(fault.time)}`, () => this.act.showFault(fault), "to the fault (x)");
+      section.append(made("p", "row", made("code", "", fault.said), ...(fault.cells.length ? [show] : [])));
     }
     const faint = (text) => section.append(made("p", "faint", text));
     if (facts.told) faint("Of such a plan no path is answered. The paths are drawn as the text of the plan gives them.");
+    if (facts.isValid) return;
     if (facts.names.events) faint("A plan that is rejected has no runs, so the events are not shown.");
     else faint("Of a plan that is rejected it isn't said who waits for whom.");
   }

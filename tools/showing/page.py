@@ -8,12 +8,10 @@ import pathlib
 import string
 import zlib
 from array import array
-from typing import Iterator, Optional, Sequence
+from typing import Iterator, Sequence
 
-from showing.courses import Courses
-from showing.runs import Run
-from showing.verdicts import Fault, Ground, in_words
-from showing.waits import Waits
+from showing.sides import Side
+from showing.verdicts import Ground, in_words
 
 PARTS = pathlib.Path(__file__).resolve().parent.parent / "show_page"
 # The scripts in their order. They share one scope.
@@ -26,17 +24,17 @@ class Shown:
 
     names: dict[str, str]
     ground: Ground
-    courses: Courses
-    verdict: dict[str, object]
-    faults: Sequence[Fault]
-    waits: Waits
-    run: Optional[Run]
+    side: Side
 
 
 def sections(shown: Shown) -> Iterator[tuple[str, bytes]]:
     """What there is much of, each part by its name."""
-    courses, waits, run = shown.courses, shown.waits, shown.run
     yield "terrain", shown.ground.rows
+    yield from sections_of(shown.side)
+
+
+def sections_of(side: Side) -> Iterator[tuple[str, bytes]]:
+    courses, waits, run = side.courses, side.waits, side.run
     yield "starts", little(array("i", itertools.chain.from_iterable(courses.starts)))
     yield "lengths", little(array("i", map(len, courses.acts)))
     yield "acts", b"".join(courses.acts)
@@ -57,20 +55,28 @@ def little(numbers: array) -> bytes:
 
 def facts(shown: Shown, parts: Sequence[tuple[str, bytes]]) -> dict[str, object]:
     """What there is little of, and how long each of the other parts is."""
-    run = shown.run
+    own = {"names": shown.names, "width": shown.ground.width, "height": shown.ground.height, "sizes": {name: len(part) for name, part in parts}}
+    return {**own, **facts_of(shown.side, shown)}
+
+
+def facts_of(side: Side, shown: Shown) -> dict[str, object]:
+    run = side.run
     return {
-        "names": shown.names,
-        "width": shown.ground.width,
-        "height": shown.ground.height,
-        "agents": len(shown.courses.starts),
-        "end": shown.courses.end,
-        "verdict": shown.verdict,
-        "words": in_words(shown.verdict, shown.faults),
-        "faults": [dataclasses.asdict(fault) for fault in shown.faults],
-        "told": shown.courses.told,
+        "name": side.name,
+        "source": side.source,
+        "agents": len(side.courses.starts),
+        "end": side.courses.end,
+        "verdict": side.verdict,
+        "words": words_of(side, shown),
+        "faults": [dataclasses.asdict(fault) for fault in side.faults],
+        "isValid": side.is_valid,
+        "told": side.courses.told,
         "run": run and {"version": run.version, "events": len(run.events), "ending": run.ending, "left": run.left},
-        "sizes": {name: len(part) for name, part in parts},
     }
+
+
+def words_of(side: Side, shown: Shown) -> str:
+    return in_words(side.verdict, side.faults, shown.names.get("scen", ""))
 
 
 def packed(parts: Sequence[tuple[str, bytes]]) -> str:
@@ -95,7 +101,7 @@ def page(shown: Shown) -> Iterator[str]:
     title = " \u00b7 ".join(shown.names.values())
     fields = {
         "title": html.escape(title),
-        "words": html.escape(in_words(shown.verdict, shown.faults)),
+        "words": html.escape(words_of(shown.side, shown)),
         "style": read_part("page.css"),
         "facts": as_json(facts(shown, parts)),
         "data": packed(parts),

@@ -1,13 +1,15 @@
 """What `mapf check` says of a plan, and a fault in words, with the cells in which it is seen."""
 import dataclasses
 import json
-from typing import Sequence
+from typing import Optional, Sequence
 
 from showing.courses import STEPS, Cell, Courses
 from showing.program import Program
 
 TERRAIN = {".": "land", "G": "land", "S": "swamp", "W": "water", "@": "out of bounds", "O": "out of bounds", "T": "trees"}
 TOWARDS = {"n": "north", "e": "east", "s": "south", "w": "west"}
+# What a plan can have that is valid, but doesn't solve a scenario.
+OF_A_SCENARIO = ("TooFewRows", "SizeDiffers", "StartDiffers", "GoalDiffers")
 
 
 @dataclasses.dataclass(frozen=True)
@@ -24,6 +26,24 @@ class Ground:
         if not (0 <= x < self.width and 0 <= y < self.height):
             return "off the map"
         return TERRAIN[chr(self.rows[y * self.width + x])]
+
+
+@dataclasses.dataclass(frozen=True)
+class Row:
+    """A row of a scenario: the size of its map, the start and the goal."""
+
+    size: tuple[int, int]
+    start: Cell
+    goal: Cell
+
+
+@dataclasses.dataclass(frozen=True)
+class Scenario:
+    """A scenario by its name, the copy of its file, and its rows."""
+
+    name: str
+    file: str
+    rows: Sequence[Row]
 
 
 @dataclasses.dataclass(frozen=True)
@@ -67,6 +87,28 @@ def swap(said: str, one: int, other: int, step: int, courses: Courses) -> Fault:
     return Fault(said, words, step, [one, other], cells, [(cells[0], cells[1]), (cells[1], cells[0])])
 
 
+def of_a_row(said: str, agent: int, courses: Courses, ground: Ground, scenario: Scenario) -> Fault:
+    """A start or a goal that isn't that of the agent's row, or a row that is for another map."""
+    kind, row, last = said.split()[0], scenario.rows[agent], len(courses.acts[agent])
+    where = f"row {agent} of {scenario.name}"
+    if kind == "SizeDiffers":
+        words = f"In {where} the map has {row.size[0]:,} columns and {row.size[1]:,} rows, and this one has {ground.width:,} and {ground.height:,}."
+        return Fault(said, words, 0, [], [], [])
+    is_goal = kind == "GoalDiffers"
+    cell, due = (courses.cell(agent, last), row.goal) if is_goal else (courses.starts[agent], row.start)
+    verb, what = ("ends", "goal") if is_goal else ("starts", "start")
+    words = f"Agent {agent} {verb} in {shown(cell)}, and the {what} of {where} is {shown(due)}."
+    return Fault(said, words, last if is_goal else 0, [agent], [cell, due], [])
+
+
+def of_the_scenario(said: str, courses: Courses, ground: Ground, scenario: Scenario) -> Fault:
+    kind, *numbers = said.split()
+    if kind == "TooFewRows":
+        words = f"The plan has {len(courses.starts):,} agents, and {scenario.name} has {len(scenario.rows):,} rows."
+        return Fault(said, words, 0, [], [], [])
+    return of_a_row(said, int(numbers[0]), courses, ground, scenario)
+
+
 def fault_of(said: str, courses: Courses, ground: Ground) -> Fault:
     """A fault of the program, as it can be shown."""
     kind, *rest = said.split()
@@ -80,19 +122,36 @@ def fault_of(said: str, courses: Courses, ground: Ground) -> Fault:
     return swap(said, *numbers, courses)
 
 
-def faults_of(verdict: dict[str, object], courses: Courses, ground: Ground) -> list[Fault]:
+def is_of_the_scenario(verdict: dict[str, object]) -> bool:
+    """Whether a plan is valid, and doesn't solve its scenario."""
+    return str(verdict.get("fault")).split()[0] in OF_A_SCENARIO
+
+
+def faults_of(verdict: dict[str, object], courses: Courses, ground: Ground, scenario: Optional[Scenario]) -> list[Fault]:
     """The fault of a rejected plan, and the one for which its courses are those of its text."""
+    if scenario and is_of_the_scenario(verdict):
+        return [of_the_scenario(str(verdict["fault"]), courses, ground, scenario)]
     said = [str(verdict["fault"])] if "fault" in verdict else []
     if courses.told and courses.told not in said:
         said.append(courses.told)
     return [fault_of(it, courses, ground) for it in said]
 
 
-def read_verdict(program: Program, files: Sequence[str], plan: str) -> dict[str, object]:
-    text, talk = program.answer("check", "--json", "--", *files)
+def read_verdict(program: Program, files: Sequence[str], plan: str, scenario: Optional[Scenario]) -> dict[str, object]:
+    scen = ["--scen", scenario.file] if scenario else []
+    text, talk = program.answer("check", "--json", *scen, "--", *files)
     if not text:
         talk.refuse(plan)
     return json.loads(text)
+
+
+def read_scenario(program: Program, file: str, name: str) -> Scenario:
+    """The scenario of a file, which is a copy."""
+    text, talk = program.answer("scen", "--", file)
+    if talk.status:
+        talk.refuse(name)
+    rows = [list(map(int, line.split(b"\t")[2:8])) for line in text.splitlines()[1:]]
+    return Scenario(name.rpartition("/")[2], file, [Row((it[0], it[1]), (it[2], it[3]), (it[4], it[5])) for it in rows])
 
 
 def read_ground(program: Program, file: str, map_name: str) -> tuple[Ground, bytes]:
@@ -104,9 +163,10 @@ def read_ground(program: Program, file: str, map_name: str) -> tuple[Ground, byt
     return Ground(int(width.split()[1]), int(height.split()[1]), rows.replace(b"\n", b"")), text
 
 
-def in_words(verdict: dict[str, object], faults: Sequence[Fault]) -> str:
+def in_words(verdict: dict[str, object], faults: Sequence[Fault], scen: str = "") -> str:
     """What the page says of the plan, before anything is drawn."""
     if faults:
         return " ".join(fault.words for fault in faults)
     agents, cost, makespan = (verdict[name] for name in ("agents", "cost", "makespan"))
-    return f"The plan is accepted: {agents:,} {'agent' if agents == 1 else 'agents'}, sum of costs {cost:,}, makespan {makespan:,}."
+    solves = f", and solves {scen}" if scen else ""
+    return f"The plan is accepted{solves}: {agents:,} {'agent' if agents == 1 else 'agents'}, sum of costs {cost:,}, makespan {makespan:,}."

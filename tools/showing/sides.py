@@ -1,0 +1,34 @@
+"""A plan that is shown, and all that the program says of it."""
+import dataclasses
+import pathlib
+from typing import Optional, Sequence
+
+from showing.courses import Courses, read_courses
+from showing.program import Program
+from showing.runs import Run
+from showing.verdicts import Fault, Ground, Scenario, faults_of, is_of_the_scenario, read_verdict
+from showing.waits import Waits, no_waits, read_waits
+
+
+@dataclasses.dataclass(frozen=True)
+class Side:
+    """A plan by its name, the format that it was converted from, and its run. A plan may be valid, and not solve the scenario."""
+
+    name: str
+    source: str
+    courses: Courses
+    verdict: dict[str, object]
+    faults: Sequence[Fault]
+    waits: Waits
+    is_valid: bool
+    run: Optional[Run] = None
+
+
+def read_side(program: Program, files: Sequence[str], plan: str, source: str, ground: Ground, scenario: Optional[Scenario]) -> Side:
+    """What the program says of a plan, whose file is a copy: `plan` is what it was called."""
+    verdict = read_verdict(program, files, plan, scenario)
+    courses = read_courses(program, files, plan)
+    is_valid = bool(verdict["accepted"]) or is_of_the_scenario(verdict)
+    waits = read_waits(program, files, courses.acts, plan) if is_valid else no_waits()
+    faults = faults_of(verdict, courses, ground, scenario)
+    return Side(pathlib.Path(plan).name, source, courses, verdict, faults, waits, is_valid)
