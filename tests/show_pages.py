@@ -152,10 +152,44 @@ def scenarios(page: Page, browser: Chromium) -> Iterator[Outcome]:
     browser.open(file)
     yield from quiet(browser, "a run of a plan that misses a goal", file)
     found = [browser.value(it) for it in (text_of("verdict"), "document.getElementById('verdict').className", "page.time", text_of("ending"))]
-    yield compared("a run of a plan that misses a goal", file.name, found, [OTHER_GOAL, "bad", 0, ALL_ARRIVED])
+    yield compared("a run of a plan that misses a goal", file.name, found, [OTHER_GOAL, "verdict bad", 0, ALL_ARRIVED])
     browser.open(page("goal.html", "lane.map", "behind.plan", "--scen", "goal.scen"))
     about = browser.value(f"(page.choose(1), page.seek(0), page.draw(), {text_of('about')})")
     yield compared("who waits for whom, where a goal is missed", file.name, "waits until agent 0 has finished 1 move" in about, True)
+
+
+def beside(page: Page, browser: Chromium) -> Iterator[Outcome]:
+    """Two plans side by side, at the same times."""
+    file = page("two.html", "lane.map", "behind.plan", "--beside", "swap.plan")
+    browser.open(file)
+    yield from quiet(browser, "two plans", file)
+    told = [browser.value(text_of(name)) for name in ("verdict", "other", "caption", "other-caption")]
+    accepted = "behind.plan: The plan is accepted: 2 agents, sum of costs 2, makespan 1."
+    yield compared("the verdicts of two plans", file.name, told, [accepted, f"swap.plan: {EXCHANGE}", "behind.plan", "swap.plan"])
+    yield compared("which of them is rejected", file.name, browser.value("page.sides.map((it) => it.faults.length)"), [0, 1])
+    file = page("two.html", "hall.map", "keys.plan", "--beside", "train.plan")
+    browser.open(file)
+    browser.value("page.seek(3)")
+    browser.settle()
+    cells = browser.value("page.sides.map((it) => [0, 1].map((agent) => it.world.moment.held(agent).join(';')))")
+    yield compared("a plan that has ended stays at its end", file.name, cells, [["3,0", "2,1"], ["3,0", "2,0"]])
+    due = "keys.plan: Time 3 of 4: 1 agent moves in this step, 0 wait, 1 at the end.\ntrain.plan: Time 2 of 2: 0 agents move in this step, 0 wait, 2 at the end."
+    yield compared("the moment of two plans in words", file.name, browser.value(text_of("now")), due)
+    x, y = browser.value("[page.sides[1].canvas.getBoundingClientRect()].flatMap((it) => [it.left, it.top])")
+    across, down = browser.value("page.view.pixel(2, 0)")
+    browser.click(x + across, y + down)
+    about = browser.value(text_of("about"))
+    yield compared("a click on the other plan", file.name, (browser.value("page.wishes.agent"), "keys.plan" in about, "train.plan" in about), (1, True, True))
+    boxes = "page.sides.flatMap((it) => [it.canvas.getBoundingClientRect()].map((box) => [box.width, box.height, box.left, box.top].map(Math.round)))"
+    (wide, high, left, top), other = browser.value(boxes)
+    yield compared("both are equally large, one beside the other", file.name, other, [wide, high, left + wide, top])
+    browser.open(page("two.html", "hall.map", "keys.plan", "--beside", "nobody.plan"), PHONE, 844)
+    (wide, high, left, top), other = browser.value(boxes)
+    is_below = other[:3] == [wide, high, left] and abs(other[3] - top - high) <= 1
+    yield compared("on a phone one is below the other", file.name, is_below or (wide, high, left, top, other), True)
+    about = browser.value(f"(page.choose(1), page.draw(), {text_of('about')})")
+    yield compared("an agent that one plan lacks", file.name, about.endswith("nobody.planhas no such agent"), True)
+    yield compared("nothing of two plans is wider than a phone", file.name, browser.value("document.documentElement.scrollWidth"), PHONE)
 
 
 def accepted(page: Page, browser: Chromium) -> Iterator[Outcome]:
@@ -500,5 +534,5 @@ def frames(browser: Chromium, page: pathlib.Path, name: str) -> Iterator[Outcome
 
 
 def outcomes(page: Page, browser: Chromium) -> Iterator[Outcome]:
-    for test in (accepted, faults, scenarios, terrain, turning, running, endings, focus, addresses, numbers, lists, keys, fingers, playing, readers):
+    for test in (accepted, faults, scenarios, beside, terrain, turning, running, endings, focus, addresses, numbers, lists, keys, fingers, playing, readers):
         yield from test(page, browser)

@@ -131,6 +131,7 @@ REFUSED: list[tuple[list[str], str, int]] = [
     (["no.map", "behind.plan"], "no.map: mapf: OpenFailed", 3),
     (["lane.map", "bad.plan"], "bad.plan: mapf: BadAct 4 12", 1),
     (["lane.map", "no.plan"], "no.plan: mapf: OpenFailed", 3),
+    (["lane.map", "behind.plan", "--beside", "bad.plan"], "bad.plan: mapf: BadAct 4 12", 1),
     (["lane.map", "old.plan"], "old.plan: mapf: BadHeader 1", 1),
     (["lane.map", "behind.plan", "--scen", "lane.map"], "lane.map: mapf: NoVersion", 1),
     (["lane.map", "behind.plan", "--scen", "no.scen"], "no.scen: mapf: OpenFailed", 3),
@@ -150,6 +151,9 @@ BAD_LINES = (
     ["lane.map", "behind.plan", "--png", "1", "--gif", "0", "1", "-o", "a"],
     ["lane.map", "behind.plan", "--width", "10", "-o", "a"],
     ["lane.map", "behind.plan", "run.events", "run.events"],
+    ["lane.map", "behind.plan", "run.events", "--beside", "swap.plan"],
+    ["lane.map", "behind.plan", "--beside", "swap.plan", "--png", "0", "-o", "a"],
+    ["lane.map", "behind.plan", "--from", "bees"],
 )
 
 

@@ -2,6 +2,7 @@
 """Shows a plan, or a run of it, as one page for a browser, or as pictures. docs/SHOWING.md says what is drawn how.
 
 Usage: show.py MAP PLAN [EVENTS] [--scen SCEN] [--from FORMAT] [-o PAGE.html]
+       show.py MAP PLAN --beside PLAN [--scen SCEN] [-o PAGE.html]
        show.py MAP PLAN [EVENTS] --png TIME -o PICTURE.png
        show.py MAP PLAN [EVENTS] --gif FROM TO -o PICTURE.gif
 
@@ -62,6 +63,7 @@ def read_words(words: Sequence[str]) -> argparse.Namespace:
     parser.add_argument("--scen", metavar="SCEN", help="the scenario that the plan is to solve")
     parser.add_argument("--from", dest="source", choices=list(formats()), metavar="FORMAT", help="what a planner wrote (guessed by its beginning)")
     parser.add_argument("-o", "--output", type=pathlib.Path, metavar="FILE", help="where the page (standard output) or the picture goes")
+    parser.add_argument("--beside", metavar="PLAN", help="another plan on this map, shown beside the first, at the same times")
     kind = parser.add_mutually_exclusive_group()
     kind.add_argument("--png", type=time, metavar="TIME", help="a picture of this time, in place of the page")
     kind.add_argument("--gif", type=time, nargs=2, metavar=("FROM", "TO"), help="a moving picture from one time to the other")
@@ -73,6 +75,8 @@ def read_words(words: Sequence[str]) -> argparse.Namespace:
     given.is_picture = given.png is not None or given.gif is not None
     if given.is_picture and not given.output:
         parser.error("a picture goes into a file: -o FILE is wanted")
+    if given.beside and (given.events or given.is_picture):
+        parser.error("--beside shows two plans on a page: no EVENTS and no picture go with it")
     if given.gif and given.gif[0] > given.gif[1]:
         parser.error("--gif FROM TO: the first time is above the second")
     if not pictures.LEAST_WIDTH <= given.width <= pictures.MOST_WIDTH:
@@ -85,20 +89,25 @@ def look(given: argparse.Namespace, folder: pathlib.Path) -> Shown:
     program = Program(given.program)
     ground, map_text = read_ground(program, given.map, given.map)
     (folder / "map").write_bytes(map_text)
-    names = {name: pathlib.Path(getattr(given, name)).name for name in ("map", "plan", "events", "scen") if getattr(given, name)}
-    return Shown(names, ground, look_at_plan(given, program, folder, given.plan, ground))
+    names = {name: pathlib.Path(getattr(given, name)).name for name in ("map", "plan", "beside", "events", "scen") if getattr(given, name)}
+    side = with_run(given, program, folder, look_at_plan(given, program, folder, "plan", ground))
+    return Shown(names, ground, side, look_at_plan(given, program, folder, "beside", ground) if given.beside else None)
 
 
-def look_at_plan(given: argparse.Namespace, program: Program, folder: pathlib.Path, plan: str, ground: Ground) -> Side:
-    """All that the program says of a plan, and of its run."""
-    file, source, told = Converter(program, given.map, given.source, given.scen).plan_of(plan, folder, "plan")
+def look_at_plan(given: argparse.Namespace, program: Program, folder: pathlib.Path, name: str, ground: Ground) -> Side:
+    """All that the program says of a plan, which is that of the option of this name."""
+    plan = getattr(given, name)
+    file, source, told = Converter(program, given.map, given.source, given.scen).plan_of(plan, folder, name)
     if told:
         tell(told)
-    files = [str(folder / "map"), file]
     scenario = read_scenario(program, copied(given.scen, folder, "scen"), given.scen) if given.scen else None
-    side = read_side(program, files, plan, source, ground, scenario)
+    return read_side(program, [str(folder / "map"), file], plan, source, ground, scenario)
+
+
+def with_run(given: argparse.Namespace, program: Program, folder: pathlib.Path, side: Side) -> Side:
+    """The plan with its run, where there are events of one."""
     if given.events and side.is_valid:
-        return dataclasses.replace(side, run=read_run(program, [*files, copied(given.events, folder, "events")], given.events))
+        return dataclasses.replace(side, run=read_run(program, [*side.files, copied(given.events, folder, "events")], given.events))
     if given.events:
         tell(f"show: {given.events}: not shown, since a plan that is rejected has no runs")
     return side

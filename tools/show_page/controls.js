@@ -6,9 +6,8 @@ class Controls {
   constructor(show) {
     this.show = show;
     this.pointers = new Map();
-    this.canvas = document.getElementById("map");
     this.wireButtons();
-    this.wirePointers();
+    for (const { canvas } of show.sides) this.wirePointers(canvas);
     document.addEventListener("keydown", (event) => this.key(event));
     this.wireFocus();
   }
@@ -29,7 +28,7 @@ class Controls {
     on("back", () => show.step(-1));
     on("play", () => show.toggle());
     on("on", () => show.step(1));
-    on("last", () => show.seek(show.world.end));
+    on("last", () => show.seek(show.end));
     on("closer", () => show.zoom(ZOOM_BY));
     on("farther", () => show.zoom(1 / ZOOM_BY));
     on("whole", () => show.fit());
@@ -46,7 +45,7 @@ class Controls {
 
   find() {
     const field = document.getElementById("number"), text = field.value.trim();
-    const isAgent = /^\d+$/.test(text) && Number(text) < this.show.world.courses.count;
+    const isAgent = /^\d+$/.test(text) && Number(text) < this.show.agents;
     field.setCustomValidity(isAgent ? "" : `There is no agent '${text}'.`);
     field.reportValidity();
     if (isAgent) {
@@ -66,7 +65,7 @@ class Controls {
       ArrowUp: () => show.faster(1),
       ArrowDown: () => show.faster(-1),
       Home: () => show.seek(0),
-      End: () => show.seek(show.world.end),
+      End: () => show.seek(show.end),
       "+": () => show.zoom(ZOOM_BY),
       "=": () => show.zoom(ZOOM_BY),
       "-": () => show.zoom(1 / ZOOM_BY),
@@ -113,12 +112,12 @@ class Controls {
   }
 
   at(event) {
-    const box = this.canvas.getBoundingClientRect();
+    const box = event.currentTarget.getBoundingClientRect();
     return [event.clientX - box.left, event.clientY - box.top];
   }
 
-  wirePointers() {
-    const { canvas, show } = this;
+  wirePointers(canvas) {
+    const { show } = this;
     canvas.addEventListener("pointerdown", (event) => this.press(event));
     canvas.addEventListener("pointermove", (event) => this.drag(event));
     for (const name of ["pointerup", "pointercancel"]) canvas.addEventListener(name, (event) => this.release(event));
@@ -129,11 +128,11 @@ class Controls {
   }
 
   press(event) {
-    this.canvas.setPointerCapture(event.pointerId);
+    event.currentTarget.setPointerCapture(event.pointerId);
     this.pointers.set(event.pointerId, this.at(event));
     if (this.pointers.size === 1) this.travelled = 0;
     else this.travelled = CLICK_WITHIN;
-    this.canvas.classList.add("held");
+    event.currentTarget.classList.add("held");
   }
 
   drag(event) {
@@ -155,7 +154,7 @@ class Controls {
 
   release(event) {
     this.pointers.delete(event.pointerId);
-    if (!this.pointers.size) this.canvas.classList.remove("held");
-    if (event.type === "pointerup" && this.travelled < CLICK_WITHIN) this.show.chooseAt(...this.at(event));
+    if (!this.pointers.size) event.currentTarget.classList.remove("held");
+    if (event.type === "pointerup" && this.travelled < CLICK_WITHIN) this.show.chooseAt(...this.at(event), event.currentTarget);
   }
 }

@@ -5,33 +5,64 @@ const SPEEDS = [0.25, 0.5, 1, 2, 4, 8, 16, 32, 64, 128, 256, 512, 1024, 2048, 40
 const PLAYED_IN = 60, AT_LEAST_IN = 8;
 const THEMES = ["auto", "light", "dark"];
 const FAULT_SCALE = 34;
+// How the parts of a second plan are called.
+const BESIDE = "beside ";
 // While it plays, what stands beside the drawing changes no more often than so, in milliseconds.
 const PANEL_EACH = 100;
 
-class Show {
-  constructor(facts, sections) {
+/** A plan or a run of it, and where it is drawn. */
+class Side {
+  constructor(facts, sections, ground, canvas) {
     const courses = new Courses(facts, sections), rotations = rotationsOf(sections.rotations);
     this.facts = facts;
     this.world = facts.run
       ? new RunWorld(courses, rotations, new Log(linesOf(sections.events), linesOf(sections.replies), courses.count), facts.run)
       : new PlanWorld(courses, rotations);
     this.faults = facts.faults;
+    this.drawing = new Drawing(ground, this.world, this.faults);
+    this.canvas = canvas;
+    this.context = canvas.getContext("2d", { alpha: false });
+  }
+}
+
+/** The plan of the page, and perhaps another one beside it. */
+function sidesOf(facts, sections, ground) {
+  const sides = [new Side(facts, sections, ground, document.getElementById("map"))];
+  if (!facts.beside) return sides;
+  const own = Object.entries(sections).filter(([name]) => name.startsWith(BESIDE)).map(([name, part]) => [name.slice(BESIDE.length), part]);
+  sides.push(new Side(facts.beside, Object.fromEntries(own), ground, document.getElementById("beside")));
+  document.getElementById("stage").classList.add("two");
+  for (const [place, name] of ["caption", "other-caption"].entries()) {
+    document.getElementById(name).textContent = sides[place].facts.name;
+    document.getElementById(name).hidden = false;
+  }
+  sides[1].canvas.hidden = false;
+  return sides;
+}
+
+class Show {
+  constructor(facts, sections) {
+    this.facts = facts;
     this.ground = new Ground(facts, sections.terrain);
-    this.drawing = new Drawing(this.ground, this.world, this.faults);
+    this.sides = sidesOf(facts, sections, this.ground);
+    [{ world: this.world, drawing: this.drawing, canvas: this.canvas }] = this.sides;
+    this.faults = this.sides.flatMap((it) => it.faults);
+    this.rotations = this.sides.flatMap((it) => it.world.rotations).sort((one, other) => one.step - other.step);
+    this.end = Math.max(...this.sides.map((it) => it.world.end));
+    this.agents = Math.max(...this.sides.map((it) => it.world.courses.count));
+    this.time = 0;
     this.view = new View();
     this.wishes = { goals: true, letters: true, agent: -1 };
     this.playing = false;
     this.frames = 0;
     this.told = 0;
-    this.canvas = document.getElementById("map");
-    this.context = this.canvas.getContext("2d", { alpha: false });
     this.slider = document.getElementById("slider");
-    this.slider.max = this.world.end;
-    this.panel = new Panel(facts, this.world, this.faults, this);
-    this.signs = signsOf(this.world, sections.terrain, this.faults);
+    this.slider.max = this.end;
+    this.panel = new Panel(this.sides, this);
+    this.signs = signsOf(this.sides, sections.terrain);
     this.offerSpeeds();
     this.setTheme("auto");
-    for (const name of ["first", "back", "play", "on", "last", "slider", "speed"]) document.getElementById(name).disabled = !this.world.end;
+    for (const name of ["first", "back", "play", "on", "last", "slider", "speed"]) document.getElementById(name).disabled = !this.end;
     for (const name of ["sooner", "later"]) document.getElementById(name).disabled = !this.world.marks.length;
     this.controls = new Controls(this);
     new ResizeObserver(() => this.resize()).observe(this.canvas);
@@ -39,13 +70,9 @@ class Show {
     this.resize();
   }
 
-  get time() {
-    return this.world.time;
-  }
-
   offerSpeeds() {
     document.getElementById("unit").textContent = this.world.isRun ? "Events a second" : "Steps a second";
-    const most = Math.max(8, this.world.end / AT_LEAST_IN), usual = Math.max(this.world.isRun ? 1 : 2, this.world.end / PLAYED_IN);
+    const most = Math.max(8, this.end / AT_LEAST_IN), usual = Math.max(this.world.isRun ? 1 : 2, this.end / PLAYED_IN);
     this.speeds = SPEEDS.filter((it) => it <= most);
     const select = document.getElementById("speed");
     for (const speed of this.speeds) select.add(new Option(`${shownNumber(speed, 2)}/s`, speed));
@@ -66,13 +93,18 @@ class Show {
 
   seek(time, isPlaying = false) {
     if (!isPlaying) this.pause();
-    this.world.seek(Math.max(0, Math.min(this.world.end, time)));
+    this.bringTo(time);
     this.touch();
   }
 
+  /** Brings each side to a time, or to its end where that is before it. */
+  bringTo(time) {
+    this.time = Math.max(0, Math.min(this.end, time));
+    for (const { world } of this.sides) world.seek(Math.min(world.end, this.time));
+  }
+
   step(by) {
-    const time = this.world.time;
-    this.seek(by > 0 ? Math.floor(time) + 1 : Math.ceil(time) - 1);
+    this.seek(by > 0 ? Math.floor(this.time) + 1 : Math.ceil(this.time) - 1);
   }
 
   toggle() {
@@ -81,8 +113,8 @@ class Show {
   }
 
   play() {
-    if (!this.world.end) return;
-    if (this.world.time >= this.world.end) this.world.seek(0);
+    if (!this.end) return;
+    if (this.time >= this.end) this.bringTo(0);
     this.playing = true;
     this.before = 0;
     this.showPlaying();
@@ -102,13 +134,13 @@ class Show {
   }
 
   toMark(by) {
-    const { marks, time } = this.world;
+    const { time, world: { marks } } = this;
     const found = by > 0 ? marks.find((it) => it > time) : marks.filter((it) => it < time).pop();
     if (found !== undefined) this.seek(found);
   }
 
   toRotation() {
-    const { rotations, time } = this.world;
+    const { rotations, time } = this;
     const next = rotations.find((it) => it.step > time) || rotations[0];
     if (next && !this.world.isRun) this.seek(next.step);
   }
@@ -133,8 +165,10 @@ class Show {
     const isWhole = this.isWhole;
     this.dots = window.devicePixelRatio || 1;
     [this.width, this.height] = [box.width, box.height];
-    this.canvas.width = Math.round(box.width * this.dots);
-    this.canvas.height = Math.round(box.height * this.dots);
+    for (const { canvas } of this.sides) {
+      canvas.width = Math.round(box.width * this.dots);
+      canvas.height = Math.round(box.height * this.dots);
+    }
     if (isFirst || isWhole) this.fit();
     this.drawStrip();
     // A canvas that changed its size is empty until it is drawn.
@@ -157,7 +191,7 @@ class Show {
   }
 
   fit() {
-    this.view.fit(this.box(), this.width, this.height, marginsOf(this.width));
+    this.view.fit(this.box(), this.width, this.height, marginsOf(this.sides.length > 1 ? window.innerWidth : this.width));
     this.isWhole = true;
     this.touch();
   }
@@ -177,31 +211,37 @@ class Show {
   centre() {
     const { agent } = this.wishes;
     if (agent < 0) return;
-    this.view.centre(this.world.moment.x[agent], this.world.moment.y[agent], this.width, this.height);
+    this.view.centre(...this.placeOf(agent), this.width, this.height);
     this.isWhole = false;
     this.touch();
   }
 
   // Agents
 
+  /** Where an agent is, on the first side that has it. */
+  placeOf(agent) {
+    const { world: { moment } } = this.sides.find((it) => agent < it.world.courses.count);
+    return [moment.x[agent], moment.y[agent]];
+  }
+
   choose(agent, isLookedFor = false) {
     this.wishes.agent = agent;
     if (agent >= 0) {
       document.getElementById("number").value = agent;
-      const [x, y] = this.view.pixel(this.world.moment.x[agent], this.world.moment.y[agent]);
+      const [x, y] = this.view.pixel(...this.placeOf(agent));
       if (isLookedFor && !(x > 0 && y > 0 && x < this.width && y < this.height)) this.centre();
     }
     this.touch();
   }
 
   chooseNext(by) {
-    const { count } = this.world.courses;
+    const count = this.agents;
     if (count) this.choose(this.wishes.agent < 0 ? (by > 0 ? 0 : count - 1) : (this.wishes.agent + by + count) % count, true);
   }
 
   /** Chooses the agent that is nearest to a pixel, if one is near. */
-  chooseAt(x, y) {
-    const { moment } = this.world;
+  chooseAt(x, y, canvas) {
+    const { moment } = this.sides.find((it) => it.canvas === canvas).world;
     let found = -1, least = Math.max(12, this.view.scale * 0.75);
     for (let agent = 0; agent < moment.count; agent += 1) {
       const [px, py] = this.view.pixel(moment.x[agent], moment.y[agent]), far = Math.hypot(px - x, py - y);
@@ -220,7 +260,7 @@ class Show {
     const given = new URLSearchParams(location.hash.slice(1)), agent = parseInt(given.get("agent"), 10), time = parseFloat(given.get("time"));
     if (THEMES.includes(given.get("theme"))) this.setTheme(given.get("theme"));
     if (time >= 0) this.seek(time);
-    if (agent >= 0 && agent < this.world.courses.count) this.choose(agent, true);
+    if (agent >= 0 && agent < this.agents) this.choose(agent, true);
   }
 
   // Light and dark
@@ -254,8 +294,8 @@ class Show {
     if (this.playing) {
       const passed = this.before ? Math.min(0.25, (now - this.before) / 1000) : 0;
       this.before = now;
-      this.world.seek(Math.min(this.world.end, this.world.time + passed * this.speed));
-      if (this.world.time >= this.world.end) this.pause();
+      this.bringTo(this.time + passed * this.speed);
+      if (this.time >= this.end) this.pause();
     }
     this.draw();
     if (this.playing) this.touch();
@@ -263,13 +303,16 @@ class Show {
 
   draw() {
     if (!this.width || !this.height) return;
-    this.drawing.draw(this.context, this.view, this.width, this.height, this.dots, this.colours, this.wishes);
+    for (const { drawing, context, world } of this.sides) {
+      const agent = this.wishes.agent < world.courses.count ? this.wishes.agent : -1;
+      drawing.draw(context, this.view, this.width, this.height, this.dots, this.colours, { ...this.wishes, agent });
+    }
     this.frames += 1;
-    this.slider.value = this.world.time;
+    this.slider.value = this.time;
     const now = performance.now();
     if (this.playing && now - this.told < PANEL_EACH) return;
     this.told = now;
-    this.slider.setAttribute("aria-valuetext", `${this.world.isRun ? "event" : "time"} ${shownNumber(this.world.time)} of ${shownNumber(this.world.end)}`);
+    this.slider.setAttribute("aria-valuetext", `${this.world.isRun ? "event" : "time"} ${shownNumber(this.time)} of ${shownNumber(this.end)}`);
     this.panel.update(this.wishes.agent, this.playing);
   }
 
@@ -279,7 +322,7 @@ class Show {
     const marks = [
       ...world.marks.map((time) => [time, world.log.isFailure(time - 1) ? this.colours.fault : this.colours.accent]),
       ...(world.isRun ? [] : this.faults.map((it) => [it.time, this.colours.fault])),
-      ...(world.isRun ? [] : world.rotations.map((it) => [it.step, this.colours.ring])),
+      ...(world.isRun ? [] : this.rotations.map((it) => [it.step, this.colours.ring])),
     ];
     strip.hidden = !marks.length;
     const width = strip.clientWidth, dots = window.devicePixelRatio || 1;
@@ -290,7 +333,7 @@ class Show {
     // The knob of the slider is as wide as this.
     const knob = 16;
     for (const [time, colour] of marks) {
-      const x = knob / 2 + (width - knob) * (world.end ? time / world.end : 0);
+      const x = knob / 2 + (width - knob) * (this.end ? time / this.end : 0);
       context.fillStyle = colour;
       context.beginPath();
       context.moveTo(x, 0);
@@ -305,7 +348,7 @@ class Show {
 function offered(ready) {
   return {
     ready,
-    get end() { return window.page.world.end; },
+    get end() { return window.page.end; },
     get isRun() { return window.page.world.isRun; },
     pixels: (time, width, isDark) => new Picture(window.page, time, width, isDark).pixels(),
   };

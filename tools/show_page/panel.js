@@ -5,37 +5,37 @@ const ROWS = 9, MOST_TURNS = 6;
 const MOST_EVENT = 20, MOST_LISTED = 30;
 
 class Panel {
-  constructor(facts, world, faults, act) {
-    this.facts = facts;
-    this.world = world;
-    this.faults = faults;
+  constructor(sides, act) {
+    this.sides = sides;
+    this.world = sides[0].world;
     // What a click asks for: `seek` a time, `choose` an agent.
     this.act = act;
-    this.said = "";
     this.element = (name) => document.getElementById(name);
-    this.showVerdict();
-    this.showSource();
-    this.showFaults();
-    this.showTurns();
-    if (world.isRun) this.showRun();
+    for (const [place, side] of sides.entries()) {
+      this.element(place ? "other" : "verdict").className = `verdict ${side.faults.length ? "bad" : "good"}`;
+      this.showSource(side);
+      this.showFaults(side);
+      this.showTurns(side);
+    }
+    if (this.world.isRun) this.showRun();
   }
 
-  showVerdict() {
-    this.element("verdict").className = this.faults.length ? "bad" : "good";
+  /** The name of a plan as a heading, where there are two. */
+  nameOf({ facts }, behind = "") {
+    return this.sides.length > 1 ? `${facts.name}${behind}` : "";
   }
 
-  showSource() {
-    const { name, source } = this.facts;
-    this.element("source").hidden = !source;
-    this.element("source").textContent = `${name} was converted: it has the format ${source}.`;
+  showSource({ facts: { name, source } }) {
+    if (!source) return;
+    this.element("source").hidden = false;
+    this.element("source").append(made("p", "", `${name} was converted: it has the format ${source}.`));
   }
 
-  showFaults() {
-    const { facts, faults } = this;
-    const section = this.element("faults");
-    section.hidden = !faults.length;
+  showFaults(side) {
+    const { facts, faults } = side, section = this.element("faults");
     if (!faults.length) return;
-    section.append(made("h2", "", "Rejected"));
+    section.hidden = false;
+    section.append(made("h2", "", `${this.nameOf(side, ": ")}Rejected`));
     for (const fault of faults) {
       if (faults.length > 1) section.append(made("p", "", fault.words));
       const show = button(this.world.isRun ? "Show" : `Show time ${shownNumber(fault.time)}`, () => this.act.showFault(fault), "to the fault (x)");
@@ -44,16 +44,15 @@ class Panel {
     const faint = (text) => section.append(made("p", "faint", text));
     if (facts.told) faint("Of such a plan no path is answered. The paths are drawn as the text of the plan gives them.");
     if (facts.isValid) return;
-    if (facts.names.events) faint("A plan that is rejected has no runs, so the events are not shown.");
+    if (this.act.facts.names.events) faint("A plan that is rejected has no runs, so the events are not shown.");
     else faint("Of a plan that is rejected it isn't said who waits for whom.");
   }
 
-  showTurns() {
-    const { rotations } = this.world;
-    const section = this.element("turns");
-    section.hidden = !rotations.length;
+  showTurns(side) {
+    const { rotations } = side.world, section = this.element("turns");
     if (!rotations.length) return;
-    section.append(made("h2", "", counted(rotations.length, "rotation", "rotations")));
+    section.hidden = false;
+    section.append(made("h2", "", `${this.nameOf(side, ": ")}${counted(rotations.length, "rotation", "rotations")}`));
     section.append(made("p", "", "Each of its agents moves into the cell of the next one, all in one step. "
       + "Agents that wait for one another can't begin that: no run of this plan comes to its end."));
     for (const it of rotations.slice(0, MOST_TURNS)) {
@@ -92,7 +91,7 @@ class Panel {
   update(chosen, isPlaying) {
     const now = this.element("now");
     now.setAttribute("aria-live", isPlaying ? "off" : "polite");
-    this.put(now, this.world.inWords());
+    this.put(now, this.sides.map((side) => `${this.nameOf(side, ": ")}${side.world.inWords()}`).join("\n"));
     if (this.world.isRun) this.updateRows();
     this.updateAgent(chosen);
   }
@@ -142,16 +141,23 @@ class Panel {
 
   updateAgent(agent) {
     const about = this.element("about");
-    const key = `${agent} ${Math.floor(this.world.time)}`;
+    const key = `${agent} ${Math.floor(this.act.time)}`;
     if (about.dataset.key === key) return;
     about.dataset.key = key;
     if (agent < 0) {
-      const text = this.world.courses.count ? "Click an agent, or type its number." : "The plan has no agents.";
+      const text = this.act.agents ? "Click an agent, or type its number." : "The plan has no agents.";
       about.replaceChildren(made("p", "faint", text));
       return;
     }
+    about.replaceChildren(made("p", "", made("strong", "", `Agent ${agent}`)), ...this.sides.flatMap((side) => this.aboutIn(side, agent)));
+  }
+
+  /** What there is to say of an agent in one plan. */
+  aboutIn(side, agent) {
+    const name = this.nameOf(side), head = name ? [made("p", "faint", name)] : [];
+    if (agent >= side.world.courses.count) return [...head, made("p", "", "has no such agent")];
     const choose = (other) => button(`agent ${other}`, () => this.act.choose(other), "chooses this agent");
-    const lines = this.world.about(agent, choose).map((it) => made("li", "", it));
-    about.replaceChildren(made("p", "", made("strong", "", `Agent ${agent}`)), made("ul", "", ...lines));
+    const lines = side.world.about(agent, choose).map((it) => made("li", "", it));
+    return [...head, made("ul", "", ...lines)];
   }
 }

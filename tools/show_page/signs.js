@@ -50,9 +50,9 @@ function movingSign(context, colours) {
 }
 
 /** The signs of a page: a drawing and its meaning, of what there can be on it. */
-function signsOf(world, terrain, faults) {
-  const has = (...codes) => codes.some((code) => terrain.includes(code));
-  const { isRun } = world, saysWaits = isRun || world.courses.needs.length > 0;
+function signsOf(sides, terrain) {
+  const has = (...codes) => codes.some((code) => terrain.includes(code)), worlds = sides.map((it) => it.world);
+  const { isRun } = worlds[0], saysWaits = isRun || worlds.some((it) => it.courses.needs.length > 0), faults = sides.flatMap((it) => it.faults);
   return [
     [true, agentSign(0), "an agent"],
     [true, goalSign, "where its path ends"],
@@ -63,7 +63,7 @@ function signsOf(world, terrain, faults) {
     [isRun, restartSign, "restarted a short while ago"],
     [isRun, letterSign(false), "a message on its way"],
     [isRun, letterSign(true), "a message that nobody hears"],
-    [world.rotations.length > 0, ringSign, "a rotation: who turn round together"],
+    [worlds.some((it) => it.rotations.length > 0), ringSign, "a rotation: who turn round together"],
     [faults.length > 0, faultSign, "a cell of the fault"],
     [faults.length > 0, haloSign("fault"), "an agent of the fault"],
     [true, haloSign("ink"), "the agent that you chose"],

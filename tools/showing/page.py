@@ -8,7 +8,7 @@ import pathlib
 import string
 import zlib
 from array import array
-from typing import Iterator, Sequence
+from typing import Iterator, Optional, Sequence
 
 from showing.sides import Side
 from showing.verdicts import Ground, in_words
@@ -16,6 +16,9 @@ from showing.verdicts import Ground, in_words
 PARTS = pathlib.Path(__file__).resolve().parent.parent / "show_page"
 # The scripts in their order. They share one scope.
 SCRIPTS = ("data", "words", "plan", "log", "run", "ground", "view", "marks", "signs", "drawing", "panel", "controls", "picture", "main")
+
+# How the parts of a second plan are called.
+BESIDE = "beside "
 
 
 @dataclasses.dataclass(frozen=True)
@@ -25,12 +28,15 @@ class Shown:
     names: dict[str, str]
     ground: Ground
     side: Side
+    beside: Optional[Side]
 
 
 def sections(shown: Shown) -> Iterator[tuple[str, bytes]]:
     """What there is much of, each part by its name."""
     yield "terrain", shown.ground.rows
     yield from sections_of(shown.side)
+    if shown.beside:
+        yield from ((f"{BESIDE}{name}", part) for name, part in sections_of(shown.beside))
 
 
 def sections_of(side: Side) -> Iterator[tuple[str, bytes]]:
@@ -56,7 +62,7 @@ def little(numbers: array) -> bytes:
 def facts(shown: Shown, parts: Sequence[tuple[str, bytes]]) -> dict[str, object]:
     """What there is little of, and how long each of the other parts is."""
     own = {"names": shown.names, "width": shown.ground.width, "height": shown.ground.height, "sizes": {name: len(part) for name, part in parts}}
-    return {**own, **facts_of(shown.side, shown)}
+    return {**own, **facts_of(shown.side, shown), "beside": shown.beside and facts_of(shown.beside, shown)}
 
 
 def facts_of(side: Side, shown: Shown) -> dict[str, object]:
@@ -76,7 +82,9 @@ def facts_of(side: Side, shown: Shown) -> dict[str, object]:
 
 
 def words_of(side: Side, shown: Shown) -> str:
-    return in_words(side.verdict, side.faults, shown.names.get("scen", ""))
+    """The verdict, with the plan's name where there are two."""
+    words = in_words(side.verdict, side.faults, shown.names.get("scen", ""))
+    return f"{side.name}: {words}" if shown.beside else words
 
 
 def packed(parts: Sequence[tuple[str, bytes]]) -> str:
@@ -102,6 +110,7 @@ def page(shown: Shown) -> Iterator[str]:
     fields = {
         "title": html.escape(title),
         "words": html.escape(words_of(shown.side, shown)),
+        "other": html.escape(words_of(shown.beside, shown)) if shown.beside else "",
         "style": read_part("page.css"),
         "facts": as_json(facts(shown, parts)),
         "data": packed(parts),

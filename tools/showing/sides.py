@@ -12,9 +12,11 @@ from showing.waits import Waits, no_waits, read_waits
 
 @dataclasses.dataclass(frozen=True)
 class Side:
-    """A plan by its name, the format that it was converted from, and its run. A plan may be valid, and not solve the scenario."""
+    """A plan by its name, the copies of its map and of itself, the format that it was converted from, and its run. A plan may be valid, and not
+    solve the scenario."""
 
     name: str
+    files: Sequence[str]
     source: str
     courses: Courses
     verdict: dict[str, object]
@@ -31,4 +33,4 @@ def read_side(program: Program, files: Sequence[str], plan: str, source: str, gr
     is_valid = bool(verdict["accepted"]) or is_of_the_scenario(verdict)
     waits = read_waits(program, files, courses.acts, plan) if is_valid else no_waits()
     faults = faults_of(verdict, courses, ground, scenario)
-    return Side(pathlib.Path(plan).name, source, courses, verdict, faults, waits, is_valid)
+    return Side(pathlib.Path(plan).name, files, source, courses, verdict, faults, waits, is_valid)
