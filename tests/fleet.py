@@ -6,10 +6,11 @@ from typing import Iterator
 from failing_agents import Chances, failing_program
 from harness import ROOT, Harness, Outcome, compared, shown, side_by_side
 
-# The seeds of a short test and of a long one, how often a message is lost, and how often a question ends in a kill.
-SHORT, LONG = range(1, 5), range(1, 21)
+# The seeds of a long test, how often a message is lost, and how often a question ends in a kill. A short test has each rate and each version of messages twice.
+LONG = range(1, 21)
 FLEET = ROOT / "examples" / "fleet" / "fleet.py"
 RATES = ((0.2, 0.02), (0.5, 0.1))
+SHORT = ((1, *RATES[0], ["--tell"]), (2, *RATES[1], []), (3, *RATES[0], []), (4, *RATES[1], ["--tell"]))
 
 
 def drive(harness: Harness, seed: int, loss: float, kills: float, more: list[str]) -> list[Outcome]:
@@ -57,5 +58,5 @@ def full_disk(harness: Harness) -> Iterator[Outcome]:
 def outcomes(harness: Harness) -> Iterator[Outcome]:
     yield from bad_calls(harness)
     yield from full_disk(harness)
-    runs = [(seed, *rates, more) for seed in (LONG if harness.is_long else SHORT) for rates in RATES for more in ([], ["--tell"])]
+    runs = [(seed, *rates, more) for seed in LONG for rates in RATES for more in ([], ["--tell"])] if harness.is_long else SHORT
     yield from side_by_side(functools.partial(drive, harness, *run) for run in runs)

@@ -79,7 +79,7 @@ def of_network(harness: Harness) -> list[Outcome]:
     ended = harness.run(words)
     own = "arrived 3 " in ended.out.decode() and re.search(r" lost [1-9]", ended.out.decode()) is not None
     outcomes = [compared("three robots on a network", f"{shown(words)}, which told {ended.out!r} {ended.err[-800:]!r}", (ended.status, own), (0, True))]
-    for number in (signal.SIGINT, signal.SIGTERM, signal.SIGHUP) if harness.is_long else (signal.SIGINT,):
+    for number in (signal.SIGINT, signal.SIGTERM, signal.SIGHUP) if harness.is_long else ():
         pipes = {"stdin": subprocess.DEVNULL, "stdout": subprocess.DEVNULL, "stderr": subprocess.DEVNULL}
         folder = harness.folder()
         process = subprocess.Popen(heeding([*words, "--moves", "5"]), env={**os.environ, "TMPDIR": str(folder)}, start_new_session=True, **pipes)

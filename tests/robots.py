@@ -97,10 +97,14 @@ def of_udp(harness: Harness) -> Iterator[Callable[[], list[Outcome]]]:
     yield functools.partial(run, "two robots, killed", 2, [*TWO, "--moves", "0.3", "--kills", "8"], **{KILLS: 1})
     # The moves are so slow that many processes are killed in each run.
     three = ["--robots", "3", "--kills", "5", "--moves", "0.15"]
+    cast = [*three, "--slips", "0.3", "--tell", "--link", "multicast", "--seed", "3"]
+    yield functools.partial(run, "three robots that tell, multicast, killed", 3, cast, **{KILLS: 1, "restarts": 1, "slips": 1})
+    if not harness.is_long:
+        return
     yield functools.partial(run, "three robots, killed", 3, [*three, "--slips", "0.3"], **{KILLS: 1, "restarts": 1, "slips": 1})
     yield functools.partial(run, "three robots that tell, killed", 3, [*three, "--tell", "--seed", "2"], **{KILLS: 1, "restarts": 1})
     yield functools.partial(run, "three robots, multicast, killed", 3, [*three, "--link", "multicast", "--seed", "3"], **{KILLS: 1, "restarts": 1})
-    for seed in LONG if harness.is_long else ():
+    for seed in LONG:
         twelve = ["--kills", "3", "--moves", "0.15", "--seed", str(seed), *(["--tell"] if seed % 2 else [])]
         yield functools.partial(run, f"twelve robots, seed {seed}, killed", 12, twelve, **{KILLS: 1, "restarts": 1})
 
@@ -108,13 +112,13 @@ def of_udp(harness: Harness) -> Iterator[Callable[[], list[Outcome]]]:
 def of_numbers(harness: Harness) -> list[Outcome]:
     """Each run has a number of its own, in a call and in the next one."""
     numbers = []
-    for _ in range(2):
-        fleet = Fleet(harness, [*TWO, "--seconds", "1.5"])
+    for more in (["--seconds", "1.5"], []):
+        fleet = Fleet(harness, [*TWO, *more])
         at = fleet.command.index("--number")
         del fleet.command[at : at + 2]
         numbers += [int(run["run"]) for run in fleet.counted(fleet.run())]
     rising = all(one < other for one, other in zip(numbers, numbers[1:]))
-    return [compared("fresh numbers", f"{shown(fleet.command)} twice, with the numbers {numbers}", (len(numbers) > 1, rising), (True, True))]
+    return [compared("fresh numbers", f"{shown(fleet.command)}, behind one with --seconds, with the numbers {numbers}", (len(numbers) > 2, rising), (True, True))]
 
 
 # Tapes that fail
@@ -394,4 +398,10 @@ def outcomes(harness: Harness) -> Iterator[Outcome]:
     numbers = (signal.SIGTERM, signal.SIGINT, signal.SIGHUP) if harness.is_long else (signal.SIGTERM,)
     signals = [functools.partial(of_a_signal, harness, number) for number in numbers]
     lone = lone_robots.tests(harness, free_port)
-    yield from side_by_side([*of_udp(harness), *of_mqtt(harness), *alone, *signals, *lone, *networking.tests(harness), *watching.tests(harness)])
+    tests = [*of_udp(harness), *of_mqtt(harness), *alone, *signals, *lone, *networking.tests(harness), *watching.tests(harness)]
+    # Robots wait most of their time, so twice as many of these tests as of others run at once.
+    yield from side_by_side(functools.partial(collected, tests[place::2]) for place in (0, 1))
+
+
+def collected(tests: Sequence[Callable[[], Sequence[Outcome]]]) -> list[Outcome]:
+    return list(side_by_side(tests))

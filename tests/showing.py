@@ -70,17 +70,24 @@ TEXTS = {
 
 
 class Room:
-    """A folder of texts, and calls of the tool in it."""
+    """A folder of texts, and calls of the tool in it. A page that was made before is there still."""
 
     def __init__(self, harness: Harness):
         self.harness = harness
         self.folder = harness.folder({name: text.encode() for name, text in TEXTS.items()})
+        self.made: dict[tuple[str, ...], pathlib.Path] = {}
 
     def words(self, *words: str) -> list[str]:
         return [sys.executable, str(TOOL), *words, "--program", str(self.harness.program)]
 
     def show(self, *words: str, more: Mapping[str, str] = {}) -> Ended:
         return self.harness.run(self.words(*words), folder=self.folder, more=more)
+
+    def opened(self, name: str, *words: str) -> pathlib.Path:
+        """A page that is only looked at: one of the same files will do."""
+        if words not in self.made:
+            self.made[words] = self.page(f"{len(self.made)}-{name}", *words)
+        return self.made[words]
 
     def page(self, name: str, *words: str) -> pathlib.Path:
         """A page, which has to come without a word."""
@@ -366,19 +373,26 @@ def largest(room: Room, browser: Optional[chromium.Chromium]) -> Iterator[Outcom
             yield Outcome(f"frames of the largest {name}", lacks="Chromium")
 
 
+def of_texts(room: Room) -> list[Outcome]:
+    """What is written, refused and drawn."""
+    with_browser = (pictures, stopped) if chromium.found() else ()
+    return [outcome for test in (held, refused, planners, written, *with_browser) for outcome in test(room)]
+
+
+def of_pages(room: Room, browser: chromium.Chromium) -> list[Outcome]:
+    """What pages do in a browser."""
+    return [*show_pages.outcomes(room.opened, browser), *show_replays.outcomes(room.harness, room.folder, room.page, browser)]
+
+
 def outcomes(harness: Harness) -> Iterator[Outcome]:
     room = Room(harness)
-    for test in (held, refused, planners, written):
-        yield from test(room)
     if not chromium.found():
+        yield from of_texts(room)
         yield Outcome("pages in a browser, and pictures", lacks="Chromium")
         if harness.is_long:
             yield from largest(room, None)
         return
-    yield from pictures(room)
-    yield from stopped(room)
     with chromium.Chromium(room.folder) as browser:
-        yield from show_pages.outcomes(room.page, browser)
-        yield from show_replays.outcomes(harness, room.folder, room.page, browser)
+        yield from side_by_side([functools.partial(of_pages, room, browser), functools.partial(of_texts, Room(harness))])
         if harness.is_long:
             yield from largest(room, browser)

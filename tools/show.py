@@ -123,6 +123,7 @@ def write_page(given: argparse.Namespace, shown: Shown) -> None:
 
 
 def write_picture(given: argparse.Namespace, shown: Shown, folder: pathlib.Path) -> None:
+    pictures.hold_time(given.gif[1] if given.gif else given.png, shown.side.end)
     file = folder / "page.html"
     file.write_text("".join(page(shown)), encoding="ascii")
     kind = pictures.Kind(given.width, given.dark)

@@ -26,13 +26,10 @@ class Kind:
         return f"{time}, {self.width}, {'true' if self.is_dark else 'false'}"
 
 
-def end_of(browser: Browser) -> float:
-    return float(str(browser.value("show.end")))
-
-
-def hold_time(time: float, end: float) -> None:
+def hold_time(time: float, end: int) -> None:
+    """Refuses a time behind the last one."""
     if time > end:
-        raise Refused(f"show: the last time is {end:g}, and {time:g} is wanted")
+        raise Refused(f"show: the last time is {end}, and {time:g} is wanted")
 
 
 def frame(browser: Browser, time: float, kind: Kind) -> Frame:
@@ -44,7 +41,6 @@ def frame(browser: Browser, time: float, kind: Kind) -> Frame:
 
 def picture(browser: Browser, time: float, kind: Kind) -> bytes:
     """A PNG of a time."""
-    hold_time(time, end_of(browser))
     return png.encode(frame(browser, time, kind))
 
 
@@ -59,7 +55,6 @@ def times_of(first: float, last: float, is_run: bool) -> list[float]:
 
 def moving_picture(browser: Browser, first: float, last: float, kind: Kind) -> bytes:
     """A GIF from one time to another."""
-    hold_time(last, end_of(browser))
     is_run = bool(browser.value("show.isRun"))
     times = times_of(first, last, is_run)
     delays = [OF_AN_EVENT if is_run else OF_A_STEP] * (len(times) - 1) + [LAST]

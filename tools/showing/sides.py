@@ -25,6 +25,11 @@ class Side:
     is_valid: bool
     run: Optional[Run] = None
 
+    @property
+    def end(self) -> int:
+        """The last time that is shown; of a run, how many events it has."""
+        return len(self.run.events) if self.run else self.courses.end
+
 
 def read_side(program: Program, files: Sequence[str], plan: str, source: str, ground: Ground, scenario: Optional[Scenario]) -> Side:
     """What the program says of a plan, whose file is a copy: `plan` is what it was called."""
