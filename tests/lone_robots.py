@@ -14,7 +14,7 @@ import time
 from typing import Callable, Iterator, Sequence
 
 import watching
-from harness import ROOT, Harness, Outcome, compared, shown
+from harness import ROOT, Ended, Harness, Outcome, compared, ended_as, shown
 from processes import children, processes_of, wait_until
 
 FLEET = ROOT / "examples" / "fleet"
@@ -127,10 +127,12 @@ class Alone:
         (self.watched.folder / "tape").touch()
         words = [sys.executable, str(FLEET / "robot.py"), str(MAP), str(PLAN), "0", "tape", "--drive", "watcher"]
         self.words = [*words, "--program", str(harness.program), "--listen", f"127.0.0.1:{port}", "--peers", ""]
-        with open(self.watched.folder / "said", "wb") as err:
-            environment = {**os.environ, **more}
-            self.process = subprocess.Popen(self.words, cwd=self.watched.folder, env=environment, stdin=subprocess.DEVNULL, stderr=err)
+        self.process = self.start(more)
         wait_until(lambda: children(self.process.pid))
+
+    def start(self, more: dict[str, str]) -> "subprocess.Popen[bytes]":
+        with open(self.watched.folder / "said", "ab") as err:
+            return subprocess.Popen(self.words, cwd=self.watched.folder, env={**os.environ, **more}, stdin=subprocess.DEVNULL, stderr=err)
 
     def said(self) -> bytes:
         return (self.watched.folder / "said").read_bytes()
@@ -162,11 +164,39 @@ def of_signs_of_life(harness: Harness, ports: Callable[[], int]) -> list[Outcome
         time.sleep(WHILE)
         # One may have been on its way.
         is_silent = len(signs(ears)) <= 1
+        # The next robot waits for the tape, and lives.
+        second = alone.start({"NOTIFY_SOCKET": path})
+        waits = ears.recv(100)
+        second.kill()
+        second.wait()
         os.kill(agent, signal.SIGCONT)
         again = ears.recv(100)
         alone.end()
-    found = (lives, is_silent, again)
-    return [compared("signs of life", shown(alone.words), found, ([b"WATCHDOG=1"] * 2, True, b"WATCHDOG=1"))]
+    found = (lives, is_silent, waits, again)
+    return [compared("signs of life", shown(alone.words), found, ([b"WATCHDOG=1"] * 2, True, b"WATCHDOG=1", b"WATCHDOG=1"))]
+
+
+def of_a_robot_elsewhere(harness: Harness, ports: Callable[[], int]) -> list[Outcome]:
+    """A robot that was carried off, as its drive knows, doesn't start."""
+    copied, drive = Copied(harness), "drive"
+    copied.start([sys.executable, str(copied.fleet / "own_drive.py"), drive, "2", "0"])
+    wait_until((copied.folder / drive).exists)
+    tape, link = copied.make_tape(0).name, ["--listen", f"127.0.0.1:{ports()}", "--peers", ""]
+    words = [sys.executable, str(copied.fleet / "robot.py"), str(MAP), str(PLAN), "0", tape, "--drive", drive, "--program", copied.program, *link]
+    ended = harness.run(words, folder=copied.folder)
+    copied.end()
+    due = Ended(3, b"", b"robot 0: the drive stands 2 0, and the tape says at 1 0 done 0\n")
+    return [ended_as("a robot that was carried off", shown(words), ended, due)]
+
+
+def of_one_number(harness: Harness) -> list[Outcome]:
+    """A tape fits another plan of its number, whatever the paths are: so no number is used twice."""
+    other = PLAN.read_bytes().replace(b"agent 1 0 e-", b"agent 1 0 w").replace(b"agent 0 0 e", b"agent 2 0 =")
+    folder = harness.folder({"other.plan": other})
+    harness.mapf(["agent", str(MAP), str(PLAN), "0", "tape", "--tape", "new"], b"start\n", folder)
+    ended = harness.mapf(["tape", str(MAP), "other.plan", "0", "tape"], folder=folder)
+    due = Ended(0, b"between 1 0 0 0 done 0\nrecords 1 torn 0\n", b"")
+    return [ended_as("a tape of another plan with its number", "mapf tape", ended, due)]
 
 
 def of_another_plan(harness: Harness, ports: Callable[[], int]) -> list[Outcome]:
@@ -213,7 +243,7 @@ def of_one_text(_: Harness) -> list[Outcome]:
 
 
 def tests(harness: Harness, ports: Callable[[], int]) -> Iterator[Callable[[], Sequence[Outcome]]]:
-    for with_ports in (of_services, of_signs_of_life, of_another_plan):
+    for with_ports in (of_services, of_signs_of_life, of_another_plan, of_a_robot_elsewhere):
         yield functools.partial(with_ports, harness, ports)
-    for test in (of_the_unit, of_a_lone_broker, of_one_text):
+    for test in (of_one_number, of_the_unit, of_a_lone_broker, of_one_text):
         yield functools.partial(test, harness)

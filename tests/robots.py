@@ -322,7 +322,7 @@ def of_bad_calls(harness: Harness) -> list[Outcome]:
     broker = ["--broker", f"127.0.0.1:{taken + 2}", "--patience", "0"]
     calls: list[tuple[str, list[str], int, str]] = [
         ("a port in use", robot(*link), 3, "Address already in use"),
-        ("no watcher", robot(*free), 3, "robot 0: no watcher is at watcher"),
+        ("no drive", robot(*free), 3, "robot 0: no drive is at watcher"),
         ("no link", robot(), 2, "either --listen or --broker is wanted"),
         ("no peers", robot("--listen", "127.0.0.1:9"), 2, "--listen goes with either --peers or --group"),
         ("no address", robot("--listen", "127.0.0.1", "--peers", ""), 2, "is no HOST:PORT"),

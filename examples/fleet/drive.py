@@ -17,8 +17,8 @@ FASTEST, SLOWEST = 0.7, 1.3
 PATIENCE = 30
 
 
-class NoWatcher(Exception):
-    """The watcher, with which the drive is, is gone."""
+class NoDrive(Exception):
+    """The drive, or the watcher with which it is, is gone."""
 
 
 class Floor(Protocol):
@@ -85,7 +85,7 @@ class Wire:
             self.socket.sendto(f"{self.robot} {text}".encode("ascii"), self.path)
         except OSError as fault:
             if fault.errno in (errno.ENOENT, errno.ECONNREFUSED, errno.ECONNRESET):
-                raise NoWatcher(f"no watcher is at {self.path}") from None
+                raise NoDrive(f"no drive is at {self.path}") from None
             raise
 
     def told(self) -> Iterator[list[str]]:
@@ -102,5 +102,5 @@ class Wire:
             pass
         self.tell("where")
         if not select.select([self.socket], [], [], PATIENCE)[0]:
-            raise NoWatcher(f"the watcher at {self.path} doesn't answer")
+            raise NoDrive(f"the drive at {self.path} doesn't answer")
         return next(self.told())

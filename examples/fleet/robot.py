@@ -24,7 +24,7 @@ from typing import Counter, Optional, Sequence, Union
 sys.dont_write_bytecode = True
 from addresses import address, addresses  # noqa: E402
 from agent import STORE_FAILED, Agent, Ended, Lock, Unfit  # noqa: E402
-from drive import Cell, NoWatcher, Wire  # noqa: E402
+from drive import Cell, NoDrive, Wire  # noqa: E402
 from leaving import heed_signals  # noqa: E402
 from letters import Letter  # noqa: E402
 from link_mqtt import MqttLink, NoBroker, NoClient  # noqa: E402
@@ -59,7 +59,7 @@ def read_words(words: Sequence[str]) -> argparse.Namespace:
     parser.add_argument("plan", metavar="PLAN", help="the plan, with the number of this run, which all robots of the fleet get")
     parser.add_argument("id", type=int, metavar="ID", help="the agent of the plan that this robot is")
     parser.add_argument("tape", metavar="TAPE", help="the file of its progress; TAPE.lock beside it is held as long as it or its agent lives")
-    parser.add_argument("--drive", required=True, metavar="SOCKET", help="the watcher's socket, behind which the drive is")
+    parser.add_argument("--drive", required=True, metavar="SOCKET", help="the socket of its drive, which may be the watcher's; docs/OPERATING.md says how they speak")
     parser.add_argument("--listen", type=address, metavar="HOST:PORT", help="a link by UDP: the own address")
     parser.add_argument("--peers", type=addresses, metavar="HOST:PORT,..", help="the addresses of all others")
     parser.add_argument("--group", type=address, metavar="HOST:PORT", help="the multicast group, instead of a list of peers")
@@ -240,7 +240,7 @@ def main(words: Sequence[str]) -> int:
         drive(given)
     except Unfit as fault:
         why, status = str(fault), fault.status
-    except (NoClient, NoBroker, NoWatcher, Misplaced) as fault:
+    except (NoClient, NoBroker, NoDrive, Misplaced) as fault:
         why, status = str(fault), FAILED
     except OSError as fault:
         where = fault.filename or (given.listen and "{}:{}".format(*given.listen)) or given.tape
