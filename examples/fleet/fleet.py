@@ -218,22 +218,11 @@ def run(given, folder):
     while len(arrived) < len(robots):
         step += 1
         for to, message in link.arrived(step):
-            try:
+            with contextlib.suppress(Killed):
                 robots[to].ask(f"hear {message}")
-            except Killed:
-                pass
         for number in rng.sample(range(len(robots)), len(robots)):
-            robot = robots[number]
-            try:
-                if number not in arrived and robot.go_on():
-                    arrived.add(number)
-                if (step + number) % SAY_EACH == 0:
-                    message = robot.ask("tell" if given.tell else "say")[1]
-                    for other in range(len(robots)):
-                        if other != number:
-                            link.send(step, other, message)
-            except Killed:
-                pass
+            with contextlib.suppress(Killed):
+                live(robots, number, step, arrived, link, given.tell)
             met = meeting(robots)
             if met:
                 print(picture(rows, robots, step))
@@ -241,12 +230,29 @@ def run(given, folder):
                 return 1
         if not given.quiet:
             print(picture(rows, robots, step))
+    return told_at_the_end(given.seed, robots, step, link)
+
+
+def live(robots, number, step, arrived, link, tells):
+    """A moment of one robot, and what it says to the others."""
+    robot = robots[number]
+    if number not in arrived and robot.go_on():
+        arrived.add(number)
+    if (step + number) % SAY_EACH == 0:
+        message = robot.ask("tell" if tells else "say")[1]
+        for other in range(len(robots)):
+            if other != number:
+                link.send(step, other, message)
+
+
+def told_at_the_end(seed, robots, step, link):
+    """Whether each tape says that its robot has arrived, and what was counted."""
     for number, robot in enumerate(robots):
         if not robot.is_home():
             print(f"the tape of robot {number} says that it holds {robot.held}")
             return 1
     kills = sum(robot.deaths for robot in robots)
-    print(f"seed {given.seed}: {len(robots)} robots arrived after {step} steps; {kills} kills; {link.sent} messages, {link.lost} lost, {link.repeated} repeated")
+    print(f"seed {seed}: {len(robots)} robots arrived after {step} steps; {kills} kills; {link.sent} messages, {link.lost} lost, {link.repeated} repeated")
     return 0
 
 
