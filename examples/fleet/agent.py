@@ -48,7 +48,9 @@ class Agent:
     """The process, which answers each line by one."""
 
     def __init__(self, words: Sequence[str], lock: Lock):
-        self.process = subprocess.Popen(words, stdin=subprocess.PIPE, stdout=subprocess.PIPE, pass_fds=[lock.fileno()])
+        # It ignores the signal of a file that grows past its limit, as Python does: it is to answer that its record wasn't stored.
+        how = {"stdin": subprocess.PIPE, "stdout": subprocess.PIPE, "pass_fds": [lock.fileno()], "restore_signals": False}
+        self.process = subprocess.Popen(words, **how)
         try:
             self.first = self._line()
         except Ended:
