@@ -159,7 +159,6 @@ BAD_LINES = (
     ["lane.map", "behind.plan", "--width", "10", "-o", "a"],
     ["lane.map", "behind.plan", "run.events", "run.events"],
     ["lane.map", "behind.plan", "run.events", "--beside", "swap.plan"],
-    ["lane.map", "behind.plan", "--beside", "swap.plan", "--png", "0", "-o", "a"],
     ["lane.map", "behind.plan", "--from", "bees"],
 )
 
@@ -285,6 +284,26 @@ def still(room: Room) -> list[Outcome]:
     ]
 
 
+def rows_of(data: bytes) -> tuple[list[bytes], int]:
+    """The rows of a picture, which has a byte a pixel, and its width."""
+    pieces, at, (_, wide, high) = [], 8, png_size(data)
+    while at < len(data):
+        size = struct.unpack(">I", data[at : at + 4])[0]
+        pieces.append((data[at + 4 : at + 8], data[at + 8 : at + 8 + size]))
+        at += size + 12
+    whole = zlib.decompress(b"".join(piece for kind, piece in pieces if kind == b"IDAT"))
+    return [whole[row * (wide + 1) + 1 : (row + 1) * (wide + 1)] for row in range(high)], wide
+
+
+def beside(room: Room, other: str) -> list[Outcome]:
+    """A picture of two plans has twice the same map above its lines just where they are alike."""
+    call = ["hall.map", "keys.plan", "--beside", other, "--png", "3", "-o", f"{other}.png"]
+    ended = room.show(*call)
+    rows, wide = rows_of((room.folder / f"{other}.png").read_bytes())
+    is_twice = all(row[: wide // 2] == row[wide // 2 :] for row in rows[: len(rows) * 2 // 3])
+    return [compared(f"a picture of two plans, the other {other}", shown(call), (ended, is_twice), (Ended(0, b"", b""), other == "keys.plan"))]
+
+
 def moving(room: Room, name: str, words: list[str], count: int) -> list[Outcome]:
     """Four frames a step of a plan, one an event of a run, and both ends."""
     call = [*words, "-o", f"{name}.gif"]
@@ -307,6 +326,8 @@ def pictures(room: Room) -> Iterator[Outcome]:
     run, end = ["lane.map", "behind.plan", "run.events"], len(show_pages.RUN)
     yield from side_by_side([
         functools.partial(still, room),
+        functools.partial(beside, room, "keys.plan"),
+        functools.partial(beside, room, "train.plan"),
         functools.partial(moving, room, "plan", ["square.map", "turn.plan", "--gif", "0", "1"], 5),
         functools.partial(moving, room, "run", [*run, "--gif", "2", "8"], 7),
         functools.partial(no_such_time, room, ["lane.map", "behind.plan", "--png", "3"], "show: the last time is 2, and 3 is wanted"),

@@ -63,7 +63,7 @@ def read_words(words: Sequence[str]) -> argparse.Namespace:
     parser.add_argument("--scen", metavar="SCEN", help="the scenario that the plan is to solve")
     parser.add_argument("--from", dest="source", choices=list(formats()), metavar="FORMAT", help="what a planner wrote (guessed by its beginning)")
     parser.add_argument("-o", "--output", type=pathlib.Path, metavar="FILE", help="where the page (standard output) or the picture goes")
-    parser.add_argument("--beside", metavar="PLAN", help="another plan on this map, shown beside the first, at the same times")
+    parser.add_argument("--beside", metavar="PLAN", help="another plan on this map, shown beside the first at the same times")
     kind = parser.add_mutually_exclusive_group()
     kind.add_argument("--png", type=time, metavar="TIME", help="a picture of this time, in place of the page")
     kind.add_argument("--gif", type=time, nargs=2, metavar=("FROM", "TO"), help="a moving picture from one time to the other")
@@ -75,8 +75,8 @@ def read_words(words: Sequence[str]) -> argparse.Namespace:
     given.is_picture = given.png is not None or given.gif is not None
     if given.is_picture and not given.output:
         parser.error("a picture goes into a file: -o FILE is wanted")
-    if given.beside and (given.events or given.is_picture):
-        parser.error("--beside shows two plans on a page: no EVENTS and no picture go with it")
+    if given.beside and given.events:
+        parser.error("--beside shows two plans: no EVENTS go with it")
     if given.gif and given.gif[0] > given.gif[1]:
         parser.error("--gif FROM TO: the first time is above the second")
     if not pictures.LEAST_WIDTH <= given.width <= pictures.MOST_WIDTH:
@@ -123,7 +123,7 @@ def write_page(given: argparse.Namespace, shown: Shown) -> None:
 
 
 def write_picture(given: argparse.Namespace, shown: Shown, folder: pathlib.Path) -> None:
-    pictures.hold_time(given.gif[1] if given.gif else given.png, shown.side.end)
+    pictures.hold_time(given.gif[1] if given.gif else given.png, shown.end)
     file = folder / "page.html"
     file.write_text("".join(page(shown)), encoding="ascii")
     kind = pictures.Kind(given.width, given.dark)

@@ -16,59 +16,70 @@ function wrapped(context, text, width, most) {
   return lines;
 }
 
-/** A picture of a moment, by itself: the map as large as fits, and a line below it. */
+/** A picture of a moment, by itself: the map as large as fits, and a line below it. Of two plans the maps stand side by side, and the lines below one another. */
 class Picture {
   constructor(show, time, width, isDark) {
     this.show = show;
     this.time = time;
     this.colours = coloursOf(isDark ? "dark" : "light");
-    const box = show.box(), wide = box.right - box.left, high = box.bottom - box.top;
+    const { sides } = show, box = show.box(), wide = box.right - box.left, high = box.bottom - box.top, each = width / sides.length;
     const [besides, above] = [MARGINS.left + MARGINS.right, MARGINS.top + MARGINS.bottom];
-    this.scale = Math.min(MOST_FITTED, (width - besides) / wide, MOST_HIGH * width / high);
-    this.width = Math.round(Math.max(Math.min(width, LEAST_PICTURE), wide * this.scale + besides));
+    this.scale = Math.min(MOST_FITTED, (each - besides) / wide, MOST_HIGH * each / high);
+    this.each = Math.round(Math.max(Math.min(width, LEAST_PICTURE) / sides.length, wide * this.scale + besides));
+    this.width = this.each * sides.length;
     this.lines = this.width < 640 ? 2 : 1;
-    this.below = LINE * (this.lines + (show.world.isRun ? 1 : 0)) + 10;
-    this.height = Math.round(high * this.scale + above) + this.below;
+    this.below = LINE * (this.lines * sides.length + (show.world.isRun ? 1 : 0)) + 10;
+    this.high = Math.round(high * this.scale + above);
+    this.height = this.high + this.below;
     this.box = box;
   }
 
   drawn() {
-    const { show } = this, { world } = show, before = world.time;
-    const canvas = document.createElement("canvas");
-    canvas.width = this.width;
-    canvas.height = this.height;
-    const context = canvas.getContext("2d", { alpha: false });
-    const view = new View();
-    view.fit(this.box, this.width, this.height - this.below);
-    world.seek(this.time);
-    show.drawing.draw(context, view, this.width, this.height, 1, this.colours, show.wishes);
-    this.drawLine(context);
-    world.seek(before);
-    return canvas;
+    const context = this.canvasOf(this.width, this.height);
+    context.fillStyle = this.colours.card;
+    context.fillRect(0, 0, this.width, this.height);
+    this.show.sides.forEach((side, place) => {
+      const before = side.world.time;
+      side.world.seek(Math.min(this.time, side.world.end));
+      context.drawImage(this.mapOf(side).canvas, place * this.each, 0);
+      this.drawLines(context, side, place);
+      side.world.seek(before);
+    });
+    return context;
   }
 
-  drawLine(context) {
-    const { show, width, height, below, colours, lines } = this, { world } = show;
-    context.fillStyle = colours.card;
-    context.fillRect(0, height - below, width, below);
+  canvasOf(width, height) {
+    const canvas = document.createElement("canvas");
+    [canvas.width, canvas.height] = [width, height];
+    return canvas.getContext("2d", { alpha: false });
+  }
+
+  /** The map of a side with its agents. */
+  mapOf(side) {
+    const context = this.canvasOf(this.each, this.high), view = new View();
+    view.fit(this.box, this.each, this.high);
+    side.drawing.draw(context, view, this.each, this.high, 1, this.colours, this.show.wishes);
+    return context;
+  }
+
+  drawLines(context, { facts, faults, world }, place) {
+    const { show, width, high, colours, lines } = this, top = high + 5 + place * lines * LINE;
     context.fillStyle = colours.ink;
     context.textAlign = "left";
     context.textBaseline = "middle";
     context.font = "13px system-ui, \"DejaVu Sans\", sans-serif";
-    const count = Math.floor(this.time);
-    const first = show.faults.length ? show.faults[0].words : world.inWords().split(" Last:")[0];
-    wrapped(context, first, width - 20, lines).forEach((line, place) => {
-      context.fillText(line, 10, height - below + 5 + (place + 0.5) * LINE, width - 20);
-    });
+    const first = faults.length ? faults[0].words : world.inWords().split(" Last:")[0], name = show.sides.length > 1 ? `${facts.name}: ` : "";
+    wrapped(context, `${name}${first}`, width - 20, lines).forEach((line, row) => context.fillText(line, 10, top + (row + 0.5) * LINE, width - 20));
     if (!world.isRun) return;
+    const count = Math.floor(this.time);
     const last = count ? `${world.log.events[count - 1]}  \u2192  ${world.log.replies[count - 1].slice(0, 60)}` : "before the first event";
     context.font = "13px ui-monospace, \"DejaVu Sans Mono\", monospace";
-    context.fillText(last, 10, height - 5 - 0.5 * LINE, width - 20);
+    context.fillText(last, 10, this.height - 5 - 0.5 * LINE, width - 20);
   }
 
   /** Red, green and blue of each pixel, as text. */
   pixels() {
-    const { data } = this.drawn().getContext("2d").getImageData(0, 0, this.width, this.height);
+    const { data } = this.drawn().getImageData(0, 0, this.width, this.height);
     const letters = [];
     for (let row = 0; row < this.height; row += 1) {
       const bytes = [];

@@ -30,6 +30,11 @@ class Shown:
     side: Side
     beside: Optional[Side]
 
+    @property
+    def end(self) -> int:
+        """The last time of both."""
+        return max(self.side.end, self.beside.end if self.beside else 0)
+
 
 def sections(shown: Shown) -> Iterator[tuple[str, bytes]]:
     """What there is much of, each part by its name."""
