@@ -200,6 +200,8 @@ while time.time() < end and (not is_sender or os.getppid() == int(sys.argv[4])):
         # A right message, but of another than the topic's.
         forged = bytes.fromhex("4601%04x%08x%08x" % ((turn % 5 + 1) % 3, int(number), 1))
         client.publish(f"mapf/{number}/said/{turn % 5}", (near + [forged, os.urandom(turn % 40), b"x" * 70000])[turn % 8], retain=turn % 2 == 0)
+        if turn == 40:
+            print("speaks", flush=True)
     time.sleep(0.005)
 print(len(kept), flush=True)
 """
@@ -247,13 +249,15 @@ def of_one_broker(harness: Harness, python: str) -> list[Outcome]:
 def of_topics(harness: Harness, python: str) -> list[Outcome]:
     """Bytes that are no messages come on the topics of the run all the time, and are kept by the broker."""
     broker = Broker(harness)
-    sender = subprocess.Popen([python, "-c", CLIENT, str(broker.port), "77", "send", str(os.getpid())], stdout=subprocess.DEVNULL)
+    sender = subprocess.Popen([python, "-c", CLIENT, str(broker.port), "77", "send", str(os.getpid())], stdout=subprocess.PIPE)
     try:
+        # A run that has ended before anybody speaks would say nothing.
+        sender.stdout.readline()
         words = ["--link", "mqtt", "--robots", "3", "--broker", broker.address, "--number", "77", "--moves", "0.1", "--tell", "--kills", "2"]
         return Fleet(harness, words).judged("strangers on the topics", 3, drops=True, dropped=20)
     finally:
         sender.kill()
-        sender.wait()
+        sender.communicate()
         broker.end()
 
 
