@@ -84,7 +84,7 @@ def words_of_unit(settings: dict[str, str], robot: int, fleet: pathlib.Path) -> 
 
 
 def of_services(harness: Harness, ports: Callable[[], int]) -> list[Outcome]:
-    """Two robots, each from a copy of the folder and with the drive of ten lines: one as the unit starts it, the other with the program on the path."""
+    """Two robots of a copied folder, with the drive of ten lines: one as the unit starts it, the other with the program on the path."""
     copied, port = Copied(harness), ports()
     for robot, start in enumerate(STARTS):
         drive, other = copied.folder / f"drive{robot}", f"127.0.0.1:{port + 1 - robot}"
@@ -106,12 +106,13 @@ def of_services(harness: Harness, ports: Callable[[], int]) -> list[Outcome]:
 def of_the_unit(harness: Harness) -> list[Outcome]:
     """What a unit for robots must have, and must not."""
     lines = unit()
-    due = {"StartLimitIntervalSec": "0", "Restart": "always", "RestartPreventExitStatus": "1 2", "LimitFSIZE": "infinity", "WatchdogSignal": "SIGKILL"}
+    due = {"StartLimitIntervalSec": "0", "Restart": "always", "RestartPreventExitStatus": "1 2", "LimitFSIZE": "infinity"}
     found = {name: lines.get(name) for name in due}
     outcomes = [compared("the unit's lines", UNIT.name, (found, "ExecStartPre" in lines, int(lines["WatchdogSec"]) > 30), (due, False, True))]
     if shutil.which("systemd-analyze"):
         folder = harness.folder({"mapf-robot@.service": UNIT.read_bytes().replace(b"/usr/bin/python3", sys.executable.encode())})
-        ended = harness.run(["systemd-analyze", "verify", "--man=no", "mapf-robot@1.service"], folder=folder, more={"SYSTEMD_UNIT_PATH": f"{folder}:"})
+        words = ["systemd-analyze", "verify", "--man=no", "mapf-robot@1.service"]
+        ended = harness.run(words, folder=folder, more={"SYSTEMD_UNIT_PATH": f"{folder}:"})
         told = [line for line in ended.err.decode().splitlines() if "mapf-robot" in line]
         outcomes.append(compared("the unit, as systemd reads it", "systemd-analyze verify", told, []))
     return outcomes

@@ -59,7 +59,7 @@ def read_words(words: Sequence[str]) -> argparse.Namespace:
     parser.add_argument("plan", metavar="PLAN", help="the plan, with the number of this run, which all robots of the fleet get")
     parser.add_argument("id", type=int, metavar="ID", help="the agent of the plan that this robot is")
     parser.add_argument("tape", metavar="TAPE", help="the file of its progress; TAPE.lock beside it is held as long as it or its agent lives")
-    parser.add_argument("--drive", required=True, metavar="SOCKET", help="the socket of its drive, which may be the watcher's; docs/OPERATING.md says how they speak")
+    parser.add_argument("--drive", required=True, metavar="SOCKET", help="the socket of its drive, as docs/OPERATING.md says; the watcher has one")
     parser.add_argument("--listen", type=address, metavar="HOST:PORT", help="a link by UDP: the own address")
     parser.add_argument("--peers", type=addresses, metavar="HOST:PORT,..", help="the addresses of all others")
     parser.add_argument("--group", type=address, metavar="HOST:PORT", help="the multicast group, instead of a list of peers")

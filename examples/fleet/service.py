@@ -1,4 +1,4 @@
-"""What a robot says to systemd where it is a service: that it lives. One that is silent, as whose agent hangs in a sync, is killed and started again."""
+"""What a robot says to systemd where it is a service: that it lives. One that is silent is killed and started again."""
 import contextlib
 import os
 import socket

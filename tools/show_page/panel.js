@@ -60,7 +60,8 @@ class Panel {
       if (!this.world.isRun) line.append(button("Show", () => this.act.seek(it.step), "to this rotation"));
       section.append(line);
     }
-    if (rotations.length > MOST_TURNS) section.append(made("p", "faint", `and ${shownNumber(rotations.length - MOST_TURNS)} more: the key r goes to the next one`));
+    const more = rotations.length - MOST_TURNS;
+    if (more > 0) section.append(made("p", "faint", `and ${shownNumber(more)} more: the key r goes to the next one`));
   }
 
   showRun() {
@@ -127,7 +128,8 @@ class Panel {
     }
     const { log, post } = this.world;
     const isRefused = log.reply[current] === REFUSED;
-    const lines = [made("div", "", `${shownNumber(current + 1)}. ${log.events[current]}`), made("div", isRefused ? "reply refused" : "reply", log.replies[current])];
+    const event = made("div", "", `${shownNumber(current + 1)}. ${log.events[current]}`);
+    const lines = [event, made("div", isRefused ? "reply refused" : "reply", log.replies[current])];
     if (log.reply[current] === SAID) lines.push(made("div", "faint", this.heardInWords(log.who[current], post.hearers(current))));
     box.replaceChildren(...lines);
   }

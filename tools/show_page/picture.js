@@ -16,7 +16,7 @@ function wrapped(context, text, width, most) {
   return lines;
 }
 
-/** A picture of a moment, by itself: the map as large as fits, and a line below it. Of two plans the maps stand side by side, and the lines below one another. */
+/** A picture of a moment, by itself: the map as large as fits, and a line below it. Of two plans the maps stand side by side. */
 class Picture {
   constructor(show, time, width, isDark) {
     this.show = show;
