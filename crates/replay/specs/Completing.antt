@@ -8,14 +8,13 @@ use Rattle.grid.specs.Text.{space, line_feed, ended}
 use Rattle.grid.specs.Writing.{WritesText}
 use Rattle.model.specs.declared.event.Event.{Event}
 use Rattle.model.specs.declared.version.Version.{Version}
-use Rattle.model.specs.Completion.{IsCompletion}
 use Rattle.model.specs.History.{Answer, History}
 use Rattle.model.specs.Timetable.{Timetable}
 use Rattle.event_text.specs.declared.header.Headers.TheVariants.{Either}
 use Rattle.event_text.specs.EventLine.{event_line}
 use Rattle.event_text.specs.ReplyText.{replies_text}
 use Rattle.event_text.specs.Taking.{NoMoreEvents}
-use Rattle.runner.specs.Endings.{IsBlockedBy}
+use Rattle.runner.specs.Endings.{IsBlockedBy, IsEndedBy}
 use Rattle.runner.specs.SafeRuns.{AreAnsweredAt}
 use Rattle.replay.specs.declared.completion.Completion.{Completion}
 use Rattle.replay.specs.declared.completion.Completion.TheVariants.{Ends, Blocked}
@@ -35,9 +34,9 @@ completion_text events = ended (numbered_line (codes "complete") (length events)
 abbrev pub blocked_text : ℕ → List ℕ
 blocked_text n = numbered_line (codes "blocked") n ++ line_feed ∷ []
 
--- So the run ends, and the text says it: the events of the text complete the run, or the rotation blocks it.
+-- So the run ends, and the text says it: the events of the text end the run, or the rotation blocks it.
 abbrev pub SpellsEnding : Version → Timetable → History → Completion → List ℕ → Type 0
-SpellsEnding version tt h Ends text = (events : List Event) × IsCompletion version tt h events × (text ≡ completion_text events)
+SpellsEnding version tt h Ends text = (events : List Event) × IsEndedBy version tt h events × (text ≡ completion_text events)
 SpellsEnding version tt h (Blocked n) text = IsBlockedBy tt h n × (text ≡ blocked_text n)
 
 -- Events are answered in a safe run of the version, the run that they made ends so, and this is what came of the text of the replies

@@ -14,3 +14,4 @@ pub mod SaidLemmas
 pub mod BlockLemmas
 pub mod LeadLemmas
 pub mod ChainLemmas
+pub mod ArrivalLemmas

@@ -137,7 +137,8 @@ impl<'g> Runner<'g> {
         Some(self.agents.get(agent as usize)?.held())
     }
 
-    /// Events that bring every agent to its end, answered after those before without a refusal; or the rotation that no events get out of.
+    /// Events that bring every agent to its end, answered after those before without a refusal, and none where all are there; or the rotation
+    /// that no events get out of.
     pub fn complete(&self) -> Result<Vec<Event>, CompleteFault>
         ensures { (h : History) → StandsAt self.now h → IsEnding self.now.version self.now.timetable h result }
     {

@@ -1,13 +1,15 @@
 -- Agents that wait for one another while all are brought to their ends.
-use Rattle.std.specs.Prelude.{◌≡◌, ℕ, ◌+◌, ◌-◌, ◌*◌, ◌<◌, ◌≤◌, List, [], ◌∷◌, length, Some, slice_get}
+use Rattle.std.specs.Prelude.{◌≡◌, ℕ, ◌+◌, ◌-◌, ◌*◌, ◌<◌, ◌≤◌, Bool, true, false, List, [], ◌∷◌, length, Some, slice_get}
 use Rattle.model.specs.Dependency.{WaitsFor, IsRotation}
 use Rattle.model.specs.Timetable.{Track, Timetable, moves, track_of}
 use Rattle.model.specs.declared.event.Event.{Event}
 use Rattle.model.specs.declared.version.Version.{Version}
-use Rattle.model.specs.Completion.{IsCompletion}
 use Rattle.model.specs.History.{History, messages}
-use Rattle.agent.specs.Agents.{AgentOn}
+use Rattle.agent.specs.Agents.{AgentOn, state_of}
+use Rattle.agent.specs.States.{done, is_moving}
+use Rattle.agent.specs.CountedTape.{counted_state}
 use Rattle.agent.specs.declared.counted_tape.CountedTape.{CountedTape}
+use Rattle.runner.specs.Endings.{IsEndedBy, HaveArrived}
 use Rattle.runner.specs.Code.Leading.{EndingState, finished_in, Begins, Leads, LeadsOn, IsOf, HasLeft}
 
 -- nobody moves in a rotation
@@ -55,7 +57,16 @@ pub record GoesNearer (agent : ℕ) (old new : EndingState) (waiting more : List
 abbrev pub LeadsFrom : Timetable → List (AgentOn CountedTape) → ℕ → EndingState → Type 0
 LeadsFrom tt agents count s = (version : Version) (h : History) → Begins version tt agents h → length (messages version tt h) ≡ count → Leads version s h
 
--- they complete it
+-- they end it
 abbrev pub CompletesFrom : Timetable → List (AgentOn CountedTape) → ℕ → List Event → Type 0
 CompletesFrom tt agents count events =
-    (version : Version) (h : History) → Begins version tt agents h → length (messages version tt h) ≡ count → IsCompletion version tt h events
+    (version : Version) (h : History) → Begins version tt agents h → length (messages version tt h) ≡ count → IsEndedBy version tt h events
+
+-- Wherever a run left the agents, the test tells whether every one was at its end there.
+pub record TellsArrival (tt : Timetable) (agents : List (AgentOn CountedTape)) (have : Bool) : Type 0 where
+  pub all : (version : Version) (h : History) → Begins version tt agents h → have ≡ true → HaveArrived tt h
+  pub some : (version : Version) (h : History) → Begins version tt agents h → have ≡ false → HaveArrived tt h → ⊥
+
+-- the same of one of them, by what it has on its tape
+abbrev pub HasStopped : Timetable → ℕ → AgentOn CountedTape → Type 0
+HasStopped tt i a = (track : Track) → track_of tt i ≡ Some track → (done (state_of counted_state a) ≡ moves track) × (is_moving (state_of counted_state a) ≡ false)

@@ -2,6 +2,7 @@ use Rattle.std.proofs.Common.{◌+◌, length, refl, sym, ap, subst, ◌∙◌, 
 use Rattle.std.proofs.lemmas.Option.{none-some}
 use Rattle.std.specs.Prelude.{slice_get}
 use Rattle.model.specs.Completion.{IsCompletion}
+use Rattle.runner.specs.Endings.{IsEndedBy}
 use Rattle.runner.specs.Code.Leading.{Begins}
 use Rattle.runner.specs.Code.Waiting.{HasNoRotation}
 use Rattle.runner.proofs.LeadLemmas.{leads-nowhere, leads-same, completes-on}
@@ -12,8 +13,8 @@ rest-init c = record {
   timetable = refl;
   agents = refl;
   count = ap length c.in_ok-with_capacity.ensures.items;
-  none_heard = λ n x there. absurd (none-some x (sym (ap (λ l. slice_get l n) c.new-3.ensures.items) ∙ there));
-  leads = λ v h begins said. leads-nowhere v h _ c.new.ensures.items c.in_ok-with_capacity.ensures.items c.new-3.ensures.items begins said;
+  none_heard = λ n x there. absurd (none-some x (sym (ap (λ l. slice_get l n) c.new-4.ensures.items) ∙ there));
+  leads = λ v h begins said. leads-nowhere v h _ c.new-2.ensures.items c.in_ok-with_capacity.ensures.items c.new-4.ensures.items begins said;
 }
 
 pub rest-preserved : goal.rest-preserved
@@ -33,6 +34,15 @@ rest-preserved c =
 pub bring_to_end-requires-clause-still : goal.bring_to_end-requires-clause-still
 bring_to_end-requires-clause-still c = subst HasNoRotation (sym c.ends.invariant.timetable) c.requires.still
 
+-- Where all have arrived, no event is left to answer.
+pub returns-then-have_arrived : goal.returns-then-have_arrived
+returns-then-have_arrived c version h begins said =
+    let arrived = c.have_arrived.ensures.all version h begins c.if-have_arrived.true in
+    subst (IsEndedBy version c.args.graph.now h) (sym c.new.ensures.items) (record {
+      completes = record { accepted = tt; arrived = arrived };
+      none_needless = λ all. refl;
+    })
+
 pub returns : goal.returns
 returns c version h begins said =
     let end = c.ends.invariant in
@@ -42,4 +52,8 @@ returns c version h begins said =
     let table = ap (λ t. length t.tracks) end.timetable in
     let past = c.ends-test.false in
     let whole = completes-on version h c.ends.ending begins_then (omega (arith, crew, count, table)) (λ i less. end.done i (omega (arith, less, count, past))) (end.leads version h begins said) in
-    subst (λ t. IsCompletion version t h c.ending-2.inside.events.items) end.timetable (subst (IsCompletion version c.ends.ending.timetable h) (sym (ap (λ s. s.events) c.ending-2.view_is)) whole)
+    record {
+      completes = subst (λ t. IsCompletion version t h c.ending-2.inside.events.items) end.timetable
+          (subst (IsCompletion version c.ends.ending.timetable h) (sym (ap (λ s. s.events) c.ending-2.view_is)) whole);
+      none_needless = λ all. absurd (c.have_arrived.ensures.some version h begins c.if-have_arrived.false all);
+    }

@@ -1,9 +1,8 @@
 use Rattle.std.proofs.Common.{length, sym, ap, subst, ◌∙◌}
-use Rattle.model.specs.Completion.{IsCompletion}
 use Rattle.model.proofs.RotationLemmas.{never}
 use Rattle.model.proofs.RunLemmas.{in_step}
 use Rattle.runner.specs.Code.Leading.{Begins}
-use Rattle.runner.specs.Endings.{IsBlockedBy}
+use Rattle.runner.specs.Endings.{IsBlockedBy, IsEndedBy}
 use Rattle.runner.specs.Standing.{StandsAt}
 use Rattle.runner.proofs.BlockLemmas.{first-blocks, first-listed, none-listed}
 use Rattle.runner.proofs.runner.Runner.complete.Goals as goal
@@ -23,6 +22,6 @@ returns c h stands =
     let inside = subst (λ r. StandsAt r h) (sym c.self.view_is) stands in
     let begins : Begins c.self.inside.said.version c.self.inside.graph.now c.self.inside.agents.items h = record { run = inside.run; members = inside.members } in
     let said = ap length (sym inside.messages) ∙ sym c.count-messages.ensures.count in
-    subst (λ r. IsCompletion r.version r.timetable h c.in_ok-bring_all_to_ends.field-0.items) c.self.view_is
+    subst (λ r. IsEndedBy r.version r.timetable h c.in_ok-bring_all_to_ends.field-0.items) c.self.view_is
     (c.in_ok-bring_all_to_ends.ensures c.self.inside.said.version h
     (subst (λ l. Begins c.self.inside.said.version c.self.inside.graph.now l h) (sym c.deref.ensures.value) begins) said)
