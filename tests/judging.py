@@ -1,5 +1,6 @@
 """tools/judge.py: one result a job with the right verdict, whatever the plans are and whoever is stopped."""
 import csv
+import hashlib
 import io
 import json
 import os
@@ -13,12 +14,16 @@ import sys
 import time
 from typing import Iterator, Mapping, Optional, Sequence
 
-from harness import ROOT, Ended, Harness, Outcome, compared, shown
+from harness import ROOT, VERSION, Ended, Harness, Outcome, compared, shown
 from plain_formats import WRITERS, Paths, plan_text, scen_text
-from texts import BEHIND, LANE, SHORT, SQUARE, SWAP, TURN, VERTEX
+from texts import BEHIND, LANE, SHORT, SQUARE, SWAP, TURN, VERTEX, WALL
 
 TOOL = ROOT / "tools" / "judge.py"
-COLUMNS = ["map", "scenario", "plan", "agents", "verdict", "fault", "cost", "makespan", "seconds"]
+COLUMNS = ["map", "scenario", "plan", "agents", "verdict", "fault", "cost", "claimed", "makespan", "agents_found", "seconds"]
+COLUMNS += ["map_sha256", "scenario_sha256", "plan_sha256", "judge"]
+# The columns that say what was due.
+JUDGED = ["map", "scenario", "plan", "verdict", "fault", "cost", "makespan"]
+OLDER = b"map,scenario,plan,agents,verdict,fault,cost,makespan,seconds\nlane.map,,behind.plan,,accepted,,2,1,0.1\n"
 # Two agents that go one cell east behind one another on the map LANE, and what they are to solve.
 PATHS: Paths = [[(1, 0), (2, 0), (2, 0)], [(0, 0), (1, 0)]]
 COST_OF_BOTH, MAKESPAN = 2, 1
@@ -73,7 +78,8 @@ BAD_LISTS = {
     "empty.csv": b"",
     "other.csv": b"map,file\nlane.map,behind.plan\n",
     "twice.csv": b"map,plan,map\nlane.map,behind.plan,lane.map\n",
-    "unknown.csv": b"map,plan,colour\nlane.map,behind.plan,red\n",
+    "taken.csv": b"map,plan,verdict\nlane.map,behind.plan,red\n",
+    "unnamed.csv": b"map,plan,\nlane.map,behind.plan,red\n",
     "short.csv": b"map,plan\nlane.map\n",
     "long.csv": b"map,plan\nlane.map,behind.plan,2\n",
     "nameless.csv": b"map,plan\nlane.map,\n",
@@ -132,7 +138,7 @@ def json_of(jobs: Sequence[tuple[str, str, str, str]]) -> bytes:
 
 def verdicts(rows: Sequence[Mapping[str, str]]) -> list[tuple[str, ...]]:
     """What was said of each job, in an order of their own."""
-    return sorted(tuple(row.get(name, "?") for name in COLUMNS[:3] + COLUMNS[4:8]) for row in rows)
+    return sorted(tuple(row.get(name, "?") for name in JUDGED) for row in rows)
 
 
 def due_of(jobs: Sequence[tuple[tuple[str, str, str, str], tuple[str, str, str, str]]]) -> list[tuple[str, ...]]:
@@ -216,9 +222,12 @@ def of_bad_lists(room: Room) -> Iterator[Outcome]:
         (["jobs.csv", "-o", "no/none.csv"], 3),
         (["jobs.csv", "-o", room.file("others.csv", b"a,b\n1,2\n")], 3),
         (["jobs.csv", "-o", room.file("others.jsonl", b'{"a":1}\n')], 3),
+        (["jobs.csv", "-o", room.file("older.csv", OLDER)], 3),
+        (["jobs.csv", "-o", room.file("older.jsonl", json.dumps(dict(next(csv.DictReader(OLDER.decode().splitlines())))).encode() + b"\n")], 3),
     ):
         ended = room.judge(*words)
-        yield compared(" ".join(words), shown(["tools/judge.py", *words]), (ended.status, bool(ended.err), ended.out), (status, True, b""))
+        wrote = (ended.status, bool(ended.err), ended.out, b"is of an older judge" in ended.err)
+        yield compared(" ".join(words), shown(["tools/judge.py", *words]), wrote, (status, True, b"", "older." in words[-1]))
     yield compared("a file of something else", "looked at others.csv", (room.folder / "others.csv").read_bytes(), b"a,b\n1,2\n")
 
 
@@ -271,6 +280,112 @@ def of_stops(room: Room) -> Iterator[Outcome]:
     yield compared("how often it was killed", "judge.py jobs.csv", stops > 1, True)
 
 
+# A change that takes the results of two jobs the ground, which results are judged anew for it, and what is said of them.
+CHANGES: list[tuple[str, dict[str, str], tuple[str, str], str]] = [
+    ("another plan", {"one.plan": SWAP}, ("rejected", "accepted"), "one.plan: another plan since"),
+    ("another map", {"lane.map": WALL}, ("rejected", "rejected"), "one.plan: another map since"),
+    ("another scenario", {"lane.scen": TEXTS["other.scen"]}, ("rejected", "rejected"), "two.plan: another scenario since"),
+    ("another plan and scenario", {"one.plan": SWAP, "lane.scen": "version 1\n"}, ("rejected", "rejected"), "one.plan: another scenario and plan since"),
+]
+PAIR = [("lane.map", "lane.scen", "one.plan", ""), ("lane.map", "lane.scen", "two.plan", "")]
+
+
+def short(rows: Sequence[Mapping[str, str]]) -> list[tuple[str, ...]]:
+    return sorted((row["plan"], row["agents"], row["verdict"]) for row in rows)
+
+
+def of_changes(room: Room) -> Iterator[Outcome]:
+    """A result is of the files that were judged: of others it is made anew, and that is said."""
+    room.file("pair.csv", csv_of(PAIR))
+    for number, (name, files, (one, two), told) in enumerate(CHANGES):
+        for file, text in {"one.plan": BEHIND, "two.plan": BEHIND, "lane.map": LANE, "lane.scen": TASKS}.items():
+            room.file(file, text.encode())
+        output = f"change{number}.csv"
+        first = room.judge("pair.csv", "-o", output)
+        yield compared(f"before {name}", "judge.py pair.csv", (first.status, short(room.rows(output))), (0, [("one.plan", "", "accepted"), ("two.plan", "", "accepted")]))
+        for file, text in files.items():
+            room.file(file, text.encode())
+        ended = room.judge("pair.csv", "-o", output)
+        wrote = (ended.status, short(room.rows(output)), told.encode() in ended.err)
+        yield compared(name, f"judge.py pair.csv, which told {ended.err!r}", wrote, (0, [("one.plan", "", one), ("two.plan", "", two)], True))
+        again = room.judge("pair.csv", "-o", output)
+        yield compared(f"behind {name}", "judge.py pair.csv", (b"2 of 2 jobs have a result" in again.err, b"anew" in again.err), (True, False))
+    room.file("lane.map", LANE.encode())
+    room.file("lane.scen", TASKS.encode())
+    own = room.script("other", f'exec {shlex.quote(str(room.harness.program))} "$@"')
+    for name, words, program in (("another program", [], own), ("another format asked for", ["--from", "paths"], "")):
+        output = f"{name}.csv"
+        room.judge("pair.csv", "-o", output)
+        ended = room.judge("pair.csv", "-o", output, *words, program=program)
+        yield compared(name, f"judge.py pair.csv, which told {ended.err!r}", (b"one.plan: another judge since" in ended.err, len(room.rows(output))), (True, 2))
+
+
+def of_sums(room: Room) -> Iterator[Outcome]:
+    """A result has the sums of what was judged, and says who did."""
+    room.file("pair.csv", csv_of(PAIR))
+    for name, text in (("one.plan", BEHIND), ("two.plan", SWAP)):
+        room.file(name, text.encode())
+    room.judge("pair.csv", "-o", "sums.csv")
+    found = sorted((row["plan"], *(row[f"{name}_sha256"] for name in ("map", "scenario", "plan"))) for row in room.rows("sums.csv"))
+    sums = [hashlib.sha256(text.encode()).hexdigest() for text in (LANE, TASKS, BEHIND, SWAP)]
+    yield compared("the sums of what was judged", "sha256sum", found, [("one.plan", *sums[:2], sums[2]), ("two.plan", *sums[:2], sums[3])])
+    version = VERSION.partition("\n")[0]
+    yield compared("who judged", "looked at sums.csv", [row["judge"].startswith(f"{version} ") for row in room.rows("sums.csv")], [True, True])
+
+
+def of_columns(room: Room) -> Iterator[Outcome]:
+    """A job is all of its columns. Those that are none of judge.py go through."""
+    job = "lane.map,lane.scen,behind.plan"
+    heading = "map,scenario,plan,agents"
+    room.file("two.csv", f"{heading}\n{job},2\n".encode())
+    room.judge("two.csv", "-o", "counts.csv")
+    room.file("both.csv", f"{heading}\n{job},3\n{job},2\n".encode())
+    room.judge("both.csv", "-o", "counts.csv")
+    due = [("behind.plan", "2", "accepted"), ("behind.plan", "3", "rejected")]
+    yield compared("a job more, of other agents", "judge.py both.csv", short(room.rows("counts.csv")), due)
+    room.file("three.csv", f"{heading}\n{job},3\n".encode())
+    ended = room.judge("three.csv", "-o", "counts.csv")
+    wrote = (short(room.rows("counts.csv")), b"behind.plan: the list says something else of it" in ended.err)
+    yield compared("a job that says something else", "judge.py three.csv", wrote, (due[1:], True))
+    room.file("swap.csv", f"{heading}\nlane.map,,swap.plan,\n".encode())
+    room.judge("swap.csv", "-o", "counts.csv")
+    yield compared("another list", "judge.py swap.csv", short(room.rows("counts.csv")), [*due[1:], ("swap.plan", "", "rejected")])
+    room.file("more.csv", f"planner,runtime,{heading}\nPIBT,0.250,{job},2\n".encode())
+    room.file("more.jsonl", b'{"planner":"PIBT","runtime":0.250,"map":"lane.map","scenario":"lane.scen","plan":"behind.plan","agents":2}\n')
+    for jobs, output in (("more.csv", "counts.csv"), ("more.jsonl", "counts.jsonl")):
+        room.judge(jobs, "-o", output)
+        row = next(row for row in room.rows(output) if row["plan"] == "behind.plan")
+        wrote = (row["planner"], row["runtime"], row["verdict"], list(row))
+        yield compared(f"columns of {jobs} go through", f"judge.py {jobs}", wrote, ("PIBT", "0.250", "accepted", [*COLUMNS, "planner", "runtime"]))
+        before = (room.folder / output).read_bytes()
+        ended = room.judge(jobs, "-o", output)
+        yield compared(f"{jobs} once more", f"judge.py {jobs}", (b"1 of 1 jobs have" in ended.err, (room.folder / output).read_bytes() == before), (True, True))
+    yield compared("the lines of other lists stay", "looked at counts.csv", short(room.rows("counts.csv")), [due[0], ("swap.plan", "", "rejected")])
+
+
+def of_stops_anew(room: Room) -> Iterator[Outcome]:
+    """A judge that is killed while it judges anew has each job once at its end, and what still fitted is not lost meanwhile."""
+    plans = [f"many{number}.plan" for number in range(8)]
+    for plan in plans:
+        room.file(plan, BEHIND.encode())
+    room.file("many.csv", csv_of([("lane.map", "", plan, "2") for plan in plans]))
+    slow = room.script("slower", f'test "$1" = --version || sleep 0.2\nexec {shlex.quote(str(room.harness.program))} "$@"')
+    room.judge("many.csv", "-o", "anew.csv", program=slow)
+    for plan in plans[2:]:
+        room.file(plan, SWAP.encode())
+    process = subprocess.Popen(room.words("many.csv", "-o", "anew.csv", program=slow), cwd=room.folder, stderr=subprocess.PIPE, start_new_session=True)
+    while process.poll() is None and not 4 <= len(room.rows("anew.csv")) < 8:
+        time.sleep(0.002)
+    process.kill()
+    process.communicate()
+    rows = [(row["plan"], row["verdict"]) for row in room.rows("anew.csv")]
+    due = {plan: "accepted" if plan in plans[:2] else "rejected" for plan in plans}
+    wrote = (set(plans[:2]) <= {plan for plan, _ in rows}, [row for row in rows if due[row[0]] != row[1]], len(rows) < 8)
+    yield compared("killed while it judges anew", "judge.py many.csv", wrote, (True, [], True))
+    room.judge("many.csv", "-o", "anew.csv", program=slow)
+    yield compared("judged to its end", "judge.py many.csv", sorted((row["plan"], row["verdict"]) for row in room.rows("anew.csv")), sorted(due.items()))
+
+
 def with_distributed() -> Optional[str]:
     """A Python that has Dask's cluster."""
     for python in (sys.executable, "/usr/bin/python3"):
@@ -310,5 +425,9 @@ def outcomes(harness: Harness) -> Iterator[Outcome]:
     yield from of_bad_lists(room)
     yield from of_processes(room)
     yield from of_stops(room)
+    yield from of_changes(room)
+    yield from of_sums(room)
+    yield from of_columns(room)
+    yield from of_stops_anew(room)
     if harness.is_long:
         yield from of_a_cluster(room)

@@ -8,7 +8,8 @@ JOBS is a list with the columns map, plan, and perhaps scenario and agents: CSV 
 `random-32-32-20-even-3-50.txt` is for 50 agents of random-32-32-20-even-3.scen on random-32-32-20.map.
 
 RESULTS, CSV or JSON lines by its name, has a line a job, in the order in which they are judged. The verdict is `accepted`, `rejected`, `unreadable`
-(a text has a fault) or `failed` (a file, a process or a tool failed, or the time was over). A judge that was stopped goes on behind what stands.
+(a text has a fault) or `failed` (a file, a process or a tool failed, or the time was over). A judge that was stopped goes on behind what stands. A
+result whose plan, map, scenario, program or readers are others since is made anew.
 
 Status 0: every job has a result. 1: the list of jobs has a fault. 2: a bad command line. 3: the results can't be written.
 """
@@ -24,10 +25,12 @@ from typing import Iterator, Sequence
 sys.dont_write_bytecode = True
 from judging import workers  # noqa: E402
 from judging.jobs import BadJobs, Job, by_names, read_jobs  # noqa: E402
+from judging.marks import Marker, judge_of  # noqa: E402
 from judging.results import BadResults, Results  # noqa: E402
 from judging.verdicts import ACCEPTED, FAILED, VERDICTS  # noqa: E402
 from judging.workers import Work  # noqa: E402
 from leaving import heed_signals  # noqa: E402
+from path_check import Program  # noqa: E402
 from plan_formats import formats  # noqa: E402
 
 ROOT = pathlib.Path(__file__).resolve().parent.parent
@@ -36,6 +39,8 @@ SECONDS = 600.0
 PATTERN = "{map}-{scen}-{number}-{agents}*"
 SCEN_PATTERN = "{map}-{scen}-{number}.scen"
 BAR = 30
+# How many results that don't fit any more are named.
+MOST_REASONS = 10
 
 
 def say(text: str) -> None:
@@ -113,15 +118,37 @@ def summary(rows: Sequence[dict[str, str]]) -> Iterator[str]:
         yield f"{name}: " + ", ".join(f"{counts[it]} {it}" for it in VERDICTS) + f"; cost {cost}"
 
 
+def work_of(given: argparse.Namespace) -> Work:
+    return Work(given.program, given.source, given.seconds, judge_of(Program(given.program), given.source))
+
+
+def more_columns(jobs: Sequence[Job]) -> list[str]:
+    """The columns that these jobs have beside those of each job."""
+    return list(dict.fromkeys(name for job in jobs for name, _ in job.more))
+
+
+def still_to_judge(jobs: Sequence[Job], listed: Sequence[Job], results: Results, work: Work) -> list[Job]:
+    """The jobs without a result that fits. What is wrong with those that stand is said."""
+    left, reasons = results.left(jobs, listed, Marker(work.judge))
+    if len(left) < len(jobs):
+        say(f"{len(jobs) - len(left)} of {len(jobs)} jobs have a result")
+    if reasons:
+        say(f"{len(reasons)} results that stood don't fit any more, and their jobs are judged anew:")
+    for reason in reasons[:MOST_REASONS]:
+        say(reason)
+    if len(reasons) > MOST_REASONS:
+        say(f"and {len(reasons) - MOST_REASONS} more")
+    return left
+
+
 def judge(given: argparse.Namespace) -> None:
     k, n = given.shard
-    jobs = jobs_of(given)[k - 1 :: n]
-    work = Work(given.program, given.source, given.seconds)
-    results = Results(given.output)
+    listed = jobs_of(given)
+    jobs = listed[k - 1 :: n]
+    work = work_of(given)
+    results = Results(given.output, more_columns(listed))
     try:
-        left = results.left(jobs)
-        if len(left) < len(jobs):
-            say(f"{len(jobs) - len(left)} of {len(jobs)} jobs have a result")
+        left = still_to_judge(jobs, listed, results, work)
         begun, is_shown = time.monotonic(), sys.stderr.isatty()
         answers = workers.on_a_cluster(left, work, given.dask) if given.dask else workers.on_this_machine(left, work, given.processes)
         for done, row in enumerate(answers, 1):
@@ -139,8 +166,8 @@ def judge(given: argparse.Namespace) -> None:
 def judge_one(given: argparse.Namespace) -> None:
     """For a worker of a cluster: a job on standard input, and its result on standard output."""
     fields = json.load(sys.stdin)
-    job = Job(**{**fields, "folder": pathlib.Path(fields["folder"])})
-    for row in workers.on_this_machine([job], Work(given.program, given.source, given.seconds), 1):
+    job = Job(**{**fields, "more": tuple(map(tuple, fields["more"])), "folder": pathlib.Path(fields["folder"])})
+    for row in workers.on_this_machine([job], work_of(given), 1):
         json.dump(row, sys.stdout)
 
 

@@ -6,9 +6,13 @@ import pathlib
 import re
 from typing import Any, Iterator, Optional, Sequence
 
-# The columns of a list of jobs; those behind the first two may be missing or empty.
+# The columns of a list of jobs that say what is to be judged; those behind the first two may be missing or empty. Other columns go through.
 COLUMNS = ("map", "plan", "scenario", "agents")
 REQUIRED = ("map", "plan")
+# What a result says, behind what its job says.
+FOUND = (
+    "verdict", "fault", "cost", "claimed", "makespan", "agents_found", "seconds", "map_sha256", "scenario_sha256", "plan_sha256", "judge"
+)
 # The most agents that a plan has; no number of a job needs more digits.
 MOST_AGENTS = 10_000
 # What a field of a name may be.
@@ -27,12 +31,15 @@ class Job:
     scenario: str
     plan: str
     agents: str
+    # The other columns of the list, which go through to the results.
+    more: tuple[tuple[str, str], ...] = ()
     # Where the names of the files begin.
     folder: pathlib.Path = dataclasses.field(compare=False, default=pathlib.Path())
 
     @property
-    def key(self) -> tuple[str, str, str, str]:
-        return self.map, self.scenario, self.plan, self.agents
+    def columns(self) -> dict[str, str]:
+        """All that the list says of the job."""
+        return {"map": self.map, "scenario": self.scenario, "plan": self.plan, "agents": self.agents, **dict(self.more)}
 
     def file(self, name: str) -> str:
         return str(self.folder / name)
@@ -41,9 +48,9 @@ class Job:
 def job_of(fields: dict[str, Any], folder: pathlib.Path, where: str) -> Job:
     """The job with these fields."""
     for name in fields:
-        if name not in COLUMNS:
-            raise BadJobs(f"{where}: '{name}' is no column, one of {', '.join(COLUMNS)} was due")
-    words = {name: "" if fields.get(name) is None else str(fields[name]) for name in COLUMNS}
+        if name in FOUND or not name.strip():
+            raise BadJobs(f"{where}: '{name}' is a column of the results, another name was due" if name.strip() else f"{where}: a column has no name")
+    words = {name: "" if fields.get(name) is None else str(fields[name]) for name in (*COLUMNS, *fields)}
     for name in REQUIRED:
         if not words[name]:
             raise BadJobs(f"{where}: there is no {name}, the name of a file was due")
@@ -53,7 +60,8 @@ def job_of(fields: dict[str, Any], folder: pathlib.Path, where: str) -> Job:
     agents = words["agents"]
     if agents and not (agents.isascii() and agents.isdigit() and len(agents) < 6 and int(agents) <= MOST_AGENTS):
         raise BadJobs(f"{where}: '{agents[:40]}' agents, a number from 0 to {MOST_AGENTS} was due")
-    return Job(words["map"], words["scenario"], words["plan"], str(int(agents)) if agents else "", folder)
+    more = tuple((name, word) for name, word in words.items() if name not in COLUMNS)
+    return Job(words["map"], words["scenario"], words["plan"], str(int(agents)) if agents else "", more, folder)
 
 
 def from_csv(text: str, path: pathlib.Path) -> Iterator[Job]:
@@ -76,7 +84,7 @@ def from_json_lines(text: str, path: pathlib.Path) -> Iterator[Job]:
         if not line.strip():
             continue
         try:
-            fields = json.loads(line)
+            fields = json.loads(line, parse_int=str, parse_float=str)
         except (ValueError, RecursionError):
             raise BadJobs(f"{path}:{number}: the line is no JSON, an object was due") from None
         if not isinstance(fields, dict) or any(isinstance(value, (dict, list, bool, float)) for value in fields.values()):

@@ -6,10 +6,18 @@ import io
 import json
 import os
 import pathlib
-from typing import Counter, Optional
+from typing import BinaryIO, Counter, Iterator, Optional, Sequence
 
-from judging.jobs import Job
+from judging.jobs import FOUND, Job
+from judging.marks import Marker, what_differs
 from judging.verdicts import COLUMNS, VERDICTS
+from whole_file import draft
+
+# The heading of a judge that kept no sums of what it judged.
+OLDER = ("map", "scenario", "plan", "agents", "verdict", "fault", "cost", "makespan", "seconds")
+# The names of the files of a job, and all that its list says of it.
+Files = tuple[str, str, str]
+Key = frozenset[tuple[str, str]]
 
 
 class BadResults(Exception):
@@ -19,62 +27,114 @@ class BadResults(Exception):
 class Results:
     """The open file, CSV or JSON lines by its name."""
 
-    def __init__(self, path: pathlib.Path):
+    def __init__(self, path: pathlib.Path, more: Sequence[str]):
         self.path = path
         self.is_json = path.suffix in (".json", ".jsonl", ".ndjson")
-        self.file = open(path, "a+b", buffering=0)
-        try:
-            fcntl.flock(self.file, fcntl.LOCK_EX | fcntl.LOCK_NB)
-        except OSError:
-            raise BadResults(f"{path}: another judge writes it") from None
-        self.done: Counter[tuple[str, ...]] = collections.Counter()
+        self.file = locked(path)
+        # All columns: those of each table, and behind them those that jobs have beside.
+        self.columns: tuple[str, ...] = COLUMNS
         self.rows: list[dict[str, str]] = []
         self._take_what_stands()
+        wider = (*self.columns, *(name for name in more if name not in self.columns))
+        if not self.is_json and wider != self.columns:
+            self.columns = wider
+            self._write_anew(self.rows)
 
     def _take_what_stands(self) -> None:
         """Reads the lines that stand, and cuts off one that was not written to its end."""
         self.file.seek(0)
         data = self.file.read()
         whole = data[: data.rfind(b"\n") + 1]
-        lines = whole.decode(errors="replace").split("\n")[:-1]
-        heading = [] if self.is_json else [csv_line(COLUMNS)]
-        if not self.is_json and lines[:1] not in ([], heading):
-            raise BadResults(f"{self.path}:1: another heading, {heading[0]} was due")
-        for number, line in enumerate(lines[len(heading) :], len(heading) + 1):
-            row = self._row(line)
-            if row is None:
-                raise BadResults(f"{self.path}:{number}: the line is no result, one of this tool's was due")
-            self.rows.append(row)
-            self.done[key_of(row)] += 1
+        lines = whole.decode(errors="surrogateescape").split("\n")[:-1]
+        if not self.is_json and lines:
+            self._take_heading(lines[0])
+        first = 0 if self.is_json else 1
+        for number, line in enumerate(lines[first:], first + 1):
+            self.rows.append(self._row(line, number))
         if len(whole) < len(data):
             self.file.truncate(len(whole))
-        if not lines and heading:
-            self.file.write(f"{heading[0]}\n".encode())
+        if not lines and not self.is_json:
+            self.file.write(f"{csv_line(self.columns)}\n".encode())
 
-    def _row(self, line: str) -> Optional[dict[str, str]]:
-        """The result in a line, if there is one."""
+    def _take_heading(self, line: str) -> None:
+        if line == csv_line(OLDER):
+            raise self._of_an_older_judge(1)
         try:
-            values = json.loads(line) if self.is_json else dict(zip(COLUMNS, next(csv.reader([line], strict=True))))
+            self.columns = tuple(next(csv.reader([line], strict=True)))
+        except (csv.Error, StopIteration):
+            self.columns = ()
+        if self.columns[: len(COLUMNS)] != COLUMNS or len(set(self.columns)) < len(self.columns):
+            raise BadResults(f"{self.path}:1: another heading, {csv_line(COLUMNS)} was due")
+
+    def _of_an_older_judge(self, number: int) -> BadResults:
+        told = "is of an older judge, and doesn't say which files were judged; another file was due, or this one moved away"
+        return BadResults(f"{self.path}:{number}: the {'line' if self.is_json else 'heading'} {told}")
+
+    def _row(self, line: str, number: int) -> dict[str, str]:
+        """The result in a line."""
+        values = self._values(line)
+        if values is not None and tuple(values) == OLDER:
+            raise self._of_an_older_judge(number)
+        fits = values is not None and tuple(values)[: len(COLUMNS)] == COLUMNS and values["verdict"] in VERDICTS
+        if not fits:
+            raise BadResults(f"{self.path}:{number}: the line is no result, one of this tool's was due")
+        return values
+
+    def _values(self, line: str) -> Optional[dict[str, str]]:
+        try:
+            if self.is_json:
+                values = json.loads(line)
+                return values if isinstance(values, dict) and all(isinstance(value, str) for value in values.values()) else None
+            fields = next(csv.reader([line], strict=True))
+            return dict(zip(self.columns, fields)) if len(fields) == len(self.columns) else None
         except (ValueError, csv.Error, StopIteration, RecursionError):
             return None
-        fits = isinstance(values, dict) and tuple(values) == COLUMNS and values["verdict"] in VERDICTS
-        return values if fits else None
 
-    def left(self, jobs: list[Job]) -> list[Job]:
-        """The jobs without a result: each result that stands is that of one job."""
-        standing = collections.Counter(self.done)
-        left = []
-        for job in jobs:
-            if standing[job.key[:3]] > 0:
-                standing[job.key[:3]] -= 1
-            else:
-                left.append(job)
-        return left
+    def left(self, jobs: Sequence[Job], listed: Sequence[Job], marker: Marker) -> tuple[list[Job], list[str]]:
+        """The jobs without a result that still fits, and why others don't. What fits no longer is taken out of the file, which is
+        replaced as a whole; lines of other lists and of other parts of this one stay."""
+        due = collections.Counter(map(key_of_job, listed))
+        jobs_by_key = {key_of_job(job): job for job in jobs}
+        files = {job_files(job.columns) for job in jobs}
+        standing, kept, reasons = collections.Counter(), [], []
+        for row in self.rows:
+            key = key_of(row)
+            why = self._why_it_goes(row, jobs_by_key.get(key), due[key] > 0, files, marker)
+            if why:
+                reasons.append(f"{row['plan']}: {why}")
+                continue
+            kept.append(row)
+            due[key] -= 1
+            if key in jobs_by_key:
+                standing[key] += 1
+        if reasons:
+            self._write_anew(kept)
+        return list(without(jobs, standing)), reasons
+
+    def _why_it_goes(self, row: dict[str, str], job: Optional[Job], is_due: bool, files: set[Files], marker: Marker) -> str:
+        """Why a line doesn't hold any more; empty where it does, or is none of these jobs'."""
+        if job is not None and is_due:
+            differs = what_differs(row, marker.of(job))
+            return f"another {differs} since" if differs else ""
+        return "the list says something else of it" if not is_due and job_files(row) in files else ""
+
+    def _write_anew(self, rows: Sequence[dict[str, str]]) -> None:
+        """Replaces the file as a whole. The new one is locked before anybody can see it."""
+        lines = [] if self.is_json else [csv_line(self.columns)]
+        lines += map(self._line, rows)
+        with draft((f"{line}\n".encode(errors="surrogateescape") for line in lines), self.path) as made:
+            fresh = open(made.path, "a+b", buffering=0)
+            fcntl.flock(fresh, fcntl.LOCK_EX | fcntl.LOCK_NB)
+            made.put()
+        self.file.close()
+        self.file, self.rows = fresh, list(rows)
+
+    def _line(self, row: dict[str, str]) -> str:
+        return json.dumps(row) if self.is_json else csv_line([row.get(name, "") for name in self.columns])
 
     def put(self, row: dict[str, str]) -> None:
         """Writes a line, whole, by one call."""
-        line = json.dumps(row) if self.is_json else csv_line(tuple(row.values()))
-        self.file.write(f"{line}\n".encode(errors="surrogateescape"))
+        self.file.write(f"{self._line(row)}\n".encode(errors="surrogateescape"))
         self.rows.append(row)
 
     def close(self) -> None:
@@ -82,11 +142,44 @@ class Results:
         self.file.close()
 
 
-def key_of(row: dict[str, str]) -> tuple[str, ...]:
-    return row["map"], row["scenario"], row["plan"]
+def locked(path: pathlib.Path) -> BinaryIO:
+    """The file of this name, for nobody else to write."""
+    while True:
+        file = open(path, "a+b", buffering=0)
+        try:
+            fcntl.flock(file, fcntl.LOCK_EX | fcntl.LOCK_NB)
+        except OSError:
+            file.close()
+            raise BadResults(f"{path}: another judge writes it") from None
+        # Another judge may have replaced it in between.
+        if os.path.exists(path) and os.path.samestat(os.fstat(file.fileno()), os.stat(path)):
+            return file
+        file.close()
 
 
-def csv_line(values: tuple[str, ...]) -> str:
+def key_of(row: dict[str, str]) -> Key:
+    """What a list says of a job, by what stands in a result. An empty column and none are the same."""
+    return frozenset((name, word) for name, word in row.items() if word and name not in FOUND)
+
+
+def key_of_job(job: Job) -> Key:
+    return key_of(job.columns)
+
+
+def job_files(columns: dict[str, str]) -> Files:
+    return columns["map"], columns["scenario"], columns["plan"]
+
+
+def without(jobs: Sequence[Job], standing: Counter[Key]) -> Iterator[Job]:
+    """The jobs that have no result: each that stands is that of one job."""
+    for job in jobs:
+        if standing[key_of_job(job)] > 0:
+            standing[key_of_job(job)] -= 1
+        else:
+            yield job
+
+
+def csv_line(values: Sequence[str]) -> str:
     text = io.StringIO()
     csv.writer(text, lineterminator="").writerow(values)
     return text.getvalue()

@@ -6,15 +6,16 @@ import tempfile
 import time
 from typing import Optional
 
-from judging.jobs import Job
+from judging.jobs import FOUND, Job
+from judging.marks import Marker
 from path_check import Failed, Program, Refused, open_map, said_of_the_path
 from plan_formats import formats, mapf_plan
 from plan_formats.texts import text_of
 from plan_formats.walks import Fault, Given
 
 ACCEPTED, REJECTED, UNREADABLE, FAILED = VERDICTS = ("accepted", "rejected", "unreadable", "failed")
-# The columns of a result.
-COLUMNS = ("map", "scenario", "plan", "agents", "verdict", "fault", "cost", "makespan", "seconds")
+# The columns of a result, before those that its job has beside.
+COLUMNS = ("map", "scenario", "plan", "agents", *FOUND)
 # A format is told by so many bytes.
 HEAD = 4096
 COUNTS = re.compile(r"accepted agents ([0-9]+) cost ([0-9]+) makespan ([0-9]+)\n")
@@ -30,13 +31,24 @@ class Verdict:
     agents: str = ""
     cost: str = ""
     makespan: str = ""
+    # What the text says of its cost.
+    claimed: str = ""
 
 
-def result_of(job: Job, verdict: Verdict, seconds: float) -> dict[str, str]:
+def result_of(job: Job, verdict: Verdict, seconds: float, marks: dict[str, str]) -> dict[str, str]:
     """The row of a job's result, by its columns."""
-    agents = job.agents or verdict.agents
-    values = (job.map, job.scenario, job.plan, agents, verdict.verdict, verdict.fault, verdict.cost, verdict.makespan, f"{seconds:.3f}")
-    return dict(zip(COLUMNS, values))
+    found = {
+        "verdict": verdict.verdict,
+        "fault": verdict.fault,
+        "cost": verdict.cost,
+        "claimed": verdict.claimed,
+        "makespan": verdict.makespan,
+        "agents_found": verdict.agents,
+        "seconds": f"{seconds:.3f}",
+        **marks,
+    }
+    columns = {**job.columns, **found}
+    return {name: columns[name] for name in (*COLUMNS, *(name for name, _ in job.more))}
 
 
 def converted(job: Job, program: Program, name: str, data: bytes, folder: pathlib.Path) -> str:
@@ -61,6 +73,11 @@ def converted(job: Job, program: Program, name: str, data: bytes, folder: pathli
     return str(plan)
 
 
+def counted(job: Job, verdict: Verdict) -> Verdict:
+    """The verdict on a plan that is accepted but for the number of its agents."""
+    return Verdict(REJECTED, "AgentCount", verdict.agents) if job.agents and verdict.agents != job.agents else verdict
+
+
 def checked(job: Job, program: Program, plan: str) -> Verdict:
     """What the checker says."""
     words = ["check", *(["--scen", job.file(job.scenario)] if job.scenario else []), "--", job.file(job.map), plan]
@@ -72,9 +89,7 @@ def checked(job: Job, program: Program, plan: str) -> Verdict:
     counts, rejection = COUNTS.fullmatch(said), REJECTION.fullmatch(said)
     if status == 0 and counts:
         agents, cost, makespan = counts.groups()
-        if job.agents and agents != job.agents:
-            return Verdict(REJECTED, "AgentCount")
-        return Verdict(ACCEPTED, "", agents, cost, makespan)
+        return counted(job, Verdict(ACCEPTED, "", agents, cost, makespan))
     if status == 1 and rejection:
         return Verdict(REJECTED, rejection[1])
     if status == 1 and told:
@@ -102,8 +117,9 @@ def verdict_on(job: Job, program: Program, name: str) -> Verdict:
         return Verdict(FAILED, f"{job.plan}: there is no memory for it")
 
 
-def judged(job: Job, program: Program, name: Optional[str]) -> dict[str, str]:
-    """The result of a job, with how long it took."""
+def judged(job: Job, program: Program, name: Optional[str], judge: str) -> dict[str, str]:
+    """The result of a job, with how long it took. The sums of its files are made before they are judged: whatever changes later is seen."""
     begun = time.monotonic()
+    marks = Marker(judge).of(job)
     verdict = verdict_on(job, program, name or "")
-    return result_of(job, verdict, time.monotonic() - begun)
+    return result_of(job, verdict, time.monotonic() - begun, marks)

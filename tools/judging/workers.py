@@ -13,6 +13,7 @@ from multiprocessing import connection
 from typing import Iterator, Optional, Sequence
 
 from judging.jobs import Job
+from judging.marks import Marker
 from judging.verdicts import FAILED, Verdict, judged, result_of
 from leaving import SIGNALS
 from path_check import Program
@@ -32,6 +33,8 @@ class Work:
     # The format of all plans, or none where each is told by its beginning.
     source: Optional[str]
     seconds: float
+    # Who judges, as results say it.
+    judge: str
 
 
 @dataclasses.dataclass
@@ -54,7 +57,7 @@ def work_in_child(job: Job, work: Work, end: connection.Connection) -> None:
         os.closerange(end.fileno() + 1, MOST_FILES)
         for number in SIGNALS:
             signal.signal(number, signal.SIG_DFL)
-        end.send(judged(job, Program(work.program), work.source))
+        end.send(judged(job, Program(work.program), work.source, work.judge))
         status = 0
     finally:
         os._exit(status)
@@ -96,7 +99,7 @@ def ended(running: Running, work: Work) -> dict[str, str]:
     if result is not None:
         return result
     died = f"ended by signal {os.WTERMSIG(status)}" if os.WIFSIGNALED(status) else "ended without a verdict"
-    return result_of(running.job, Verdict(FAILED, fault or died), time.monotonic() - running.begun)
+    return result_of(running.job, Verdict(FAILED, fault or died), time.monotonic() - running.begun, Marker(work.judge).of(running.job))
 
 
 def on_this_machine(jobs: Sequence[Job], work: Work, processes: int) -> Iterator[dict[str, str]]:
@@ -146,12 +149,12 @@ def on_a_cluster(jobs: Sequence[Job], work: Work, address: str) -> Iterator[dict
         for task in tasks:
             job, begun = known.pop(task.key)
             hand_on()
-            yield from_cluster(task, job, time.monotonic() - begun)
+            yield from_cluster(task, job, work, time.monotonic() - begun)
 
 
-def from_cluster(task, job: Job, seconds: float) -> dict[str, str]:
+def from_cluster(task, job: Job, work: Work, seconds: float) -> dict[str, str]:
     """What a worker said of a job, or that it died of it."""
     try:
         return json.loads(task.result().stdout)
     except Exception as fault:  # whatever a cluster fails of is the result of this job
-        return result_of(job, Verdict(FAILED, f"no worker of the cluster answered: {type(fault).__name__}"), seconds)
+        return result_of(job, Verdict(FAILED, f"no worker of the cluster answered: {type(fault).__name__}"), seconds, Marker(work.judge).of(job))

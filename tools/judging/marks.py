@@ -1,0 +1,85 @@
+"""What a verdict depends on: the files of its job, by their SHA-256, and who judged them. A result that has other marks is of something else."""
+import functools
+import hashlib
+import os
+import pathlib
+import re
+import stat
+import subprocess
+from typing import Optional
+
+from judging.jobs import Job
+from path_check import Program
+
+TOOLS = pathlib.Path(__file__).resolve().parent.parent
+# The files of this tool that have a say in a verdict.
+READERS = ("path_check.py", "plan_formats/*.py", "judging/verdicts.py")
+# The columns of a result that have its marks.
+MARKS = ("map_sha256", "scenario_sha256", "plan_sha256", "judge")
+# How much of a sum names a program.
+SHORT = 12
+# A program that hasn't said its version by then is asked no more.
+SECONDS = 5
+BLOCK = 1 << 20
+VERSION = re.compile(rb"mapf [\w.+-]+")
+
+
+def sha256_of(path: str) -> str:
+    """The sum of a file, and nothing where there is none, or something else that may never end."""
+    total = hashlib.sha256()
+    try:
+        # A pipe is not opened to be read: that might wait for ever.
+        with open(os.open(path, os.O_RDONLY | os.O_NONBLOCK), "rb") as file:
+            if not stat.S_ISREG(os.fstat(file.fileno()).st_mode):
+                return ""
+            for block in iter(functools.partial(file.read, BLOCK), b""):
+                total.update(block)
+    except OSError:
+        return ""
+    return total.hexdigest()
+
+
+def version_of(program: Program) -> str:
+    """What the program says of itself, as `mapf 0.1.0`. Where it says nothing of the kind, its name."""
+    words = [str(program.path.absolute()), "--version"]
+    try:
+        # In a session of its own: whatever it does to its group, it does to itself.
+        ran = subprocess.run(
+            words, stdin=subprocess.DEVNULL, stdout=subprocess.PIPE, stderr=subprocess.DEVNULL, timeout=SECONDS, start_new_session=True, check=False
+        )
+        said = VERSION.match(ran.stdout)
+    except (OSError, subprocess.TimeoutExpired):
+        said = None
+    return said[0].decode() if said else program.path.name
+
+
+def sum_of_the_readers() -> str:
+    """The sum of the tool's own files that read plans."""
+    total = hashlib.sha256()
+    for path in sorted(path for pattern in READERS for path in TOOLS.glob(pattern)):
+        total.update(path.read_bytes())
+    return total.hexdigest()
+
+
+def judge_of(program: Program, source: Optional[str]) -> str:
+    """Who judges: the program, the readers, and which of them was asked for."""
+    name = f"{version_of(program)} {sha256_of(str(program.path))[:SHORT]} readers {sum_of_the_readers()[:SHORT]}"
+    return f"{name} --from {source}" if source else name
+
+
+class Marker:
+    """Gives the marks of jobs. The sum of a file is made once."""
+
+    def __init__(self, judge: str):
+        self.judge = judge
+        self.sum_of = functools.lru_cache(maxsize=None)(sha256_of)
+
+    def of(self, job: Job) -> dict[str, str]:
+        names = (job.map, job.scenario, job.plan)
+        sums = [self.sum_of(job.file(name)) if name else "" for name in names]
+        return dict(zip(MARKS, (*sums, self.judge)))
+
+
+def what_differs(row: dict[str, str], marks: dict[str, str]) -> str:
+    """Which of its marks a result doesn't have, in words."""
+    return " and ".join(name.partition("_")[0] for name in MARKS if row[name] != marks[name])
