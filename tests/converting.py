@@ -336,6 +336,10 @@ FILES = {
     "F": b"Agent 0: (0,1)->(1,1)\n",
     "B": b"type octile\nheight 1\nwidth 3\nmap\n..\n",
 }
+# Texts of the League of Robot Runners: with turns alone and what they mean, and one that only waits, whatever its letters mean.
+FILES["L"] = b'{"actionModel":"MAPF_T","start":[[0,1,"E"]],"actualPaths":["R,W"]}\n'
+FILES["V"] = b'{"start":[[0,1,"E"]],"actualPaths":["W,W"]}\n'
+WAITS = b"mapf-plan 1\nnumber 7\nagents 1\nagent 1 0 --\n"
 # Words, the status, what is written to standard output, and a piece of what is told.
 CALLS = [
     ("T --number 7", 0, PLAN, "T is read as paths\nconvert: 2 agents, 2 acts\n"),
@@ -347,6 +351,8 @@ CALLS = [
     ("W --number 7 --map M", 0, b"mapf-plan 1\nnumber 7\nagents 1\nagent 1 0 e\n", "M allows no such plan: BadMove 0 0."),
     ("Q --to paths --map M", 0, b"Agent 0: (0,1)->(0,2)->\n", "M allows no such plan: BadMove 0 0."),
     ("Q --to paths", 0, b"Agent 0: (0,1)->(0,2)->\n", ""),
+    ("L --number 7", 0, WAITS, ""),
+    ("V --number 7", 0, WAITS, ""),
     ("F --map M", 1, b"", "F:1: agent 0 stands in column 1, row 1 at time 1, below 3 and 1, the size of the map, was due\n"),
     ("T --scen D", 1, b"", "T:2: agent 1 ends in column 1, row 0, column 0, row 0 was due by row 1 of D\n"),
     ("T --scen E", 1, b"", "T:2: agent 1 has no row in E"),

@@ -238,6 +238,7 @@ def read_lorr(text: str, _: Paths) -> Paths:
     except (ValueError, KeyError, TypeError):
         raise NoReading from None
     due(len(starts) == len(actions) == document.get("teamSize", len(starts)) and len(starts) > 0)
+    due(document.get("actionModel", "MAPF_T") == "MAPF_T")
     paths = []
     for (y, x, letter), text in zip(starts, actions):
         heading, steps = HEADINGS.index(letter), []

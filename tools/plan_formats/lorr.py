@@ -8,6 +8,8 @@ from typing import Any, Callable, Iterator
 from plan_formats import Format
 from plan_formats.walks import MOST_ACTS, MOST_ACTS_IN_ALL, MOST_SIDE, Fault, Gathering, Given, Walk, shown, walked
 
+# The action model that is read, and another whose letters are partly the same: there R goes right, and nothing turns.
+MODEL, OTHER_MODEL = "MAPF_T", "MAPF"
 HEADINGS = "ESWN"
 ACTIONS = re.compile("[FRCW]*")
 # What an action adds to the number of the heading, of which the last two bits count, and a bit that says that it is no step ahead.
@@ -94,7 +96,7 @@ class Document:
 
 
 def read_members(document: Document) -> dict[str, Any]:
-    """The members of the text that tell of paths: two arrays, and the number of agents."""
+    """The members of the text that tell of paths: two arrays, the number of agents, and what the letters mean."""
     found: dict[str, Any] = {}
 
     def member() -> None:
@@ -107,7 +109,7 @@ def read_members(document: Document) -> dict[str, Any]:
         found[key] = None
         if key in ("start", "actualPaths"):
             found[key] = document.items()
-        elif key == "teamSize":
+        elif key in ("teamSize", "actionModel"):
             found[key] = document.value()
         else:
             document.skip()
@@ -143,12 +145,26 @@ def read_actions(agent: int, item: Item, heading: int) -> bytes:
     is_whole = len(text) == max(0, 2 * len(letters) - 1) and text[1::2] == "," * (len(letters) - 1)
     if not is_whole or not ACTIONS.fullmatch(letters):
         bad = next((it for it in text.split(",") if it not in ("F", "R", "C", "W")), text)
-        raise Fault(line, f"{shown(bad.encode(errors='replace'))} stands in the path of agent {agent}, F, R, C or W was due, with commas between")
+        raise Fault(line, f"{shown(bad.encode(errors='replace'))} stands in the path of agent {agent}, F, R, C or W of the model {MODEL} was due, with commas between")
     if len(letters) > MOST_ACTS:
         raise Fault(line, f"agent {agent} has more than {MOST_ACTS} acts, no more were due")
     actions = letters.encode()
     headings = map(and_, accumulate(actions.translate(TURNS), initial=heading), repeat(3))
     return bytes(map(or_, headings, actions.translate(STAYS))).translate(ACTS)
+
+
+def refuse_another_model(members: dict[str, Any], line: int) -> None:
+    """Refuses letters of another action model, and letters that another one has too, with other steps."""
+    if "actionModel" in members:
+        line, model = members["actionModel"]
+        if model != MODEL:
+            named = shown(json.dumps(model).encode(errors="replace"))
+            raise Fault(line, f"\"actionModel\" is {named}, \"{MODEL}\" was due: the letters of another model are not read")
+        return
+    letters = set().union(*(set(path) for _, path in members["actualPaths"] if isinstance(path, str)))
+    if "R" in letters and letters <= set("RW,"):
+        both = f"R turns by {MODEL} and goes right by {OTHER_MODEL}, and all paths are of R and W alone"
+        raise Fault(line, f"{both}, an \"actionModel\" was due")
 
 
 def read(data: bytes, given: Given) -> list[Walk]:
@@ -158,6 +174,7 @@ def read(data: bytes, given: Given) -> list[Walk]:
     for key in ("start", "actualPaths"):
         if members.get(key) is None:
             raise Fault(last, f"the text has no \"{key}\", an array of one item for each agent was due")
+    refuse_another_model(members, last)
     starts, paths = members["start"], members["actualPaths"]
     if len(starts) != len(paths):
         raise Fault(last, f"there are {len(starts)} starts and {len(paths)} paths, as many were due")
