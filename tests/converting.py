@@ -255,7 +255,7 @@ def of_spoiled(harness: Harness, name: str, places: int) -> list[Outcome]:
     return outcomes
 
 
-# Texts and command lines that are refused
+# Texts and command lines that are refused, and line ends that texts may have
 
 
 def refused(name: str, line: int, told: str, done: Conversion) -> Outcome:
@@ -339,6 +339,25 @@ FILES = {
 # Texts of the League of Robot Runners: with turns alone and what they mean, and one that only waits, whatever its letters mean.
 FILES["L"] = b'{"actionModel":"MAPF_T","start":[[0,1,"E"]],"actualPaths":["R,W"]}\n'
 FILES["V"] = b'{"start":[[0,1,"E"]],"actualPaths":["W,W"]}\n'
+FILES["K"] = b"version 1\n0\tm\t3\t1\t0\t0\t0\t0\t0\n"
+# A planner's agent that leaves each map, to the west and then to the north, and another that is well.
+OFF = b"mapf-plan 1\nnumber 7\nagents 2\nagent 1 0 wwn\nagent 0 2 n\n"
+OFF_CSV = b"agent,time,x,y\n0,0,1,0\n0,1,0,0\n0,2,-1,0\n0,3,-1,-1\n1,0,0,2\n1,1,0,1\n"
+FILES["OFF"], FILES["OFFC"] = OFF, OFF_CSV
+FILES["G"] = b"Agent 0: (0,1)->(0,0)->(0,-1)->(-1,-1)->\nAgent 1: (2,0)->(1,0)->\n"
+FILES["OFFY"] = b"schedule:\n" + b"".join(
+    b"  agent%d:\n" % agent + b"".join(b"    - x: %d\n      y: %d\n      t: %d\n" % (x, y, time) for time, (x, y) in enumerate(path))
+    for agent, path in enumerate([[(1, 0), (0, 0), (-1, 0), (-1, -1)], [(0, 2), (0, 1)]])
+)
+FILES["OFFL"] = (
+    b"solved=1\nsoc=9\n"
+    b"goals=(-1,-1),(5,5),\nsolution=\n0:(1,0),(0,2),\n1:(0,0),(0,1),\n2:(-1,0),(0,1),\n3:(-1,-1),(0,1),\n"
+)
+# Three agents, the last of which misses its goal, and one that leaves the map where `u` leads to the row above.
+FILES["UP"] = b"u\nru\nw\n"
+FILES["UPS"] = b"version 1\n0\tm\t9\t9\t3\t3\t3\t4\t1\n0\tm\t9\t9\t5\t5\t6\t6\t1\n0\tm\t9\t9\t0\t0\t8\t8\t1\n"
+UP = b"mapf-plan 1\nnumber 7\nagents 3\nagent 3 3 s\nagent 5 5 es\nagent 0 0 -\n"
+FILES["UD"], FILES["UDS"] = b"ud\n", b"version 1\n0\tm\t9\t9\t0\t0\t0\t0\t0\n"
 WAITS = b"mapf-plan 1\nnumber 7\nagents 1\nagent 1 0 --\n"
 # Words, the status, what is written to standard output, and a piece of what is told.
 CALLS = [
@@ -353,10 +372,22 @@ CALLS = [
     ("Q --to paths", 0, b"Agent 0: (0,1)->(0,2)->\n", ""),
     ("L --number 7", 0, WAITS, ""),
     ("V --number 7", 0, WAITS, ""),
-    ("F --map M", 1, b"", "F:1: agent 0 stands in column 1, row 1 at time 1, below 3 and 1, the size of the map, was due\n"),
-    ("T --scen D", 1, b"", "T:2: agent 1 ends in column 1, row 0, column 0, row 0 was due by row 1 of D\n"),
+    # What a planner did wrong is converted, and said.
+    ("F --map M --number 7", 0, b"mapf-plan 1\nnumber 7\nagents 1\nagent 1 0 s\n", "M allows no such plan: BadMove 0 0."),
+    ("T --scen D --number 7", 0, PLAN, "T:2: agent 1 ends in column 1, row 0, column 0, row 0 was due by row 1 of D\n"),
+    ("G --map M --number 7", 0, OFF, "M allows no such plan: BadStart 1."),
+    ("G --number 7", 0, OFF, ""),
+    ("OFF --to paths", 0, b"Agent 0: (0,1)->(0,0)->(0,-1)->(-1,-1)->\nAgent 1: (2,0)->(1,0)->\n", ""),
+    ("OFF --to csv", 0, OFF_CSV, ""),
+    ("OFFC --number 7", 0, OFF, ""),
+    ("OFFY --number 7", 0, OFF, ""),
+    ("OFFL --number 7", 0, OFF.replace(b" n\n", b" n--\n"), "OFFL:3: 'goals=' has (5,5) for agent 1, (0,1) was due by its path\n"),
+    ("OFFL --number 7", 0, OFF.replace(b" n\n", b" n--\n"), "OFFL:2: soc= is '9', 4 was due by its cells\n"),
+    ("UP --scen UPS --number 7", 0, UP, "UP:3: u is read as leading to the row below: agent 2 doesn't come to its goal, but 2 of 3 agents do\n"),
+    ("UD --scen UDS --number 7", 0, b"mapf-plan 1\nnumber 7\nagents 1\nagent 0 0 sn\n", "UD:1: u is read as leading to the row below: the other way"),
     ("T --scen E", 1, b"", "T:2: agent 1 has no row in E"),
-    ("P --to csv --scen D", 1, b"", "P:5: agent 1 ends in column 1, row 0, column 0, row 0 was due by row 1 of D\n"),
+    ("P --to csv --scen D", 0, b"agent,time,x,y\n0,0,1,0\n0,1,0,0\n1,0,0,0\n1,1,1,0\n", "P:5: agent 1 ends in column 1, row 0, column 0, row 0 was due by row 1 of D\n"),
+    ("P --to csv --scen K", 1, b"", "P:4: agent 0 starts in column 1, row 0, column 0, row 0 was due by row 0 of K\n"),
     ("T --from lacam", 1, b"", "T:1: 'Agent 0: (0,1)->(0,0)' stands where 'key=value' was due"),
     ("T --map B", 1, b"", "convert: B: `mapf map` says ShortRow 5\n"),
     ("T --map T", 1, b"", "convert: T: `mapf map` says BadHeader 1\n"),
@@ -468,8 +499,8 @@ def of_outputs(harness: Harness) -> Iterator[Outcome]:
     folder = harness.folder({**FILES, "out": b"as before"})
     (folder / "out").chmod(0o640)
     os.symlink("out", folder / "link")
-    tool(harness, ["W", "-o", "link", "--scen", "S"], folder)
-    yield compared("a refusal leaves the file alone", "convert.py W -o link --scen S", (folder / "out").read_bytes(), b"as before")
+    tool(harness, ["W", "-o", "link", "--scen", "K"], folder)
+    yield compared("a refusal leaves the file alone", "convert.py W -o link --scen K", (folder / "out").read_bytes(), b"as before")
     failed = harness.run([sys.executable, str(TOOL), "T", "-o", "out", "--program", "/bin/false"], folder=folder)
     wrote = (failed.status, (folder / "out").read_bytes(), len(list(folder.iterdir())))
     yield compared("so does a program that fails", "convert.py T -o out --program /bin/false", wrote, (3, b"as before", len(FILES) + 2))

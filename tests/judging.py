@@ -5,6 +5,7 @@ import io
 import json
 import os
 import random
+import re
 import shlex
 import shutil
 import signal
@@ -36,6 +37,7 @@ TEXTS = {
     "other.scen": TASKS.replace("\t2\t0\t1\n", "\t0\t0\t1\n", 1),
     "one.scen": TASKS[: TASKS.index("\n", 12) + 1],
     "behind.plan": BEHIND,
+    "square.scen": "version 1\n0 m 2 2 0 0 0 1 1\n0 m 2 2 1 0 1 1 1\n",
     "swap.plan": SWAP,
     "vertex.plan": VERTEX,
     "turn.plan": TURN,
@@ -45,8 +47,32 @@ TEXTS = {
     "nothing.plan": "",
     **{f"behind.{name}": write(PATHS) for name, write in WRITERS.items()},
 }
-# A job, and its verdict, fault, cost and makespan; a fault that ends in `..` is the beginning of it.
 ACCEPTED = ("accepted", "", str(COST_OF_BOTH), str(MAKESPAN))
+LACAM = TEXTS["behind.lacam"]
+# Texts of planners that made a mistake, found no plan, or say another cost than theirs.
+MISTAKES = {
+    "off.paths": ("", "Agent 0: (0,0)->(0,-1)->\n", ("rejected", "BadMove 0 0", "", "")),
+    "below.paths": ("", "Agent 0: (0,0)->(0,1)->(1,1)->\n", ("rejected", "BadMove 0 1", "", "")),
+    "begun.paths": ("", "Agent 0: (0,1)->\nAgent 1: (0,-1)->(0,0)->\n", ("rejected", "BadStart 1", "", "")),
+    "first.paths": ("", "Agent 0: (0,-1)->(0,0)->\nAgent 1: (0,1)->\n", ("rejected", "BadStart 0", "", "")),
+    "before.paths": ("", "Agent 0: (0,9)->\nAgent 1: (0,-1)->(0,0)->\n", ("rejected", "BadStart 0", "", "")),
+    "goal.lacam": ("lane.scen", LACAM.replace("goals=(2,0)", "goals=(0,0)"), ACCEPTED),
+    "other.lacam": ("other.scen", LACAM, ("rejected", "GoalDiffers 0", "", "")),
+    "goal.tracker": ("lane.scen", "r\nw\n", ("rejected", "GoalDiffers 1", "", "")),
+    # Which way u leads the other agent settles.
+    "up.tracker": ("square.scen", "u\nw\n", ("rejected", "GoalDiffers 1", "", "")),
+    "none.lacam": ("", "agents=2\nsolved=0\nsoc=0\nsolution=\n", ("unsolved", "none.lacam:2: ..", "", "")),
+    "none.schedule": ("", "statistics:\n  cost: 0\nschedule:\n", ("unsolved", "none.schedule:3: ..", "", "")),
+    "none.paths": ("", "Agent 0: \nAgent 1: \n", ("unsolved", "none.paths:2: ..", "", "")),
+    "soc.lacam": ("", LACAM.replace("makespan=", "soc=3\nmakespan="), ("CostDiffers", "soc= is '3', 2 was due by its cells", "2", "1")),
+    "same.lacam": ("", LACAM.replace("makespan=", "soc=2\nmakespan="), ACCEPTED),
+    "late.lacam": ("", LACAM.replace("makespan=2", "makespan=0"), ("CostDiffers", "makespan= is '0', 2 was due by its cells", "2", "1")),
+    "cut.lacam": ("", LACAM.replace("makespan=2", "makespan=3"), ("unreadable", "cut.lacam:5: ..", "", "")),
+    "cost.yaml": ("", TEXTS["behind.schedule"].replace("cost: 3", "cost: 4"), ("CostDiffers", "cost: is '4', 3 was due by its cells", "2", "1")),
+    "cost.swap": ("", "solved=1\nsoc=9\nsolution=\n0:(0,0),(1,0),\n1:(1,0),(0,0),\n", ("rejected", "Swap 0 1 0", "", "")),
+}
+CLAIMED = {"soc.lacam": "3", "same.lacam": "2", "cost.yaml": "4", "behind.schedule": "3", "cost.swap": "9"}
+# A job, and its verdict, fault, cost and makespan; a fault that ends in `..` is the beginning of it.
 JOBS: list[tuple[tuple[str, str, str, str], tuple[str, str, str, str]]] = [
     (("lane.map", "", "behind.plan", ""), ACCEPTED),
     (("lane.map", "", "behind.plan", "2"), ACCEPTED),
@@ -70,6 +96,7 @@ JOBS: list[tuple[tuple[str, str, str, str], tuple[str, str, str, str]]] = [
     (("lane.map", "", "folder", ""), ("failed", "folder: ..", "", "")),
     *((("lane.map", "", f"behind.{name}", ""), ACCEPTED) for name in WRITERS if name not in ("tracker", "lorr")),
     *((("lane.map", "lane.scen", f"behind.{name}", "2"), ACCEPTED) for name in WRITERS if name != "lorr"),
+    *((("square.map" if scenario == "square.scen" else "lane.map", scenario, name, ""), verdict) for name, (scenario, _, verdict) in MISTAKES.items()),
     # The first robot looks the way that it goes.
     (("lane.map", "lane.scen", "behind.lorr", ""), ACCEPTED),
 ]
@@ -102,7 +129,7 @@ class Room:
 
     def __init__(self, harness: Harness):
         self.harness = harness
-        self.folder = harness.folder({name: text.encode() for name, text in TEXTS.items()})
+        self.folder = harness.folder({name: text.encode() for name, text in [*TEXTS.items(), *((name, text) for name, (_, text, _) in MISTAKES.items())]})
         (self.folder / "folder").mkdir()
 
     def file(self, name: str, content: bytes) -> str:
@@ -170,6 +197,8 @@ def of_each_verdict(room: Room) -> Iterator[Outcome]:
     yield judged(room, "a list as CSV", [room.file("jobs.csv", csv_of(keys))], "results.csv")
     yield judged(room, "a list as JSON lines", [room.file("jobs.jsonl", json_of(keys))], "results.jsonl")
     yield compared("the columns of JSON lines", "looked at results.jsonl", list(room.rows("results.jsonl")[0]), COLUMNS)
+    claimed = {row["plan"]: row["claimed"] for row in room.rows("results.csv") if row["claimed"]}
+    yield compared("what texts claim", "looked at results.csv", claimed, CLAIMED)
     before = (room.folder / "results.csv").read_bytes()
     yield judged(room, "a list that is judged already", ["jobs.csv"], "results.csv")
     yield compared("it stays as it was", "looked at results.csv", (room.folder / "results.csv").read_bytes(), before)
@@ -363,6 +392,27 @@ def of_columns(room: Room) -> Iterator[Outcome]:
     yield compared("the lines of other lists stay", "looked at counts.csv", short(room.rows("counts.csv")), [due[0], ("swap.plan", "", "rejected")])
 
 
+def of_summaries(room: Room) -> Iterator[Outcome]:
+    """What the results come to over all, by map and by planner, in lines and as a page; and what a list doesn't say."""
+    lines = ["planner,map,scenario,plan,agents", "PIBT,lane.map,lane.scen,behind.plan,2", "<b>,lane.map,,swap.plan,", "PIBT,square.map,,turn.plan,4"]
+    room.file("planners.csv", "".join(f"{line}\n" for line in lines).encode())
+    ended = room.judge("planners.csv", "-o", "planners.out.csv", "--page", "page.html")
+    due = [
+        f"{VERSION.partition(chr(10))[0]} judges 3 plans",
+        "1 of 3 jobs don't say how many agents are due, as a column agents does: a plan that lacks an agent isn't seen there",
+        "3 results: 2 accepted, 1 rejected; cost 6",
+        "map lane.map: 1 accepted, 1 rejected; cost 2",
+        "map square.map: 1 accepted; cost 4",
+        "planner <b>: 1 rejected; cost 0",
+        "planner PIBT: 2 accepted; cost 6",
+    ]
+    yield compared("the summary", "judge.py planners.csv", ended.err.decode(), "".join(f"judge: {line}\n" for line in due))
+    text = (room.folder / "page.html").read_text(encoding="utf-8")
+    cells = re.findall(r"<td[^>]*>([^<]*)</td>", text)
+    wrote = ("Swap 0 1 0" in cells, "planner &lt;b&gt;" in cells, "<b>" in text, "<script" in text, "http" in text, cells.count("accepted"))
+    yield compared("a page of the results", "judge.py planners.csv --page page.html", wrote, (True, True, False, False, False, 2))
+
+
 def of_stops_anew(room: Room) -> Iterator[Outcome]:
     """A judge that is killed while it judges anew has each job once at its end, and what still fitted is not lost meanwhile."""
     plans = [f"many{number}.plan" for number in range(8)]
@@ -428,6 +478,7 @@ def outcomes(harness: Harness) -> Iterator[Outcome]:
     yield from of_changes(room)
     yield from of_sums(room)
     yield from of_columns(room)
+    yield from of_summaries(room)
     yield from of_stops_anew(room)
     if harness.is_long:
         yield from of_a_cluster(room)

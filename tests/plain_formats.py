@@ -134,8 +134,18 @@ def matched(pattern: str, text: str) -> re.Match:
 
 
 def lines_in(text: str) -> list[str]:
-    due(text.endswith("\n"))
-    return text.replace("\r\n", "\n").split("\n")[:-1]
+    """The lines of a text, whose last need not be ended."""
+    text = text.replace("\r\n", "\n")
+    return (text[:-1] if text.endswith("\n") else text).split("\n")
+
+
+def without_blank_end(lines: list[str]) -> list[str]:
+    while lines and not lines[-1].strip(" \t"):
+        lines = lines[:-1]
+    return lines
+
+
+A_CELL = r"\((-?\d+),(-?\d+)\)"
 
 
 def in_order(paths: dict[int, Path]) -> Paths:
@@ -145,20 +155,26 @@ def in_order(paths: dict[int, Path]) -> Paths:
 
 def read_paths(text: str, _: Paths) -> Paths:
     paths: dict[int, Path] = {}
-    for line in lines_in(text):
-        found = matched(r"Agent (\d+): ?(\(\d+,\d+\)(?:->\(\d+,\d+\))*)(?:->)?", line)
+    lines = without_blank_end(lines_in(text))
+    for line in lines:
+        found = matched(rf"Agent (\d+): ?({A_CELL}(?:->{A_CELL})*)(?:->)?", line.replace(", ", ","))
         due(int(found[1]) not in paths)
-        paths[int(found[1])] = [(int(x), int(y)) for y, x in re.findall(r"(\d+),(\d+)", found[2])]
+        paths[int(found[1])] = [(int(x), int(y)) for y, x in re.findall(A_CELL, found[2])]
+    # A last line that looks cut beside others.
+    due(text.endswith(("\n", "->")) or not any(line.endswith("->") for line in lines))
     return in_order(paths)
 
 
 def cells_in(text: str) -> Path:
-    matched(r"\(\d+,\d+\)(,\(\d+,\d+\))*,?", text)
-    return [(int(x), int(y)) for x, y in re.findall(r"(\d+),(\d+)", text)]
+    text = text.replace(", ", ",")
+    matched(rf"{A_CELL}(,{A_CELL})*,?", text)
+    return [(int(x), int(y)) for x, y in re.findall(A_CELL, text)]
 
 
 def read_lacam(text: str, _: Paths) -> Paths:
-    lines, facts = lines_in(text), {}
+    lines, facts = without_blank_end(lines_in(text)), {}
+    if lines[0].startswith(("0:(", "0: (")):
+        facts = {"solution": ""}
     while "solution" not in facts:
         due(bool(lines))
         found = matched(r"([A-Za-z_][\w.-]*)=(.*)", lines.pop(0))
@@ -170,14 +186,13 @@ def read_lacam(text: str, _: Paths) -> Paths:
         due(matched(r"\d+", number)[0] != "" and int(number) == time)
         rows.append(cells_in(cells))
     due(facts["solution"] == "" and bool(rows) and all(len(row) == len(rows[0]) for row in rows))
-    for key, row in (("starts", rows[0]), ("goals", rows[-1])):
-        due(not facts.get(key) or cells_in(facts[key]) == row)
+    due(facts.get("solved") != "0" and (not facts.get("starts") or cells_in(facts["starts"]) == rows[0]))
     due("agents" not in facts or int(matched(r"\d+", facts["agents"])[0]) == len(rows[0]))
     return [list(path) for path in zip(*rows)]
 
 
 def read_schedule(text: str, _: Paths) -> Paths:
-    lines, paths = lines_in(text), {}
+    lines, paths = without_blank_end(lines_in(text)), {}
     if lines[0] == "statistics:":
         lines.pop(0)
         while lines and re.fullmatch(r"  \w+: *[^\n]*", lines[0]):
@@ -189,7 +204,7 @@ def read_schedule(text: str, _: Paths) -> Paths:
         paths[number] = []
         while lines and not lines[0].startswith("  agent"):
             due(len(lines) >= 3)
-            x, y, time = (int(matched(f"{head}(\\d+)", lines.pop(0))[1]) for head in ("    - x: ", "      y: ", "      t: "))
+            x, y, time = (int(matched(f"{head}(-?\\d+)", lines.pop(0))[1]) for head in ("    - x: ", "      y: ", "      t: "))
             due(time == len(paths[number]))
             paths[number].append((x, y))
         due(bool(paths[number]))
@@ -197,12 +212,14 @@ def read_schedule(text: str, _: Paths) -> Paths:
 
 
 def read_csv(text: str, _: Paths) -> Paths:
-    lines, found = lines_in(text), {}
-    due(lines.pop(0) == "agent,time,x,y")
+    lines, found = without_blank_end(lines_in(text)), {}
+    due(lines.pop(0) in ("agent,time,x,y", "agent,t,x,y") and bool(lines))
     for line in lines:
-        agent, time, x, y = (int(number) for number in matched(r"(\d+),(\d+),(\d+),(\d+)", line).groups())
+        agent, time, x, y = (int(number) for number in matched(r"(\d+),(\d+),(-?\d+),(-?\d+)", line).groups())
         due(time not in found.setdefault(agent, {}))
         found[agent][time] = (x, y)
+    # The only cell of an agent, which may be cut.
+    due(text.endswith("\n") or len(found[agent]) > 1)
     return in_order({agent: in_order(cells) for agent, cells in found.items()})
 
 
@@ -214,16 +231,19 @@ def walked(start: Cell, steps: Sequence[Cell]) -> Path:
 
 
 def read_tracker(text: str, solved: Paths) -> Paths:
-    """The paths from the starts of these, whichever way of up leads all to their ends."""
-    lines, readings = [matched("[udlrw]*", line)[0] for line in lines_in(text)], []
-    due(len(lines) <= len(solved))
+    """The paths from the starts of these, whichever way of up leads more of them to their ends, or keeps more of them in rows of a map."""
+    lines, ranks = [matched("[udlrw]*", line)[0] for line in lines_in(text)], []
+    while len(lines) > len(solved) and not lines[-1]:
+        lines.pop()
+    due(len(lines) <= len(solved) and (len(lines) in (1, len(solved)) or lines[-1] != ""))
     for up in (-1, 1):
         steps = {"u": (0, up), "d": (0, -up), "l": (-1, 0), "r": (1, 0), "w": (0, 0)}
         paths = [walked(path[0], [steps[letter] for letter in line]) for line, path in zip(lines, solved)]
-        if all(path[-1] == other[-1] for path, other in zip(paths, solved)) and paths not in readings:
-            readings.append(paths)
-    due(len(readings) == 1)
-    return readings[0]
+        arrived = sum(path[-1] == other[-1] for path, other in zip(paths, solved))
+        ranks.append((arrived, sum(all(0 <= y < MOST_SIDE for _, y in path) for path in paths), paths))
+    (*one, first), (*other, second) = ranks
+    due(one != other or first == second)
+    return first if one >= other else second
 
 
 def one_each(pairs: list) -> dict:
@@ -268,5 +288,6 @@ def reading(name: str, text: bytes, solved: Paths) -> Optional[Paths]:
         return None
     cells = [cell for path in paths for cell in path]
     steps = [step_between(*pair) for path in paths for pair in zip(path, path[1:])]
-    is_plan = all(0 <= x < MOST_SIDE and 0 <= y < MOST_SIDE for x, y in cells) and all(step in ACTS for step in steps)
+    is_plan = all(-MOST_SIDE <= number < MOST_SIDE for cell in cells for number in cell) and all(step in ACTS for step in steps)
+    is_plan = is_plan and all(number >= 0 for path in paths for number in path[0])
     return paths if is_plan else None

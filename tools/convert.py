@@ -5,8 +5,9 @@ Usage: convert.py FILE [-o PLAN] [--from FORMAT] [--map MAP] [--scen SCEN] [--nu
        convert.py PLAN --to FORMAT [-o FILE] [--map MAP] [--scen SCEN]
 
 Each conversion is held against what was read: `mapf path` says where each agent of the plan stands at each time, and that has to be each cell
-that the text has. So a mistake of this tool refuses a plan, and never passes off another one. With --scen, starts and goals have to be those of
-the scenario's rows: row k is of agent k.
+that the text has. So a mistake of this tool refuses a plan, and never passes off another one. With --scen, starts have to be those of the
+scenario's rows: row k is of agent k. What a planner did wrong, as a goal that is missed or a cell off the map, is converted and said:
+`mapf check` rejects it.
 
 Status 0: done. 1: a text has a fault, told in one line as `FILE:LINE: what is wrong, what was due`. 2: a bad command line. 3: a file or a tool
 failed. Unless it is 0, nothing is written.
@@ -16,21 +17,18 @@ import contextlib
 import pathlib
 import shutil
 import sys
-import tempfile
 from typing import Optional, Sequence
 
 sys.dont_write_bytecode = True
 import path_check  # noqa: E402
 from leaving import heed_signals  # noqa: E402
 from path_check import Failed, Program, Refused  # noqa: E402
-from plan_formats import Format, formats, mapf_plan  # noqa: E402
+from plan_formats import HEAD, Format, formats, guess, mapf_plan  # noqa: E402
 from plan_formats.texts import text_of  # noqa: E402
-from plan_formats.walks import MOST_NUMBER, Fault, Given, Task, Walk, difference, padded  # noqa: E402
+from plan_formats.walks import MOST_NUMBER, Fault, Found, Given, Task, Walk, difference, moved, padded  # noqa: E402
 from whole_file import Draft, draft  # noqa: E402
 
 ROOT = pathlib.Path(__file__).resolve().parent.parent
-# A format is guessed from so many bytes.
-HEAD = 4096
 REFUSED, BAD_LINE, FAILED = 1, 2, 3
 
 
@@ -63,12 +61,13 @@ def read_words(words: Sequence[str]) -> argparse.Namespace:
     parser.add_argument("-o", "--output", type=pathlib.Path, metavar="FILE", help="where the text goes (standard output)")
     parser.add_argument("--from", dest="source", choices=names, metavar="FORMAT", help=f"what FILE is: {', '.join(names)} (guessed by its beginning)")
     parser.add_argument("--to", choices=names, metavar="FORMAT", help="converts a plan to this format")
-    parser.add_argument("--map", metavar="MAP", help="the map of the plan; a cell off it is refused")
+    parser.add_argument("--map", metavar="MAP", help="the map of the plan; what it doesn't allow is said")
     parser.add_argument("--scen", metavar="SCEN", help="the scenario that the plan is to solve")
     parser.add_argument("--number", type=number, metavar="N", help="the plan's number (CRC-32 of its text with number 0)")
+    parser.add_argument("--fill-waits", action="store_true", help="an agent waits at times that a schedule leaves out")
     parser.add_argument("--program", type=pathlib.Path, default=ROOT / "mapf", metavar="PATH", help="the program mapf (that of this checkout)")
     given = parser.parse_args(words)
-    for taken, name in ((given.source, "--from"), (given.number is not None, "--number")):
+    for taken, name in ((given.source, "--from"), (given.number is not None, "--number"), (given.fill_waits, "--fill-waits")):
         if given.to and taken:
             parser.error(f"{name} goes with a conversion to a plan, and not with --to")
     if given.to and not formats()[given.to].write:
@@ -76,41 +75,37 @@ def read_words(words: Sequence[str]) -> argparse.Namespace:
     return given
 
 
-def guess(data: bytes) -> Format:
-    """The format of a text, by how it begins."""
-    head = data[:HEAD]
-    if mapf_plan.begins(head):
-        raise Fault(1, "the text is a plan already, another format was due, or --to")
-    found = [it for it in formats().values() if it.begins(head)]
-    if len(found) != 1:
-        raise Fault(1, f"no format is known by this beginning, --from and one of {', '.join(formats())} was due")
-    return found[0]
-
-
-def hold_on_open_map(program: Program, plan: str, walks: Sequence[Walk]) -> None:
-    """Compares a plan with the cells that were read, on a map without walls that is as large as it needs."""
-    with tempfile.NamedTemporaryFile(prefix="mapf-open-", suffix=".map") as file:
-        file.writelines(path_check.open_map(walks))
-        file.flush()
-        fault = path_check.said_of_the_path(program, file.name, plan, walks)
-    if fault:
-        raise Failed(f"the plan differs from what was read: `mapf path` says {fault} on an open map; this is a fault of the converter")
-
-
 def hold_plan(given: argparse.Namespace, plan: str, walks: Sequence[Walk]) -> None:
     """Compares a plan with the cells that were read, by what the program says of it: on its map, or on an open one where that doesn't allow it."""
     program = Program(given.program)
-    fault = given.map is not None and path_check.said_of_the_path(program, given.map, plan, walks)
+    # No map has negative cells, so those that are moved are only compared where they are as they were.
+    fault = given.map is not None and path_check.said_of_the_path(program, given.map, plan, moved(walks))
     if given.map is None or fault:
-        hold_on_open_map(program, plan, walks)
+        path_check.hold_on_open_map(program, plan, walks)
     if fault:
         say(f"{given.map} allows no such plan: {fault}. `mapf check` is to say what is wrong with it")
 
 
-def hold_tasks(walks: Sequence[Walk], tasks: Optional[Sequence[Task]], scen: str) -> None:
-    found = tasks is not None and path_check.task_difference(walks, tasks, scen)
+def hold_tasks(given: argparse.Namespace, walks: Sequence[Walk], tasks: Optional[Sequence[Task]]) -> None:
+    """Refuses other starts. A goal that is missed is said: it may be the planner's mistake."""
+    if tasks is None:
+        return
+    found = path_check.start_difference(walks, tasks, given.scen)
     if found:
         raise Fault(*found)
+    missed = path_check.goal_difference(walks, tasks, given.scen)
+    if missed:
+        tell_of_line(given.file, missed)
+
+
+def tell_of_line(file: str, remark: tuple[int, str]) -> None:
+    tell(f"{file}:{remark[0]}: {remark[1]}")
+
+
+def tell_found(file: str, found: Found) -> None:
+    """What a reader found beside the cells, and what is claimed and wrong."""
+    for remark in [*found.remarks, *((claim.line, claim.what) for claim in found.claims if not claim.is_right)]:
+        tell_of_line(file, remark)
 
 
 def hold_back(chosen: Format, file: pathlib.Path, walks: Sequence[Walk]) -> None:
@@ -135,20 +130,33 @@ def give(made: Draft, target: Optional[pathlib.Path]) -> None:
         shutil.copyfileobj(file, out)
 
 
-def to_plan(given: argparse.Namespace, data: bytes, context: Given) -> None:
-    text = text_of(data)
-    chosen = formats()[given.source] if given.source else guess(text)
+def format_of(given: argparse.Namespace, text: bytes, context: Given) -> Format:
+    """The format that is named, or that the text begins as. What else it needs has to be there."""
+    chosen = formats()[given.source] if given.source else guess(text, f"--from and one of {', '.join(formats())}")
     if not given.source:
         say(f"{given.file} is read as {chosen.name}")
     if chosen.needs_tasks and context.tasks is None:
         raise BadLine(f"the format {chosen.name} leaves out where agents start: --scen is wanted")
+    if chosen.needs_map and not context.has_map:
+        raise BadLine(f"the format {chosen.name} has numbers of cells, which the width of a map makes columns and rows: --map is wanted")
+    if given.fill_waits and not chosen.may_have_gaps:
+        raise BadLine(f"the format {chosen.name} leaves out no times: --fill-waits goes with a schedule")
+    return chosen
+
+
+def to_plan(given: argparse.Namespace, data: bytes, context: Given) -> None:
+    text = text_of(data)
+    if mapf_plan.begins(text[:HEAD]) and not given.source:
+        raise Fault(1, "the text is a plan already, another format was due, or --to")
+    chosen = format_of(given, text, context)
     walks = chosen.read(text, context)
-    hold_tasks(walks, context.tasks, given.scen)
+    hold_tasks(given, walks, context.tasks)
     if chosen.word_on_reading:
         say(chosen.word_on_reading)
     with draft(mapf_plan.write(walks, given.number), given.output) as made:
         hold_plan(given, str(made.path), walks)
         give(made, given.output)
+    tell_found(given.file, context.found)
     say(f"{len(walks)} agents, {sum(len(walk.acts) for walk in walks)} acts")
 
 
@@ -157,7 +165,7 @@ def from_plan(given: argparse.Namespace, data: bytes, context: Given) -> None:
     # A plan has one spelling: no line end but LF.
     text_of(data)
     walks = mapf_plan.read(data, context)
-    hold_tasks(walks, context.tasks, given.scen)
+    hold_tasks(given, walks, context.tasks)
     # What was read is held against the cells, whatever becomes of the file meanwhile.
     with draft([data.decode()], None) as copy:
         hold_plan(given, str(copy.path), walks)
@@ -172,7 +180,7 @@ def convert(given: argparse.Namespace) -> None:
     program = Program(given.program)
     size = program.map_size(given.map) if given.map is not None else ()
     tasks = program.tasks(given.scen) if given.scen is not None else None
-    context = Given(*size, has_map=bool(size), tasks=tasks)
+    context = Given(*size, has_map=bool(size), tasks=tasks, fills_waits=given.fill_waits)
     data = pathlib.Path(given.file).read_bytes()
     (from_plan if given.to else to_plan)(given, data, context)
 

@@ -14,24 +14,26 @@ result whose plan, map, scenario, program or readers are others since is made an
 Status 0: every job has a result. 1: the list of jobs has a fault. 2: a bad command line. 3: the results can't be written.
 """
 import argparse
-import collections
 import json
 import os
 import pathlib
 import sys
 import time
-from typing import Iterator, Sequence
+from typing import Optional, Sequence
 
 sys.dont_write_bytecode = True
 from judging import workers  # noqa: E402
 from judging.jobs import BadJobs, Job, by_names, read_jobs  # noqa: E402
-from judging.marks import Marker, judge_of  # noqa: E402
+from judging.marks import Marker, judge_of, says_a_version, version_of  # noqa: E402
+from judging.page import page  # noqa: E402
 from judging.results import BadResults, Results  # noqa: E402
-from judging.verdicts import ACCEPTED, FAILED, VERDICTS  # noqa: E402
+from judging.summary import summary  # noqa: E402
 from judging.workers import Work  # noqa: E402
 from leaving import heed_signals  # noqa: E402
 from path_check import Program  # noqa: E402
 from plan_formats import formats  # noqa: E402
+from product import SHIPPED  # noqa: E402
+from whole_file import draft  # noqa: E402
 
 ROOT = pathlib.Path(__file__).resolve().parent.parent
 REFUSED, BAD_LINE, NOT_WRITTEN = 1, 2, 3
@@ -78,7 +80,8 @@ def read_words(words: Sequence[str]) -> argparse.Namespace:
     parser.add_argument("--processes", type=int, default=len(os.sched_getaffinity(0)), metavar="N", help="how many jobs at once (%(default)s)")
     parser.add_argument("--shard", type=shard, default=(1, 1), metavar="K/N", help="takes every N-th job from the K-th on")
     parser.add_argument("--dask", metavar="ADDRESS", help="hands the jobs to the Dask cluster with this scheduler")
-    parser.add_argument("--program", type=pathlib.Path, default=ROOT / "mapf", metavar="PATH", help="the program mapf (that of this checkout)")
+    parser.add_argument("--page", type=pathlib.Path, metavar="FILE.html", help="writes the results as a page too")
+    parser.add_argument("--program", type=pathlib.Path, metavar="PATH", help="the program mapf (that of dist/, or else that of this checkout)")
     parser.add_argument("--one", action="store_true", help=argparse.SUPPRESS)
     given = parser.parse_args(words)
     if given.one:
@@ -107,19 +110,27 @@ def show_bar(done: int, count: int, begun: float) -> None:
     print(f"\r[{'#' * filled}{'.' * (BAR - filled)}] {done} of {count}, {left:.0f} s left \x1b[K", end="", file=sys.stderr, flush=True)
 
 
-def summary(rows: Sequence[dict[str, str]]) -> Iterator[str]:
-    """A line for each map: how many verdicts of each kind, and what the accepted plans cost."""
-    by_map: dict[str, list[dict[str, str]]] = collections.defaultdict(list)
-    for row in rows:
-        by_map[row["map"]].append(row)
-    for name, own in sorted(by_map.items()):
-        counts = collections.Counter(row["verdict"] for row in own)
-        cost = sum(int(row["cost"]) for row in own if row["verdict"] == ACCEPTED)
-        yield f"{name}: " + ", ".join(f"{counts[it]} {it}" for it in VERDICTS) + f"; cost {cost}"
+def program_of(named: Optional[pathlib.Path]) -> Program:
+    """The program that is named, else that of dist/ itself: its launcher would cost each job a third more."""
+    shipped = Program(SHIPPED)
+    return Program(named) if named else shipped if says_a_version(shipped) else Program(ROOT / "mapf")
 
 
 def work_of(given: argparse.Namespace) -> Work:
-    return Work(given.program, given.source, given.seconds, judge_of(Program(given.program), given.source))
+    program = program_of(given.program)
+    return Work(program.path, given.source, given.seconds, judge_of(program, given.source))
+
+
+def warn_of_counts(jobs: Sequence[Job]) -> None:
+    """Who isn't told how many agents are due can't see that a plan lacks one."""
+    untold = sum(not job.agents for job in jobs)
+    if untold:
+        say(f"{untold} of {len(jobs)} jobs don't say how many agents are due, as a column agents does: a plan that lacks an agent isn't seen there")
+
+
+def write_page(target: pathlib.Path, results: Results) -> None:
+    with draft(page(results.rows, f"Results of {results.path.name}"), target) as made:
+        made.put()
 
 
 def more_columns(jobs: Sequence[Job]) -> list[str]:
@@ -146,6 +157,8 @@ def judge(given: argparse.Namespace) -> None:
     listed = jobs_of(given)
     jobs = listed[k - 1 :: n]
     work = work_of(given)
+    say(f"{version_of(Program(work.program))} judges {len(jobs)} plans")
+    warn_of_counts(jobs)
     results = Results(given.output, more_columns(listed))
     try:
         left = still_to_judge(jobs, listed, results, work)
@@ -160,7 +173,9 @@ def judge(given: argparse.Namespace) -> None:
     finally:
         results.close()
     for line in summary(results.rows):
-        say(line)
+        say(line.text)
+    if given.page:
+        write_page(given.page, results)
 
 
 def judge_one(given: argparse.Namespace) -> None:

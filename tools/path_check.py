@@ -8,7 +8,9 @@ import tempfile
 from array import array
 from typing import IO, Iterator, Optional, Sequence
 
-from plan_formats.walks import Cell, Task, Walk, last_time, size_of
+from plan_formats import mapf_plan
+from plan_formats.walks import NARROW, Cell, Task, Walk, corner_of, last_time, moved, size_of
+from whole_file import draft
 
 # How many numbers of the cells that are due are held at once.
 AT_ONCE = 500_000
@@ -76,10 +78,10 @@ def due_lines(walks: Sequence[Walk]) -> Iterator[bytes]:
     lists = [numbers for walk in walks for numbers in (walk.xs, walk.ys)]
     for begin in range(0, count, block):
         size = min(block, count - begin)
-        cells = array("H", bytes(2 * width * size))
+        cells = array(NARROW, bytes(2 * width * size))
         for place, numbers in enumerate(lists):
             part = numbers[begin : begin + size]
-            cells[place::width] = part + array("H", [numbers[-1]]) * (size - len(part))
+            cells[place::width] = part + array(NARROW, [numbers[-1]]) * (size - len(part))
         for time in range(size):
             row = map(numerals.__getitem__, cells[time * width : (time + 1) * width])
             yield f"{begin + time} {' '.join(row)}\n".encode()
@@ -136,17 +138,43 @@ def open_map(walks: Sequence[Walk]) -> Iterator[bytes]:
     yield from itertools.repeat(b"." * width + b"\n", height)
 
 
-def task_difference(walks: Sequence[Walk], tasks: Sequence[Task], scen: str) -> Optional[tuple[int, str]]:
-    """The line in which the first agent's start or end stands that isn't that of its row, and what is wrong with it."""
+def hold_on_open_map(program: Program, plan_file: str, walks: Sequence[Walk]) -> None:
+    """Compares a plan with the cells that were read, on a map without walls that is as large as it needs. No map has negative cells: where a
+    planner's mistake leads there, the cells are compared once they are moved, and the plan with the one of the moved cells."""
+    shifted = moved(walks)
+    with draft(open_map(shifted), None) as wide, draft(mapf_plan.write(shifted, 0), None) as copy:
+        is_moved = corner_of(walks) != (0, 0)
+        fault = said_of_the_path(program, str(wide.path), str(copy.path) if is_moved else plan_file, shifted)
+        if fault:
+            raise Failed(f"the plan differs from what was read: `mapf path` says {fault} on an open map; this is a fault of the converter")
+        if is_moved and agents_of(plan_file, corner_of(walks)) != agents_of(str(copy.path), (0, 0)):
+            raise Failed("the plan differs from what was read once it is moved; this is a fault of the converter")
 
-    def other(agent: int, verb: str, cell: Cell, due: Cell) -> str:
-        return f"agent {agent} {verb} in column {cell[0]}, row {cell[1]}, column {due[0]}, row {due[1]} was due by row {agent} of {scen}"
 
+def agents_of(plan_file: str, corner: Cell) -> list[tuple[int, int, str]]:
+    """The start and the acts of each agent of a plan, counted from a corner."""
+    with open(plan_file, encoding="ascii") as lines:
+        parts = [line.split() for line in lines][3:]
+    return [(int(x) - corner[0], int(y) - corner[1], acts) for _, x, y, acts in parts]
+
+
+def start_difference(walks: Sequence[Walk], tasks: Sequence[Task], scen: str) -> Optional[tuple[int, str]]:
+    """The line in which the first agent's start stands that isn't that of its row, and what is wrong with it."""
     for agent, walk in enumerate(walks):
         if agent >= len(tasks):
             return walk.line_at(0), f"agent {agent} has no row in {scen}, at most {len(tasks)} agents were due"
         if walk.start != tasks[agent].start:
-            return walk.line_at(0), other(agent, "starts", walk.start, tasks[agent].start)
-        if walk.end != tasks[agent].goal:
-            return walk.line_at(len(walk.acts)), other(agent, "ends", walk.end, tasks[agent].goal)
+            return walk.line_at(0), other_cell(agent, "starts", walk.start, tasks[agent].start, scen)
     return None
+
+
+def goal_difference(walks: Sequence[Walk], tasks: Sequence[Task], scen: str) -> Optional[tuple[int, str]]:
+    """The line in which the first agent's end stands that isn't the goal of its row, and what is wrong with it."""
+    for agent, (walk, task) in enumerate(zip(walks, tasks)):
+        if walk.end != task.goal:
+            return walk.line_at(len(walk.acts)), other_cell(agent, "ends", walk.end, task.goal, scen)
+    return None
+
+
+def other_cell(agent: int, verb: str, cell: Cell, due: Cell, scen: str) -> str:
+    return f"agent {agent} {verb} in column {cell[0]}, row {cell[1]}, column {due[0]}, row {due[1]} was due by row {agent} of {scen}"

@@ -39,18 +39,28 @@ def sha256_of(path: str) -> str:
     return total.hexdigest()
 
 
-def version_of(program: Program) -> str:
-    """What the program says of itself, as `mapf 0.1.0`. Where it says nothing of the kind, its name."""
-    words = [str(program.path.absolute()), "--version"]
+@functools.lru_cache(maxsize=None)
+def version_said(path: pathlib.Path) -> str:
+    words = [str(path.absolute()), "--version"]
     try:
         # In a session of its own: whatever it does to its group, it does to itself.
         ran = subprocess.run(
             words, stdin=subprocess.DEVNULL, stdout=subprocess.PIPE, stderr=subprocess.DEVNULL, timeout=SECONDS, start_new_session=True, check=False
         )
-        said = VERSION.match(ran.stdout)
     except (OSError, subprocess.TimeoutExpired):
-        said = None
-    return said[0].decode() if said else program.path.name
+        return ""
+    said = VERSION.match(ran.stdout)
+    return said[0].decode() if said else ""
+
+
+def says_a_version(program: Program) -> bool:
+    """Whether the program starts here, and is mapf."""
+    return bool(version_said(program.path))
+
+
+def version_of(program: Program) -> str:
+    """What the program says of itself, as `mapf 0.1.0`. Where it says nothing of the kind, its name."""
+    return version_said(program.path) or program.path.name
 
 
 def sum_of_the_readers() -> str:

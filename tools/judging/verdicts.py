@@ -4,20 +4,20 @@ import pathlib
 import re
 import tempfile
 import time
-from typing import Optional
+from typing import Optional, Sequence
 
 from judging.jobs import FOUND, Job
 from judging.marks import Marker
-from path_check import Failed, Program, Refused, open_map, said_of_the_path
-from plan_formats import formats, mapf_plan
+from path_check import Failed, Program, Refused, hold_on_open_map
+from plan_formats import HEAD, Format, formats, guess, mapf_plan
 from plan_formats.texts import text_of
-from plan_formats.walks import Fault, Given
+from plan_formats.walks import Claim, Fault, Given, StartOffMaps, Unsolved, Walk
+from whole_file import draft
 
-ACCEPTED, REJECTED, UNREADABLE, FAILED = VERDICTS = ("accepted", "rejected", "unreadable", "failed")
+VERDICTS = ("accepted", "CostDiffers", "rejected", "unsolved", "unreadable", "failed")
+ACCEPTED, COST_DIFFERS, REJECTED, UNSOLVED, UNREADABLE, FAILED = VERDICTS
 # The columns of a result, before those that its job has beside.
 COLUMNS = ("map", "scenario", "plan", "agents", *FOUND)
-# A format is told by so many bytes.
-HEAD = 4096
 COUNTS = re.compile(r"accepted agents ([0-9]+) cost ([0-9]+) makespan ([0-9]+)\n")
 REJECTION = re.compile(r"rejected ([^\n]+)\n")
 
@@ -51,26 +51,44 @@ def result_of(job: Job, verdict: Verdict, seconds: float, marks: dict[str, str])
     return {name: columns[name] for name in (*COLUMNS, *(name for name, _ in job.more))}
 
 
-def converted(job: Job, program: Program, name: str, data: bytes, folder: pathlib.Path) -> str:
-    """The file of the plan that a text of another format says, held against each cell of it. What starts and steps are worth, the checker says."""
-    text = text_of(data)
-    found = [formats()[name]] if name else [it for it in formats().values() if it.begins(text[:HEAD])]
-    if len(found) != 1:
-        raise Fault(1, f"no format is known by this beginning, a plan or one of {', '.join(formats())} was due")
-    chosen = found[0]
+def given_of(job: Job, program: Program, chosen: Format) -> Given:
+    """What the format needs beside the text. What starts and steps are worth on their map, the checker says."""
     if chosen.needs_tasks and not job.scenario:
         raise Fault(1, f"the format {chosen.name} leaves out where agents start, a job with a scenario was due")
+    has_map = chosen.needs_map or chosen.needs_tasks
+    size = program.map_size(job.file(job.map)) if has_map else ()
     tasks = program.tasks(job.file(job.scenario)) if chosen.needs_tasks else None
-    walks = chosen.read(text, Given(tasks=tasks))
-    plan, wide = folder / "plan", folder / "open.map"
-    with open(plan, "w", encoding="ascii", newline="") as file:
-        file.writelines(mapf_plan.write(walks, None))
-    with open(wide, "wb") as file:
-        file.writelines(open_map(walks))
-    fault = said_of_the_path(program, str(wide), str(plan), walks)
-    if fault:
-        raise Failed(f"`mapf path` says {fault} of a plan on an open map")
-    return str(plan)
+    return Given(*size, has_map=has_map, tasks=tasks)
+
+
+def checked_walks(job: Job, program: Program, walks: Sequence[Walk]) -> Verdict:
+    """What the checker says of the plan of these cells, which is held against each of them."""
+    with draft(mapf_plan.write(walks, None), None) as plan:
+        hold_on_open_map(program, str(plan.path), walks)
+        return checked(job, program, str(plan.path))
+
+
+def converted(job: Job, program: Program, name: str, data: bytes) -> Verdict:
+    """The verdict on a text of another format."""
+    text = text_of(data)
+    chosen = formats()[name] if name else guess(text, f"a plan or one of {', '.join(formats())}")
+    given = given_of(job, program, chosen)
+    try:
+        walks = chosen.read(text, given)
+    except StartOffMaps as fault:
+        # No plan says it. The checker names the first agent that starts off the map, so those before it are checked.
+        before = checked_walks(job, program, fault.before) if fault.before else Verdict(ACCEPTED)
+        return before if before.fault.startswith("BadStart ") else Verdict(REJECTED, f"BadStart {len(fault.before)}")
+    return claimed(checked_walks(job, program, walks), given.found.claims)
+
+
+def claimed(verdict: Verdict, claims: Sequence[Claim]) -> Verdict:
+    """The verdict with the cost that the text claims. A plan that is accepted at other costs than its text says is one of its own kind."""
+    cost = next((claim.said for claim in claims if claim.is_cost), "")
+    wrong = [claim.what for claim in claims if not claim.is_right]
+    if wrong and verdict.verdict == ACCEPTED:
+        verdict = dataclasses.replace(verdict, verdict=COST_DIFFERS, fault="; ".join(wrong))
+    return dataclasses.replace(verdict, claimed=cost)
 
 
 def counted(job: Job, verdict: Verdict) -> Verdict:
@@ -103,8 +121,9 @@ def verdict_on(job: Job, program: Program, name: str) -> Verdict:
         data = pathlib.Path(job.file(job.plan)).read_bytes()
         if not name and mapf_plan.begins(data[:HEAD]):
             return checked(job, program, job.file(job.plan))
-        with tempfile.TemporaryDirectory(prefix="mapf-judge-") as folder:
-            return checked(job, program, converted(job, program, name, data, pathlib.Path(folder)))
+        return converted(job, program, name, data)
+    except Unsolved as fault:
+        return Verdict(UNSOLVED, f"{job.plan}:{fault.line}: {fault.what}")
     except Fault as fault:
         return Verdict(UNREADABLE, f"{job.plan}:{fault.line}: {fault.what}")
     except Refused as fault:

@@ -9,8 +9,10 @@ import importlib
 import pkgutil
 from typing import Callable, Iterator, Optional, Sequence
 
-from plan_formats.walks import Given, Walk
+from plan_formats.walks import Fault, Given, Walk
 
+# A format is told by so many bytes.
+HEAD = 4096
 Reader = Callable[[bytes, Given], list[Walk]]
 Writer = Callable[[Sequence[Walk]], Iterator[str]]
 
@@ -35,6 +37,10 @@ class Format:
     is_padded: bool = False
     # Whether a text leaves out the starts, so that a reader needs the rows of a scenario.
     needs_tasks: bool = False
+    # Whether cells are numbers that only the width of a map makes columns and rows.
+    needs_map: bool = False
+    # Whether a text may leave out times at which an agent waits.
+    may_have_gaps: bool = False
 
 
 def formats() -> dict[str, Format]:
@@ -42,3 +48,13 @@ def formats() -> dict[str, Format]:
     modules = [importlib.import_module(f"{__name__}.{found.name}") for found in pkgutil.iter_modules(__path__)]
     found = [module.FORMAT for module in modules if hasattr(module, "FORMAT")]
     return {it.name: it for it in sorted(found, key=lambda it: it.name)}
+
+
+def guess(text: bytes, due: str) -> Format:
+    """The format of a text, by how it begins. Behind a refusal stands what else was due."""
+    found = [it for it in formats().values() if it.begins(text[:HEAD])]
+    if not found:
+        raise Fault(1, f"no format is known by this beginning, {due} was due")
+    if len(found) > 1:
+        raise Fault(1, f"the text begins as {' and as '.join(it.name for it in found)} do, {due} was due")
+    return found[0]

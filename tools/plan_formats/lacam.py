@@ -1,28 +1,38 @@
-"""Lines `key=value`, then `solution=` and a line for each time, `0:(x,y),(x,y),`, as LaCAM, PIBT and their kin write them."""
+"""Lines `key=value`, then `solution=` and a line for each time, `0:(x,y),(x,y),`, as LaCAM, PIBT and their kin write them.
+
+pypibt and mapf-visualizer have the lines of the times alone.
+"""
 import re
 from array import array
-from typing import Iterator, Sequence
+from typing import Iterator, Optional, Sequence
 
 from plan_formats import Format
-from plan_formats.texts import lines_of, pairs
+from plan_formats.texts import lines_of, pairs, trimmed
 from plan_formats.walks import (
     MOST_ACTS,
     MOST_ACTS_IN_ALL,
     MOST_AGENTS,
+    NARROW,
+    WIDE,
     Cell,
+    Claim,
     Fault,
     Gathering,
     Given,
+    Unsolved,
     Walk,
+    claim_of_makespan,
+    extended,
     last_time,
     padded,
     read_number,
-    refuse_another_makespan,
     shown,
+    sum_of_costs,
 )
 
 KEY = re.compile(rb"([A-Za-z_][\w.-]*)=(.*)", re.DOTALL)
 TIME = re.compile(rb"(\d+):")
+NO_HEAD = re.compile(rb"0: ?\(")
 # The keys that tell of the paths, with their lines and their values.
 Facts = dict[bytes, tuple[int, bytes]]
 Lines = Iterator[tuple[int, bytes]]
@@ -31,8 +41,8 @@ Lines = Iterator[tuple[int, bytes]]
 def cells_of(text: bytes, line: int) -> array:
     """The cells of a line, a column and a row in turn."""
     xs, ys = pairs(text[:-1] if text.endswith(b",") else text, b",", line, MOST_AGENTS)
-    cells = array("H", bytes(4 * len(xs)))
-    cells[::2], cells[1::2] = xs, ys
+    cells = array(WIDE if WIDE in (xs.typecode, ys.typecode) else NARROW, [0]) * (2 * len(xs))
+    cells[::2], cells[1::2] = array(cells.typecode, xs), array(cells.typecode, ys)
     return cells
 
 
@@ -50,13 +60,23 @@ def read_facts(lines: Lines) -> tuple[int, Facts]:
         if fact[1] == b"solution":
             if fact[2]:
                 raise Fault(number, f"{shown(fact[2])} stands behind 'solution=', the end of the line was due")
-            return number, facts
-    raise Fault(number, "the text ends before its paths, 'solution=' was due")
+            break
+    refuse_unsolved(facts)
+    if b"solution" not in facts:
+        raise Fault(number, "the text ends before its paths, 'solution=' was due")
+    return number, facts
+
+
+def refuse_unsolved(facts: Facts) -> None:
+    """A run without a plan may have no `solution=`, an empty one, or what its planner came to until its time was over."""
+    number, solved = facts.get(b"solved", (0, b"1"))
+    if solved == b"0":
+        raise Unsolved(number, "'solved=' is '0': the planner found no plan, one was due")
 
 
 def read_times(lines: Lines, first: int) -> tuple[array, int]:
     """The cells of all times, one time behind the other, and how many agents each time has. The first time has this line."""
-    cells, width = array("H"), 0
+    cells, width = array(NARROW), 0
     for number, line in lines:
         time = TIME.match(line)
         if not time:
@@ -70,28 +90,47 @@ def read_times(lines: Lines, first: int) -> tuple[array, int]:
         if due > MOST_ACTS or len(cells) // 2 > MOST_ACTS_IN_ALL + MOST_AGENTS:
             raise Fault(number, f"there are more acts than a plan may have, {MOST_ACTS} an agent and {MOST_ACTS_IN_ALL} in all were due")
         width = len(row)
-        cells.extend(row)
+        cells = extended(cells, row)
     return cells, width // 2
 
 
-def refuse_other_cells(facts: Facts, key: bytes, cells: Sequence[Cell]) -> None:
-    """Refuses starts or goals that are stated and differ from the paths."""
+def differing(facts: Facts, key: bytes, cells: Sequence[Cell]) -> Optional[tuple[int, str]]:
+    """The first of the starts or goals that are stated and differ from the paths, by its line, and how."""
     number, stated = facts.get(key, (0, b""))
     if not stated:
-        return
+        return None
     found = cells_of(stated, number)
     if len(found) != 2 * len(cells):
         raise Fault(number, f"'{key.decode()}=' has {len(found) // 2} cells, {len(cells)} were due, one for each agent")
     for agent, (x, y) in enumerate(cells):
         if (found[2 * agent], found[2 * agent + 1]) != (x, y):
             is_at = f"({found[2 * agent]},{found[2 * agent + 1]})"
-            raise Fault(number, f"'{key.decode()}=' has {is_at} for agent {agent}, ({x},{y}) was due by its path")
+            return number, f"'{key.decode()}=' has {is_at} for agent {agent}, ({x},{y}) was due by its path"
+    return None
+
+
+def hold_facts(facts: Facts, walks: Sequence[Walk], given: Given) -> None:
+    """Refuses other starts. A goal that is missed, and another cost, may be the planner's mistake: they are put down."""
+    starts = differing(facts, b"starts", [walk.start for walk in walks])
+    if starts:
+        raise Fault(*starts)
+    goals = differing(facts, b"goals", [walk.end for walk in walks])
+    if goals:
+        given.found.remarks.append(goals)
+    number, stated = facts.get(b"soc", (0, b""))
+    if stated:
+        given.found.claims.append(Claim(number, "soc=", stated.decode(errors="replace"), sum_of_costs(walks), is_cost=True))
+    number, stated = facts.get(b"makespan", (0, b""))
+    if stated:
+        given.found.claims.append(claim_of_makespan(stated, number, "makespan=", walks))
 
 
 def read(data: bytes, given: Given) -> list[Walk]:
-    lines = lines_of(data)
-    solution, facts = read_facts(lines)
+    lines = lines_of(trimmed(data))
+    solution, facts = (0, {}) if has_no_head(data) else read_facts(lines)
     cells, count = read_times(lines, solution + 1)
+    if not count and b"solved" not in facts:
+        raise Unsolved(max(solution, 1), "there are no cells behind 'solution=': the planner found no plan, one was due")
     number, agents = facts.get(b"agents", (0, b""))
     if number and (not agents.isdigit() or read_number(agents) != count):
         raise Fault(number, f"'agents=' says {shown(agents)}, '{count}' was due by the cells of each time")
@@ -99,12 +138,13 @@ def read(data: bytes, given: Given) -> list[Walk]:
     for agent in range(count):
         xs, ys = cells[2 * agent :: 2 * count], cells[2 * agent + 1 :: 2 * count]
         gathering.add(agent, xs, ys, solution + 1, lambda time: solution + 1 + time)
-    walks = gathering.whole(solution)
-    refuse_other_cells(facts, b"starts", [walk.start for walk in walks])
-    refuse_other_cells(facts, b"goals", [walk.end for walk in walks])
-    number, stated = facts.get(b"makespan", (0, None))
-    refuse_another_makespan(stated, number, walks)
+    walks = gathering.whole(max(solution, 1))
+    hold_facts(facts, walks, given)
     return walks
+
+
+def has_no_head(head: bytes) -> bool:
+    return NO_HEAD.match(head) is not None
 
 
 def write(walks: Sequence[Walk]) -> Iterator[str]:
@@ -120,7 +160,7 @@ def write(walks: Sequence[Walk]) -> Iterator[str]:
 
 FORMAT = Format(
     "lacam",
-    lambda head: KEY.match(head.partition(b"\n")[0]) is not None,
+    lambda head: KEY.match(head.partition(b"\n")[0]) is not None or has_no_head(head),
     read,
     write,
     word_on_writing="an agent that ends before the others is written as waiting up to the last time",

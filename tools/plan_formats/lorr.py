@@ -131,8 +131,8 @@ def read_start(agent: int, item: Item) -> tuple[tuple[int, int], int]:
     if not isinstance(start, list) or len(start) != 3 or not is_number(start[0]) or not is_number(start[1]) or start[2] not in list(HEADINGS):
         raise Fault(line, f"the start of agent {agent} is none, a row, a column and a heading were due, as [1,2,\"E\"]")
     row, column, heading = start
-    if not 0 <= row < MOST_SIDE or not 0 <= column < MOST_SIDE:
-        raise Fault(line, f"agent {agent} starts off any map, a row and a column from 0 to {MOST_SIDE - 1} were due")
+    if not -MOST_SIDE <= row < MOST_SIDE or not -MOST_SIDE <= column < MOST_SIDE:
+        raise Fault(line, f"agent {agent} starts off any map, a row and a column up to {MOST_SIDE - 1} were due")
     return (column, row), HEADINGS.index(heading)
 
 

@@ -3,7 +3,7 @@ import re
 import zlib
 from typing import Iterator, Optional, Sequence
 
-from plan_formats.texts import lines_of
+from plan_formats.texts import lines_of, refuse_a_cut
 from plan_formats.walks import (
     MOST_ACTS,
     MOST_ACTS_IN_ALL,
@@ -76,7 +76,8 @@ def read_agent(agent: int, line: bytes, number: int, gathering: Gathering) -> No
 
 
 def read(data: bytes, given: Given) -> list[Walk]:
-    """The walks of the plan. What no other format can say is refused: cells off any map, and a plan without agents."""
+    """The walks of the plan. What no other format can say is refused: cells behind the greatest map, and a plan without agents."""
+    refuse_a_cut(data)
     gathering, agents, number = Gathering(given), MOST_AGENTS, 0
     for number, line in lines_of(data):
         if number == 3:

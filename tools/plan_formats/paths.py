@@ -3,16 +3,24 @@ import re
 from typing import Iterator, Sequence
 
 from plan_formats import Format
-from plan_formats.texts import lines_of, pairs
-from plan_formats.walks import Fault, Gathering, Given, Walk, read_number, shown
+from plan_formats.texts import line_at, lines_of, pairs, trimmed
+from plan_formats.walks import Fault, Gathering, Given, Unsolved, Walk, read_number, shown
 
 AGENT = re.compile(rb"Agent (\d+):")
 ARROW = b"->"
 
 
+def refuse_a_cut_path(data: bytes) -> None:
+    """A last line without its line end, and without the arrow that others end with, may be cut behind any cell."""
+    last = data.rfind(b"\n") + 1
+    if data[last:].strip() and not data.endswith(ARROW) and ARROW + b"\n" in data:
+        raise Fault(line_at(data, last), "the text ends without a line end and without the arrow that other paths end with, they were due: it may be cut")
+
+
 def read(data: bytes, given: Given) -> list[Walk]:
-    gathering, number = Gathering(given), 0
-    for number, line in lines_of(data):
+    refuse_a_cut_path(data)
+    gathering, number, without_path = Gathering(given), 0, []
+    for number, line in lines_of(trimmed(data)):
         head = AGENT.match(line)
         if not head:
             raise Fault(number, f"{shown(line)} stands where a path was due, as 'Agent 0: (1,2)->(1,3)->'")
@@ -21,9 +29,14 @@ def read(data: bytes, given: Given) -> list[Walk]:
         path = line[head.end() + line.startswith(b" ", head.end()) :]
         path = path[: -len(ARROW)] if path.endswith(ARROW) else path
         if not path:
-            raise Fault(number, f"agent {agent} has no path, the cell in which it stands was due")
+            without_path.append((agent, number))
+            continue
         rows, columns = pairs(path, ARROW, number)
         gathering.add(agent, columns, rows, number)
+    if without_path and not gathering.walks and data.endswith(b"\n"):
+        raise Unsolved(number, "no agent has a path: the planner found no plan, one was due")
+    if without_path:
+        raise Fault(without_path[0][1], f"agent {without_path[0][0]} has no path, the cell in which it stands was due")
     return gathering.whole(number)
 
 

@@ -1,10 +1,25 @@
-"""The YAML of libMultiRobotPlanning, in the one shape in which it is written: `statistics:`, then `schedule:`, `agent0:` and its items."""
-import re
-from typing import Iterator, Optional, Sequence
+"""The YAML of libMultiRobotPlanning: `statistics:`, then `schedule:`, `agent0:` and its items, in the one shape in which it is written.
 
-from plan_formats import Format
-from plan_formats.texts import DIGITS, line_at, line_from, numbers_of, refuse_a_cut, times_fault
-from plan_formats.walks import MOST_ACTS, Fault, Gathering, Given, Walk, last_time, read_number, refuse_another_makespan, shown
+Another shape, as that of planners in Python, is read by `yaml_schedule`.
+"""
+import re
+from typing import Iterator, Sequence
+
+from plan_formats import Format, yaml_schedule
+from plan_formats.texts import DIGITS, line_at, line_from, numbers_of, timed, trimmed
+from plan_formats.walks import (
+    MOST_ACTS,
+    Claim,
+    Fault,
+    Gathering,
+    Given,
+    Unsolved,
+    Walk,
+    claim_of_makespan,
+    last_time,
+    read_number,
+    shown,
+)
 
 STATISTIC = re.compile(rb"  (\w+): *([^\n]*)\n")
 AGENT = re.compile(rb"  agent(\d+):\n")
@@ -12,63 +27,90 @@ AGENT = re.compile(rb"  agent(\d+):\n")
 FIELDS = (b"    - x: ", b"      y: ", b"      t: ")
 ITEM = b"".join(field + b"\n" for field in FIELDS)
 ALL_BUT_NUMBERS = b" -xyt:"
+# An item whose column or row may be negative, as a planner's mistake makes it.
+SIGNED_ITEM = re.compile(rb"    - x: (-?\d+)\n      y: (-?\d+)\n      t: (\d+)\n")
+A_MINUS = b": -"
+# What shape a text has is seen in so many bytes.
+HEAD = 4096
+# What is stated before the paths, by name, each with its line.
+Statistics = dict[bytes, tuple[int, bytes]]
 
 
-def read_statistics(data: bytes) -> tuple[int, int, Optional[bytes]]:
-    """Where `schedule:` stands, and the makespan that is stated before it, with its place."""
-    place, stated_at, stated = 0, 0, None
+def read_statistics(data: bytes) -> tuple[int, Statistics]:
+    """Where `schedule:` stands, and what is stated before it."""
+    place, found, line = 0, {}, 1
     if data.startswith(b"statistics:\n"):
         place = len(b"statistics:\n")
         statistic = STATISTIC.match(data, place)
         while statistic:
-            if statistic[1] == b"makespan":
-                stated_at, stated = place, statistic[2]
+            line += 1
+            found[statistic[1]] = line, statistic[2]
             place = statistic.end()
             statistic = STATISTIC.match(data, place)
-    return place, stated_at, stated
+    return place, found
 
 
 def no_item(block: bytes, line: int) -> Fault:
     """The first line of an agent's items that isn't the one which was due."""
-    for number, text in enumerate(block.split(b"\n")):
+    lines = block.split(b"\n")
+    for number, text in enumerate(lines):
         field = FIELDS[number % 3]
         digits = text[len(field) :]
+        if number % 3 < 2 and digits[:1] == b"-":
+            digits = digits[1:]
         if not text.startswith(field) or not digits.isdigit():
-            due = "the next agent or an item" if number % 3 == 0 else "the item"
-            return Fault(line + number, f"{shown(text) if text else 'the end'} stands where {due} was due, as {shown(field + b'1')}")
+            due = f"where {'the next agent or an item' if number % 3 == 0 else 'the item'} was due, as {shown(field + b'1')}"
+            if number == len(lines) - 1:
+                return Fault(line + number - 1, f"the end stands {due}")
+            return Fault(line + number, f"{shown(text)} stands {due}")
         if read_number(digits) > MOST_ACTS:
             return Fault(line + number, f"{shown(digits)} is larger than any column, row or time of a plan, at most {MOST_ACTS} was due")
     return Fault(line, "an item is none, a column, a row and a time were due")
 
 
+def signed_items(block: bytes) -> list[bytes]:
+    """The numbers of items some of which are negative; none where anything else stands there."""
+    found = list(SIGNED_ITEM.finditer(block))
+    return [digits for item in found for digits in item.groups()] if sum(len(item[0]) for item in found) == len(block) else []
+
+
 def read_items(block: bytes, agent: int, line: int, gathering: Gathering) -> None:
     """Reads the items of an agent, the first of which stands in this line."""
     signs = block.translate(None, DIGITS)
-    count = len(signs) // len(ITEM)
+    count = block.count(b"\n") // len(FIELDS)
     if count > MOST_ACTS + 1:
         raise Fault(line + 3 * MOST_ACTS + 3, f"agent {agent} has more than {MOST_ACTS} acts, no more were due")
     if not block:
         raise Fault(line - 1, f"agent {agent} has no path, the cell in which it stands was due")
+    digits = []
+    if signs == ITEM * count:
+        digits = block.translate(None, ALL_BUT_NUMBERS).split(b"\n")[:-1]
+    elif A_MINUS in block:
+        digits = signed_items(block)
     try:
-        numbers = numbers_of(block.translate(None, ALL_BUT_NUMBERS).split(b"\n")[:-1]) if signs == ITEM * count else None
+        numbers = numbers_of(digits)
     except (OverflowError, ValueError):
-        numbers = None
-    if numbers is None:
+        numbers = ()
+    if not numbers:
         raise no_item(block, line)
-    times = numbers[2::3]
-    if times.tolist() != list(range(count)):
-        place, what = times_fault(agent, times)
-        raise Fault(line + 3 * place + 2, what)
-    gathering.add(agent, numbers[::3], numbers[1::3], line, lambda time: line + 3 * time)
+    cells = timed(agent, numbers[2::3], numbers[::3], numbers[1::3], gathering.given.fills_waits, lambda place: line + 3 * place, below=2)
+    gathering.add(agent, cells.xs, cells.ys, line, cells.line_of)
 
 
 def read(data: bytes, given: Given) -> list[Walk]:
-    refuse_a_cut(data)
-    place, stated_at, stated = read_statistics(data)
+    data = trimmed(data)
+    return yaml_schedule.read(data, given) if yaml_schedule.begins(data[:HEAD]) else read_plain(data, given)
+
+
+def read_plain(data: bytes, given: Given) -> list[Walk]:
+    place, statistics = read_statistics(data)
     if not data.startswith(b"schedule:\n", place):
-        raise Fault(line_at(data, place), f"{line_from(data, place)} stands where 'schedule:' was due")
+        line = line_at(data, min(place, len(data) - 1))
+        raise Fault(line, f"{line_from(data, place)} stands where 'schedule:' was due")
     place += len(b"schedule:\n")
     line, gathering = line_at(data, place), Gathering(given)
+    if place == len(data):
+        raise Unsolved(line - 1, "the schedule is empty: the planner found no plan, one was due")
     while place < len(data):
         head = AGENT.match(data, place)
         if not head:
@@ -80,8 +122,18 @@ def read(data: bytes, given: Given) -> list[Walk]:
         read_items(block, agent, line + 1, gathering)
         place, line = end, line + 1 + block.count(b"\n")
     walks = gathering.whole(line - 1)
-    refuse_another_makespan(stated, line_at(data, stated_at), walks)
+    put_down_claims(statistics, walks, given)
     return walks
+
+
+def put_down_claims(statistics: Statistics, walks: Sequence[Walk], given: Given) -> None:
+    """The cost of this library is the sum of the last times, and its makespan the last of them."""
+    line, stated = statistics.get(b"cost", (0, b""))
+    if stated:
+        given.found.claims.append(Claim(line, "cost:", stated.decode(errors="replace"), sum(len(walk.acts) for walk in walks), is_cost=True))
+    line, stated = statistics.get(b"makespan", (0, b""))
+    if stated:
+        given.found.claims.append(claim_of_makespan(stated, line, "makespan:", walks))
 
 
 def write(walks: Sequence[Walk]) -> Iterator[str]:
@@ -91,4 +143,8 @@ def write(walks: Sequence[Walk]) -> Iterator[str]:
         yield f"  agent{agent}:\n{''.join(items)}"
 
 
-FORMAT = Format("schedule", lambda head: head.startswith((b"statistics:", b"schedule:")), read, write)
+def begins(head: bytes) -> bool:
+    return head.startswith((b"statistics:", b"schedule:")) or yaml_schedule.begins(head)
+
+
+FORMAT = Format("schedule", begins, read, write, may_have_gaps=True)

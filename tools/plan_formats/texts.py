@@ -1,15 +1,21 @@
 """What readers of all formats share: the bytes of a text, its lines, and pairs of numbers in it, each read by calls that take many at once."""
+import bisect
+import codecs
+import dataclasses
 import re
 from array import array
-from typing import Iterator
+from itertools import repeat
+from typing import Callable, Iterator
 
-from plan_formats.walks import MOST_ACTS, MOST_SIDE, Fault, Numbers, shown
+from plan_formats.walks import MOST_ACTS, MOST_SIDE, NARROW, Fault, Numbers, narrowest, read_number, shown
 
 DIGITS = b"0123456789"
 # Bytes that stand in no text: all below the space but tabs and line ends, and DEL.
 CONTROLS = bytes(set(range(32)) - set(b"\t\n\r")) + b"\x7f"
 A_CONTROL = re.compile(b"[" + re.escape(CONTROLS) + b"]")
-A_PAIR = re.compile(rb"\((\d+),(\d+)\)")
+# What a cell's numbers are made of: a negative one is no cell of a map, and may be a planner's mistake.
+SIGNED = DIGITS + b"-"
+A_PAIR = re.compile(rb"\((-?\d+),(-?\d+)\)")
 
 
 def line_at(data: bytes, place: int) -> int:
@@ -18,7 +24,8 @@ def line_at(data: bytes, place: int) -> int:
 
 
 def text_of(data: bytes) -> bytes:
-    """The text with line feeds alone at its line ends. Refuses what is no text, and none."""
+    """The text with line feeds alone at its line ends, and without a byte order mark. Refuses what is no text, and none."""
+    data = data[len(codecs.BOM_UTF8) :] if data.startswith(codecs.BOM_UTF8) else data
     if not data:
         raise Fault(1, "the file is empty, the paths of agents were due")
     if not data.isascii():
@@ -44,25 +51,34 @@ def line_from(data: bytes, place: int) -> str:
     return shown(data[place:].partition(b"\n")[0]) if place < len(data) else "the end"
 
 
+def trimmed(data: bytes) -> bytes:
+    """The text with one line end behind its last line that has anything in it, whatever stood there."""
+    end = data.find(b"\n", len(data.rstrip(b" \t\n")))
+    return data + b"\n" if end < 0 else data[: end + 1]
+
+
 def lines_of(data: bytes) -> Iterator[tuple[int, bytes]]:
-    """Each line of a text that ends with one, with its number."""
-    refuse_a_cut(data)
+    """Each line of a text, with its number."""
     place, number = 0, 1
     while place < len(data):
-        end = data.index(b"\n", place)
+        end = data.find(b"\n", place)
+        end = len(data) if end < 0 else end
         yield number, data[place:end]
         place, number = end + 1, number + 1
 
 
 def numbers_of(digits: list[bytes]) -> Numbers:
-    """Numbers of digits. A ValueError or an OverflowError says that one is too large."""
-    return array("H", map(int, digits))
+    """Numbers of digits, perhaps behind a minus. A ValueError or an OverflowError says that one is none, is too large or too far below 0."""
+    try:
+        return array(NARROW, map(int, digits))
+    except OverflowError:
+        return narrowest(map(int, digits))
 
 
 def pairs(text: bytes, between: bytes, line: int, most: int = MOST_ACTS + 1) -> tuple[Numbers, Numbers]:
     """The numbers of a text `(a,b)` or of more of them, divided by what stands between them: the first of each, and the second."""
     joined = text[1:-1].replace(b")" + between + b"(", b";")
-    signs = joined.translate(None, DIGITS)
+    signs = joined.translate(None, SIGNED)
     count = len(signs) // 2 + 1
     if count > most:
         raise Fault(line, f"there are more than {most} cells in one line, no more were due")
@@ -83,8 +99,8 @@ def no_pair(text: bytes, between: bytes, line: int) -> Fault:
     while True:
         pair = A_PAIR.match(text, place)
         if not pair:
-            return Fault(line, f"{shown(text[place:])} stands where a cell was due, as '(1,2)' of two numbers that are not negative")
-        if any(len(digits.lstrip(b"0")) > 5 or int(digits) > MOST_SIDE for digits in pair.groups()):
+            return Fault(line, f"{shown(text[place:])} stands where a cell was due, as '(1,2)' of two numbers")
+        if any(read_number(digits.lstrip(b"-")) > MOST_SIDE for digits in pair.groups()):
             return Fault(line, f"the cell {shown(pair[0])} is larger than any map, numbers below {MOST_SIDE} were due")
         place = pair.end()
         if not text.startswith(between, place):
@@ -101,3 +117,26 @@ def times_fault(agent: int, times: Numbers) -> tuple[int, str]:
     if time == times[place - 1]:
         return place, f"agent {agent} has two cells at time {time}, time {place} was due"
     return place, f"agent {agent} has time {time} behind time {place - 1}, time {place} was due"
+
+
+@dataclasses.dataclass(frozen=True)
+class Cells:
+    """An agent's cells by time, and in which line each stands."""
+
+    xs: Numbers
+    ys: Numbers
+    line_of: Callable[[int], int]
+
+
+def timed(agent: int, times: Numbers, xs: Numbers, ys: Numbers, fills_waits: bool, line_of: Callable[[int], int], below: int = 0) -> Cells:
+    """The cells that stand at these times. Where the text leaves times out, the agent waits, if that is asked for. A time stands so many
+    lines below the first one of its cell."""
+    if times.tolist() == list(range(len(times))):
+        return Cells(xs, ys, line_of)
+    rises = times[0] == 0 and all(map(int.__lt__, times, times[1:]))
+    if not fills_waits or not rises:
+        place, what = times_fault(agent, times)
+        raise Fault(line_of(place) + below, f"{what}, or --fill-waits" if rises else what)
+    counts = [later - time for time, later in zip(times, times[1:])] + [1]
+    filled = [array(numbers.typecode, (it for number, count in zip(numbers, counts) for it in repeat(number, count))) for numbers in (xs, ys)]
+    return Cells(*filled, lambda time: line_of(bisect.bisect_right(times, time) - 1))

@@ -2,6 +2,7 @@
 
 Starts and goals are those of a scenario. The text doesn't say whether `u` leads to the row above or to the one below: the goals do.
 """
+from itertools import accumulate
 from typing import Iterator, Sequence
 
 from plan_formats import Format
@@ -11,43 +12,65 @@ from plan_formats.walks import Fault, Gathering, Given, Task, Walk, shown, walke
 LETTERS = b"udlrw"
 # The acts that the letters are where `u` leads to the row above, as on a screen, and where it leads to the row below.
 UP_IS_NORTH, UP_IS_SOUTH = b"nswe-", b"snwe-"
+WAYS = ((UP_IS_NORTH, -1, "above"), (UP_IS_SOUTH, 1, "below"))
 BACK = str.maketrans(UP_IS_NORTH.decode(), LETTERS.decode())
 
 
+def refuse_a_blank_end(lines: Sequence[bytes], tasks: Sequence[Task]) -> None:
+    """An empty line is an agent without acts. At the end it may be no line at all, where the scenario has rows for more agents."""
+    if len(lines) > 1 and not lines[-1] and len(lines) < len(tasks):
+        count = len(b"\n".join(lines).rstrip(b"\n").split(b"\n"))
+        both = f"the text may have {count} agents and a blank end, or {len(lines)} agents, the last without acts"
+        raise Fault(len(lines), f"{both}; no empty line at the end was due, or a scenario of as many rows as there are agents")
+
+
 def read_lines(data: bytes, tasks: Sequence[Task]) -> list[bytes]:
-    """The letters of each agent."""
+    """The letters of each agent. Empty lines behind those of all rows are a blank end."""
     lines = []
     for number, line in lines_of(data):
         other = line.translate(None, LETTERS)
         if other:
             raise Fault(number, f"{shown(other[:1])} stands in the acts of agent {number - 1}, u, d, l, r or w was due")
+        if number > len(tasks) and not data[sum(map(len, lines)) + len(lines) :].strip():
+            break
         if number > len(tasks):
             raise Fault(number, f"agent {number - 1} has no row in the scenario, at most {len(tasks)} agents were due")
         lines.append(line)
+    refuse_a_blank_end(lines, tasks)
     return lines
 
 
-def rows_apart(line: bytes) -> int:
-    """How many rows an agent's end lies above its start where `u` leads up."""
-    return line.count(b"u") - line.count(b"d")
+def end_of(line: bytes, task: Task, sign: int) -> tuple[int, int]:
+    """Where an agent ends where `u` adds this to its row."""
+    return task.start[0] + line.count(b"r") - line.count(b"l"), task.start[1] + sign * (line.count(b"u") - line.count(b"d"))
 
 
-def settled(lines: Sequence[bytes], tasks: Sequence[Task]) -> bytes:
-    """The acts of the letters, by the goals."""
-    for agent, (line, task) in enumerate(zip(lines, tasks)):
-        x = task.start[0] + line.count(b"r") - line.count(b"l")
-        if x != task.goal[0] or abs(rows_apart(line)) != abs(task.goal[1] - task.start[1]):
-            raise Fault(agent + 1, f"agent {agent} doesn't end in its goal whichever way u leads, column {task.goal[0]}, row {task.goal[1]} was due")
-    fits = [
-        letters
-        for letters, sign in ((UP_IS_NORTH, -1), (UP_IS_SOUTH, 1))
-        if all(task.start[1] + sign * rows_apart(line) == task.goal[1] for line, task in zip(lines, tasks))
-    ]
-    if not fits:
-        raise Fault(1, "u leads to the row above by the goals of some agents and to the row below by those of others, one way was due")
-    if len(fits) == 2 and any(b"u" in line for line in lines):
-        raise Fault(1, "the goals don't settle whether u leads to the row above or to the one below, a goal in another row than its start was due")
-    return fits[0]
+def stays(line: bytes, task: Task, sign: int, height: int) -> bool:
+    """Whether an agent stays in the rows of the map where `u` adds this to its row."""
+    step = {ord("u"): sign, ord("d"): -sign}
+    rows = list(accumulate((step.get(letter, 0) for letter in line), initial=task.start[1]))
+    return 0 <= min(rows) and max(rows) < height
+
+
+def settled(lines: Sequence[bytes], tasks: Sequence[Task], given: Given) -> bytes:
+    """The acts of the letters: the way of `u` that leads more agents to their goals, or that keeps more of them on the map. Where that isn't
+    the goals of all agents, it is said."""
+    if not any(letter in line for line in lines for letter in (b"u", b"d")):
+        return UP_IS_NORTH
+    pairs = list(zip(lines, tasks))
+    arrived = [sum(end_of(line, task, sign) == task.goal for line, task in pairs) for _, sign, _ in WAYS]
+    ranks = arrived if arrived[0] != arrived[1] else [sum(stays(*pair, sign, given.height) for pair in pairs) for _, sign, _ in WAYS]
+    if ranks[0] == ranks[1]:
+        counts = " and ".join(f"where u leads to the row {name} {count}" for count, (_, _, name) in zip(arrived, WAYS))
+        raise Fault(1, f"the goals don't settle which way u leads: {counts} of {len(lines)} agents come to their goals, more one way were due")
+    way = WAYS[ranks[1] > ranks[0]]
+    missing = next((agent for agent, (line, task) in enumerate(pairs) if end_of(line, task, way[1]) != task.goal), None)
+    if missing is not None:
+        what = f"u is read as leading to the row {way[2]}: agent {missing} doesn't come to its goal, but {max(arrived)} of {len(lines)} agents do"
+        given.found.remarks.append((missing + 1, what))
+    elif ranks is not arrived:
+        given.found.remarks.append((1, f"u is read as leading to the row {way[2]}: the other way, an agent leaves the map"))
+    return way[0]
 
 
 def read_acts(lines: Sequence[bytes], tasks: Sequence[Task], letters: bytes, given: Given) -> list[Walk]:
@@ -60,7 +83,7 @@ def read_acts(lines: Sequence[bytes], tasks: Sequence[Task], letters: bytes, giv
 def read(data: bytes, given: Given) -> list[Walk]:
     tasks = given.tasks or ()
     lines = read_lines(data, tasks)
-    return read_acts(lines, tasks, settled(lines, tasks), given)
+    return read_acts(lines, tasks, settled(lines, tasks, given), given)
 
 
 def read_back(data: bytes, given: Given) -> list[Walk]:
