@@ -2,6 +2,7 @@
 import collections
 import dataclasses
 import functools
+import importlib.util
 import json
 import os
 import pathlib
@@ -409,6 +410,98 @@ CALLS = [
 ]
 
 
+# A map, and on it the plan of the texts that people have: of two agents, one of which waits.
+WIDE = b"type octile\nheight 2\nwidth 4\nmap\n....\n....\n"
+FOUND = b"mapf-plan 1\nnumber 7\nagents 2\nagent 1 0 -s\nagent 3 1 w\n"
+LORR = b'{"actionModel":"MAPF_T","start":[[0,1,"S"],[1,3,"W"]],"actualPaths":["W,F","F"]}'
+YAML = (
+    b"cost: 5\nschedule:\n  agent0:\n  - t: 0\n    x: 1\n    y: 0\n  - t: 1\n    x: 1\n    y: 0\n  - t: 2\n    x: 1\n    y: 1\n"
+    b"  agent1:\n  - t: 0\n    x: 3\n    y: 1\n  - t: 1\n    x: 2\n    y: 1\n"
+)
+GAP = (
+    b"schedule:\n  agent0:\n    - x: 1\n      y: 0\n      t: 0\n    - x: 1\n      y: 1\n      t: 2\n"
+    b"  agent1:\n    - x: 3\n      y: 1\n      t: 0\n    - x: 2\n      y: 1\n      t: 1\n"
+)
+PATHS_FOUND = b"Agent 0: (0,1)->(0,1)->(1,1)->\nAgent 1: (1,3)->(1,2)->\n"
+CSV_FOUND = b"agent,t,x,y\n0,0,1,0\n0,1,1,0\n0,2,1,1\n1,0,3,1\n1,1,2,1\n"
+TIMES = b"0:(1,0),(3,1),\n1:(1,0),(2,1),\n2:(1,1),(2,1),\n"
+PADDED = FOUND.replace(b"1 w\n", b"1 w-\n")
+PRINTED = b"EECBS: Succeed,0.01\nAgent 0 (2 -->2): 1->1->5->\nAgent 1 (1 -->1): 7->6->\n"
+RHCR = b"2\n1,0,0;1,1,1;5,1,2;\n7,2,0;6,2,1;\n"
+BOM = b"\xef\xbb\xbf"
+# A text, more words, the plan that it says, or a piece of what is told of one that is refused.
+PEOPLES = [
+    ("no line end", PATHS_FOUND[:-1], "", FOUND),
+    ("no line end and no arrows", PATHS_FOUND.replace(b"->\n", b"\n")[:-1], "", FOUND),
+    ("a blank line at the end", PATHS_FOUND + b"\n", "", FOUND),
+    ("blanks at the end", PATHS_FOUND + b"  \r\n\r\n", "", FOUND),
+    ("a byte order mark", BOM + PATHS_FOUND, "", FOUND),
+    ("cells with a blank", PATHS_FOUND.replace(b",", b", "), "", FOUND),
+    ("a table without a line end", CSV_FOUND[:-1], "", FOUND),
+    ("a table of another heading", CSV_FOUND, "", FOUND),
+    ("a table with a byte order mark", BOM + CSV_FOUND.replace(b"\n", b"\r\n"), "", FOUND),
+    ("times alone", TIMES, "", PADDED),
+    ("times alone without a line end", TIMES[:-1], "", PADDED),
+    ("times alone with blanks", TIMES.replace(b",", b", ").replace(b", \n", b",\n"), "", PADDED),
+    ("JSON without a line end", BOM + LORR, "", FOUND),
+    ("YAML of Python", YAML, "", FOUND),
+    ("YAML of Python without a line end", YAML[:-1], "", FOUND),
+    ("a schedule without a line end", GAP[:-1], "--fill-waits", FOUND),
+    ("a schedule with a gap", GAP, "", b"agent 0 has time 2 behind time 0, time 1 was due, or --fill-waits"),
+    ("YAML with a gap", YAML.replace(b"  - t: 1\n    x: 1\n    y: 0\n", b""), "--fill-waits", FOUND),
+    ("waits in a table", CSV_FOUND, "--fill-waits", b"--fill-waits goes with a schedule"),
+    ("printed paths", PRINTED, "--map WIDE", FOUND),
+    ("printed paths alone", PRINTED.partition(b"\n")[2], "--map WIDE", FOUND),
+    ("printed paths without a line end", PRINTED[:-1], "--map WIDE", FOUND),
+    ("printed paths that are cut", PRINTED[:-4], "--map WIDE", b"the path of agent 1 has 0 acts, 1 were due"),
+    ("printed paths without a map", PRINTED, "", b"--map is wanted"),
+    ("printed paths that leave the map", PRINTED.replace(b"1->1->5", b"5->5->9"), "--map WIDE", FOUND.replace(b"1 0 -s", b"1 1 -s")),
+    ("paths of RHCR", RHCR, "--map WIDE", FOUND),
+    ("paths of RHCR without a line end", RHCR[:-1], "--map WIDE", FOUND),
+    ("paths of RHCR that are cut", RHCR[:-2], "--map WIDE", b"'6,2,1' stands where an item was due"),
+    ("paths of RHCR of other agents", RHCR.replace(b"2\n", b"3\n", 1), "--map WIDE", b"the text says that it has '3' agents, 2 was due"),
+    ("paths of RHCR without a map", RHCR, "", b"--map is wanted"),
+    ("letters without a line end", b"wu\nl", "--scen ROWS", FOUND),
+    ("letters and a blank line", b"wu\nl\n\n", "--scen ROWS", FOUND),
+    ("letters and a line that may be blank", b"wu\n\n", "--scen MORE", b"the text may have 1 agents and a blank end, or 2 agents"),
+]
+PEOPLES_FILES = {
+    "WIDE": WIDE,
+    "ROWS": b"version 1\n0 m 4 2 1 0 1 1 1\n0 m 4 2 3 1 2 1 1\n",
+    "MORE": b"version 1\n0 m 4 2 1 0 1 1 1\n0 m 4 2 3 1 2 1 1\n0 m 4 2 0 0 0 0 0\n",
+}
+
+
+def of_peoples_texts(harness: Harness) -> list[Outcome]:
+    """Texts as they come from Python, from tables, from terminals and from planners that have another shape."""
+    room, outcomes = Room(harness), []
+    files = {name: room.file(name, text) for name, text in PEOPLES_FILES.items()}
+    for number, (_, text, words, _) in enumerate(PEOPLES):
+        room.convert([room.file(f"{number}.text", text), "--number", NUMBER, *(files.get(word, word) for word in words.split())])
+    for (name, text, words, due), done in zip(PEOPLES, room.done()):
+        is_plan = due.startswith(b"mapf-plan")
+        if is_plan and text.lstrip(BOM).startswith(b"cost") and not has_yaml():
+            outcomes.append(compared(name, done.shown, (done.status, "python3-yaml" in done.told), (1, True)))
+            continue
+        wrote = (done.status == 0, done.written) if is_plan else (done.status == 0, due.decode() in done.told, done.written)
+        outcomes.append(compared(name, f"{done.shown}, which told {done.told!r}", wrote, (True, due) if is_plan else (False, True, None)))
+    room.gone()
+    return outcomes
+
+
+def has_yaml() -> bool:
+    return importlib.util.find_spec("yaml") is not None
+
+
+def of_no_yaml(harness: Harness) -> list[Outcome]:
+    """Where the package yaml isn't installed, that is said."""
+    folder = harness.folder({"Y": YAML, "yaml.py": b"raise ImportError\n"})
+    words = [sys.executable, str(TOOL), "Y", "--program", str(harness.program)]
+    ended = harness.run(words, folder=folder, more={"PYTHONPATH": str(folder)})
+    wrote = (ended.status, ended.err.startswith(b"convert: Y is read as schedule\nY:1: this shape of YAML is read by the Python package yaml"), ended.out)
+    return [compared("YAML without its package", f"convert.py Y, which told {ended.err!r}", wrote, (1, True, b""))]
+
+
 def of_call(harness: Harness, line: str, status: int, out: bytes, told: str) -> list[Outcome]:
     folder = harness.folder(FILES)
     ended = harness.run([sys.executable, str(TOOL), "--program", str(harness.program), *line.split()], folder=folder)
@@ -539,6 +632,8 @@ def outcomes(harness: Harness) -> Iterator[Outcome]:
             *(functools.partial(of_call, harness, *call) for call in CALLS),
             *(functools.partial(of_mistake, harness, *mistake) for mistake in MISTAKES),
             functools.partial(of_examples, harness),
+            functools.partial(of_peoples_texts, harness),
+            functools.partial(of_no_yaml, harness),
             functools.partial(of_vectors, harness),
             functools.partial(of_liars, harness),
             functools.partial(of_refusals, harness),

@@ -233,6 +233,35 @@ def of_names(room: Room) -> Iterator[Outcome]:
     yield compared("a name of no such kind", "judge.py --maps maps behind.plan", (ended.status, b"behind.plan" in ended.err, ended.out), (1, True, b""))
 
 
+def of_uploads(room: Room) -> Iterator[Outcome]:
+    """A table of the tracker, whose rows have plans: with line ends of two kinds, none, the wrong cost, no plan, a dropped agent, a missed goal."""
+    room.file("lane-even-1.scen", TASKS.encode())
+    heading = "lower_cost,solution_cost,solution_plan,map_name,scen_type,type_id,agents,planner\n"
+    cells = [("2", "r\nr\n", 2), ("2", "r\nr", 2), ("3", "r\\nr", 2), ("", "", 2), ("1", "r\n", 2), ("1", "r\nw", 2), ("1", "r", 2), ("", "rx\nr", 2), ("0", "\n", 2)]
+    rows = "".join(f'1,{cost},"{plan}",lane,even,1,{agents},PIBT\n' for cost, plan, agents in cells)
+    room.file("upload.csv", (heading + rows).encode())
+    due = [
+        ("2", "accepted", "", "2", "2"),
+        ("5", "accepted", "", "2", "2"),
+        ("7", "CostDiffers", "solution_cost is '3', 2 was due by its cells", "2", "3"),
+        ("8", "unsolved", "upload.csv:8: the row has no plan: the planner found none, one was due", "", ""),
+        ("9", "rejected", "GoalDiffers 1", "", "1"),
+        ("11", "rejected", "GoalDiffers 1", "", "1"),
+        ("13", "rejected", "AgentCount", "", "1"),
+        ("14", "unreadable", "upload.csv:14:1: 'x' stands in the acts of agent 0, u, d, l, r or w was due", "", ""),
+        ("16", "unsolved", "upload.csv:16: the row has no plan: the planner found none, one was due", "", "0"),
+    ]
+    for name, words in (("beside the table", []), ("in folders", ["--maps", ".", "--scens", "."])):
+        output = f"upload {name}.csv"
+        ended = room.judge("upload.csv", *words, "-o", output)
+        found = [(row["plan"].rpartition(":")[2], row["verdict"], row["fault"], row["cost"], row["claimed"]) for row in room.rows(output)]
+        yield compared(f"a table of plans, maps {name}", f"judge.py upload.csv, which told {ended.err!r}", sorted(found), sorted(due))
+        own = {(row["map"], row["scenario"], row["planner"], row["solution_cost"]) for row in room.rows(output) if row["plan"] == "upload.csv:2"}
+        yield compared("its other columns", "judge.py upload.csv", own, {("lane.map", "lane-even-1.scen", "PIBT", "2")})
+    ended = room.judge(room.file("odd.csv", f'{heading}1,1,"r",../lane,even,1,1,PIBT\n'.encode()), "-o", "odd.out.csv")
+    yield compared("a map's name that is none", "judge.py odd.csv", (ended.status, ended.err.startswith(b"judge: odd.csv:2: '../lane'")), (1, True))
+
+
 def of_bad_lists(room: Room) -> Iterator[Outcome]:
     for name, content in BAD_LISTS.items():
         ended = room.judge(room.file(name, content), "-o", "none.csv")
@@ -392,6 +421,17 @@ def of_columns(room: Room) -> Iterator[Outcome]:
     yield compared("the lines of other lists stay", "looked at counts.csv", short(room.rows("counts.csv")), [due[0], ("swap.plan", "", "rejected")])
 
 
+def of_gaps(room: Room) -> Iterator[Outcome]:
+    """A schedule that leaves out times, as it stands and with waits."""
+    items = "".join(f"    - x: {x}\n      y: 0\n      t: {time}\n" for x, time in ((0, 0), (1, 3)))
+    room.file("gap.yaml", f"schedule:\n  agent0:\n{items}".encode())
+    room.file("gap.csv", csv_of([("lane.map", "", "gap.yaml", "1")]))
+    for words, due in (([], ("unreadable", "", "")), (["--fill-waits"], ("accepted", "3", "3"))):
+        room.judge("gap.csv", "-o", "gap.out.csv", *words)
+        found = [(row["verdict"], row["cost"], row["makespan"]) for row in room.rows("gap.out.csv")]
+        yield compared(f"a gap, with {words}", f"judge.py gap.csv {words}", found, [due])
+
+
 def of_summaries(room: Room) -> Iterator[Outcome]:
     """What the results come to over all, by map and by planner, in lines and as a page; and what a list doesn't say."""
     lines = ["planner,map,scenario,plan,agents", "PIBT,lane.map,lane.scen,behind.plan,2", "<b>,lane.map,,swap.plan,", "PIBT,square.map,,turn.plan,4"]
@@ -472,6 +512,7 @@ def outcomes(harness: Harness) -> Iterator[Outcome]:
     room = Room(harness)
     yield from of_each_verdict(room)
     yield from of_names(room)
+    yield from of_uploads(room)
     yield from of_bad_lists(room)
     yield from of_processes(room)
     yield from of_stops(room)
@@ -479,6 +520,7 @@ def outcomes(harness: Harness) -> Iterator[Outcome]:
     yield from of_sums(room)
     yield from of_columns(room)
     yield from of_summaries(room)
+    yield from of_gaps(room)
     yield from of_stops_anew(room)
     if harness.is_long:
         yield from of_a_cluster(room)

@@ -1,7 +1,7 @@
 #!/usr/bin/env python3
 """Converts what planners write to a plan, `mapf-plan 1`, and back. docs/CONVERTING.md has the formats.
 
-Usage: convert.py FILE [-o PLAN] [--from FORMAT] [--map MAP] [--scen SCEN] [--number N]
+Usage: convert.py FILE [-o PLAN] [--from FORMAT] [--map MAP] [--scen SCEN] [--number N] [--fill-waits]
        convert.py PLAN --to FORMAT [-o FILE] [--map MAP] [--scen SCEN]
 
 Each conversion is held against what was read: `mapf path` says where each agent of the plan stands at each time, and that has to be each cell

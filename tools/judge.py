@@ -4,8 +4,9 @@
 Usage: judge.py JOBS -o RESULTS [OPTIONS]
        judge.py --maps FOLDER [--scens FOLDER] PLANS.. -o RESULTS [OPTIONS]
 
-JOBS is a list with the columns map, plan, and perhaps scenario and agents: CSV with a heading, or JSON lines. Else each plan is a job, by its name:
-`random-32-32-20-even-3-50.txt` is for 50 agents of random-32-32-20-even-3.scen on random-32-32-20.map.
+JOBS is a list with the columns map, plan, and perhaps scenario and agents: CSV with a heading, or JSON lines. Other columns go through. It may be a table
+of the MAPF tracker, with a plan in each row. Else each plan is a job, by its name: `random-32-32-20-even-3-50.txt` is for 50 agents of
+random-32-32-20-even-3.scen on random-32-32-20.map.
 
 RESULTS, CSV or JSON lines by its name, has a line a job, in the order in which they are judged. The verdict is `accepted`, `rejected`, `unreadable`
 (a text has a fault) or `failed` (a file, a process or a tool failed, or the time was over). A judge that was stopped goes on behind what stands. A
@@ -29,6 +30,7 @@ from judging.page import page  # noqa: E402
 from judging.results import BadResults, Results  # noqa: E402
 from judging.summary import summary  # noqa: E402
 from judging.workers import Work  # noqa: E402
+from judging.uploads import is_upload, read_upload  # noqa: E402
 from leaving import heed_signals  # noqa: E402
 from path_check import Program  # noqa: E402
 from plan_formats import formats  # noqa: E402
@@ -76,6 +78,7 @@ def read_words(words: Sequence[str]) -> argparse.Namespace:
     parser.add_argument("--pattern", default=PATTERN, metavar="PATTERN", help=f"how the plans are named (%(default)s)")
     parser.add_argument("--scen-pattern", default=SCEN_PATTERN, metavar="PATTERN", help="how their scenarios are (%(default)s)")
     parser.add_argument("--from", dest="source", choices=list(formats()), metavar="FORMAT", help="what the plans are (told by their beginnings)")
+    parser.add_argument("--fill-waits", action="store_true", help="an agent waits at times that a schedule leaves out")
     parser.add_argument("--seconds", type=positive, default=SECONDS, metavar="S", help="the time of one job (%(default)g)")
     parser.add_argument("--processes", type=int, default=len(os.sched_getaffinity(0)), metavar="N", help="how many jobs at once (%(default)s)")
     parser.add_argument("--shard", type=shard, default=(1, 1), metavar="K/N", help="takes every N-th job from the K-th on")
@@ -98,8 +101,12 @@ def read_words(words: Sequence[str]) -> argparse.Namespace:
 
 
 def jobs_of(given: argparse.Namespace) -> list[Job]:
+    if given.maps is None or len(given.files) == 1:
+        jobs = pathlib.Path(given.files[0])
+        if is_upload(jobs):
+            return list(read_upload(jobs, given.maps, given.scens))
     if given.maps is None:
-        return read_jobs(pathlib.Path(given.files[0]))
+        return read_jobs(jobs)
     return by_names(given.files, given.maps, given.scens, given.pattern, given.scen_pattern)
 
 
@@ -118,7 +125,7 @@ def program_of(named: Optional[pathlib.Path]) -> Program:
 
 def work_of(given: argparse.Namespace) -> Work:
     program = program_of(given.program)
-    return Work(program.path, given.source, given.seconds, judge_of(program, given.source))
+    return Work(program.path, given.source, given.fill_waits, given.seconds, judge_of(program, given.source, given.fill_waits))
 
 
 def warn_of_counts(jobs: Sequence[Job]) -> None:

@@ -15,6 +15,8 @@ FOUND = (
 )
 # The most agents that a plan has; no number of a job needs more digits.
 MOST_AGENTS = 10_000
+# A table may have whole plans in its fields.
+MOST_IN_A_FIELD = 1 << 30
 # What a field of a name may be.
 FIELDS = {"map": r"(?P<map>.+)", "scen": r"(?P<scen>[A-Za-z]+)", "number": r"(?P<number>[0-9]+)", "agents": r"(?P<agents>[0-9]+)"}
 
@@ -35,6 +37,9 @@ class Job:
     more: tuple[tuple[str, str], ...] = ()
     # Where the names of the files begin.
     folder: pathlib.Path = dataclasses.field(compare=False, default=pathlib.Path())
+    # The plan itself, where a table has it and not a file, and the cost that the table claims for it.
+    text: Optional[str] = None
+    claim: str = ""
 
     @property
     def columns(self) -> dict[str, str]:
@@ -45,7 +50,7 @@ class Job:
         return str(self.folder / name)
 
 
-def job_of(fields: dict[str, Any], folder: pathlib.Path, where: str) -> Job:
+def job_of(fields: dict[str, Any], folder: pathlib.Path, where: str, text: Optional[str] = None, claim: str = "") -> Job:
     """The job with these fields."""
     for name in fields:
         if name in FOUND or not name.strip():
@@ -61,26 +66,42 @@ def job_of(fields: dict[str, Any], folder: pathlib.Path, where: str) -> Job:
     if agents and not (agents.isascii() and agents.isdigit() and len(agents) < 6 and int(agents) <= MOST_AGENTS):
         raise BadJobs(f"{where}: '{agents[:40]}' agents, a number from 0 to {MOST_AGENTS} was due")
     more = tuple((name, word) for name, word in words.items() if name not in COLUMNS)
-    return Job(words["map"], words["scenario"], words["plan"], str(int(agents)) if agents else "", more, folder)
+    return Job(words["map"], words["scenario"], words["plan"], str(int(agents)) if agents else "", more, folder, text, claim)
 
 
-def from_csv(text: str, path: pathlib.Path) -> Iterator[Job]:
-    rows = csv.DictReader(text.splitlines(keepends=True), strict=True)
+def text_in(path: pathlib.Path) -> str:
+    try:
+        return path.read_bytes().decode("utf-8-sig")
+    except UnicodeDecodeError:
+        raise BadJobs(f"{path}:1: the list is no text, UTF-8 was due") from None
+
+
+def rows_of(path: pathlib.Path, required: Sequence[str]) -> Iterator[tuple[str, dict[str, str]]]:
+    """The rows of a table, each with where it begins."""
+    csv.field_size_limit(MOST_IN_A_FIELD)
+    rows = csv.DictReader(text_in(path).splitlines(keepends=True), strict=True)
     try:
         heading = rows.fieldnames or []
-        if not set(REQUIRED) <= set(heading) or len(set(heading)) < len(heading):
-            raise BadJobs(f"{path}:1: the heading names no map or no plan, or one column twice; {','.join(COLUMNS)} was due")
+        if not set(required) <= set(heading) or len(set(heading)) < len(heading):
+            missing = next((name for name in required if name not in heading), None)
+            fault = f"has no {missing}" if missing else "has one column twice"
+            raise BadJobs(f"{path}:1: the heading {fault}; {','.join(required)} was due")
+        line = rows.line_num + 1
         for row in rows:
-            where = f"{path}:{rows.line_num}"
             if None in row or None in row.values():
-                raise BadJobs(f"{where}: the row has not one field a column, {len(heading)} were due")
-            yield job_of(row, path.parent, where)
+                raise BadJobs(f"{path}:{line}: the row has not one field a column, {len(heading)} were due")
+            yield f"{path}:{line}", row
+            line = rows.line_num + 1
     except csv.Error as fault:
         raise BadJobs(f"{path}:{rows.line_num}: {fault}, a row of CSV was due") from None
 
 
-def from_json_lines(text: str, path: pathlib.Path) -> Iterator[Job]:
-    for number, line in enumerate(text.splitlines(), 1):
+def from_csv(path: pathlib.Path) -> Iterator[Job]:
+    return (job_of(row, path.parent, where) for where, row in rows_of(path, REQUIRED))
+
+
+def from_json_lines(path: pathlib.Path) -> Iterator[Job]:
+    for number, line in enumerate(text_in(path).splitlines(), 1):
         if not line.strip():
             continue
         try:
@@ -94,11 +115,7 @@ def from_json_lines(text: str, path: pathlib.Path) -> Iterator[Job]:
 
 def read_jobs(path: pathlib.Path) -> list[Job]:
     """The jobs of a list, CSV or JSON lines by its name. Files are named from the list's folder on."""
-    try:
-        text = path.read_bytes().decode("utf-8-sig")
-    except UnicodeDecodeError:
-        raise BadJobs(f"{path}:1: the list is no text, UTF-8 was due") from None
-    return list((from_json_lines if path.suffix in (".json", ".jsonl", ".ndjson") else from_csv)(text, path))
+    return list((from_json_lines if path.suffix in (".json", ".jsonl", ".ndjson") else from_csv)(path))
 
 
 def pattern_of(template: str) -> re.Pattern[str]:

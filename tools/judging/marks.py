@@ -71,10 +71,10 @@ def sum_of_the_readers() -> str:
     return total.hexdigest()
 
 
-def judge_of(program: Program, source: Optional[str]) -> str:
-    """Who judges: the program, the readers, and which of them was asked for."""
+def judge_of(program: Program, source: Optional[str], fills_waits: bool) -> str:
+    """Who judges: the program, the readers, and what was asked of them."""
     name = f"{version_of(program)} {sha256_of(str(program.path))[:SHORT]} readers {sum_of_the_readers()[:SHORT]}"
-    return f"{name} --from {source}" if source else name
+    return f"{name}{f' --from {source}' if source else ''}{' --fill-waits' if fills_waits else ''}"
 
 
 class Marker:
@@ -87,6 +87,8 @@ class Marker:
     def of(self, job: Job) -> dict[str, str]:
         names = (job.map, job.scenario, job.plan)
         sums = [self.sum_of(job.file(name)) if name else "" for name in names]
+        if job.text is not None:
+            sums[-1] = hashlib.sha256(job.text.encode()).hexdigest()
         return dict(zip(MARKS, (*sums, self.judge)))
 
 

@@ -18,6 +18,8 @@ VERDICTS = ("accepted", "CostDiffers", "rejected", "unsolved", "unreadable", "fa
 ACCEPTED, COST_DIFFERS, REJECTED, UNSOLVED, UNREADABLE, FAILED = VERDICTS
 # The columns of a result, before those that its job has beside.
 COLUMNS = ("map", "scenario", "plan", "agents", *FOUND)
+# The format of the plans that stand in a table.
+TRACKER = "tracker"
 COUNTS = re.compile(r"accepted agents ([0-9]+) cost ([0-9]+) makespan ([0-9]+)\n")
 REJECTION = re.compile(r"rejected ([^\n]+)\n")
 
@@ -51,14 +53,14 @@ def result_of(job: Job, verdict: Verdict, seconds: float, marks: dict[str, str])
     return {name: columns[name] for name in (*COLUMNS, *(name for name, _ in job.more))}
 
 
-def given_of(job: Job, program: Program, chosen: Format) -> Given:
+def given_of(job: Job, program: Program, chosen: Format, fills_waits: bool) -> Given:
     """What the format needs beside the text. What starts and steps are worth on their map, the checker says."""
     if chosen.needs_tasks and not job.scenario:
         raise Fault(1, f"the format {chosen.name} leaves out where agents start, a job with a scenario was due")
     has_map = chosen.needs_map or chosen.needs_tasks
     size = program.map_size(job.file(job.map)) if has_map else ()
     tasks = program.tasks(job.file(job.scenario)) if chosen.needs_tasks else None
-    return Given(*size, has_map=has_map, tasks=tasks)
+    return Given(*size, has_map=has_map, tasks=tasks, agents=int(job.agents) if job.agents else None, fills_waits=fills_waits)
 
 
 def checked_walks(job: Job, program: Program, walks: Sequence[Walk]) -> Verdict:
@@ -68,11 +70,11 @@ def checked_walks(job: Job, program: Program, walks: Sequence[Walk]) -> Verdict:
         return checked(job, program, str(plan.path))
 
 
-def converted(job: Job, program: Program, name: str, data: bytes) -> Verdict:
+def converted(job: Job, program: Program, name: str, data: bytes, fills_waits: bool) -> Verdict:
     """The verdict on a text of another format."""
     text = text_of(data)
     chosen = formats()[name] if name else guess(text, f"a plan or one of {', '.join(formats())}")
-    given = given_of(job, program, chosen)
+    given = given_of(job, program, chosen, fills_waits)
     try:
         walks = chosen.read(text, given)
     except StartOffMaps as fault:
@@ -115,13 +117,25 @@ def checked(job: Job, program: Program, plan: str) -> Verdict:
     return Verdict(FAILED, f"`mapf check` ended by signal {-status}" if status < 0 else told or f"`mapf check` ended with status {status}")
 
 
-def verdict_on(job: Job, program: Program, name: str) -> Verdict:
+def of_a_row(job: Job, program: Program) -> Verdict:
+    """The verdict on the plan in a row of the tracker's table, whose cost the row claims."""
+    if not job.text.strip():
+        return Verdict(UNSOLVED, f"{job.plan}: the row has no plan: the planner found none, one was due", claimed=job.claim)
+    # The lines of a cell have line ends between them, and perhaps behind the last: how many agents are due settles it.
+    verdict = converted(job, program, TRACKER, f"{job.text}\n".encode(), False)
+    counted = int(verdict.cost) if verdict.verdict == ACCEPTED else 0
+    return claimed(verdict, [Claim(1, "solution_cost", job.claim, counted, is_cost=True)] if job.claim else [])
+
+
+def verdict_on(job: Job, program: Program, name: str, fills_waits: bool) -> Verdict:
     """Converts the plan where that is needed, and asks the checker."""
     try:
+        if job.text is not None:
+            return of_a_row(job, program)
         data = pathlib.Path(job.file(job.plan)).read_bytes()
         if not name and mapf_plan.begins(data[:HEAD]):
             return checked(job, program, job.file(job.plan))
-        return converted(job, program, name, data)
+        return converted(job, program, name, data, fills_waits)
     except Unsolved as fault:
         return Verdict(UNSOLVED, f"{job.plan}:{fault.line}: {fault.what}")
     except Fault as fault:
@@ -136,9 +150,9 @@ def verdict_on(job: Job, program: Program, name: str) -> Verdict:
         return Verdict(FAILED, f"{job.plan}: there is no memory for it")
 
 
-def judged(job: Job, program: Program, name: Optional[str], judge: str) -> dict[str, str]:
+def judged(job: Job, program: Program, name: Optional[str], fills_waits: bool, judge: str) -> dict[str, str]:
     """The result of a job, with how long it took. The sums of its files are made before they are judged: whatever changes later is seen."""
     begun = time.monotonic()
     marks = Marker(judge).of(job)
-    verdict = verdict_on(job, program, name or "")
+    verdict = verdict_on(job, program, name or "", fills_waits)
     return result_of(job, verdict, time.monotonic() - begun, marks)

@@ -32,6 +32,8 @@ class Work:
     program: pathlib.Path
     # The format of all plans, or none where each is told by its beginning.
     source: Optional[str]
+    # Whether agents wait at times that a schedule leaves out.
+    fills_waits: bool
     seconds: float
     # Who judges, as results say it.
     judge: str
@@ -57,7 +59,7 @@ def work_in_child(job: Job, work: Work, end: connection.Connection) -> None:
         os.closerange(end.fileno() + 1, MOST_FILES)
         for number in SIGNALS:
             signal.signal(number, signal.SIG_DFL)
-        end.send(judged(job, Program(work.program), work.source, work.judge))
+        end.send(judged(job, Program(work.program), work.source, work.fills_waits, work.judge))
         status = 0
     finally:
         os._exit(status)
@@ -130,6 +132,7 @@ def on_a_cluster(jobs: Sequence[Job], work: Work, address: str) -> Iterator[dict
 
     words = [sys.executable, str(TOOL), "--one", "--program", str(work.program.resolve()), "--seconds", str(work.seconds)]
     words += ["--from", work.source] if work.source else []
+    words += ["--fill-waits"] if work.fills_waits else []
     with Client(address) as client:
         ahead = AHEAD * max(1, sum(client.nthreads().values()))
         waiting = iter(jobs)

@@ -7,6 +7,8 @@ from plan_formats.texts import line_at, lines_of, pairs, trimmed
 from plan_formats.walks import Fault, Gathering, Given, Unsolved, Walk, read_number, shown
 
 AGENT = re.compile(rb"Agent (\d+):")
+# Behind the number, printed paths of cell numbers say how long they are.
+PRINTED = re.compile(rb"Agent \d+ \(")
 ARROW = b"->"
 
 
@@ -45,4 +47,8 @@ def write(walks: Sequence[Walk]) -> Iterator[str]:
         yield f"Agent {agent}: {''.join(f'({y},{x})->' for x, y in zip(walk.xs, walk.ys))}\n"
 
 
-FORMAT = Format("paths", lambda head: head.startswith(b"Agent "), read, write)
+def begins(head: bytes) -> bool:
+    return head.startswith(b"Agent ") and not PRINTED.match(head)
+
+
+FORMAT = Format("paths", begins, read, write)

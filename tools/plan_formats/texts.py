@@ -75,8 +75,17 @@ def numbers_of(digits: list[bytes]) -> Numbers:
         return narrowest(map(int, digits))
 
 
+def cells_of_numbers(numbers: list[bytes], width: int, line: int) -> tuple[Numbers, Numbers]:
+    """The columns and the rows of cells that are numbered row by row of a map of this width."""
+    places = [read_number(digits) for digits in numbers]
+    if max(places) >= width * MOST_SIDE:
+        raise Fault(line, f"the cell {max(places)} lies behind the greatest map, a number below {width * MOST_SIDE} was due")
+    return array(NARROW, (place % width for place in places)), array(NARROW, (place // width for place in places))
+
+
 def pairs(text: bytes, between: bytes, line: int, most: int = MOST_ACTS + 1) -> tuple[Numbers, Numbers]:
     """The numbers of a text `(a,b)` or of more of them, divided by what stands between them: the first of each, and the second."""
+    text = text.replace(b", ", b",")
     joined = text[1:-1].replace(b")" + between + b"(", b";")
     signs = joined.translate(None, SIGNED)
     count = len(signs) // 2 + 1

@@ -16,27 +16,31 @@ WAYS = ((UP_IS_NORTH, -1, "above"), (UP_IS_SOUTH, 1, "below"))
 BACK = str.maketrans(UP_IS_NORTH.decode(), LETTERS.decode())
 
 
-def refuse_a_blank_end(lines: Sequence[bytes], tasks: Sequence[Task]) -> None:
-    """An empty line is an agent without acts. At the end it may be no line at all, where the scenario has rows for more agents."""
-    if len(lines) > 1 and not lines[-1] and len(lines) < len(tasks):
+def settle_blank_end(lines: list[bytes], given: Given) -> None:
+    """An empty line is an agent without acts. At the end it may be no line at all, where there are rows for more agents and nobody says
+    how many are due."""
+    due = given.agents
+    if due is not None and not b"".join(lines[due:]):
+        del lines[due:]
+    if len(lines) > 1 and not lines[-1] and len(lines) < len(given.tasks or ()) and due != len(lines):
         count = len(b"\n".join(lines).rstrip(b"\n").split(b"\n"))
         both = f"the text may have {count} agents and a blank end, or {len(lines)} agents, the last without acts"
         raise Fault(len(lines), f"{both}; no empty line at the end was due, or a scenario of as many rows as there are agents")
 
 
-def read_lines(data: bytes, tasks: Sequence[Task]) -> list[bytes]:
+def read_lines(data: bytes, given: Given) -> list[bytes]:
     """The letters of each agent. Empty lines behind those of all rows are a blank end."""
-    lines = []
+    lines, most = [], len(given.tasks or ())
     for number, line in lines_of(data):
         other = line.translate(None, LETTERS)
         if other:
             raise Fault(number, f"{shown(other[:1])} stands in the acts of agent {number - 1}, u, d, l, r or w was due")
-        if number > len(tasks) and not data[sum(map(len, lines)) + len(lines) :].strip():
-            break
-        if number > len(tasks):
-            raise Fault(number, f"agent {number - 1} has no row in the scenario, at most {len(tasks)} agents were due")
         lines.append(line)
-    refuse_a_blank_end(lines, tasks)
+    while len(lines) > most and not lines[-1]:
+        lines.pop()
+    if len(lines) > most:
+        raise Fault(most + 1, f"agent {most} has no row in the scenario, at most {most} agents were due")
+    settle_blank_end(lines, given)
     return lines
 
 
@@ -82,13 +86,13 @@ def read_acts(lines: Sequence[bytes], tasks: Sequence[Task], letters: bytes, giv
 
 def read(data: bytes, given: Given) -> list[Walk]:
     tasks = given.tasks or ()
-    lines = read_lines(data, tasks)
+    lines = read_lines(data, given)
     return read_acts(lines, tasks, settled(lines, tasks, given), given)
 
 
 def read_back(data: bytes, given: Given) -> list[Walk]:
     tasks = given.tasks or ()
-    return read_acts(read_lines(data, tasks), tasks, UP_IS_NORTH, given)
+    return read_acts(read_lines(data, given), tasks, UP_IS_NORTH, given)
 
 
 def write(walks: Sequence[Walk]) -> Iterator[str]:

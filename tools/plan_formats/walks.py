@@ -97,6 +97,8 @@ class Given:
     height: int = MOST_SIDE
     has_map: bool = False
     tasks: Optional[Sequence[Task]] = None
+    # How many agents are due, where that is known.
+    agents: Optional[int] = None
     # Whether an agent waits at times that a text leaves out.
     fills_waits: bool = False
     found: Found = dataclasses.field(default_factory=Found)
