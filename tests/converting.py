@@ -493,6 +493,36 @@ def has_yaml() -> bool:
     return importlib.util.find_spec("yaml") is not None
 
 
+# Maps, with what they become or a piece of what is told of them.
+LEAGUE_MAPS = [
+    (b"type octile\nheight 2\nwidth 4\nmap\n.ES@\nSTO.\n", b"type octile\nheight 2\nwidth 4\nmap\n...@\n.TO.\n", "1 E and 2 S are free cells now"),
+    (b"type octile\r\nheight 1\r\nwidth 2\r\nmap\r\n.@\r\n\r\n", b"type octile\nheight 1\nwidth 2\nmap\n.@\n", "0 E and 0 S are free cells now"),
+    (b"type octile\nheight 1\nwidth 2\nmap\n.E", b"type octile\nheight 1\nwidth 2\nmap\n..\n", "1 E and 0 S"),
+    (b"type octile\nheight 1\nwidth 2\nmap\n.G\n", None, ":5: 'G' in column 1 is no wall in maps of MovingAI, and a wall in those of the League"),
+    (b"type octile\nheight 1\nwidth 2\nmap\n.#\n", None, ":5: '#' in column 1 is no terrain"),
+    (b"type octile\nheight 2\nwidth 2\nmap\n..\n.\n", None, ":6: the row has 1 cells, 2 were due"),
+    (b"type octile\nheight 2\nwidth 2\nmap\n..\n", None, ":5: the map has 1 rows, 2 were due"),
+    (b"type octile\nheight 1\nwidth 2\nmap\n..\n..\n", None, ":5: the map has 2 rows, 1 were due"),
+    (b"type octile\nheight 0\nwidth 2\nmap\n", None, ":3: 0 rows of 2 cells were stated"),
+    (b"type octile\nwidth 2\nheight 1\nmap\n..\n", None, ":2: 'width 2' stands where 'height 8' was due"),
+]
+
+
+def of_league_maps(harness: Harness) -> list[Outcome]:
+    """Maps of the League of Robot Runners become maps of MovingAI, or are refused."""
+    room, outcomes = Room(harness), []
+    for number, (text, _, _) in enumerate(LEAGUE_MAPS):
+        room.convert([room.file(f"{number}.map", text)])
+    room.convert([str(room.folder / "0.map"), "--from", "csv"])
+    *done, alone = room.done()
+    for (text, due, told), it in zip(LEAGUE_MAPS, done):
+        wrote = (it.status, it.written, told in it.told)
+        outcomes.append(compared(f"the map {text!r}", f"{it.shown}, which told {it.told!r}", wrote, (0 if due else 1, due, True)))
+    outcomes.append(compared("a map read as a plan", alone.shown, (alone.status, alone.written), (2, None)))
+    room.gone()
+    return outcomes
+
+
 def of_no_yaml(harness: Harness) -> list[Outcome]:
     """Where the package yaml isn't installed, that is said."""
     folder = harness.folder({"Y": YAML, "yaml.py": b"raise ImportError\n"})
@@ -634,6 +664,7 @@ def outcomes(harness: Harness) -> Iterator[Outcome]:
             functools.partial(of_examples, harness),
             functools.partial(of_peoples_texts, harness),
             functools.partial(of_no_yaml, harness),
+            functools.partial(of_league_maps, harness),
             functools.partial(of_vectors, harness),
             functools.partial(of_liars, harness),
             functools.partial(of_refusals, harness),

@@ -3,11 +3,14 @@
 
 Usage: convert.py FILE [-o PLAN] [--from FORMAT] [--map MAP] [--scen SCEN] [--number N] [--fill-waits]
        convert.py PLAN --to FORMAT [-o FILE] [--map MAP] [--scen SCEN]
+       convert.py MAP [-o MAP]
 
 Each conversion is held against what was read: `mapf path` says where each agent of the plan stands at each time, and that has to be each cell
 that the text has. So a mistake of this tool refuses a plan, and never passes off another one. With --scen, starts have to be those of the
 scenario's rows: row k is of agent k. What a planner did wrong, as a goal that is missed or a cell off the map, is converted and said:
 `mapf check` rejects it.
+
+A map of the League of Robot Runners becomes one of MovingAI: its emitters and stations (E, S) are free cells.
 
 Status 0: done. 1: a text has a fault, told in one line as `FILE:LINE: what is wrong, what was due`. 2: a bad command line. 3: a file or a tool
 failed. Unless it is 0, nothing is written.
@@ -23,7 +26,7 @@ sys.dont_write_bytecode = True
 import path_check  # noqa: E402
 from leaving import heed_signals  # noqa: E402
 from path_check import Failed, Program, Refused  # noqa: E402
-from plan_formats import HEAD, Format, formats, guess, mapf_plan  # noqa: E402
+from plan_formats import HEAD, Format, formats, guess, league_map, mapf_plan  # noqa: E402
 from plan_formats.texts import text_of  # noqa: E402
 from plan_formats.walks import MOST_NUMBER, Fault, Found, Given, Task, Walk, difference, moved, padded  # noqa: E402
 from whole_file import Draft, draft  # noqa: E402
@@ -176,12 +179,28 @@ def from_plan(given: argparse.Namespace, data: bytes, context: Given) -> None:
         say(chosen.word_on_writing)
 
 
+def to_map(given: argparse.Namespace, data: bytes) -> None:
+    """Writes the canonical map of a map of the League, which the program has to read as it is written."""
+    if any((given.source, given.to, given.map, given.scen, given.number is not None, given.fill_waits)):
+        raise BadLine(f"{given.file} is a map, and no plan: only -o and --program go with it")
+    rows, counts = league_map.read(text_of(data))
+    with draft(league_map.write(rows), given.output) as made:
+        if Program(given.program).text("map", str(made.path)) != made.path.read_bytes():
+            raise Failed("the map that was written is read as another one; this is a fault of the converter")
+        give(made, given.output)
+    what = " and ".join(f"{count} {sign}" for sign, count in counts.items())
+    say(f"{given.file} is read as a map of the League of Robot Runners: {what} are free cells now")
+
+
 def convert(given: argparse.Namespace) -> None:
     program = Program(given.program)
+    data = pathlib.Path(given.file).read_bytes()
+    if league_map.begins(data[:HEAD]):
+        to_map(given, data)
+        return
     size = program.map_size(given.map) if given.map is not None else ()
     tasks = program.tasks(given.scen) if given.scen is not None else None
     context = Given(*size, has_map=bool(size), tasks=tasks, fills_waits=given.fill_waits)
-    data = pathlib.Path(given.file).read_bytes()
     (from_plan if given.to else to_plan)(given, data, context)
 
 
