@@ -20,7 +20,7 @@ import plain_formats
 import planner
 import refused_texts
 from harness import ROOT, Ended, Harness, Outcome, compared, shown, side_by_side
-from plain_formats import WRITERS, Paths, plan_text, reading, scen_text
+from plain_formats import SHAPES, WIDTH, WRITERS, Paths, padded, plan_text, reading, scen_text
 
 TOOL = ROOT / "tools" / "convert.py"
 MANY = ROOT / "tests" / "many_conversions.py"
@@ -256,6 +256,27 @@ def of_spoiled(harness: Harness, name: str, places: int) -> list[Outcome]:
     return outcomes
 
 
+def of_shape(harness: Harness, name: str, places: int) -> list[Outcome]:
+    """A plan in another shape, whole, cut and with bytes changed. What another YAML says is no question here: it is only cut."""
+    rng = random.Random(f"shape {name}")
+    paths = [path[:12] for path in sampled((ROOT / "examples" / SAMPLES[0][0]).read_text(), *SAMPLES[0][1:])[:3]]
+    source, needs_map, write, _ = SHAPES[name]
+    room = Room(harness)
+    more = ["--map", room.file("map", f"type octile\nheight 64\nwidth {WIDTH}\nmap\n".encode() + (b"." * WIDTH + b"\n") * 64)] if needs_map else []
+    whole = write(paths).encode()
+    spoiled = [it for it in spoiled_texts(whole, rng, places) if name != "yaml" or it[0].startswith("cut")]
+    texts = [("as it was written", whole), *spoiled] if name != "yaml" or has_yaml() else []
+    for number, (_, text) in enumerate(texts):
+        room.convert([room.file(f"{number}.text", text), "--from", source, *more])
+    done = room.done()
+    outcomes = [judged(name, what, text, paths, it) for (what, text), it in zip(texts, done)]
+    if texts:
+        due = padded(paths) if name == "times" else paths
+        outcomes.append(compared(f"{name}, as it was written", done[0].shown, done[0].written and paths_of(done[0].written), due))
+    room.gone()
+    return outcomes
+
+
 # Texts and command lines that are refused, and line ends that texts may have
 
 
@@ -447,6 +468,7 @@ PEOPLES = [
     ("YAML of Python", YAML, "", FOUND),
     ("YAML of Python without a line end", YAML[:-1], "", FOUND),
     ("a schedule without a line end", GAP[:-1], "--fill-waits", FOUND),
+    ("YAML whose last cell may be cut", YAML[: YAML.rindex(b"  - t: 1") - 1], "", b"without a line end in the one cell of agent 1"),
     ("a schedule with a gap", GAP, "", b"agent 0 has time 2 behind time 0, time 1 was due, or --fill-waits"),
     ("YAML with a gap", YAML.replace(b"  - t: 1\n    x: 1\n    y: 0\n", b""), "--fill-waits", FOUND),
     ("waits in a table", CSV_FOUND, "--fill-waits", b"--fill-waits goes with a schedule"),
@@ -673,5 +695,6 @@ def outcomes(harness: Harness) -> Iterator[Outcome]:
             *of_samples(harness),
             *(functools.partial(of_rounds, harness, name, first, ROUND) for first in range(0, rounds, ROUND) for name in WRITERS),
             *(functools.partial(of_spoiled, harness, name, places) for name in WRITERS),
+            *(functools.partial(of_shape, harness, name, places // 5) for name in SHAPES),
         ]
     )

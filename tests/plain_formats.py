@@ -281,9 +281,10 @@ READERS: dict[str, Callable[[str, Paths], Paths]] = {
 
 
 def reading(name: str, text: bytes, solved: Paths) -> Optional[Paths]:
-    """What a text says, by the plain reader of its format, or nothing where it is none or no plan says it."""
+    """What a text says, by the plain reader of its format or shape, or nothing where it is none or no plan says it."""
+    reader = SHAPES[name][3] if name in SHAPES else READERS[name]
     try:
-        paths = READERS[name](text.decode(), solved)
+        paths = reader(text.decode(), solved)
     except (NoReading, UnicodeDecodeError, ValueError, TypeError):
         return None
     cells = [cell for path in paths for cell in path]
@@ -291,3 +292,83 @@ def reading(name: str, text: bytes, solved: Paths) -> Optional[Paths]:
     is_plan = all(-MOST_SIDE <= number < MOST_SIDE for cell in cells for number in cell) and all(step in ACTS for step in steps)
     is_plan = is_plan and all(number >= 0 for path in paths for number in path[0])
     return paths if is_plan else None
+
+
+# Other shapes of these formats, and formats whose cells are numbers on a map of this width.
+WIDTH = 64
+
+
+def times_text(paths: Paths) -> str:
+    return lacam_text(paths).partition("solution=\n")[2]
+
+
+def yaml_text(paths: Paths) -> str:
+    lines = [f"cost: {sum(map(len, paths))}", "schedule:"]
+    for number, path in sorted(enumerate(paths), key=lambda pair: f"agent{pair[0]}"):
+        lines.append(f"  agent{number}:")
+        for time, (x, y) in enumerate(path):
+            lines += [f"  - t: {time}", f"    x: {x}", f"    y: {y}"]
+    return "".join(f"{line}\n" for line in lines)
+
+
+def printed_text(paths: Paths) -> str:
+    lines = (f"Agent {number} ({len(path) - 1} -->{len(path) - 1}): " for number, path in enumerate(paths))
+    return "".join(f"{line}{''.join(f'{y * WIDTH + x}->' for x, y in path)}\n" for line, path in zip(lines, paths))
+
+
+def rhcr_text(paths: Paths) -> str:
+    lines = ("".join(f"{y * WIDTH + x},{time % 4},{time};" for time, (x, y) in enumerate(path)) for path in paths)
+    return f"{len(paths)}\n" + "".join(f"{line}\n" for line in lines)
+
+
+def read_yaml(text: str, _: Paths) -> Paths:
+    lines, paths = without_blank_end(lines_in(text)), {}
+    matched(r"cost: \d+", lines.pop(0))
+    due(lines.pop(0) == "schedule:")
+    last = 0
+    while lines:
+        last = int(matched(r"  agent(\d+):", lines.pop(0))[1])
+        due(last not in paths)
+        paths[last] = []
+        while lines and lines[0].startswith("  - "):
+            due(len(lines) >= 3)
+            time, x, y = (int(matched(f"{head}(-?\\d+)", lines.pop(0))[1]) for head in ("  - t: ", "    x: ", "    y: "))
+            due(time == len(paths[last]))
+            paths[last].append((x, y))
+        due(bool(paths[last]))
+    due(text.endswith("\n") or len(paths[last]) > 1)
+    return in_order(paths)
+
+
+def cells_of_numbers(numbers: Sequence[str]) -> Path:
+    return [(int(number) % WIDTH, int(number) // WIDTH) for number in numbers]
+
+
+def read_printed(text: str, _: Paths) -> Paths:
+    paths: dict[int, Path] = {}
+    for line in without_blank_end(lines_in(text)):
+        if line.startswith("Agent"):
+            found = matched(r"Agent (\d+) \([^()>]*-->\s*(\d+)\): ?((?:\d+->)+)", line)
+            due(int(found[1]) not in paths)
+            paths[int(found[1])] = cells_of_numbers(re.findall(r"\d+", found[3]))
+            due(len(paths[int(found[1])]) == int(found[2]) + 1)
+    return in_order(paths)
+
+
+def read_rhcr(text: str, _: Paths) -> Paths:
+    lines, paths = without_blank_end(lines_in(text)), []
+    due(int(matched(r"\d+", lines.pop(0))[0]) == len(lines) > 0)
+    for line in lines:
+        items = re.findall(r"(\d+),-?\d+,(\d+);", matched(r"(?:\d+,-?\d+,\d+;)+", line)[0])
+        due([int(time) for _, time in items] == list(range(len(items))))
+        paths.append(cells_of_numbers([number for number, _ in items]))
+    return paths
+
+
+# By a name of their own: the format, whether it needs the map, a writer and a reader.
+SHAPES: dict[str, tuple[str, bool, Callable[[Paths], str], Callable[[str, Paths], Paths]]] = {
+    "times": ("lacam", False, times_text, read_lacam),
+    "printed": ("printed", True, printed_text, read_printed),
+    "rhcr": ("rhcr", True, rhcr_text, read_rhcr),
+    "yaml": ("schedule", False, yaml_text, read_yaml),
+}

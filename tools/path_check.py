@@ -141,14 +141,22 @@ def open_map(walks: Sequence[Walk]) -> Iterator[bytes]:
 def hold_on_open_map(program: Program, plan_file: str, walks: Sequence[Walk]) -> None:
     """Compares a plan with the cells that were read, on a map without walls that is as large as it needs. No map has negative cells: where a
     planner's mistake leads there, the cells are compared once they are moved, and the plan with the one of the moved cells."""
-    shifted = moved(walks)
-    with draft(open_map(shifted), None) as wide, draft(mapf_plan.write(shifted, 0), None) as copy:
-        is_moved = corner_of(walks) != (0, 0)
-        fault = said_of_the_path(program, str(wide.path), str(copy.path) if is_moved else plan_file, shifted)
-        if fault:
-            raise Failed(f"the plan differs from what was read: `mapf path` says {fault} on an open map; this is a fault of the converter")
-        if is_moved and agents_of(plan_file, corner_of(walks)) != agents_of(str(copy.path), (0, 0)):
+    corner = corner_of(walks)
+    if corner == (0, 0):
+        hold_where_all_is_open(program, plan_file, walks)
+        return
+    there = moved(walks)
+    with draft(mapf_plan.write(there, 0), None) as copy:
+        hold_where_all_is_open(program, str(copy.path), there)
+        if agents_of(plan_file, corner) != agents_of(str(copy.path), (0, 0)):
             raise Failed("the plan differs from what was read once it is moved; this is a fault of the converter")
+
+
+def hold_where_all_is_open(program: Program, plan_file: str, walks: Sequence[Walk]) -> None:
+    with draft(open_map(walks), None) as wide:
+        fault = said_of_the_path(program, str(wide.path), plan_file, walks)
+    if fault:
+        raise Failed(f"the plan differs from what was read: `mapf path` says {fault} on an open map; this is a fault of the converter")
 
 
 def agents_of(plan_file: str, corner: Cell) -> list[tuple[int, int, str]]:

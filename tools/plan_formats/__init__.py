@@ -5,6 +5,7 @@ nothing of it stands anywhere else. A reader takes the text, and answers the wal
 writer gives the pieces of the text of walks.
 """
 import dataclasses
+import functools
 import importlib
 import pkgutil
 from typing import Callable, Iterator, Optional, Sequence
@@ -43,6 +44,7 @@ class Format:
     may_have_gaps: bool = False
 
 
+@functools.lru_cache(maxsize=None)
 def formats() -> dict[str, Format]:
     """All formats, by name."""
     modules = [importlib.import_module(f"{__name__}.{found.name}") for found in pkgutil.iter_modules(__path__)]

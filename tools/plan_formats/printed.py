@@ -10,7 +10,8 @@ from plan_formats.walks import MOST_ACTS, Fault, Gathering, Given, Walk, read_nu
 
 AGENT = re.compile(rb"Agent (\d+) \([^()>]*-->\s*(\d+)\): ?")
 BEGINNING = re.compile(rb"^Agent \d+ \(", re.MULTILINE)
-PATH = re.compile(rb"\d+(->\d+)*(->)?")
+# Each number has its arrow: a number that was cut may be a number still, and even one beside the last.
+PATH = re.compile(rb"(\d+->)+")
 ARROW = b"->"
 
 
@@ -18,7 +19,7 @@ def read_path(agent: int, text: bytes, acts: int, line: int, gathering: Gatherin
     """Takes the path of an agent, which has to be as long as is stated before it."""
     if not PATH.fullmatch(text):
         raise Fault(line, f"{shown(text)} stands where the path of agent {agent} was due, as '5->6->' of cell numbers")
-    numbers = text[: -len(ARROW)].split(ARROW) if text.endswith(ARROW) else text.split(ARROW)
+    numbers = text.split(ARROW)[:-1]
     if len(numbers) - 1 != acts or acts > MOST_ACTS:
         raise Fault(line, f"the path of agent {agent} has {len(numbers) - 1} acts, {acts} were due as its line says, and at most {MOST_ACTS}")
     gathering.add(agent, *cells_of_numbers(numbers, gathering.given.width, line), line)

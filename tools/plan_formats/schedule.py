@@ -98,8 +98,8 @@ def read_items(block: bytes, agent: int, line: int, gathering: Gathering) -> Non
 
 
 def read(data: bytes, given: Given) -> list[Walk]:
-    data = trimmed(data)
-    return yaml_schedule.read(data, given) if yaml_schedule.begins(data[:HEAD]) else read_plain(data, given)
+    is_ended, data = data.endswith(b"\n"), trimmed(data)
+    return yaml_schedule.read(data, given, is_ended) if yaml_schedule.begins(data[:HEAD]) else read_plain(data, given)
 
 
 def read_plain(data: bytes, given: Given) -> list[Walk]:

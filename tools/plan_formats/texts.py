@@ -7,7 +7,7 @@ from array import array
 from itertools import repeat
 from typing import Callable, Iterator
 
-from plan_formats.walks import MOST_ACTS, MOST_SIDE, NARROW, Fault, Numbers, narrowest, read_number, shown
+from plan_formats.walks import MOST_ACTS, MOST_SIDE, NARROW, Fault, Given, Numbers, narrowest, read_number, shown
 
 DIGITS = b"0123456789"
 # Bytes that stand in no text: all below the space but tabs and line ends, and DEL.
@@ -44,6 +44,12 @@ def refuse_a_cut(data: bytes) -> None:
     if not data.endswith(b"\n"):
         last = data[data.rfind(b"\n") + 1 :]
         raise Fault(line_at(data, len(data)), f"the text ends inside a line, {shown(last[-40:])}, a line end was due")
+
+
+def refuse_a_cut_cell(agent: int, line: int, given: Given) -> None:
+    """A number that was cut is a number still. In a path it is no step any more, but the one cell of an agent may be anywhere."""
+    if given.tasks is None:
+        raise Fault(line, f"the text ends without a line end in the one cell of agent {agent}, a line end or a scenario was due: it may be cut")
 
 
 def line_from(data: bytes, place: int) -> str:

@@ -252,8 +252,9 @@ def jump(agent: int, xs: Numbers, ys: Numbers, line_at: Callable[[int], int]) ->
 
 
 def corner_of(walks: Sequence[Walk]) -> Cell:
-    """The least column and the least row of all cells, or 0 where none is negative."""
-    return min(0, min(min(walk.xs) for walk in walks)), min(0, min(min(walk.ys) for walk in walks))
+    """The least column and the least row of all cells, or 0 where none is negative. Narrow numbers aren't looked at: they can't be."""
+    left, top = (min((min(it) for it in lists if it.typecode == WIDE), default=0) for lists in ([it.xs for it in walks], [it.ys for it in walks]))
+    return min(0, left), min(0, top)
 
 
 def size_of(walks: Sequence[Walk]) -> tuple[int, int]:

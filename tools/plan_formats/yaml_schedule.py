@@ -4,7 +4,7 @@ the Python package yaml, where that is installed.
 import re
 from typing import Any, Sequence
 
-from plan_formats.texts import numbers_of, timed
+from plan_formats.texts import numbers_of, refuse_a_cut_cell, timed
 from plan_formats.walks import MOST_ACTS, Claim, Fault, Gathering, Given, Unsolved, Walk, read_number, shown
 
 AGENT = re.compile(r"agent([0-9]+)")
@@ -32,7 +32,7 @@ def root_of(data: bytes) -> Any:
         return yaml.compose(data, Loader=getattr(yaml, "CSafeLoader", yaml.SafeLoader))
     except yaml.YAMLError as error:
         mark = getattr(error, "problem_mark", None)
-        raise Fault(mark.line + 1 if mark else 1, f"the text is no YAML: {getattr(error, 'problem', None) or 'bad text'}, YAML was due") from None
+        raise Fault(min(mark.line + 1, data.count(b"\n")) if mark else 1, f"the text is no YAML: {getattr(error, 'problem', None) or 'bad text'}, YAML was due") from None
     except RecursionError:
         raise Fault(1, "the text is no YAML: too deep, YAML was due") from None
 
@@ -73,7 +73,8 @@ def read_agent(agent: int, node: Any, gathering: Gathering) -> None:
     gathering.add(agent, cells.xs, cells.ys, line_of(node), cells.line_of)
 
 
-def read(data: bytes, given: Given) -> list[Walk]:
+def read(data: bytes, given: Given, is_ended: bool = True) -> list[Walk]:
+    """The walks. Where the last line isn't ended, its number may be cut."""
     root = root_of(data)
     if root is None:
         raise Fault(1, "the text is empty, a schedule was due")
@@ -91,6 +92,8 @@ def read(data: bytes, given: Given) -> list[Walk]:
         agent = read_number(found[1].encode())
         gathering.expect(agent, line_of(node))
         read_agent(agent, node, gathering)
+        if not is_ended and len(node.value) == 1 and node.end_mark.index >= len(data.rstrip()):
+            refuse_a_cut_cell(agent, line_of(node), given)
     walks = gathering.whole(line_of(schedule))
     put_down_cost(members, walks, given)
     return walks
