@@ -68,14 +68,10 @@ class Room:
 
     def done(self) -> list[Conversion]:
         """Runs the calls that were planned."""
-        lines = "".join(f"{json.dumps(words)}\n" for words, _ in self.calls)
-        ended = self.harness.run([sys.executable, str(MANY)], lines.encode())
-        answers = [json.loads(line) for line in ended.out.splitlines()]
-        if len(answers) != len(self.calls):
-            raise ValueError(f"of {len(self.calls)} conversions {len(answers)} ended: {ended.err[-2000:]!r}")
+        answers = many(self.harness, [{"words": words} for words, _ in self.calls])
         found = [
             Conversion(words, status, told, output.read_bytes() if output.exists() else None)
-            for (words, output), (status, told) in zip(self.calls, answers)
+            for (words, output), (status, told, _) in zip(self.calls, answers)
         ]
         for _, output in self.calls:
             output.unlink(missing_ok=True)
@@ -84,6 +80,15 @@ class Room:
 
     def gone(self) -> None:
         shutil.rmtree(self.folder)
+
+
+def many(harness: Harness, calls: Sequence[dict[str, object]]) -> list[tuple[int, str, str]]:
+    """The answers of calls that one process makes: status, standard error, standard output."""
+    ended = harness.run([sys.executable, str(MANY)], "".join(f"{json.dumps(call)}\n" for call in calls).encode())
+    answers = [json.loads(line) for line in ended.out.splitlines()]
+    if len(answers) != len(calls):
+        raise ValueError(f"of {len(calls)} calls {len(answers)} ended: {ended.err[-2000:]!r}")
+    return answers
 
 
 def tool(harness: Harness, words: Sequence[str], folder: Optional[pathlib.Path] = None) -> Ended:
@@ -136,22 +141,22 @@ def sampled(map_text: str, agents: int, seed: int) -> Paths:
     return planner.plan(free, planner.random_tasks(free, agents, rng), rng)
 
 
-def of_sample(harness: Harness, name: str, map_name: str, paths: Paths, kind: str, verdict: str) -> list[Outcome]:
-    """A text of a planner, with its map and its scenario, in a process of its own."""
-    due = plain_formats.due_paths(name, paths)
-    map_file, text = str(ROOT / "examples" / map_name), plain_formats.WRITERS[name](paths)
-    folder = harness.folder({"text": text.encode(), "scen": scen_text(paths).encode()})
-    words = ["text", "-o", "plan", "--map", map_file, "--scen", "scen", "--number", NUMBER]
-    ended = tool(harness, words, folder)
-    written = (folder / "plan").read_text() if (folder / "plan").exists() else ended.err.decode()
-    ran = f"{shown(['tools/convert.py', *words])}  of {kind} of {map_name} as {name}"
-    outcomes = [compared(f"{kind} of {map_name} as {name}", ran, (ended.status, written), (0, plan_text(due, int(NUMBER))))]
-    said = b"is to say what is wrong with it" in ended.err
-    outcomes.append(compared(f"what is told of {kind} as {name}", ran, said, verdict.startswith("rejected BadMove")))
-    if name != "lorr":
-        judged = harness.mapf(["check", map_file, "plan"], folder=folder).out.decode()
-        outcomes.append(compared(f"the verdict on {kind} as {name}", f"{ran}, and `mapf check`", judged[: len(verdict)], verdict))
-    shutil.rmtree(folder)
+def of_sample(harness: Harness, name: str, map_name: str, kinds: Sequence[tuple[str, Paths, str]]) -> list[Outcome]:
+    """Texts of a planner in a format, with their map and their scenarios."""
+    map_file, room, outcomes = str(ROOT / "examples" / map_name), Room(harness), []
+    for number, (_, paths, _) in enumerate(kinds):
+        text, scen = room.file(f"{number}.text", WRITERS[name](paths).encode()), room.file(f"{number}.scen", scen_text(paths).encode())
+        room.convert([text, "--map", map_file, "--scen", scen, "--number", NUMBER])
+    for (kind, paths, verdict), done in zip(kinds, room.done()):
+        due = plan_text(plain_formats.due_paths(name, paths), int(NUMBER)).encode()
+        ran = f"{done.shown}  of {kind} of {map_name} as {name}"
+        outcomes.append(compared(f"{kind} of {map_name} as {name}", ran, (done.status, done.written), (0, due)))
+        said = "is to say what is wrong with it" in done.told
+        outcomes.append(compared(f"what is told of {kind} as {name}", ran, said, verdict.startswith("rejected BadMove")))
+        if name != "lorr":
+            judged = harness.mapf(["check", map_file, room.file("plan", done.written or b"")]).out.decode()
+            outcomes.append(compared(f"the verdict on {kind} as {name}", f"{ran}, and `mapf check`", judged[: len(verdict)], verdict))
+    room.gone()
     return outcomes
 
 
@@ -159,9 +164,9 @@ def of_samples(harness: Harness) -> Iterator[Callable[[], list[Outcome]]]:
     for map_name, agents, seed in SAMPLES:
         map_text = (ROOT / "examples" / map_name).read_text()
         paths = sampled(map_text, agents, seed)
+        kinds = [(kind, spoil(paths, map_text), verdict) for kind, spoil, verdict in KINDS]
         for name in WRITERS:
-            for kind, spoil, verdict in KINDS:
-                yield functools.partial(of_sample, harness, name, map_name, spoil(paths, map_text), kind, verdict)
+            yield functools.partial(of_sample, harness, name, map_name, kinds)
 
 
 # There and back
@@ -554,11 +559,15 @@ def of_no_yaml(harness: Harness) -> list[Outcome]:
     return [compared("YAML without its package", f"convert.py Y, which told {ended.err!r}", wrote, (1, True, b""))]
 
 
-def of_call(harness: Harness, line: str, status: int, out: bytes, told: str) -> list[Outcome]:
-    folder = harness.folder(FILES)
-    ended = harness.run([sys.executable, str(TOOL), "--program", str(harness.program), *line.split()], folder=folder)
-    wrote = (ended.status, ended.out, told in ended.err.decode(), sorted(path.name for path in folder.iterdir()))
-    return [compared(f"convert.py {line}", f"convert.py {line}, which told {ended.err[-400:]!r}", wrote, (status, out, True, sorted(FILES)))]
+def of_calls(harness: Harness) -> list[Outcome]:
+    """Calls in a folder, each as one would type it. Nothing is left behind."""
+    folder, outcomes = harness.folder(FILES), []
+    calls = [{"words": ["--program", str(harness.program), *line.split()], "folder": str(folder)} for line, _, _, _ in CALLS]
+    for (line, status, out, told), (ended, err, wrote) in zip(CALLS, many(harness, calls)):
+        found = (ended, wrote.encode("latin-1"), told in err)
+        outcomes.append(compared(f"convert.py {line}", f"convert.py {line}, which told {err[-400:]!r}", found, (status, out, True)))
+    files = sorted(path.name for path in folder.iterdir())
+    return [*outcomes, compared("what calls leave behind", "ls", files, sorted(FILES))]
 
 
 # Outputs, programs and converters that fail
@@ -681,7 +690,7 @@ def outcomes(harness: Harness) -> Iterator[Outcome]:
     yield from of_outputs(harness)
     yield from side_by_side(
         [
-            *(functools.partial(of_call, harness, *call) for call in CALLS),
+            functools.partial(of_calls, harness),
             *(functools.partial(of_mistake, harness, *mistake) for mistake in MISTAKES),
             functools.partial(of_examples, harness),
             functools.partial(of_peoples_texts, harness),

@@ -1,5 +1,6 @@
 """tools/judge.py: one result a job with the right verdict, whatever the plans are and whoever is stopped."""
 import csv
+import functools
 import hashlib
 import io
 import json
@@ -15,7 +16,8 @@ import sys
 import time
 from typing import Iterator, Mapping, Optional, Sequence
 
-from harness import ROOT, VERSION, Ended, Harness, Outcome, compared, shown
+import converting
+from harness import ROOT, VERSION, Ended, Harness, Outcome, compared, shown, side_by_side
 from plain_formats import WRITERS, Paths, plan_text, scen_text
 from texts import BEHIND, LANE, SHORT, SQUARE, SWAP, TURN, VERTEX, WALL
 
@@ -119,7 +121,8 @@ BAD_LISTS = {
     "deep.jsonl": b'{"map":{},"plan":"p"}\n',
     "half.jsonl": b'{"map":"lane.map"}\n',
 }
-STOPS = 12
+# How often a judge is stopped, while it has so many jobs.
+STOPS, STOPPED = 8, 24
 # The time that a job has where that is tested: far more than any of them needs.
 SECONDS = 5
 
@@ -145,6 +148,11 @@ class Room:
 
     def words(self, *words: str, program: str = "") -> list[str]:
         return [sys.executable, str(TOOL), "--processes", "2", *words, "--program", program or str(self.harness.program)]
+
+    def many(self, calls: Sequence[Sequence[str]]) -> list[tuple[int, str, str]]:
+        """Calls that end before any job is begun, made by one process."""
+        words = [[*call, "--processes", "2", "--program", str(self.harness.program)] if "--processes" not in call else call for call in calls]
+        return converting.many(self.harness, [{"words": it, "folder": str(self.folder), "tool": "judge"} for it in words])
 
     def judge(self, *words: str, program: str = "") -> Ended:
         return self.harness.run(self.words(*words, program=program), folder=self.folder)
@@ -263,11 +271,13 @@ def of_uploads(room: Room) -> Iterator[Outcome]:
 
 
 def of_bad_lists(room: Room) -> Iterator[Outcome]:
-    for name, content in BAD_LISTS.items():
-        ended = room.judge(room.file(name, content), "-o", "none.csv")
-        said = ended.err.startswith(f"judge: {name}:".encode()) and ended.err.count(b"\n") == 1
-        yield compared(name, f"judge.py {name}", (ended.status, said, (room.folder / "none.csv").exists()), (1, True, False))
-    for words, status in (
+    """Lists that are none, command lines that don't fit together, and results that can't be written."""
+    lists = [[room.file(name, content), "-o", "none.csv"] for name, content in BAD_LISTS.items()]
+    for name, (status, told, _) in zip(BAD_LISTS, room.many(lists)):
+        said = told.startswith(f"judge: {name}:") and told.count("\n") == 1
+        yield compared(name, f"judge.py {name}", (status, said), (1, True))
+    yield compared("a list that is none", "looked for none.csv", (room.folder / "none.csv").exists(), False)
+    lines = (
         (["jobs.csv"], 2),
         (["-o", "none.csv"], 2),
         (["jobs.csv", "jobs.csv", "-o", "none.csv"], 2),
@@ -282,11 +292,29 @@ def of_bad_lists(room: Room) -> Iterator[Outcome]:
         (["jobs.csv", "-o", room.file("others.jsonl", b'{"a":1}\n')], 3),
         (["jobs.csv", "-o", room.file("older.csv", OLDER)], 3),
         (["jobs.csv", "-o", room.file("older.jsonl", json.dumps(dict(next(csv.DictReader(OLDER.decode().splitlines())))).encode() + b"\n")], 3),
-    ):
-        ended = room.judge(*words)
-        wrote = (ended.status, bool(ended.err), ended.out, b"is of an older judge" in ended.err)
-        yield compared(" ".join(words), shown(["tools/judge.py", *words]), wrote, (status, True, b"", "older." in words[-1]))
+    )
+    for (words, status), (ended, told, out) in zip(lines, room.many([words for words, _ in lines])):
+        wrote = (ended, bool(told), out, "is of an older judge" in told)
+        yield compared(" ".join(words), shown(["tools/judge.py", *words]), wrote, (status, True, "", "older." in words[-1]))
     yield compared("a file of something else", "looked at others.csv", (room.folder / "others.csv").read_bytes(), b"a,b\n1,2\n")
+
+
+# Programs that do something else than to judge, and what is said of their jobs.
+PROGRAMS = [
+    ("killed", "kill -9 $$", "`mapf check` ended by signal 9"),
+    ("aborted", "kill -6 $$", "`mapf check` ended by signal 6"),
+    ("silent", "exit 5", "`mapf check` ended with status 5"),
+    ("lying", "echo accepted", "`mapf check` ended with status 0"),
+    ("group", "kill -9 0", "ended by signal 9"),
+    ("sleepy", "sleep 60", f"time limit of {SECONDS} seconds"),
+]
+
+
+def of_program(room: Room, name: str, script: str, fault: str) -> list[Outcome]:
+    program = room.script(name, f'test "$1" = --version && exec echo mapf 0\n{script}')
+    ended = room.judge("one.csv", "-o", f"{name}.csv", "--seconds", str(SECONDS), program=program)
+    found = [row[3:5] for row in verdicts(room.rows(f"{name}.csv"))]
+    return [compared(f"a program that is {name}", f"{script}, and told {ended.err!r}", (ended.status, found), (0, [("failed", fault)]))]
 
 
 def of_processes(room: Room) -> Iterator[Outcome]:
@@ -294,32 +322,29 @@ def of_processes(room: Room) -> Iterator[Outcome]:
     os.mkfifo(room.folder / "fifo")
     jobs = [("lane.map", "", "behind.plan", ""), ("lane.map", "", "fifo", "")]
     room.file("slow.csv", csv_of(jobs))
-    due = [(jobs[0], ACCEPTED), (jobs[1], ("failed", f"time limit of {SECONDS} seconds", "", ""))]
-    yield judged(room, "a plan that nobody writes", ["slow.csv", "--seconds", str(SECONDS)], "slow.out.csv", due)
     room.file("one.csv", csv_of(jobs[:1]))
-    for name, script, fault in (
-        ("killed", "kill -9 $$", "`mapf check` ended by signal 9"),
-        ("aborted", "kill -6 $$", "`mapf check` ended by signal 6"),
-        ("silent", "exit 5", "`mapf check` ended with status 5"),
-        ("lying", "echo accepted", "`mapf check` ended with status 0"),
-        ("group", "kill -9 0", "ended by signal 9"),
-        ("sleepy", "sleep 60", f"time limit of {SECONDS} seconds"),
-    ):
-        ended = room.judge("one.csv", "-o", f"{name}.csv", "--seconds", str(SECONDS), program=room.script(name, script))
-        yield compared(f"a program that is {name}", script, (ended.status, [row[3:5] for row in verdicts(room.rows(f"{name}.csv"))]), (0, [("failed", fault)]))
+    due = [(jobs[0], ACCEPTED), (jobs[1], ("failed", f"time limit of {SECONDS} seconds", "", ""))]
+    yield from side_by_side(
+        [
+            *(functools.partial(of_program, room, *program) for program in reversed(PROGRAMS)),
+            lambda: [judged(room, "a plan that nobody writes", ["slow.csv", "--seconds", str(SECONDS)], "slow.out.csv", due)],
+        ]
+    )
     ended = room.judge("one.csv", "-o", "unstarted.csv", program=str(room.folder / "no"))
     yield compared("a program that is not there", "judge.py one.csv", (ended.status, [row[3] for row in verdicts(room.rows("unstarted.csv"))]), (0, ["failed"]))
 
 
 def of_stops(room: Room) -> Iterator[Outcome]:
     """A judge that is killed again and again, its last line torn, has each job once at its end."""
+    jobs = JOBS[-STOPPED:]
+    room.file("stopped.list.csv", csv_of([job for job, _ in jobs]))
     rng = random.Random(39)
     output = room.folder / "stopped.csv"
     # So slow that it is still at work when it is looked at, however busy the machine is.
-    slow = room.script("slow", f'sleep 0.1\nexec {shlex.quote(str(room.harness.program))} "$@"')
+    slow = room.script("slow", f'test "$1" = --version || sleep 0.1\nexec {shlex.quote(str(room.harness.program))} "$@"')
     stops = 0
     for turn in range(STOPS * 10):
-        process = subprocess.Popen(room.words("jobs.csv", "-o", output.name, program=slow), cwd=room.folder, stderr=subprocess.PIPE, start_new_session=True)
+        process = subprocess.Popen(room.words("stopped.list.csv", "-o", output.name, program=slow), cwd=room.folder, stderr=subprocess.PIPE, start_new_session=True)
         kind = rng.choice((signal.SIGKILL, signal.SIGTERM, signal.SIGINT))
         before = len(room.rows(output.name))
         # Let it come a few jobs further each time.
@@ -334,8 +359,8 @@ def of_stops(room: Room) -> Iterator[Outcome]:
         if kind == signal.SIGKILL and rng.random() < 0.5:
             with open(output, "ab") as file:
                 file.write(b"lane.map,,torn.pl")
-    yield compared("a judge that is killed again and again", f"judge.py jobs.csv, {turn + 1} times", differing(room.rows(output.name), JOBS), [])
-    yield compared("how often it was killed", "judge.py jobs.csv", stops > 1, True)
+    yield compared("a judge that is killed again and again", f"judge.py stopped.list.csv, {turn + 1} times", differing(room.rows(output.name), jobs), [])
+    yield compared("how often it was killed", "judge.py stopped.list.csv", stops > 1, True)
 
 
 # A change that takes the results of two jobs the ground, which results are judged anew for it, and what is said of them.

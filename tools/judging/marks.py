@@ -19,7 +19,7 @@ MARKS = ("map_sha256", "scenario_sha256", "plan_sha256", "judge")
 # How much of a sum names a program.
 SHORT = 12
 # A program that hasn't said its version by then is asked no more.
-SECONDS = 5
+SECONDS = 10
 BLOCK = 1 << 20
 VERSION = re.compile(rb"mapf [\w.+-]+")
 
