@@ -29,7 +29,7 @@ SAMPLES = (("fleet/warehouse.map", 12, 12), ("planners/hall.map", 60, 7))
 NUMBER = "7"
 # Random plans a format, and how many of them one process converts.
 SHORT_ROUNDS, LONG_ROUNDS, ROUND = 20, 200, 20
-SHORT_PLACES, LONG_PLACES = 200, 2_000
+SHORT_PLACES, LONG_PLACES = 170, 2_000
 # Formats whose greatest texts are soon converted.
 SOON_AT_LIMITS = ("csv", "paths", "tracker")
 
@@ -350,6 +350,7 @@ def tracker_text_of_waits(paths: Paths) -> bytes:
 LANE = b"type octile\nheight 1\nwidth 3\nmap\n..@\n"
 TEXT = b"Agent 0: (0,1)->(0,0)\nAgent 1:(0,0)->(0,1)->\n"
 PLAN = b"mapf-plan 1\nnumber 7\nagents 2\nagent 1 0 w\nagent 0 0 e\n"
+PLAN_CSV = b"agent,time,x,y\n0,0,1,0\n0,1,0,0\n1,0,0,0\n1,1,1,0\n"
 FILES = {
     "T": TEXT,
     "M": LANE,
@@ -413,7 +414,7 @@ CALLS = [
     ("UP --scen UPS --number 7", 0, UP, "UP:3: u is read as leading to the row below: agent 2 doesn't come to its goal, but 2 of 3 agents do\n"),
     ("UD --scen UDS --number 7", 0, b"mapf-plan 1\nnumber 7\nagents 1\nagent 0 0 sn\n", "UD:1: u is read as leading to the row below: the other way"),
     ("T --scen E", 1, b"", "T:2: agent 1 has no row in E"),
-    ("P --to csv --scen D", 0, b"agent,time,x,y\n0,0,1,0\n0,1,0,0\n1,0,0,0\n1,1,1,0\n", "P:5: agent 1 ends in column 1, row 0, column 0, row 0 was due by row 1 of D\n"),
+    ("P --to csv --scen D", 0, PLAN_CSV, "P:5: agent 1 ends in column 1, row 0, column 0, row 0 was due by row 1 of D\n"),
     ("P --to csv --scen K", 1, b"", "P:4: agent 0 starts in column 1, row 0, column 0, row 0 was due by row 0 of K\n"),
     ("T --from lacam", 1, b"", "T:1: 'Agent 0: (0,1)->(0,0)' stands where 'key=value' was due"),
     ("T --map B", 1, b"", "convert: B: `mapf map` says ShortRow 5\n"),

@@ -245,8 +245,8 @@ def of_uploads(room: Room) -> Iterator[Outcome]:
     """A table of the tracker, whose rows have plans: with line ends of two kinds, none, the wrong cost, no plan, a dropped agent, a missed goal."""
     room.file("lane-even-1.scen", TASKS.encode())
     heading = "lower_cost,solution_cost,solution_plan,map_name,scen_type,type_id,agents,planner\n"
-    cells = [("2", "r\nr\n", 2), ("2", "r\nr", 2), ("3", "r\\nr", 2), ("", "", 2), ("1", "r\n", 2), ("1", "r\nw", 2), ("1", "r", 2), ("", "rx\nr", 2), ("0", "\n", 2)]
-    rows = "".join(f'1,{cost},"{plan}",lane,even,1,{agents},PIBT\n' for cost, plan, agents in cells)
+    cells = [("2", "r\nr\n"), ("2", "r\nr"), ("3", "r\\nr"), ("", ""), ("1", "r\n"), ("1", "r\nw"), ("1", "r"), ("", "rx\nr"), ("0", "\n")]
+    rows = "".join(f'1,{cost},"{plan}",lane,even,1,2,PIBT\n' for cost, plan in cells)
     room.file("upload.csv", (heading + rows).encode())
     due = [
         ("2", "accepted", "", "2", "2"),
@@ -344,7 +344,8 @@ def of_stops(room: Room) -> Iterator[Outcome]:
     slow = room.script("slow", f'test "$1" = --version || sleep 0.1\nexec {shlex.quote(str(room.harness.program))} "$@"')
     stops = 0
     for turn in range(STOPS * 10):
-        process = subprocess.Popen(room.words("stopped.list.csv", "-o", output.name, program=slow), cwd=room.folder, stderr=subprocess.PIPE, start_new_session=True)
+        words = room.words("stopped.list.csv", "-o", output.name, program=slow)
+        process = subprocess.Popen(words, cwd=room.folder, stderr=subprocess.PIPE, start_new_session=True)
         kind = rng.choice((signal.SIGKILL, signal.SIGTERM, signal.SIGINT))
         before = len(room.rows(output.name))
         # Let it come a few jobs further each time.
@@ -385,14 +386,15 @@ def of_changes(room: Room) -> Iterator[Outcome]:
             room.file(file, text.encode())
         output = f"change{number}.csv"
         first = room.judge("pair.csv", "-o", output)
-        yield compared(f"before {name}", "judge.py pair.csv", (first.status, short(room.rows(output))), (0, [("one.plan", "", "accepted"), ("two.plan", "", "accepted")]))
+        wrote = (first.status, short(room.rows(output)))
+        yield compared(f"before {name}", "judge.py pair.csv", wrote, (0, [("one.plan", "", "accepted"), ("two.plan", "", "accepted")]))
         for file, text in files.items():
             room.file(file, text.encode())
         ended = room.judge("pair.csv", "-o", output)
         wrote = (ended.status, short(room.rows(output)), told.encode() in ended.err)
         yield compared(name, f"judge.py pair.csv, which told {ended.err!r}", wrote, (0, [("one.plan", "", one), ("two.plan", "", two)], True))
-        again = room.judge("pair.csv", "-o", output)
-        yield compared(f"behind {name}", "judge.py pair.csv", (b"2 of 2 jobs have a result" in again.err, b"anew" in again.err), (True, False))
+    again = room.judge("pair.csv", "-o", output)
+    yield compared(f"behind {name}", "judge.py pair.csv", (b"2 of 2 jobs have a result" in again.err, b"anew" in again.err), (True, False))
     room.file("lane.map", LANE.encode())
     room.file("lane.scen", TASKS.encode())
     own = room.script("other", f'exec {shlex.quote(str(room.harness.program))} "$@"')

@@ -59,7 +59,11 @@ def line_from(data: bytes, place: int) -> str:
 
 def trimmed(data: bytes) -> bytes:
     """The text with one line end behind its last line that has anything in it, whatever stood there."""
-    end = data.find(b"\n", len(data.rstrip(b" \t\n")))
+    last = len(data)
+    # Byte by byte, since a text may be large, and a copy of it too.
+    while last and data[last - 1] in b" \t\n":
+        last -= 1
+    end = data.find(b"\n", last)
     return data + b"\n" if end < 0 else data[: end + 1]
 
 

@@ -27,7 +27,8 @@ def root_of(data: bytes) -> Any:
     try:
         import yaml  # only here: no other format needs it
     except ImportError:
-        raise Fault(1, "this shape of YAML is read by the Python package yaml (Debian's python3-yaml), and it is not installed, it was due") from None
+        told = "this shape of YAML is read by the Python package yaml (Debian's python3-yaml), which isn't installed, and it was due"
+        raise Fault(1, told) from None
     try:
         return yaml.compose(data, Loader=getattr(yaml, "CSafeLoader", yaml.SafeLoader))
     except yaml.YAMLError as error:
