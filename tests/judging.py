@@ -491,15 +491,17 @@ def of_stops_anew(room: Room) -> Iterator[Outcome]:
     for plan in plans[2:]:
         room.file(plan, SWAP.encode())
     process = subprocess.Popen(room.words("many.csv", "-o", "anew.csv", program=slow), cwd=room.folder, stderr=subprocess.PIPE, start_new_session=True)
-    while process.poll() is None and not 4 <= len(room.rows("anew.csv")) < 8:
+    while process.poll() is None and not 2 <= [row["verdict"] for row in room.rows("anew.csv")].count("rejected") < 6:
         time.sleep(0.002)
     process.kill()
     process.communicate()
     rows = [(row["plan"], row["verdict"]) for row in room.rows("anew.csv")]
     due = {plan: "accepted" if plan in plans[:2] else "rejected" for plan in plans}
-    wrote = (set(plans[:2]) <= {plan for plan, _ in rows}, [row for row in rows if due[row[0]] != row[1]], len(rows) < 8)
-    yield compared("killed while it judges anew", "judge.py many.csv", wrote, (True, [], True))
-    room.judge("many.csv", "-o", "anew.csv", program=slow)
+    stale = [row["fault"] for row in room.rows("anew.csv") if row["verdict"] == "stale"]
+    wrote = ({plan for plan, _ in rows} == set(plans), [row for row in rows if row[1] not in (due[row[0]], "stale")], set(stale))
+    yield compared("killed while it judges anew", "judge.py many.csv", wrote, (True, [], {"was accepted"}))
+    ended = room.judge("many.csv", "-o", "anew.csv", program=slow)
+    yield compared("stale lines are told of", f"judge.py many.csv, which told {ended.err!r}", b": stale since a call before" in ended.err, True)
     yield compared("judged to its end", "judge.py many.csv", sorted((row["plan"], row["verdict"]) for row in room.rows("anew.csv")), sorted(due.items()))
 
 

@@ -3,7 +3,7 @@ import html
 from typing import Iterator, Sequence
 
 from judging.summary import Row, summary
-from judging.verdicts import COLUMNS, VERDICTS
+from judging.verdicts import COLUMNS, STALE, VERDICTS
 
 STYLE = """body { font: 15px/1.4 sans-serif; margin: 2em; color: #222; background: #fff }
 table { border-collapse: collapse; margin: 1em 0 }
@@ -51,7 +51,7 @@ def result_rows(rows: Sequence[Row], columns: Sequence[str]) -> Iterator[str]:
 
 def page(rows: Sequence[Row], title: str) -> Iterator[bytes]:
     """The page, in pieces."""
-    verdicts = [it for it in VERDICTS if any(row["verdict"] == it for row in rows)]
+    verdicts = [it for it in (*VERDICTS, STALE) if any(row["verdict"] == it for row in rows)]
     own = dict.fromkeys(name for row in rows for name in row if name not in COLUMNS)
     columns = [*(name for name in COLUMNS if name not in LAST), *own, *LAST]
     pieces = [

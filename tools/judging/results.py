@@ -10,11 +10,12 @@ from typing import BinaryIO, Counter, Iterator, Optional, Sequence
 
 from judging.jobs import FOUND, Job
 from judging.marks import Marker, what_differs
-from judging.verdicts import COLUMNS, VERDICTS
+from judging.verdicts import COLUMNS, STALE, VERDICTS
 from whole_file import draft
 
 # The heading of a judge that kept no sums of what it judged.
 OLDER = ("map", "scenario", "plan", "agents", "verdict", "fault", "cost", "makespan", "seconds")
+Row = dict[str, str]
 # The names of the files of a job, and all that its list says of it.
 Files = tuple[str, str, str]
 Key = frozenset[tuple[str, str]]
@@ -33,7 +34,9 @@ class Results:
         self.file = locked(path)
         # All columns: those of each table, and behind them those that jobs have beside.
         self.columns: tuple[str, ...] = COLUMNS
-        self.rows: list[dict[str, str]] = []
+        self.rows: list[Row] = []
+        # How many jobs of these files this call has still to judge.
+        self.open: Counter[Files] = collections.Counter()
         self._take_what_stands()
         wider = (*self.columns, *(name for name in more if name not in self.columns))
         if not self.is_json and wider != self.columns:
@@ -70,17 +73,17 @@ class Results:
         told = "is of an older judge, and doesn't say which files were judged; another file was due, or this one moved away"
         return BadResults(f"{self.path}:{number}: the {'line' if self.is_json else 'heading'} {told}")
 
-    def _row(self, line: str, number: int) -> dict[str, str]:
+    def _row(self, line: str, number: int) -> Row:
         """The result in a line."""
         values = self._values(line)
         if values is not None and tuple(values) == OLDER:
             raise self._of_an_older_judge(number)
-        fits = values is not None and tuple(values)[: len(COLUMNS)] == COLUMNS and values["verdict"] in VERDICTS
+        fits = values is not None and tuple(values)[: len(COLUMNS)] == COLUMNS and values["verdict"] in (*VERDICTS, STALE)
         if not fits:
             raise BadResults(f"{self.path}:{number}: the line is no result, one of this tool's was due")
         return values
 
-    def _values(self, line: str) -> Optional[dict[str, str]]:
+    def _values(self, line: str) -> Optional[Row]:
         try:
             if self.is_json:
                 values = json.loads(line)
@@ -91,34 +94,43 @@ class Results:
             return None
 
     def left(self, jobs: Sequence[Job], listed: Sequence[Job], marker: Marker) -> tuple[list[Job], list[str]]:
-        """The jobs without a result that still fits, and why others don't. What fits no longer is taken out of the file, which is
-        replaced as a whole; lines of other lists and of other parts of this one stay."""
+        """The jobs without a result that still fits, and why others don't. What fits no more is marked as stale until its job is judged anew:
+        so whoever is stopped meanwhile has lost nothing. Lines of other lists and of other parts of this one stay."""
         due = collections.Counter(map(key_of_job, listed))
         jobs_by_key = {key_of_job(job): job for job in jobs}
-        files = {job_files(job.columns) for job in jobs}
-        standing, kept, reasons = collections.Counter(), [], []
-        for row in self.rows:
+        files = {files_of(job.columns) for job in jobs}
+        standing, stale = collections.Counter(), {}
+        for place, row in enumerate(self.rows):
             key = key_of(row)
             why = self._why_it_goes(row, jobs_by_key.get(key), due[key] > 0, files, marker)
             if why:
-                reasons.append(f"{row['plan']}: {why}")
+                stale[place] = why
                 continue
-            kept.append(row)
             due[key] -= 1
             if key in jobs_by_key:
                 standing[key] += 1
-        if reasons:
-            self._write_anew(kept)
-        return list(without(jobs, standing)), reasons
+        left = list(without(jobs, standing))
+        reasons = [f"{self.rows[place]['plan']}: {why}" for place, why in stale.items()]
+        self.open = collections.Counter(files_of(job.columns) for job in left)
+        if stale:
+            self._mark(set(stale))
+        return left, reasons
 
-    def _why_it_goes(self, row: dict[str, str], job: Optional[Job], is_due: bool, files: set[Files], marker: Marker) -> str:
+    def _mark(self, stale: set[int]) -> None:
+        """Marks the lines in these places, and leaves out those whose jobs have others."""
+        rows = [(place in stale, row) for place, row in enumerate(self.rows)]
+        self._write_anew([marked(row) if is_stale else row for is_stale, row in rows if not is_stale or self.open[files_of(row)]])
+
+    def _why_it_goes(self, row: Row, job: Optional[Job], is_due: bool, files: set[Files], marker: Marker) -> str:
         """Why a line doesn't hold any more; empty where it does, or is none of these jobs'."""
+        if row["verdict"] == STALE and files_of(row) in files:
+            return "stale since a call before"
         if job is not None and is_due:
             differs = what_differs(row, marker.of(job))
             return f"another {differs} since" if differs else ""
-        return "the list says something else of it" if not is_due and job_files(row) in files else ""
+        return "the list says something else of it" if not is_due and files_of(row) in files else ""
 
-    def _write_anew(self, rows: Sequence[dict[str, str]]) -> None:
+    def _write_anew(self, rows: Sequence[Row]) -> None:
         """Replaces the file as a whole. The new one is locked before anybody can see it."""
         lines = [] if self.is_json else [csv_line(self.columns)]
         lines += map(self._line, rows)
@@ -129,15 +141,20 @@ class Results:
         self.file.close()
         self.file, self.rows = fresh, list(rows)
 
-    def _line(self, row: dict[str, str]) -> str:
+    def _line(self, row: Row) -> str:
         return json.dumps(row) if self.is_json else csv_line([row.get(name, "") for name in self.columns])
 
-    def put(self, row: dict[str, str]) -> None:
+    def put(self, row: Row) -> None:
         """Writes a line, whole, by one call."""
         self.file.write(f"{self._line(row)}\n".encode(errors="surrogateescape"))
         self.rows.append(row)
+        self.open[files_of(row)] -= 1
 
     def close(self) -> None:
+        """Takes out what was stale and is judged anew, and sees to it that all is stored."""
+        rows = [row for row in self.rows if row["verdict"] != STALE or self.open.get(files_of(row), 1)]
+        if len(rows) < len(self.rows):
+            self._write_anew(rows)
         os.fsync(self.file.fileno())
         self.file.close()
 
@@ -157,7 +174,12 @@ def locked(path: pathlib.Path) -> BinaryIO:
         file.close()
 
 
-def key_of(row: dict[str, str]) -> Key:
+def marked(row: Row) -> Row:
+    """A line that fits no more. What it said is kept behind its new verdict."""
+    return row if row["verdict"] == STALE else {**row, "verdict": STALE, "fault": f"was {row['verdict']} {row['fault']}".rstrip()}
+
+
+def key_of(row: Row) -> Key:
     """What a list says of a job, by what stands in a result. An empty column and none are the same."""
     return frozenset((name, word) for name, word in row.items() if word and name not in FOUND)
 
@@ -166,7 +188,7 @@ def key_of_job(job: Job) -> Key:
     return key_of(job.columns)
 
 
-def job_files(columns: dict[str, str]) -> Files:
+def files_of(columns: Row) -> Files:
     return columns["map"], columns["scenario"], columns["plan"]
 
 

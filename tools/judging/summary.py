@@ -3,7 +3,7 @@ import collections
 import dataclasses
 from typing import Iterator, Sequence
 
-from judging.verdicts import ACCEPTED, VERDICTS
+from judging.verdicts import ACCEPTED, STALE, VERDICTS
 
 Row = dict[str, str]
 # The columns by which results are summed up; the second one is a job's own.
@@ -23,7 +23,7 @@ class Line:
     @property
     def text(self) -> str:
         what = f"{self.column} {self.value}" if self.column else f"{sum(self.counts.values())} results"
-        counts = ", ".join(f"{self.counts[it]} {it}" for it in VERDICTS if self.counts[it])
+        counts = ", ".join(f"{self.counts[it]} {it}" for it in (*VERDICTS, STALE) if self.counts[it])
         return f"{what}: {counts or 'none'}; cost {self.cost}"
 
 

@@ -16,6 +16,8 @@ from whole_file import draft
 
 VERDICTS = ("accepted", "CostDiffers", "rejected", "unsolved", "unreadable", "failed")
 ACCEPTED, COST_DIFFERS, REJECTED, UNSOLVED, UNREADABLE, FAILED = VERDICTS
+# In place of the verdict of a result that fits no more, until its job is judged anew.
+STALE = "stale"
 # The columns of a result, before those that its job has beside.
 COLUMNS = ("map", "scenario", "plan", "agents", *FOUND)
 # The format of the plans that stand in a table.
