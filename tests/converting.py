@@ -482,6 +482,7 @@ PEOPLES = [
     ("printed paths alone", PRINTED.partition(b"\n")[2], "--map WIDE", FOUND),
     ("printed paths without a line end", PRINTED[:-1], "--map WIDE", FOUND),
     ("printed paths that are cut", PRINTED[:-4], "--map WIDE", b"the path of agent 1 has 0 acts, 1 were due"),
+    ("printed paths that are cut in a word", PRINTED[: PRINTED.index(b"Agent 1") + 3], "--map WIDE", b"'Age' stands where a path was due"),
     ("printed paths without a map", PRINTED, "", b"--map is wanted"),
     ("printed paths that leave the map", PRINTED.replace(b"1->1->5", b"5->5->9"), "--map WIDE", FOUND.replace(b"1 0 -s", b"1 1 -s")),
     ("paths of RHCR", RHCR, "--map WIDE", FOUND),

@@ -15,7 +15,7 @@ def is_upload(path: pathlib.Path) -> bool:
     if not path.is_file():
         return False
     with open(path, "rb") as file:
-        head = file.readline(4096).decode("utf-8-sig", errors="replace")
+        head = file.readline(4096).decode("utf-8-sig", errors="replace").replace("\0", "")
     return {"map_name", PLAN} <= set(next(csv.reader([head]), []))
 
 

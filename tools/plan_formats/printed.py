@@ -33,7 +33,7 @@ def read(data: bytes, given: Given) -> list[Walk]:
             agent = read_number(head[1])
             gathering.expect(agent, number)
             read_path(agent, line[head.end() :], read_number(head[2]), number, gathering)
-        elif line.startswith(b"Agent"):
+        elif line.startswith(b"Agent") or (line and b"Agent".startswith(line)):
             raise Fault(number, f"{shown(line)} stands where a path was due, as 'Agent 0 (1 -->1): 5->6->'")
         else:
             skipped.append(number)
