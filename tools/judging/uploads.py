@@ -3,7 +3,7 @@ import csv
 import pathlib
 from typing import Iterator, Optional
 
-from judging.jobs import FOUND, BadJobs, Job, job_of, rows_of
+from judging.jobs import BadJobs, Job, job_of, rows_of
 
 # The columns that name a map and a row's scenario, and the one that has the plan.
 NAMES = ("map_name", "scen_type", "type_id", "agents")
@@ -27,7 +27,7 @@ def read_upload(path: pathlib.Path, maps: Optional[pathlib.Path], scens: Optiona
                 raise BadJobs(f"{where}: '{fields[name]}' as {name}, a word or a number was due")
         map_file = f"{fields['map_name']}.map"
         scenario = f"{fields['map_name']}-{fields['scen_type']}-{fields['type_id']}.scen"
-        more = {name: word for name, word in fields.items() if name not in (PLAN, *FOUND)}
+        more = {name: word for name, word in fields.items() if name != PLAN}
         yield job_of(
             {
                 **more,
