@@ -25,6 +25,16 @@ COLOURED: list[tuple[Mapping[str, str], bool]] = [
     ({"TERM": "xterm", "NO_COLOR": "0"}, False),
     ({"TERM": "dumb"}, False),
 ]
+# What is to be done about some faults that operators see.
+ADVICE = [
+    ("NoTape", "Make no new one:"),
+    ("TapeInUse", "end it first"),
+    ("StoreFailed", "go by its first line"),
+    ("Broken", "start it again on its tape"),
+    ("WrongPlan", "a robot runs by another plan"),
+    ("Waits", "ask again when a message was heard"),
+    ("OpenFailed", "--explain"),
+]
 # How the texts of an example begin, and the command that reads what stands there.
 HEADERS = {"type octile": "map", "version 1": "scen", "mapf-plan 1": "plan", "mapf-events": "events"}
 
@@ -140,6 +150,10 @@ def help_on_all(harness: Harness) -> Iterator[Outcome]:
     yield compared("the faults that help lists", "mapf help faults", sorted(listed(ended.out.decode("ascii"))), sorted(documented()))
     yield compared("the list of faults ends well", "mapf help faults", (ended.status, ended.err), (0, b""))
     yield compared("a name that is none", "mapf help BadTerain", harness.mapf(["help", "BadTerain"]).status, 2)
+    for topic, name in (("FAULTS", "faults"), ("badterrain", "BadTerrain"), ("NOTAPE", "NoTape")):
+        yield ended_as(f"help on {topic}", f"mapf help {topic}", harness.mapf(["help", topic]), harness.mapf(["help", name]))
+    for name, phrase in ADVICE:
+        yield compared(f"advice on {name}", f"mapf help {name}", phrase in harness.mapf(["help", name]).out.decode("ascii"), True)
 
 
 def examples(text: str) -> Iterator[tuple[str, str, str]]:

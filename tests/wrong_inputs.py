@@ -128,16 +128,22 @@ COMMANDS = [
     Wrong("row land wrong 0", "version 1\n", ("wrong has no row.\n",)),
     Wrong("row land wrong 1", ROWS, ("wrong:3, read as a scenario:\n", marked(3, "0 b.map 4 4 0 0 3 0 3", "        ^^^"), "Row 1 is of a map with width and height `4 4`, and land has 3 and 2.\n", "The row names the map `b.map`.\n")),
     Wrong("path land wrong --agent 2", PAIR, ("The last agent of wrong is agent 1: agents count from 0.\n",)),
-    Wrong("map nothing", "", ("nothing, to be read as a map: there is no such file.\n",)),
-    Wrong("check land wrong/plan", PAIR, ("wrong/plan, to be read as a plan: a part of its path is a file, and no folder.\n",)),
+    Wrong("map nothing", "", ("nothing, to be read as a map: there is no such file.\nThe system says: No such file or directory (os error 2).\n",)),
+    Wrong("check land wrong/plan", PAIR, ("wrong/plan, to be read as a plan: a part of its path is a file, and no folder.\nThe system says: Not a directory (os error 20).\n",)),
     Wrong("check land .", "", (". is a folder, and no file.\n",)),
     Wrong("agent land pair 0 wrong", b"x" * 10, ("wrong, a tape:\n", "Record 0, from byte 0 on: 78 78 78", "It must begin with 50 01 (moving), and end with 0")),
     Wrong("agent land pair 0 wrong", RECORD[:5] + b"\x08" + RECORD[6:], ("It is of plan 8, and this is plan 7.\n",)),
     Wrong("agent land pair 0 wrong", RECORD[:7] + b"\1" + RECORD[8:], ("It is of agent 1.\n",)),
     Wrong("agent land pair 0 wrong", RECORD * 3, ("It has 30 bytes: 3 whole records, and 0 bytes behind them.\n", "more records than two for each move")),
     Wrong("agent land pair 2 wrong", b"", ("The last agent of pair is agent 1",)),
-    Wrong("agent land pair 0 nothing --tape kept", b"", ("nothing, a tape:\n", "Without `--tape kept` a tape is made")),
-    Wrong("agent land pair 0 wrong --tape new", RECORD, ("It has 10 bytes: 1 whole records", "Without `--tape new`")),
+    Wrong("agent land pair 0 nothing --tape kept", b"", ("nothing, a tape:\n", "`mapf agent` with `--tape kept`.\n", "Make no new one:")),
+    Wrong("tape land pair 0 nothing", b"", ("nothing, a tape:\n", "`mapf tape` makes none", "Make no new one:")),
+    Wrong("tape land pair 0 /dev/zero", b"", ("/dev/zero, a tape:\nIt is a pipe or a device, and no file of bytes.\n",)),
+    Wrong("agent land pair 0 no/tape", b"", ("no/tape, to be read as a tape: there is no such file, and it can't be made: its folder is missing.\n",)),
+    Wrong("agent land pair 0 wrong/tape", b"", ("a part of its path is a file, and no folder.\nThe system says: Not a directory (os error 20).\n",)),
+    # Nobody makes files there, not even root.
+    Wrong("agent land pair 0 /proc/tape", b"", ("it can't be made: its folder may not be written, or its disk has no room for one more.\n",)),
+    Wrong("agent land pair 0 wrong --tape new", RECORD, ("It has 10 bytes: 1 whole records", "`--tape kept`")),
     Wrong("agent land pair 0 .", b"", ("., to be read as a tape: it is a folder.\n",)),
 ]
 
@@ -146,7 +152,8 @@ REJECTED = [
     Wrong("check land wrong", plan("0 0 e", "2 0 w"), ("wrong:4, a plan on the map land:\n", "At time 1 agents 0 and 1 are both in column 1, row 0.\n", "at time 0:\n    0 axb\n")),
     Wrong("check land wrong --json", plan("0 0 e", "1 0 w"), ("In step 0 agent 0 moves from 0 0 to 1 0, and agent 1 the other way",)),
     Wrong("check land wrong", plan("1 1 -"), ("Agent 0 starts in column 1, row 1, which is out of bounds (`@`).\n",)),
-    Wrong("check land pair --scen wrong", "version 1\n", ("The scenario has fewer rows than the plan has agents.\n",)),
+    Wrong("check land pair --scen wrong", "version 1\n", ("The scenario has fewer rows than agents are due: as many as the plan has,",)),
+    Wrong("check land pair --agents 3", "", ("The plan has more or fewer agents than are due: with `--agents` so many,",)),
 ]
 
 # By what is read.

@@ -4,9 +4,17 @@ use crate::files::{FileKind, NamedFile, shown_path};
 use crate::page::Page;
 use crate::table::put_sentence;
 use crate::told::Told;
-use std::fs;
-use std::io::ErrorKind;
+use std::fs::{self, OpenOptions};
+use std::io::{Error, ErrorKind};
 use std::rt::Files;
+
+/// Why a file can't be opened.
+#[derive(Drop)]
+struct Reason {
+    words: &'static str,
+    /// What the system answered, where it was asked once more.
+    error: Option<Error>,
+}
 
 /// Explains a fault of the system.
 pub(crate) fn explain_device<R: Files>(
@@ -30,49 +38,80 @@ fn put_unopened<R: Files>(rt: &R, files: &[NamedFile<'_>], page: &mut Page) -> b
     for file in files {
         if let Some(reason) = reason_of(rt, *file) {
             page.say(shown_path(*file));
-            page.fill(", to be read as {}: {}.\n", &[file.kind.name(), reason]);
+            page.fill(
+                ", to be read as {}: {}.\n",
+                &[file.kind.name(), reason.words],
+            );
+            put_error(&reason, page);
             return true;
         }
     }
     false
 }
 
+/// Puts the system's own words.
+fn put_error(reason: &Reason, page: &mut Page) {
+    if let Some(error) = &reason.error {
+        page.say("The system says: ");
+        page.show(error);
+        page.say(".\n");
+    }
+}
+
 /// Why the file can't be opened. What is no file of bytes is not opened once more, since it may wait for ever.
-fn reason_of<R: Files>(rt: &R, file: NamedFile<'_>) -> Option<&'static str> {
+fn reason_of<R: Files>(rt: &R, file: NamedFile<'_>) -> Option<Reason> {
     match fs::metadata(rt, file.path) {
-        Err(e) => Some(missing_reason(e.kind(), file.kind)),
+        Err(error) if error.kind() == ErrorKind::NotFound && file.kind == FileKind::Tape => {
+            Some(Reason {
+                words: unmade_reason(rt, file.path),
+                error: None,
+            })
+        }
+        Err(error) => Some(reason_by(error, file.kind)),
         Ok(metadata) if metadata.is_file() => opening_reason(rt, file),
         Ok(metadata) => shape_reason(metadata.is_dir(), file.kind),
     }
 }
 
-/// Why a file that can't be looked at can't be opened.
-fn missing_reason(reason: ErrorKind, kind: FileKind) -> &'static str {
-    match (reason, kind) {
-        (ErrorKind::NotFound, FileKind::Tape) =>
-            "there is no such file, and it can't be made: its folder is missing, or may not be written",
-        _ => kind_name(reason),
+/// Why there is no file of a tape, and none could be made.
+fn unmade_reason<R: Files>(rt: &R, path: &str) -> &'static str {
+    let folder = match path.rsplit_once('/') {
+        Some(("", _)) => "/",
+        Some((folder, _)) => folder,
+        None => ".",
+    };
+    match fs::metadata(rt, folder) {
+        Ok(metadata) if metadata.is_dir() =>
+            "there is no such file, and it can't be made: its folder may not be written, or its disk has no room for one more",
+        Ok(_) => "what should be its folder is none",
+        Err(_) => "there is no such file, and it can't be made: its folder is missing",
     }
 }
 
-/// Why a file of bytes can't be opened.
-fn opening_reason<R: Files>(rt: &R, file: NamedFile<'_>) -> Option<&'static str> {
-    match fs::open(rt, file.path) {
-        Ok(_) if file.kind == FileKind::Tape => Some("it can be read, but perhaps not be written"),
+/// Why a file of bytes can't be opened. A tape is written too.
+fn opening_reason<R: Files>(rt: &R, file: NamedFile<'_>) -> Option<Reason> {
+    let is_tape = file.kind == FileKind::Tape;
+    let opened = OpenOptions::new()
+        .read(true)
+        .write(is_tape)
+        .open(rt, file.path);
+    match opened {
         Ok(_) => None,
-        Err(e) => Some(kind_name(e.kind())),
+        Err(error) => Some(reason_by(error, file.kind)),
     }
 }
 
 /// Why what is no file of bytes can't be opened, if it can't.
-fn shape_reason(is_folder: bool, kind: FileKind) -> Option<&'static str> {
+fn shape_reason(is_folder: bool, kind: FileKind) -> Option<Reason> {
     if kind != FileKind::Tape {
-        None
-    } else if is_folder {
-        Some("it is a folder")
-    } else {
-        Some("it is a pipe or a device, and no file of bytes")
+        return None;
     }
+    let words = if is_folder {
+        "it is a folder"
+    } else {
+        "it is a pipe or a device, and no file of bytes"
+    };
+    Some(Reason { words, error: None })
 }
 
 /// Says which of the files is a folder, which can be opened and not read.
@@ -87,11 +126,23 @@ fn put_folder<R: Files>(rt: &R, files: &[NamedFile<'_>], page: &mut Page) -> boo
     false
 }
 
+/// What the system answered, and what it means.
+fn reason_by(error: Error, kind: FileKind) -> Reason {
+    Reason {
+        words: kind_name(error.kind(), kind),
+        error: Some(error),
+    }
+}
+
 /// The system's reason in words.
-fn kind_name(kind: ErrorKind) -> &'static str {
-    match kind {
+fn kind_name(reason: ErrorKind, kind: FileKind) -> &'static str {
+    match reason {
         ErrorKind::NotFound => "there is no such file",
+        ErrorKind::PermissionDenied if kind == FileKind::Tape =>
+            "it may not be read, or not be written, by this user",
         ErrorKind::PermissionDenied => "it may not be read by this user",
+        ErrorKind::ReadOnlyFilesystem => "its disk may not be written",
+        ErrorKind::StorageFull | ErrorKind::QuotaExceeded => "its disk has no room",
         ErrorKind::NotADirectory => "a part of its path is a file, and no folder",
         ErrorKind::IsADirectory => "it is a folder",
         ErrorKind::FilesystemLoop => "its links lead in a circle",

@@ -1,4 +1,5 @@
 //! Help on faults.
+use crate::advice::advice_on;
 use crate::page::{Page, Style};
 use crate::table::{Entry, GROUPS, group_entries, group_name};
 
@@ -15,10 +16,10 @@ impl FaultHelp {
     }
 }
 
-/// Help on the fault of this name, or on all where the topic is `faults`. Any other topic has none.
+/// Help on the fault of this name, or on all where the topic is `faults`, in small or capital letters. Any other topic has none.
 pub fn fault_help(topic: &str) -> Option<FaultHelp> {
     let mut page = Page::new(Style::Plain);
-    if topic == "faults" {
+    if topic.eq_ignore_ascii_case("faults") {
         put_all(&mut page);
     } else {
         for group in 0..GROUPS {
@@ -60,7 +61,7 @@ fn put_form(entry: &Entry, page: &mut Page) {
 /// Puts the faults of a group that have this name.
 fn put_named(name: &str, group: usize, page: &mut Page) {
     for entry in group_entries(group) {
-        if entry.name == name {
+        if entry.name.eq_ignore_ascii_case(name) {
             if !page.as_bytes().is_empty() {
                 page.say("\n");
             }
@@ -75,6 +76,7 @@ fn put_entry(entry: &Entry, of: &str, page: &mut Page) {
     page.fill(", of {}\n", &[of]);
     page.say(entry.sentence);
     page.say("\n");
+    page.say(advice_on(entry.name.as_bytes(), of));
     if !entry.example.is_empty() {
         page.say("Example:\n");
         for line in entry.example.lines() {

@@ -1,6 +1,7 @@
 //! What a fault means, for people: where it is, what was due there, and what is there instead.
 #![tactic(auto)]
 
+mod advice;
 mod beginning;
 mod devices;
 mod event_words;

@@ -46,16 +46,16 @@ static FITS: [Entry; 5] = [
     Entry {
         name: "TooFewRows",
         numbers: "",
-        sentence: "The scenario has fewer rows than the plan has agents.",
+        sentence: "The scenario has fewer rows than agents are due: as many as the plan has, or with `--agents` so many.",
         example: "",
         answer: "rejected TooFewRows",
     },
     Entry {
         name: "AgentCount",
         numbers: "",
-        sentence: "The plan has not as many agents as rows were asked for. No command answers it.",
+        sentence: "The plan has more or fewer agents than are due: with `--agents` so many, and each with a row where there is a scenario.",
         example: "",
-        answer: "",
+        answer: "rejected AgentCount",
     },
     Entry {
         name: "SizeDiffers",
@@ -209,7 +209,7 @@ static TAPES: [Entry; 9] = [
     Entry {
         name: "NoTape",
         numbers: "",
-        sentence: "With `--tape kept` there has to be a file, and there is none. None was made.",
+        sentence: "There is no file of this name, and none was made: `mapf tape` makes none, nor does `mapf agent` with `--tape kept`.",
         example: "",
         answer: "",
     },

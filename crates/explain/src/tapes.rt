@@ -1,4 +1,5 @@
 //! The faults of tapes.
+use crate::advice::advice_on;
 use crate::faults::Fault;
 use crate::files::{FileKind, NamedFile, file_of, open_again, shown_path};
 use crate::page::Page;
@@ -24,7 +25,7 @@ pub(crate) fn explain_tape<R: Files>(
         page.fill("{}, a tape:\n", &[path]);
         put_content(rt, tape.path, files, told, page);
         put_sentence(told.name(), FileKind::Tape, page);
-        page.say(advice_on(told.fault));
+        page.say(advice_on(told.name(), FileKind::Tape.name()));
     }
 }
 
@@ -45,20 +46,6 @@ fn put_content<R: Files>(
         }
         Fault::TooLong | Fault::TapeExists => put_length(rt, tape, page),
         _ => {}
-    }
-}
-
-fn advice_on(fault: Fault) -> &'static str {
-    match fault {
-        Fault::WrongPlan | Fault::WrongAgent | Fault::TooLong =>
-            "Give the agent the tape that it had with this plan, or a new file for a new run.\n",
-        Fault::Damaged =>
-            "An agent can't tell from it how far it has come: look where it stands before it gets a new tape.\n",
-        Fault::TapeExists => "Without `--tape new` the agent goes on from what the tape has.\n",
-        Fault::NoTape =>
-            "Without `--tape kept` a tape is made, and the agent is taken to stand at its start.\n",
-        Fault::TapeInUse => "Another process is this agent, or was given its tape: end it first.\n",
-        _ => "",
     }
 }
 
@@ -130,14 +117,18 @@ fn put_due(number: u64, page: &mut Page) {
     page.fill("{}, the moves that are finished, in two bytes.\n", &[done]);
 }
 
-/// Puts how many records a tape has.
+/// Puts how many records a tape has, which can't be told of what is no file of bytes.
 fn put_length<R: Files>(rt: &R, path: &str, page: &mut Page) {
-    if let Ok(metadata) = fs::metadata(rt, path) {
-        let length = metadata.len();
-        let (whole, rest) = (length / 10, length % 10);
-        page.fill(
-            "It has {} bytes: {} whole records, and {} bytes behind them.\n",
-            &[length, whole, rest],
-        );
+    match fs::metadata(rt, path) {
+        Ok(metadata) if metadata.is_file() => {
+            let length = metadata.len();
+            let (whole, rest) = (length / 10, length % 10);
+            page.fill(
+                "It has {} bytes: {} whole records, and {} bytes behind them.\n",
+                &[length, whole, rest],
+            );
+        }
+        Ok(_) => page.say("It is a pipe or a device, and no file of bytes.\n"),
+        Err(_) => {}
     }
 }
