@@ -3,18 +3,29 @@
 _mapf() {
     local commands='map scen row check deps path run agent tape help' word=${COMP_WORDS[COMP_CWORD]} before=${COMP_WORDS[COMP_CWORD - 1]}
     local command='' offers='' at
+    local faults='AgentCount AlreadyMoving AtEnd BadAct BadAgent BadEntry BadEvent BadHeader BadLength BadLine BadMagic BadMove BadNumber BadStart
+        BadTable BadTear BadTerrain BadVersion BadWalk Broken Damaged FieldCount GoalDiffers LineTooLong LongRow MissingRows NoHeader
+        NoRoom NoSuchAgent NoSuchMessage NoSuchRow NoTape NoVersion NotMoving NotTight OpenFailed OutOfGrid OutOfMemory OutOfRange
+        ReadFailed ShortRow SizeDiffers StartDiffers StoreFailed Swap TapeExists TapeFailed TapeInUse TextAfter TooFewRows TooLarge
+        TooLong TooMany Unfinished Vertex Waits WriteFailed WrongAgent WrongPlan'
     COMPREPLY=()
+    # bash takes the = of --name=VALUE for a word of its own.
+    if [[ $word == = ]]; then
+        word=''
+    elif [[ $before == = && COMP_CWORD -gt 1 ]]; then
+        before=${COMP_WORDS[COMP_CWORD - 2]}
+    fi
     for ((at = 1; at < COMP_CWORD; at++)); do
         # Behind this each word is a file or a number.
         [[ ${COMP_WORDS[at]} == -- ]] && return 0
         [[ -z $command && ${COMP_WORDS[at]} != -* ]] && command=${COMP_WORDS[at]}
     done
     case $command:$before in
-        check:--scen | deps:--cell | path:--agent) return 0 ;;
+        check:--scen | check:--agents | deps:--cell | path:--agent) return 0 ;;
         agent:--tape) mapfile -t COMPREPLY < <(compgen -W 'new kept' -- "$word"); return ;;
-        help:*) offers="$commands faults" ;;
+        help:*) offers="$commands faults $faults" ;;
         :*) offers="$commands -h --help -V --version" ;;
-        check:*) offers='--scen --json --explain -h --help' ;;
+        check:*) offers='--scen --agents --json --explain -h --help' ;;
         deps:*) offers='--cell --explain -h --help' ;;
         path:*) offers='--agent --explain -h --help' ;;
         run:*) offers='--complete --explain -h --help' ;;

@@ -61,6 +61,11 @@ COMMANDS = [
     ("check M P --scen=--scen", ACCEPTED),
     ("check M -- --json", ACCEPTED),
     ("check -- -h --json", ACCEPTED),
+    ("check M P --agents 2", ACCEPTED),
+    ("check --agents=2 M P", ACCEPTED),
+    ("check M --agents 000000000000000002 P --json", JSON),
+    ("check M P --agents 2 --scen S", ACCEPTED),
+    ("check M O --agents 0", "accepted agents 0 cost 0 makespan 0\n"),
     ("deps M P", NEEDS),
     ("deps M -- --json", NEEDS),
     ("deps -- -h P", NEEDS),
@@ -185,7 +190,24 @@ OTHER_FILES = [
     ("tape M P 0 P", 1, "TooLong"),
     ("tape N P 0 K", 3, "OpenFailed"),
     ("tape M N 0 K", 3, "OpenFailed"),
-    ("tape M P 0 N", 3, "OpenFailed"),
+    ("tape M P 0 M/N", 3, "OpenFailed"),
+    ("tape M P 0 N", 1, "NoTape"),
+    ("tape M P 2 no/N", 1, "NoTape"),
+    ("tape N P 0 N", 3, "OpenFailed"),
+]
+
+# Plans that are valid and rejected all the same, and why.
+REJECTED = [
+    ("check M P --agents 1", "AgentCount"),
+    ("check M P --agents 3", "AgentCount"),
+    ("check M P --agents 0", "AgentCount"),
+    ("check M P --agents 65535", "AgentCount"),
+    ("check M O --agents 1", "AgentCount"),
+    # Rows are counted before agents, and agents before each row is looked at.
+    ("check M P --agents 3 --scen S", "AgentCount"),
+    ("check M P --scen S --agents 1", "AgentCount"),
+    ("check M P --agents 4 --scen S", "TooFewRows"),
+    ("check M O --agents 4 --scen S", "TooFewRows"),
 ]
 
 # Words that are no command, each with what is named as wrong or missing, and how the command is used.
@@ -236,6 +258,13 @@ BAD = [
     ("check M P -j", "-j", "Usage: mapf check"),
     ("check M P -s S", "-s", "Usage: mapf check"),
     ("check M P --version", "--version", "Usage: mapf check"),
+    ("check M P --agents", "'--agents <agents>'", "--help"),
+    ("check M P --agents 2 --agents 2", "--agents", "Usage: mapf check"),
+    ("check M P --agents -1", "'-1'", "--help"),
+    ("check M P --agents 65536", "--agents", "from 0 to 65535"),
+    ("check M P --agents 4294967298", "--agents", "from 0 to 65535"),
+    ("check M P --agents two", "--agents", "from 0 to 65535"),
+    ("path M P --agents 1", "'--agents'", "Usage: mapf path"),
     ("deps", "<map>", "Usage: mapf deps <map> <plan>"),
     ("deps M", "<plan>", "Usage: mapf deps <map> <plan>"),
     ("deps M P X", "'X'", "Usage: mapf deps [OPTIONS] <map> <plan>"),
@@ -345,6 +374,7 @@ WHOLE = {
     "run M P": refusal("the following required arguments were not provided:\n  <events>", "run <map> <plan> <events>"),
     "check M P --scen": refusal("a value is required for '--scen <scen>' but none was supplied"),
     "check M P --json --json": refusal("the argument '--json' cannot be used multiple times", "check [OPTIONS] <map> <plan>"),
+    "check M P --agents 2x": refusal("invalid value for '--agents <agents>': a number from 0 to 65535 is wanted, in digits alone", "check [OPTIONS] <map> <plan>"),
     "row M S 1x": refusal("invalid value '1x' for '<row>': a number from 0 to 4294967295 is wanted, in digits alone", "row [OPTIONS] <map> <scen> <row>"),
     "deps M P --cell 1": refusal("2 values required for '--cell <X> <Y>' but 1 was provided", "deps [OPTIONS] <map> <plan>"),
     "deps M P --cell 1 x": refusal(
@@ -425,6 +455,8 @@ def commands(harness: Harness) -> Iterator[Outcome]:
         explained = harness.mapf([*line.split(), "--explain"], folder=harness.folder(FILES))
         wrote = (explained.status, explained.out, explained.err[: len(ended.err)])
         yield compared(f"{line} --explain", f"mapf {line} --explain", wrote, (status, b"", ended.err))
+    for line, fault in REJECTED:
+        yield ended_as(line, f"mapf {line}", harness.mapf(line.split(), folder=harness.folder(FILES)), Ended(1, f"rejected {fault}\n".encode(), b""))
 
 
 def inputs(harness: Harness) -> Iterator[Outcome]:

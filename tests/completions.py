@@ -43,7 +43,10 @@ def outcomes(harness: Harness) -> Iterator[Outcome]:
     yield compared("commands", "mapf help", len(commands) > 8 and "help" in commands, True)
     yield offers("", [*commands, *options(text)])
     yield offers("-", options(text))
-    yield offers("help ", [*commands, "faults"])
+    faults = re.findall(r"(?m)^  (\w+)", harness.mapf(["help", "faults"]).out.decode())
+    yield compared("faults", "mapf help faults", len(set(faults)) > 50 and "NoTape" in faults, True)
+    yield offers("help ", [*commands, "faults", *set(faults)])
+    yield offers("help Wrong", ["WrongAgent", "WrongPlan"])
     for command in commands:
         yield offers(command[:-1], [it for it in commands if it.startswith(command[:-1])])
         if command == "help":
@@ -59,5 +62,8 @@ def outcomes(harness: Harness) -> Iterator[Outcome]:
             yield offers(words, [])
     yield offers("agent M P 0 T --tape ", ["kept", "new"])
     yield offers("agent --tape n", ["new"])
-    for words in ("check M P --scen ", "check M P --scen -", "deps M P --cell ", "path M P --agent "):
+    # So bash divides --tape=n.
+    yield offers("agent M P 0 T --tape =", ["kept", "new"])
+    yield offers("agent --tape = n", ["new"])
+    for words in ("check M P --scen ", "check M P --scen -", "check M P --agents ", "check M P --agents = ", "deps M P --cell ", "path M P --agent "):
         yield offers(words, [])

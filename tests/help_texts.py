@@ -27,11 +27,13 @@ Status:
   0  done
   1  a text or a plan has a fault, or the answer is no
   2  a bad command line
-  3  a file can't be opened, a device failed, or memory was refused
+  3  a file can't be opened (--explain says which, and why), a device failed, or
+     memory was refused
 
 `mapf help COMMAND` shows the answer, the statuses and an example of a command.
-`mapf help faults` lists all faults, and `mapf help FAULT` shows one. With
---explain a command says more about its fault than the line.
+`mapf help faults` lists all faults, and `mapf help FAULT` shows one, and what
+to do about it. With --explain a command says more about its fault than the
+line.
 """
 
 COMMANDS = {
@@ -53,7 +55,8 @@ Status:
   0  the text is written
   1  the map has a fault: one line on standard error, as `mapf: ShortRow 6`
   2  a bad command line
-  3  the file can't be opened, a device failed, or memory was refused
+  3  the file can't be opened (--explain says why), a device failed, or memory
+     was refused
 
 Example:
   mapf map examples/corner.map
@@ -77,7 +80,8 @@ Status:
   0  the text is written
   1  the scenario has a fault: one line on standard error, as `mapf: NoVersion`
   2  a bad command line
-  3  the file can't be opened, a device failed, or memory was refused
+  3  the file can't be opened (--explain says why), a device failed, or memory
+     was refused
 
 Example:
   mapf scen examples/corner.scen
@@ -107,7 +111,8 @@ Status:
   1  the answer is `differs` or `unreachable`, a text has a fault, or the row
      isn't there or lists another size than that of the map
   2  a bad command line
-  3  a file can't be opened, a device failed, or memory was refused
+  3  a file can't be opened (--explain says which, and why), a device failed, or
+     memory was refused
 
 Example:
   mapf row examples/corner.map examples/corner.scen 0
@@ -122,21 +127,24 @@ Arguments:
   <plan>  The file of the plan
 
 Options:
-      --scen <scen>  The file of a scenario that the plan is to solve
-      --json         Writes the answer as JSON
-      --explain      Explains a fault, behind its line
-  -h, --help         Print help
+      --scen <scen>      The file of a scenario that the plan is to solve
+      --agents <agents>  How many agents the plan is to have
+      --json             Writes the answer as JSON
+      --explain          Explains a fault, behind its line
+  -h, --help             Print help
 
 Standard output is one line:
   accepted agents K cost C makespan M   the plan is valid
   rejected FAULT                        it isn't, and this is its least fault
-With --scen the plan must also solve the first rows of the scenario.
+With --scen the plan must also solve the first rows of the scenario, as many as
+it has agents. With --agents it must have that many.
 
 Status:
   0  the answer is `accepted`
   1  the answer is `rejected`, or a text has a fault
   2  a bad command line
-  3  a file can't be opened, a device failed, or memory was refused
+  3  a file can't be opened (--explain says which, and why), a device failed, or
+     memory was refused
 
 Example:
   mapf check examples/corner.map examples/corner.plan --scen examples/corner.scen
@@ -168,7 +176,8 @@ Status:
   0  the lines are written
   1  a text or the plan has a fault: one line on standard error
   2  a bad command line
-  3  a file can't be opened, a device failed, or memory was refused
+  3  a file can't be opened (--explain says which, and why), a device failed, or
+     memory was refused
 
 Example:
   mapf deps examples/turn.map examples/turn.plan
@@ -198,7 +207,8 @@ Status:
   1  a text has a fault, an agent has a bad start or a bad move, or there is no
      such agent: one line on standard error, as `mapf: BadMove 0 3`
   2  a bad command line
-  3  a file can't be opened, a device failed, or memory was refused
+  3  a file can't be opened (--explain says which, and why), a device failed, or
+     memory was refused
 
 Example:
   mapf path examples/plain.map examples/behind.plan
@@ -231,7 +241,8 @@ Status:
   1  a text or the plan has a fault: one line on standard error, behind the
      replies to the events before it; or the answer is `blocked`
   2  a bad command line
-  3  a file can't be opened, a device failed, or memory was refused
+  3  a file can't be opened (--explain says which, and why), a device failed, or
+     memory was refused
 
 Example:
   mapf run examples/plain.map examples/behind.plan examples/behind.events
@@ -275,9 +286,9 @@ Status:
   1  a text or the plan has a fault, there is no such agent, or the tape is
      refused: one line on standard error
   2  a bad command line
-  3  a file can't be opened, a device failed, another process holds the tape,
-     memory was refused, or the answer was `refused StoreFailed`: start the
-     agent again
+  3  a file can't be opened (--explain says which, and why), a device failed,
+     another process holds the tape, memory was refused, or the answer was
+     `refused StoreFailed`: start the agent again
 
 Example:
   mapf agent examples/plain.map examples/behind.plan 0 robot0.tape
@@ -308,10 +319,11 @@ it.
 
 Status:
   0  the lines are written
-  1  a text or the plan has a fault, there is no such agent, or the tape is
-     refused: one line on standard error
+  1  a text or the plan has a fault, there is no such agent, there is no such
+     tape, or it is refused: one line on standard error
   2  a bad command line
-  3  a file can't be opened, a device failed, or memory was refused
+  3  a file can't be opened (--explain says which, and why), a device failed, or
+     memory was refused
 
 Example:
   mapf tape examples/plain.map examples/behind.plan 0 robot0.tape

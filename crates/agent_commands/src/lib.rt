@@ -8,4 +8,4 @@ mod tape_command;
 mod tape_report;
 
 pub use agent_command::{agent_claim_cmd, agent_cmd};
-pub use tape_command::tape_cmd;
+pub use tape_command::{no_tape_cmd, tape_cmd};

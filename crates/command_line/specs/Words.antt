@@ -62,7 +62,7 @@ abbrev pub check_command : Usage
 check_command = record {
   name = codes "check";
   required = codes "map" ∷ codes "plan" ∷ [];
-  options = codes "scen" ∷ [];
+  options = codes "scen" ∷ codes "agents" ∷ [];
   cells = [];
   flags = codes "json" ∷ explain_flag ∷ [];
 }
@@ -197,12 +197,14 @@ abbrev pub GivesClaim : Text → List Row → Type 0
 GivesClaim option rows = (word : Text) → first_of option rows ≡ Some word → (claim : TapeClaim) × SaysClaim claim word
 
 -- The values that the command with this name wants, if it wants some, are such: the number of a row is spelled, and is below 2^32, that of an
--- agent, with its tape too, below 2^16, and those of a cell, or of one agent, where one is given; and what is claimed of a tape is said.
+-- agent, with its tape too, below 2^16, and those of a cell, of one agent, or of how many there are, where one is given; and what is claimed of
+-- a tape is said.
 abbrev pub HasValues : Text → List Row → Type 0
 HasValues name rows =
     (name ≡ codes "row" → GivesNumberBelow (2 ^ 32) (codes "row") rows) × (name ≡ codes "agent" → GivesNumberBelow (2 ^ 16) (codes "id") rows)
     × (name ≡ codes "deps" → GivesCells (codes "cell") rows) × (name ≡ codes "path" → GivesNumbers (2 ^ 16) (codes "agent") rows)
     × (name ≡ codes "agent" → GivesClaim (codes "tape") rows) × (name ≡ codes "tape" → GivesNumberBelow (2 ^ 16) (codes "id") rows)
+    × (name ≡ codes "check" → GivesNumbers (2 ^ 16) (codes "agents") rows)
 
 -- the same of the words of the command line
 abbrev pub GiveValues : List Text → Type 0
@@ -225,10 +227,10 @@ IsCommand name rows (Scen file explain) =
 IsCommand name rows (row_line map_file scen_file row explain) =
     (name ≡ codes "row") × (first_of (codes "map") rows ≡ Some (string_bytes map_file))
     × (first_of (codes "scen") rows ≡ Some (string_bytes scen_file)) × GivesNumber (codes "row") rows row × AsksToExplain rows explain
-IsCommand name rows (Check map_file plan_file scen_file json explain) =
+IsCommand name rows (Check map_file plan_file scen_file agents json explain) =
     (name ≡ codes "check") × (first_of (codes "map") rows ≡ Some (string_bytes map_file))
     × (first_of (codes "plan") rows ≡ Some (string_bytes plan_file)) × (first_of (codes "scen") rows ≡ option_map string_bytes scen_file)
-    × (json ≡ true ↔ IsFlagGiven (codes "json") rows) × AsksToExplain rows explain
+    × MayGiveNumber (codes "agents") rows agents × (json ≡ true ↔ IsFlagGiven (codes "json") rows) × AsksToExplain rows explain
 IsCommand name rows (Deps map_file plan_file cell explain) =
     (name ≡ codes "deps") × (first_of (codes "map") rows ≡ Some (string_bytes map_file))
     × (first_of (codes "plan") rows ≡ Some (string_bytes plan_file)) × MayGiveCell (codes "cell") rows cell × AsksToExplain rows explain

@@ -31,11 +31,13 @@ pub enum Line {
         row: u32,
         explain: bool,
     },
-    /// Checks a plan on a map, and perhaps that it solves the first rows of a scenario; `json` asks for the answer as JSON.
+    /// Checks a plan on a map, and perhaps that it solves the first rows of a scenario, or has so many agents; `json` asks for the answer as
+    /// JSON.
     Check {
         map: String,
         plan: String,
         scen: Option<String>,
+        agents: Option<u16>,
         json: bool,
         explain: bool,
     },

@@ -39,11 +39,13 @@ Status:
   0  done
   1  a text or a plan has a fault, or the answer is no
   2  a bad command line
-  3  a file can't be opened, a device failed, or memory was refused
+  3  a file can't be opened (--explain says which, and why), a device failed, or
+     memory was refused
 
 `mapf help COMMAND` shows the answer, the statuses and an example of a command.
-`mapf help faults` lists all faults, and `mapf help FAULT` shows one. With
---explain a command says more about its fault than the line.";
+`mapf help faults` lists all faults, and `mapf help FAULT` shows one, and what
+to do about it. With --explain a command says more about its fault than the
+line.";
 
 pub(crate) const MAP: CommandText<'static> = CommandText {
     name: "map",
@@ -55,7 +57,8 @@ Status:
   0  the text is written
   1  the map has a fault: one line on standard error, as `mapf: ShortRow 6`
   2  a bad command line
-  3  the file can't be opened, a device failed, or memory was refused
+  3  the file can't be opened (--explain says why), a device failed, or memory
+     was refused
 
 Example:
   mapf map examples/corner.map",
@@ -73,7 +76,8 @@ Status:
   0  the text is written
   1  the scenario has a fault: one line on standard error, as `mapf: NoVersion`
   2  a bad command line
-  3  the file can't be opened, a device failed, or memory was refused
+  3  the file can't be opened (--explain says why), a device failed, or memory
+     was refused
 
 Example:
   mapf scen examples/corner.scen",
@@ -95,7 +99,8 @@ Status:
   1  the answer is `differs` or `unreachable`, a text has a fault, or the row
      isn't there or lists another size than that of the map
   2  a bad command line
-  3  a file can't be opened, a device failed, or memory was refused
+  3  a file can't be opened (--explain says which, and why), a device failed, or
+     memory was refused
 
 Example:
   mapf row examples/corner.map examples/corner.scen 0",
@@ -114,13 +119,15 @@ pub(crate) const CHECK: CommandText<'static> = CommandText {
 Standard output is one line:
   accepted agents K cost C makespan M   the plan is valid
   rejected FAULT                        it isn't, and this is its least fault
-With --scen the plan must also solve the first rows of the scenario.
+With --scen the plan must also solve the first rows of the scenario, as many as
+it has agents. With --agents it must have that many.
 
 Status:
   0  the answer is `accepted`
   1  the answer is `rejected`, or a text has a fault
   2  a bad command line
-  3  a file can't be opened, a device failed, or memory was refused
+  3  a file can't be opened (--explain says which, and why), a device failed, or
+     memory was refused
 
 Example:
   mapf check examples/corner.map examples/corner.plan --scen examples/corner.scen",
@@ -128,6 +135,7 @@ Example:
         Required("map", "The file of the map"),
         Required("plan", "The file of the plan"),
         Named("scen", "The file of a scenario that the plan is to solve"),
+        Named("agents", "How many agents the plan is to have"),
         Flag("json", "Writes the answer as JSON"),
         EXPLAIN,
     ],
@@ -150,7 +158,8 @@ Status:
   0  the lines are written
   1  a text or the plan has a fault: one line on standard error
   2  a bad command line
-  3  a file can't be opened, a device failed, or memory was refused
+  3  a file can't be opened (--explain says which, and why), a device failed, or
+     memory was refused
 
 Example:
   mapf deps examples/turn.map examples/turn.plan",
@@ -177,7 +186,8 @@ Status:
   1  a text has a fault, an agent has a bad start or a bad move, or there is no
      such agent: one line on standard error, as `mapf: BadMove 0 3`
   2  a bad command line
-  3  a file can't be opened, a device failed, or memory was refused
+  3  a file can't be opened (--explain says which, and why), a device failed, or
+     memory was refused
 
 Example:
   mapf path examples/plain.map examples/behind.plan",
@@ -206,7 +216,8 @@ Status:
   1  a text or the plan has a fault: one line on standard error, behind the
      replies to the events before it; or the answer is `blocked`
   2  a bad command line
-  3  a file can't be opened, a device failed, or memory was refused
+  3  a file can't be opened (--explain says which, and why), a device failed, or
+     memory was refused
 
 Example:
   mapf run examples/plain.map examples/behind.plan examples/behind.events",
@@ -246,9 +257,9 @@ Status:
   1  a text or the plan has a fault, there is no such agent, or the tape is
      refused: one line on standard error
   2  a bad command line
-  3  a file can't be opened, a device failed, another process holds the tape,
-     memory was refused, or the answer was `refused StoreFailed`: start the
-     agent again
+  3  a file can't be opened (--explain says which, and why), a device failed,
+     another process holds the tape, memory was refused, or the answer was
+     `refused StoreFailed`: start the agent again
 
 Example:
   mapf agent examples/plain.map examples/behind.plan 0 robot0.tape",
@@ -280,10 +291,11 @@ it.
 
 Status:
   0  the lines are written
-  1  a text or the plan has a fault, there is no such agent, or the tape is
-     refused: one line on standard error
+  1  a text or the plan has a fault, there is no such agent, there is no such
+     tape, or it is refused: one line on standard error
   2  a bad command line
-  3  a file can't be opened, a device failed, or memory was refused
+  3  a file can't be opened (--explain says which, and why), a device failed, or
+     memory was refused
 
 Example:
   mapf tape examples/plain.map examples/behind.plan 0 robot0.tape",
@@ -324,6 +336,15 @@ pub(crate) const NO_AGENT_NUMBER: &str =
     "error: invalid value for '--agent <agent>': the number of an agent, from 0 to 65535, is wanted, in digits alone
 
 Usage: mapf path [OPTIONS] <map> <plan>
+
+For more information, try '--help'.
+";
+
+/// What is said of a word that is no number of agents.
+pub(crate) const NO_AGENT_COUNT: &str =
+    "error: invalid value for '--agents <agents>': a number from 0 to 65535 is wanted, in digits alone
+
+Usage: mapf check [OPTIONS] <map> <plan>
 
 For more information, try '--help'.
 ";

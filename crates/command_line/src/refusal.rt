@@ -122,7 +122,7 @@ fn unknown_argument(
 fn takes_number(words: &[String]) -> bool {
     matches!(
         command_name(words),
-        "row" | "deps" | "path" | "agent" | "tape"
+        "row" | "check" | "deps" | "path" | "agent" | "tape"
     )
 }
 

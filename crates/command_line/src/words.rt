@@ -139,13 +139,15 @@ fn read_row(alloc: Global, given: &ArgMatches<'_>) -> Result<Line, LineFault>
 /// Reads `check` by the words that it was given.
 fn read_check(alloc: Global, given: &ArgMatches<'_>) -> Result<Line, LineFault>
     ensures ok { IfOk result (IsCommand (codes "check") (rows_of (found_of given.now))) }
-    ensures err { IfErr result (λ e. HasWords (codes "check") (rows_of (found_of given.now)) → e ≡ LineFault.OutOfMemory) }
+    ensures err { IfErr result (λ e. HasWords (codes "check") (rows_of (found_of given.now)) → HasValues (codes "check") (rows_of (found_of given.now))
+        → e ≡ LineFault.OutOfMemory) }
     ensures refusal { IfErr result IsRefusal }
 {
     Ok(Line::Check {
         map: word(alloc, given, "map")?,
         plan: word(alloc, given, "plan")?,
         scen: optional_word(alloc, given, "scen")?,
+        agents: optional_number(alloc, given, "agents", help::NO_AGENT_COUNT)?,
         json: has_flag(given, "json"),
         explain: asks_to_explain(given),
     })
@@ -176,7 +178,7 @@ fn read_path(alloc: Global, given: &ArgMatches<'_>) -> Result<Line, LineFault>
     Ok(Line::Path {
         map: word(alloc, given, "map")?,
         plan: word(alloc, given, "plan")?,
-        agent: optional_agent(alloc, given)?,
+        agent: optional_number(alloc, given, "agent", help::NO_AGENT_NUMBER)?,
         explain: asks_to_explain(given),
     })
 }
@@ -253,18 +255,23 @@ fn agent_id(alloc: Global, given: &ArgMatches<'_>, text: &NumberText) -> Result<
     }
 }
 
-/// The number of the agent that was given as an option, if one was.
-fn optional_agent(alloc: Global, given: &ArgMatches<'_>) -> Result<Option<u16>, LineFault>
-    ensures ok { IfOk result (MayGiveNumber (codes "agent") (rows_of (found_of given.now))) }
-    ensures none { OnErr result (GivesNumbers (2 ^ 16) (codes "agent") (rows_of (found_of given.now)) → ⊥) }
+/// The number that an option was given, if it was given one. The text is what is said of a word that is none.
+fn optional_number(
+    alloc: Global,
+    given: &ArgMatches<'_>,
+    name: &str,
+    text: &str,
+) -> Result<Option<u16>, LineFault>
+    ensures ok { IfOk result (MayGiveNumber name.now (rows_of (found_of given.now))) }
+    ensures none { OnErr result (GivesNumbers (2 ^ 16) name.now (rows_of (found_of given.now)) → ⊥) }
     ensures err { IfErr result IsRefusal }
 {
-    let Some(digits) = given.get_str("agent") else {
+    let Some(digits) = given.get_str(name) else {
         return Ok(None);
     };
     match spelled_short(digits) {
-        Some(agent) => Ok(Some(agent)),
-        None => Err(LineFault::bad_command(alloc, help::NO_AGENT_NUMBER)),
+        Some(number) => Ok(Some(number)),
+        None => Err(LineFault::bad_command(alloc, text)),
     }
 }
 

@@ -1,11 +1,12 @@
 -- What each command does with its files, each as it was opened: which file was opened for which word no clause can say.
-use Rattle.std.specs.Prelude.{◌≡◌, ℕ, ◌⊎◌, Bool, List, Option, Some, None, codes}
+use Rattle.std.specs.Prelude.{◌≡◌, ℕ, ◌⊎◌, Bool, List, Option, Some, None, Err, codes}
 use Rattle.clap.specs.Words.{Text}
 use Rattle.grid.specs.declared.cell.Cell.{Cell}
 use Rattle.grid.specs.declared.counted.Counted.{Counted}
 use Rattle.tape_claim.specs.declared.TapeClaim.{TapeClaim}
 use Rattle.agent_commands.specs.AgentCommand.{AnswersAgent}
-use Rattle.agent_commands.specs.TapeCommand.{AnswersTape}
+use Rattle.agent_commands.specs.TapeCommand.{AnswersTape, EndsByTape}
+use Rattle.agent_commands.specs.declared.agent_fault.AgentFault.TheVariants.{NoTape}
 use Rattle.path_commands.specs.PathCommand.{AnswersPath}
 use Rattle.plan_commands.specs.CheckCommand.{AnswersCheck, AnswersCheckFit}
 use Rattle.plan_commands.specs.DepsCellCommand.{AnswersDepsCell}
@@ -45,12 +46,12 @@ RowOn {F} remaining contents Told row old new code =
 -- `check` read a map and a plan, and a scenario where one is named
 abbrev pub CheckOn
     : {F W S : Type 0} → (F → Option (List ℕ)) → (W → Option (List ℕ)) → (Told : Option (List (List ℕ)) → Type 0)
-    → Option S → Bool → Counted W → Counted W → ℕ → Type 0
-CheckOn {F} remaining contents Told None json old new code =
-    (m n : Counted F) × (p q : Counted F) × AnswersCheck remaining remaining contents Told m n p q json old new code
-CheckOn {F} remaining contents Told (Some scen) json old new code =
+    → Option S → Option ℕ → Bool → Counted W → Counted W → ℕ → Type 0
+CheckOn {F} remaining contents Told None due json old new code =
+    (m n : Counted F) × (p q : Counted F) × AnswersCheck remaining remaining contents Told m n p q due json old new code
+CheckOn {F} remaining contents Told (Some scen) due json old new code =
     (m n : Counted F) × (p q : Counted F) × (s t : Counted F)
-    × AnswersCheckFit remaining remaining remaining contents Told m n p q s t json old new code
+    × AnswersCheckFit remaining remaining remaining contents Told m n p q s t due json old new code
 
 -- `deps` read a map and a plan
 abbrev pub DepsOn
@@ -83,9 +84,10 @@ abbrev pub AgentOn
 AgentOn {F} remaining input_left contents Told id claim old_in new_in old new code =
     (m n : Counted F) × (p q : Counted F) × AnswersAgent remaining remaining remaining input_left contents Told claim id m n p q old_in new_in old new code
 
--- `tape` read a map, a plan and the file of a tape
+-- `tape` read a map, a plan and the file of a tape; or there is no such file, and it said so
 abbrev pub TapeOn
     : {F W : Type 0} → (F → Option (List ℕ)) → (W → Option (List ℕ)) → (Told : Option (List (List ℕ)) → Type 0)
     → ℕ → Counted W → Counted W → ℕ → Type 0
 TapeOn {F} remaining contents Told id old new code =
-    (m n : Counted F) × (p q : Counted F) × (s t : Counted F) × AnswersTape remaining remaining remaining contents Told id m n p q s t old new code
+    ((m n : Counted F) × (p q : Counted F) × (s t : Counted F) × AnswersTape remaining remaining remaining contents Told id m n p q s t old new code)
+    ⊎ EndsByTape contents Told old new code (Err NoTape)

@@ -33,8 +33,8 @@ PerformsOn remaining input_left contents Told (Scen file explain) old_in new_in 
     ScenOn remaining input_left contents Told (string_bytes file) old_in new_in old new code
 PerformsOn remaining input_left contents Told (Row map_file scen_file row explain) old_in new_in old new code =
     RowOn remaining contents Told row old new code × (new_in ≡ old_in)
-PerformsOn remaining input_left contents Told (Check map_file plan_file scen_file json explain) old_in new_in old new code =
-    CheckOn remaining contents Told scen_file json old new code × (new_in ≡ old_in)
+PerformsOn remaining input_left contents Told (Check map_file plan_file scen_file agents json explain) old_in new_in old new code =
+    CheckOn remaining contents Told scen_file agents json old new code × (new_in ≡ old_in)
 PerformsOn remaining input_left contents Told (Deps map_file plan_file cell explain) old_in new_in old new code =
     DepsOn remaining contents Told cell old new code × (new_in ≡ old_in)
 PerformsOn remaining input_left contents Told (Path map_file plan_file agent explain) old_in new_in old new code =
@@ -71,7 +71,7 @@ abbrev pub is_explained : Line → Bool
 is_explained (Map file explain) = explain
 is_explained (Scen file explain) = explain
 is_explained (Row map_file scen_file row explain) = explain
-is_explained (Check map_file plan_file scen_file json explain) = explain
+is_explained (Check map_file plan_file scen_file agents json explain) = explain
 is_explained (Deps map_file plan_file cell explain) = explain
 is_explained (Path map_file plan_file agent explain) = explain
 is_explained (Run map_file plan_file events_file complete explain) = explain

@@ -3,12 +3,12 @@ ghost use Rattle.std.specs.Prelude.{◌≡◌, MatchResult};
 ghost use Rattle.text_commands.specs.Telling.{Tells};
 ghost use Rattle.mapf_cmd.specs.OnFiles.{AgentOn, CheckOn, DepsOn, MapOn, PathOn, RowOn, RunOn, ScenOn, TapeOn};
 
-use agent_commands::{agent_claim_cmd, tape_cmd};
+use agent_commands::{agent_claim_cmd, no_tape_cmd, tape_cmd};
 use grid::{Cell, Counted};
 use path_commands::path_cmd;
 use plan_commands::{check_cmd, check_fit_cmd, deps_cell_cmd, deps_cmd};
 use run_commands::run_cmd;
-use std::io::{Read, Write};
+use std::io::{ErrorKind, Read, Write};
 use std::rt::Files;
 use std::{fs, io};
 use tape_claim::{LockFile, TapeClaim};
@@ -78,19 +78,29 @@ pub(crate) fn check_on_files<R: Files + AllocGlobal, W: Write, E: Write>(
     map: &str,
     plan: &str,
     scen: &Option<String>,
+    due: Option<u16>,
     json: bool,
     out: &mut Counted<W>,
     err: &mut Counted<E>,
 ) -> io::Result<u8>
-    ensures { MatchResult result (CheckOn R.File.remaining W.contents (Tells E.contents err.old err.new) scen.now json out.old out.new) (λ _. (out.new ≡ out.old) × (err.new ≡ err.old)) }
+    ensures { MatchResult result (CheckOn R.File.remaining W.contents (Tells E.contents err.old err.new) scen.now due json out.old out.new) (λ _. (out.new ≡ out.old) × (err.new ≡ err.old)) }
 {
     let mut map = Counted::new(fs::open(rt, map)?);
     let mut plan = Counted::new(fs::open(rt, plan)?);
     match scen {
-        None => Ok(check_cmd(rt.alloc(), &mut map, &mut plan, json, out, err)),
+        None => Ok(check_cmd(rt.alloc(), &mut map, &mut plan, due, json, out, err)),
         Some(scen) => {
             let mut scen = Counted::new(fs::open(rt, scen)?);
-            Ok(check_fit_cmd(rt.alloc(), &mut map, &mut plan, &mut scen, json, out, err))
+            Ok(check_fit_cmd(
+                rt.alloc(),
+                &mut map,
+                &mut plan,
+                &mut scen,
+                due,
+                json,
+                out,
+                err,
+            ))
         }
     }
 }
@@ -177,7 +187,7 @@ where
     Ok(agent_claim_cmd(rt, &mut map, &mut plan, id, tape, claim, input, out, err))
 }
 
-/// Performs `tape` on its files, of which it writes none.
+/// Performs `tape` on its files, of which it writes none. That the tape has none is a fault of its own.
 pub(crate) fn tape_on_files<R: Files + AllocGlobal, W: Write, E: Write>(
     rt: &R,
     map: &str,
@@ -191,6 +201,12 @@ pub(crate) fn tape_on_files<R: Files + AllocGlobal, W: Write, E: Write>(
 {
     let mut map = Counted::new(fs::open(rt, map)?);
     let mut plan = Counted::new(fs::open(rt, plan)?);
-    let mut tape = Counted::new(fs::open(rt, tape)?);
-    Ok(tape_cmd(rt.alloc(), &mut map, &mut plan, id, &mut tape, out, err))
+    match fs::open(rt, tape) {
+        Ok(file) => {
+            let mut tape = Counted::new(file);
+            Ok(tape_cmd(rt.alloc(), &mut map, &mut plan, id, &mut tape, out, err))
+        }
+        Err(error) if error.kind() == ErrorKind::NotFound => Ok(no_tape_cmd(out, err)),
+        Err(error) => Err(error),
+    }
 }

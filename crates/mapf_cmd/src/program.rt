@@ -216,9 +216,10 @@ where
             map,
             plan,
             scen,
+            agents,
             json,
             ..
-        } => check_on_files(rt, map, plan, scen, *json, out, err),
+        } => check_on_files(rt, map, plan, scen, *agents, *json, out, err),
         Line::Deps {
             map,
             plan,

@@ -1,5 +1,5 @@
 -- What `mapf check` does and answers.
-use Rattle.std.specs.Prelude.{◌≡◌, ℕ, ◌⊎◌, Bool, List, length, Option, Some, Result, Ok, Err}
+use Rattle.std.specs.Prelude.{◌≡◌, ℕ, ◌⊎◌, Bool, List, length, Option, None, Some, unwrap_or, Result, Ok, Err}
 use Rattle.grid.specs.declared.counted.Counted.{Counted}
 use Rattle.grid.specs.Map.{Grid}
 use Rattle.model.specs.Costs.{sum_of_costs, makespan}
@@ -10,6 +10,7 @@ use Rattle.plan_text.specs.declared.plan_text_fault.PlanTextFault.{PlanTextFault
 use Rattle.plan.specs.Checking.{Checked, IsCheckOf}
 use Rattle.plan.specs.Fitting.{AnswersFit}
 use Rattle.plan.specs.declared.fit_fault.FitFault.{FitFault}
+use Rattle.plan.specs.declared.fit_fault.FitFault.TheVariants.{AgentCount}
 use Rattle.scen.specs.Query.{Query}
 use Rattle.plan_commands.specs.declared.check_fault.CheckFault.{CheckFault}
 use Rattle.plan_commands.specs.declared.check_fault.CheckFault.TheVariants as check_fault
@@ -51,25 +52,42 @@ ReadsAndChecks map_left plan_left old_map new_map old_plan new_plan (Err (check_
     (m : Grid) × (p : Plan) × ReadsMapAndPlan map_left plan_left old_map new_map old_plan new_plan m p × IsLeastFault m p fault
 ReadsAndChecks map_left plan_left old_map new_map old_plan new_plan (Err (check_fault.Rejected (Unfit fault))) = ⊥
 
--- a scenario was read, and this is the answer to whether the plan solves the first of its rows, as many as it has agents
-abbrev pub ReadsAndFits : {S : Type 0} → (S → Option (List ℕ)) → Counted S → Counted S → Checked → Result Unit FitFault → Type 0
-ReadsAndFits scen_left old_scen new_scen c answer =
-    (rows : List Query) × ReadsScen scen_left old_scen new_scen (Ok rows) × AnswersFit c rows (length c.timetable.tracks) answer
+-- there are as many agents as are due, where that is said
+abbrev pub HasCount : Option ℕ → Checked → Type 0
+HasCount None c = Unit {0}
+HasCount (Some due) c = length c.timetable.tracks ≡ due
+
+-- the same, and where the plan is valid its agents were counted
+abbrev pub ReadsChecksAndCounts
+    : {M P : Type 0} → (M → Option (List ℕ)) → (P → Option (List ℕ)) → Counted M → Counted M → Counted P → Counted P → Option ℕ
+    → Result Checked CheckFault → Type 0
+ReadsChecksAndCounts map_left plan_left old_map new_map old_plan new_plan due (Ok c) =
+    ReadsAndChecks map_left plan_left old_map new_map old_plan new_plan (Ok c) × HasCount due c
+ReadsChecksAndCounts map_left plan_left old_map new_map old_plan new_plan due (Err (check_fault.Rejected (Unfit AgentCount))) =
+    (c : Checked) × ReadsAndChecks map_left plan_left old_map new_map old_plan new_plan (Ok c) × (HasCount due c → ⊥)
+ReadsChecksAndCounts map_left plan_left old_map new_map old_plan new_plan due (Err fault) =
+    ReadsAndChecks map_left plan_left old_map new_map old_plan new_plan (Err fault)
+
+-- A scenario was read, and this is the answer to whether the plan solves the first of its rows: as many as agents are due, or else as
+-- it has.
+abbrev pub ReadsAndFits : {S : Type 0} → (S → Option (List ℕ)) → Counted S → Counted S → Checked → Option ℕ → Result Unit FitFault → Type 0
+ReadsAndFits scen_left old_scen new_scen c due answer =
+    (rows : List Query) × ReadsScen scen_left old_scen new_scen (Ok rows) × AnswersFit c rows (unwrap_or due (length c.timetable.tracks)) answer
 
 -- The map and the plan were read and the plan was checked, and only where it is valid the scenario was read, and the plan held
 -- against its first rows.
 abbrev pub ReadsChecksAndFits
     : {M P S : Type 0} → (M → Option (List ℕ)) → (P → Option (List ℕ)) → (S → Option (List ℕ)) → Counted M → Counted M → Counted P → Counted P
-    → Counted S → Counted S → Result Checked CheckFault → Type 0
-ReadsChecksAndFits map_left plan_left scen_left old_map new_map old_plan new_plan old_scen new_scen (Ok c) =
-    ReadsAndChecks map_left plan_left old_map new_map old_plan new_plan (Ok c) × ReadsAndFits scen_left old_scen new_scen c (Ok tt)
-ReadsChecksAndFits map_left plan_left scen_left old_map new_map old_plan new_plan old_scen new_scen (Err (check_fault.Scen fault)) =
+    → Counted S → Counted S → Option ℕ → Result Checked CheckFault → Type 0
+ReadsChecksAndFits map_left plan_left scen_left old_map new_map old_plan new_plan old_scen new_scen due (Ok c) =
+    ReadsAndChecks map_left plan_left old_map new_map old_plan new_plan (Ok c) × ReadsAndFits scen_left old_scen new_scen c due (Ok tt)
+ReadsChecksAndFits map_left plan_left scen_left old_map new_map old_plan new_plan old_scen new_scen due (Err (check_fault.Scen fault)) =
     (c : Checked) × ReadsAndChecks map_left plan_left old_map new_map old_plan new_plan (Ok c)
     × ReadsScen scen_left old_scen new_scen (Err fault)
-ReadsChecksAndFits map_left plan_left scen_left old_map new_map old_plan new_plan old_scen new_scen (Err (check_fault.Rejected (Unfit fault))) =
+ReadsChecksAndFits map_left plan_left scen_left old_map new_map old_plan new_plan old_scen new_scen due (Err (check_fault.Rejected (Unfit fault))) =
     (c : Checked) × ReadsAndChecks map_left plan_left old_map new_map old_plan new_plan (Ok c)
-    × ReadsAndFits scen_left old_scen new_scen c (Err fault)
-ReadsChecksAndFits map_left plan_left scen_left old_map new_map old_plan new_plan old_scen new_scen (Err fault) =
+    × ReadsAndFits scen_left old_scen new_scen c due (Err fault)
+ReadsChecksAndFits map_left plan_left scen_left old_map new_map old_plan new_plan old_scen new_scen due (Err fault) =
     ReadsAndChecks map_left plan_left old_map new_map old_plan new_plan (Err fault) × (new_scen ≡ old_scen)
 
 -- the line of a verdict was written as every text is; or its text was refused memory, and nothing was written but that
@@ -92,12 +110,12 @@ EndsByCheck contents Told json old new code (Err (check_fault.Rejected rejection
 EndsByCheck contents Told json old new code (Err fault) =
     (code ≡ code_of (check_fault_status fault)) × (new ≡ old) × Told (Some (check_fault_words fault))
 
--- the texts were read and the plan was checked, and the command ended by that
+-- the texts were read, the plan was checked and its agents were counted, and the command ended by that
 pub record AnswersCheck
     {M P W : Type 0} (map_left : M → Option (List ℕ)) (plan_left : P → Option (List ℕ)) (contents : W → Option (List ℕ))
-    (Told : Option (List (List ℕ)) → Type 0) (old_map new_map : Counted M) (old_plan new_plan : Counted P) (json : Bool) (old_out new_out : Counted W) (code : ℕ) : Type 0 where
+    (Told : Option (List (List ℕ)) → Type 0) (old_map new_map : Counted M) (old_plan new_plan : Counted P) (due : Option ℕ) (json : Bool) (old_out new_out : Counted W) (code : ℕ) : Type 0 where
   pub answer : Result Checked CheckFault
-  pub reads : ReadsAndChecks map_left plan_left old_map new_map old_plan new_plan answer
+  pub reads : ReadsChecksAndCounts map_left plan_left old_map new_map old_plan new_plan due answer
   pub ends : EndsByCheck contents Told json old_out new_out code answer
 
 -- the same with a scenario
@@ -105,7 +123,7 @@ pub record AnswersCheckFit
     {M P S W : Type 0} (map_left : M → Option (List ℕ)) (plan_left : P → Option (List ℕ)) (scen_left : S → Option (List ℕ))
     (contents : W → Option (List ℕ)) (Told : Option (List (List ℕ)) → Type 0) (old_map new_map : Counted M) (old_plan new_plan : Counted P)
     (old_scen new_scen : Counted S)
-    (json : Bool) (old_out new_out : Counted W) (code : ℕ) : Type 0 where
+    (due : Option ℕ) (json : Bool) (old_out new_out : Counted W) (code : ℕ) : Type 0 where
   pub answer : Result Checked CheckFault
-  pub reads : ReadsChecksAndFits map_left plan_left scen_left old_map new_map old_plan new_plan old_scen new_scen answer
+  pub reads : ReadsChecksAndFits map_left plan_left scen_left old_map new_map old_plan new_plan old_scen new_scen due answer
   pub ends : EndsByCheck contents Told json old_out new_out code answer

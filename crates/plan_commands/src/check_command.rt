@@ -1,6 +1,6 @@
 //! `mapf check`: checks a plan on a map, and whether it solves the first rows of a scenario.
 ghost use Rattle.std.specs.Prelude.{◌≡◌, Some, Err};
-ghost use Rattle.plan_commands.specs.CheckCommand.{ReadsAndChecks, ReadsChecksAndFits, EndsByCheck, EndsByLine, AnswersCheck, AnswersCheckFit};
+ghost use Rattle.plan_commands.specs.CheckCommand.{ReadsAndChecks, ReadsChecksAndCounts, ReadsChecksAndFits, EndsByCheck, EndsByLine, AnswersCheck, AnswersCheckFit};
 ghost use Rattle.plan_commands.specs.Code.Verdicts.{verdict_line, verdict_status};
 ghost use Rattle.text_commands.specs.Status.{code_of};
 ghost use Rattle.text_commands.specs.Telling.{Tells};
@@ -11,42 +11,45 @@ ghost use Rattle.plan_commands.specs.VerdictText.{IsPlain};
 use crate::check_fault::CheckFault;
 use crate::verdict::{Verdict, verdict_line};
 use grid::{Counted, read_map};
-use plan::{CheckedPlan, check, fits, read_plan};
+use plan::{CheckedPlan, FitFault, check, fits, read_plan};
 use scen::read_scen;
 use std::alloc::Global;
 use std::io::{Read, Write};
 use text_commands::{finish, report, write_text};
 
 /// Reads a map from `map` and a plan from `plan`, and writes the verdict on the plan to `out`, in words or as JSON, with a fault's
-/// line on `err`. The answer is the exit status, which stays where `err` fails.
+/// line on `err`: the plan is accepted only where it has as many agents as are due, where that is said. The answer is the exit status,
+/// which stays where `err` fails.
 pub fn check_cmd<M: Read, P: Read, W: Write, E: Write>(
     alloc: Global,
     map: &mut Counted<M>,
     plan: &mut Counted<P>,
+    due: Option<u16>,
     json: bool,
     out: &mut Counted<W>,
     err: &mut Counted<E>,
 ) -> u8
-    ensures { AnswersCheck M.remaining P.remaining W.contents (Tells E.contents err.old err.new) map.old map.new plan.old plan.new json out.old out.new result }
+    ensures { AnswersCheck M.remaining P.remaining W.contents (Tells E.contents err.old err.new) map.old map.new plan.old plan.new due json out.old out.new result }
 {
-    let answer = read_and_check(alloc, map, plan);
+    let answer = read_check_and_count(alloc, map, plan, due);
     conclude(alloc, answer, json, out, err)
 }
 
 /// The same with a scenario, which is read only where the plan is valid: the plan is accepted only where it also solves the first
-/// rows, as many as it has agents.
+/// rows, as many as agents are due, or else as it has.
 pub fn check_fit_cmd<M: Read, P: Read, S: Read, W: Write, E: Write>(
     alloc: Global,
     map: &mut Counted<M>,
     plan: &mut Counted<P>,
     scen: &mut Counted<S>,
+    due: Option<u16>,
     json: bool,
     out: &mut Counted<W>,
     err: &mut Counted<E>,
 ) -> u8
-    ensures { AnswersCheckFit M.remaining P.remaining S.remaining W.contents (Tells E.contents err.old err.new) map.old map.new plan.old plan.new scen.old scen.new json out.old out.new result }
+    ensures { AnswersCheckFit M.remaining P.remaining S.remaining W.contents (Tells E.contents err.old err.new) map.old map.new plan.old plan.new scen.old scen.new due json out.old out.new result }
 {
-    let answer = read_check_and_fit(alloc, map, plan, scen);
+    let answer = read_check_and_fit(alloc, map, plan, scen, due);
     conclude(alloc, answer, json, out, err)
 }
 
@@ -66,18 +69,41 @@ pub(crate) fn read_and_check<M: Read, P: Read>(
     }
 }
 
+/// The same, and counts the agents of a valid plan.
+fn read_check_and_count<M: Read, P: Read>(
+    alloc: Global,
+    map: &mut Counted<M>,
+    plan: &mut Counted<P>,
+    due: Option<u16>,
+) -> Result<CheckedPlan, CheckFault>
+    ensures { ReadsChecksAndCounts M.remaining P.remaining map.old map.new plan.old plan.new due result }
+{
+    let plan = read_and_check(alloc, map, plan)?;
+    match due {
+        Some(count) if plan.agents() != u32::from(count) => {
+            Err(CheckFault::from(FitFault::AgentCount))
+        }
+        _ => Ok(plan),
+    }
+}
+
 /// Reads the map and the plan and checks the plan, and then reads the scenario and holds the plan against it.
 fn read_check_and_fit<M: Read, P: Read, S: Read>(
     alloc: Global,
     map: &mut Counted<M>,
     plan: &mut Counted<P>,
     scen: &mut Counted<S>,
+    due: Option<u16>,
 ) -> Result<CheckedPlan, CheckFault>
-    ensures { ReadsChecksAndFits M.remaining P.remaining S.remaining map.old map.new plan.old plan.new scen.old scen.new result }
+    ensures { ReadsChecksAndFits M.remaining P.remaining S.remaining map.old map.new plan.old plan.new scen.old scen.new due result }
 {
     let checked = read_and_check(alloc, map, plan)?;
     let scenario = read_scen(alloc, scen)?;
-    fits(&checked, &scenario, checked.agents())?;
+    let count = match due {
+        Some(count) => u32::from(count),
+        None => checked.agents(),
+    };
+    fits(&checked, &scenario, count)?;
     Ok(checked)
 }
 

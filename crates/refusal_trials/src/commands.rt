@@ -77,9 +77,17 @@ fn perform_on_plan(alloc: Global, command: Command, out: &mut Out<'_>, err: &mut
     let map = &mut reader(LANE);
     let plan = &mut reader(BEHIND);
     match command {
-        Command::Check(plan, json) => check_cmd(alloc, map, &mut reader(plan), json, out, err),
+        Command::Check(plan, json) => check_cmd(
+            alloc,
+            map,
+            &mut reader(plan),
+            None,
+            json,
+            out,
+            err,
+        ),
         Command::CheckFit(json) => {
-            check_fit_cmd(alloc, map, plan, &mut reader(TASKS), json, out, err)
+            check_fit_cmd(alloc, map, plan, &mut reader(TASKS), None, json, out, err)
         }
         Command::DepsOfCell => deps_cell_cmd(alloc, map, plan, Cell { x: 1, y: 0 }, out, err),
         Command::Path(agent) => path_cmd(alloc, map, plan, agent, out, err),

@@ -7,12 +7,12 @@ use Rattle.mapf_cmd.proofs.on_files.check_on_files.Goals as goal
 
 pub returns-in-None : goal.returns-in-None
 returns-in-None g c =
-    let Ends : Option (String Global) → Type 0 = λ scen. CheckOn g.R.File.Read.remaining g.W.Write.contents (Tells g.E.Write.contents c.args.err.now c.check_cmd.new.err) scen c.args.json c.args.out.now c.check_cmd.new.out c.check_cmd.result in
+    let Ends : Option (String Global) → Type 0 = λ scen. CheckOn g.R.File.Read.remaining g.W.Write.contents (Tells g.E.Write.contents c.args.err.now c.check_cmd.new.err) scen c.args.due c.args.json c.args.out.now c.check_cmd.new.out c.check_cmd.result in
     subst Ends (sym c.in-None.is) (c.new-map.result, c.check_cmd.new.map, c.new-plan.result, c.check_cmd.new.plan, c.check_cmd.ensures)
 
 pub returns : goal.returns
 returns g c =
-    let Ends : Option (String Global) → Type 0 = λ scen. CheckOn g.R.File.Read.remaining g.W.Write.contents (Tells g.E.Write.contents c.args.err.now c.check_fit_cmd.new.err) scen c.args.json c.args.out.now c.check_fit_cmd.new.out c.check_fit_cmd.result in
+    let Ends : Option (String Global) → Type 0 = λ scen. CheckOn g.R.File.Read.remaining g.W.Write.contents (Tells g.E.Write.contents c.args.err.now c.check_fit_cmd.new.err) scen c.args.due c.args.json c.args.out.now c.check_fit_cmd.new.out c.check_fit_cmd.result in
     subst Ends (sym c.in-Some.is) (
       c.new-map.result,
       c.check_fit_cmd.new.map,
