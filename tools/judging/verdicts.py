@@ -95,14 +95,10 @@ def claimed(verdict: Verdict, claims: Sequence[Claim]) -> Verdict:
     return dataclasses.replace(verdict, claimed=cost)
 
 
-def counted(job: Job, verdict: Verdict) -> Verdict:
-    """The verdict on a plan that is accepted but for the number of its agents."""
-    return Verdict(REJECTED, "AgentCount", verdict.agents) if job.agents and verdict.agents != job.agents else verdict
-
-
 def checked(job: Job, program: Program, plan: str) -> Verdict:
     """What the checker says."""
-    words = ["check", *(["--scen", job.file(job.scenario)] if job.scenario else []), "--", job.file(job.map), plan]
+    due = [*(["--scen", job.file(job.scenario)] if job.scenario else []), *(["--agents", job.agents] if job.agents else [])]
+    words = ["check", *due, "--", job.file(job.map), plan]
     with tempfile.TemporaryFile() as err, program.start(words, err) as process:
         said = process.stdout.read().decode(errors="replace")
         status = process.wait()
@@ -111,7 +107,7 @@ def checked(job: Job, program: Program, plan: str) -> Verdict:
     counts, rejection = COUNTS.fullmatch(said), REJECTION.fullmatch(said)
     if status == 0 and counts:
         agents, cost, makespan = counts.groups()
-        return counted(job, Verdict(ACCEPTED, "", agents, cost, makespan))
+        return Verdict(ACCEPTED, "", agents, cost, makespan)
     if status == 1 and rejection:
         return Verdict(REJECTED, rejection[1])
     if status == 1 and told:
