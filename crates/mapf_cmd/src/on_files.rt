@@ -201,12 +201,20 @@ pub(crate) fn tape_on_files<R: Files + AllocGlobal, W: Write, E: Write>(
 {
     let mut map = Counted::new(fs::open(rt, map)?);
     let mut plan = Counted::new(fs::open(rt, plan)?);
-    match fs::open(rt, tape) {
-        Ok(file) => {
+    match open_if_there(rt, tape)? {
+        Some(file) => {
             let mut tape = Counted::new(file);
             Ok(tape_cmd(rt.alloc(), &mut map, &mut plan, id, &mut tape, out, err))
         }
-        Err(error) if error.kind() == ErrorKind::NotFound => Ok(no_tape_cmd(out, err)),
+        None => Ok(no_tape_cmd(out, err)),
+    }
+}
+
+/// Opens a file to be read, if there is one.
+fn open_if_there<R: Files>(rt: &R, path: &str) -> io::Result<Option<R::File>> {
+    match fs::open(rt, path) {
+        Ok(file) => Ok(Some(file)),
+        Err(error) if error.kind() == ErrorKind::NotFound => Ok(None),
         Err(error) => Err(error),
     }
 }

@@ -1,12 +1,13 @@
 -- A name that is none of the commands' requires no words that could be given.
 use Rattle.std.proofs.Common.{◌≡◌, ◌∙◌, IsTrue, List, [], ◌∷◌, None, MatchOption, inl, inr, refl, subst, sym}
-use Rattle.std.specs.Prelude.{find, is_some}
+use Rattle.std.specs.Prelude.{IfErr, find, is_some}
 use Rattle.std.specs.List.{AllByRecursion}
 use Rattle.std.specs.Str.{bytes_eq}
 use Rattle.std.proofs.lemmas.Bool.{cases_Bool, cond-false}
 use Rattle.std.proofs.lemmas.Slice.Eq.{bytes_eq-Decides}
-use Rattle.clap.specs.Words.{Row, Text, first_of}
-use Rattle.command_line.specs.Words.{Usage, commands}
+use Rattle.clap.specs.Words.{Row, Text, first_of, found_of, rows_of}
+use Rattle.command_line.specs.Words.{Usage, commands, HasValues}
+use Rattle.command_line.specs.declared.command_line.LineFault.TheVariants.{OutOfMemory}
 use Rattle.command_line.specs.Code.Parts.{HasWords}
 use Rattle.command_line.proofs.words.read_command.Goals as goal
 
@@ -34,3 +35,9 @@ returns-in_default-clause-err c = λ words numbers. absurd (no_words c.args.name
     (c.in_default.not-row, (c.in_default.not-check, (c.in_default.not-deps, (c.in_default.not-path, (c.in_default.not-run, (c.in_default.not-agent, (c.in_default.not-tape, tt))))))),
   ),
 ) words)
+
+-- the search gives up on the check's values
+pub returns-in-check-clause-err : goal.returns-in-check-clause-err
+returns-in-check-clause-err c =
+    let rows = rows_of (found_of c.args.given.now) in
+    subst (λ name. IfErr c.read_check.result (λ e. HasWords name rows → HasValues name rows → e ≡ OutOfMemory)) (sym c.in-check.is) c.read_check.ensures.err
