@@ -7,7 +7,7 @@ from typing import Iterator, Mapping, Sequence
 
 from answers import ASKING, answer, asked
 from completing import ends_of, judged, needs_and_rotations
-from harness import Ended, Harness, Outcome, compared, side_by_side
+from harness import ROOT, Ended, Harness, Outcome, compared, side_by_side
 from random_runs import random_events, random_map, random_plan
 from texts import BACK, BEHIND, LANE, NOBODY, RELAY, SHORT, SQUARE, SWAP, TURN, events, plan
 from vectors import VECTORS
@@ -52,6 +52,18 @@ RUNS = [
     (LANE, plan("0 0 ="), [], 0, 0),
 ]
 
+# Both agents of the lane are at their ends, whatever becomes of their tapes and messages.
+THERE = [*HEARD, "start 1", "finish 1"]
+ARRIVED = [
+    THERE,
+    [*THERE, "restart 0", "say 1", "restart 1"],
+    [*THERE, "tear 0 0", "tear 1 10"],
+    [*HEARD, "start 1", "tear 1 10", "finish 1"],
+    ["start 0", "tear 0 10", "finish 0", "restart 0", "say 0", "deliver 1 0", "start 1", "tear 1 10", "finish 1"],
+]
+# So many events of each word are enough where nothing is left to do.
+NO_EVENT = dict.fromkeys(("start", "finish", "say", "deliver", "restart", "tear"), 0)
+
 # Rotations, one of them behind other moves, and events of their runs.
 BLOCKED = [
     (SQUARE, TURN, []),
@@ -74,6 +86,7 @@ FAULTY = [
     (LANE, NOBODY, events()[:-1], "", "NoHeader"),
 ]
 
+WAREHOUSE = ROOT / "examples" / "fleet" / "warehouse"
 WORDS = "run M P E --complete"
 VERSIONS = (1, 2)
 SHORT_SEEDS, LONG_SEEDS = range(1, 201), range(1, 2_001)
@@ -109,6 +122,9 @@ def of_runs(harness: Harness) -> Iterator[Outcome]:
             runs = Runs(harness, map_text, plan_text)
             enough = {"say": says, "deliver": delivers}
             yield runs.judge(f"version {version}, behind {lines}", events(*lines, version=version), enough)
+        for lines in ARRIVED:
+            runs = Runs(harness, LANE, BEHIND)
+            yield runs.judge(f"version {version}, nothing left behind {lines}", events(*lines, version=version), NO_EVENT)
         for map_text, plan_text, lines in BLOCKED:
             runs = Runs(harness, map_text, plan_text)
             yield compared(f"a rotation of {plan_text!r}", "mapf deps M P", runs.rotations, 1)
@@ -119,6 +135,12 @@ def of_runs(harness: Harness) -> Iterator[Outcome]:
     for map_text, plan_text, text, replies, fault in FAULTY:
         due = Ended(1, replies.encode(), f"mapf: {fault}\n".encode())
         yield asked(harness, WORDS, {"M": map_text, "P": plan_text, "E": text}, due)
+
+
+def of_the_warehouse(harness: Harness) -> Outcome:
+    """The run of the example, at whose end some agents still have a tear before them."""
+    map_text, plan_text, text = ((WAREHOUSE.with_suffix(f".{kind}")).read_text(encoding="ascii") for kind in ("map", "plan", "events"))
+    return Runs(harness, map_text, plan_text).judge("the warehouse", text, NO_EVENT)
 
 
 def torn_runs(command: str, are_all: bool) -> Iterator[tuple[str, dict, list[str]]]:
@@ -183,6 +205,7 @@ def of_great_runs(harness: Harness) -> Iterator[Outcome]:
 
 def outcomes(harness: Harness) -> Iterator[Outcome]:
     yield from of_runs(harness)
+    yield of_the_warehouse(harness)
     torn = [run for command in ("run", "run2") for run in torn_runs(command, harness.is_long)]
     yield from side_by_side(functools.partial(of_beginnings, harness, *run) for run in torn)
     yield from side_by_side(functools.partial(of_random_runs, harness, seed) for seed in (LONG_SEEDS if harness.is_long else SHORT_SEEDS))
