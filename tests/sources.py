@@ -1,11 +1,15 @@
 """The sources of the program: want of memory is said by few functions of their own accord, each for a reason; all others pass on what they were told.
+And how tidy the sources are: no measure of tools/house.py is above its limit, and each sees what it has to.
 
 No contract says that memory suffices, so a function that says it is wanting would be proved whatever it does."""
 import pathlib
 import re
+import shutil
+import sys
+import zipfile
 from typing import Iterator
 
-from harness import ROOT, Harness, Outcome, compared
+from harness import ROOT, Ended, Harness, Outcome, compared, side_by_side
 
 # Crates of tests, which are no part of the program.
 OF_TESTS = re.compile(r"fakes|fake_tapes|\w+_trials")
@@ -115,9 +119,205 @@ def making(crates: pathlib.Path) -> Iterator[tuple[str, int]]:
             yield from ((name, count) for name, count in [*named, (f"{crate}/{path.name}: use .. as ..", len(RENAMED.findall(text)))] if count)
 
 
-def outcomes(_: Harness) -> Iterator[Outcome]:
+HOUSE = pathlib.Path("tools") / "house.py"
+MEASURE = re.compile(r"^(\S+) +(\d+) of at most +(\d+)  ")
+LONG = "".join(f"    step({number});\n" for number in range(41))
+# A workspace in which each measure has something to count, beside what it must not count.
+UNTIDY = {
+    "crates.txt": "# The product.\none:\ntwo: one\nmapf: one two\ntrials: two\n",
+    "crates/one/specs/Cells.antt": """-- Cells.
+use Rattle.std.specs.Prelude.{ℕ, Bool, true, false}
+
+abbrev pub is_free : ℕ → Bool
+is_free zero = true
+is_free (suc n) = false
+
+-- two lines in all
+pub record Pair : Type 0 where
+  pub first : ℕ
+
+pub data Class : Type 0 where
+  land sea : Class
+""",
+    "crates/two/specs/Rows.antt": """-- Rows, which have a `Class`.
+pub use Rattle.one.specs.Cells.{Pair}
+use Rattle.one.specs.Cells.{is_free}
+
+abbrev pub IsRow
+    : ℕ → Type 0
+IsRow n = IsTrue (is_free n)
+
+unfoldable pub unreached : ℕ
+unreached = 1
+  where
+    Pair : ℕ
+""",
+    "crates/two/specs/More.antt": "pub record is_free (n : ℕ) : Type 0 where\n  pub IsRow : ℕ\n",
+    "crates/two/specs/Lib.antt": "pub mod Rows\npub mod More\n",
+    "crates/two/proofs/Rows.antt": """use Rattle.std.proofs.Common.{refl}
+use Rattle.one.specs.Cells.{is_free}
+use Rattle.one.proofs.Cells.{free, land}
+use Rattle.two.proofs.More.{more}
+""",
+    "crates/two/src/lib.rt": f"""ghost use Rattle.one.proofs.laws.one as law;
+ghost use Rattle.two.specs.Rows.{{IsRow}};
+
+/// Whether it is a row.
+pub fn is_row<F: Fn(u8, u8) -> bool>(
+    first: u8,
+    (second, third): (u8, u8),
+    fourth: Pair<u8, u8>,
+    fifth: F,
+) -> bool
+    ensures row {{ IsRow first }}
+{{
+{LONG.replace("    step(0);", "    // one is a comment", 1)}}}
+
+impl<'a> Row<'a> {{
+    fn put(&'a mut self, a: u8, b: u8, c: u8, d: u8, e: u8) {{}}
+
+    fn put_all<A, B, C>(a: A, b: B, c: C, d: &[u8], e: u8, f: [u8; 2]) -> u8
+        requires {{ IsRow a }}
+    {{
+{LONG.replace("    step(40);", "    }", 1)}}}
+""",
+    # It is no crate of the product.
+    "crates/trials/src/lib.rt": f"fn long() {{\n{LONG}}}\n",
+    "crates/one/out/Made.antt": "is_free : ℕ\n" * 501,
+    "tests/long.py": "pass\n" * 501,
+    "tools/short.py": "pass\n" * 500,
+    "README.md": "Of `is_free`, `Row::put`, `Row::gone`, `AnswersX`, `x_row`, `--no-flag`, `no_file.py` and `two words`.\n",
+    "docs/PAGE.md": """`gone_name`, `GoneName` and `is-gone`, but `put_all(a)`, gone_there and `put-all` of the tests.
+
+```console
+$ ./mapf `gone_here`
+```
+
+And `gone()`.
+""",
+    "examples/put.py": "# put-all\n",
+    "docs/PROMISES.md": """# Promises
+
+| `one` | It is no promise. | `never` | `one`: `Pair` |
+
+## Promise by promise
+
+| Crate | Promise | Carried by | Definitions to believe |
+|---|---|---|---|
+| `two` | A row is one. | `is_row`, by `IsRow` | `two`: `Rows` |
+| `one` | It is free. | `is_free`; the law `lost_law` | `one`: `Cells` |
+""",
+}
+# Each of its measures: the count, and the places.
+SEEN = {
+    "specs-twice": (1, ["crates/one/specs/Cells.antt:4: is_free, as in crates/two/specs/More.antt:1"]),
+    "foreign-proofs": (2, ["crates/two/proofs/Rows.antt:3: two uses proofs of one", "crates/two/src/lib.rt:1: two uses proofs of one"]),
+    "foreign-crates": (1, ["crates/two/proofs/Rows.antt:3: two uses proofs of one"]),
+    "stale-names": (
+        6,
+        [
+            *("README.md:1: gone", "docs/PAGE.md:1: gone_name", "docs/PAGE.md:1: GoneName", "docs/PAGE.md:1: is-gone"),
+            *("docs/PAGE.md:7: gone", "docs/PROMISES.md:10: lost_law"),
+        ],
+    ),
+    "lost-calls": (1, ["docs/PROMISES.md:10: lost_law"]),
+    "longest-promise": (6, ["docs/PROMISES.md:9: 2 definitions, 6 lines: two: is_row, IsRow"]),
+    "all-promises": (
+        9,
+        ["docs/PROMISES.md:9: 2 definitions, 6 lines: two: is_row, IsRow", "docs/PROMISES.md:10: 1 definitions, 3 lines: one: is_free, lost_law"],
+    ),
+    "long-functions": (1, ["crates/two/src/lib.rt:5: is_row has 41 lines"]),
+    "long-files": (1, ["tests/long.py:501: the file has 501 lines"]),
+    "many-parameters": (1, ["crates/two/src/lib.rt:59: put_all has 6 parameters"]),
+}
+
+
+def house(harness: Harness, words: list[str], tools: pathlib.Path = ROOT) -> Ended:
+    """Measures a folder."""
+    return harness.run([sys.executable, str(tools / HOUSE), *words])
+
+
+def measures(told: bytes) -> dict[str, tuple[int, int, list[str]]]:
+    """What was told of each measure: its count, its limit and its places."""
+    found: dict[str, tuple[int, int, list[str]]] = {}
+    for line in told.decode().splitlines():
+        begun = MEASURE.match(line)
+        if begun:
+            places: list[str] = []
+            found[begun[1]] = int(begun[2]), int(begun[3]), places
+        elif found:
+            places.append(line.strip())
+    return found
+
+
+def written(harness: Harness, files: dict[str, str]) -> pathlib.Path:
+    """A folder with these files, in folders of their own."""
+    folder = harness.folder()
+    for name, text in files.items():
+        (folder / name).parent.mkdir(parents=True, exist_ok=True)
+        (folder / name).write_text(text, encoding="utf-8")
+    return folder
+
+
+def before(harness: Harness) -> dict[str, tuple[int, int, list[str]]]:
+    """The measures of the last commit, none where it isn't to be had."""
+    folder = harness.folder()
+    archived = harness.run(["git", "archive", "-o", str(folder / "last.zip"), "HEAD"], folder=ROOT)
+    if archived.status:
+        return {}
+    with zipfile.ZipFile(folder / "last.zip") as last:
+        last.extractall(folder)
+    return measures(house(harness, ["--all", "--root", str(folder)]).out)
+
+
+def of_the_sources(harness: Harness) -> Iterator[Outcome]:
+    """Whether each measure of the sources is within its limit. Where one isn't, the places are told that the last commit had not, or else all."""
+    ended = house(harness, ["--all"])
+    found = measures(ended.out)
+    yield compared("what is measured", f"{HOUSE} --all", [*found, ended.err], [*SEEN, b""])
+    last = before(harness) if ended.status else {}
+    for name, (count, limit, places) in found.items():
+        had = {re.sub(r":\d+", "", place) for place in last.get(name, (0, 0, []))[2]}
+        new = [place for place in places if re.sub(r":\d+", "", place) not in had] or places
+        yield Outcome(name, "\n        ".join([f"ran    {HOUSE} --list {name}\n    wrote  {count} of at most {limit}", *new]) if count > limit else "")
+
+
+def of_a_workspace(harness: Harness) -> Iterator[Outcome]:
+    """Whether each measure sees what it has to, and no more."""
+    folder = str(written(harness, UNTIDY))
+    ended = house(harness, ["--all", "--root", folder])
+    found = measures(ended.out)
+    yield compared("a workspace above each limit", f"{HOUSE} --all", (ended.status, ended.err), (1, b""))
+    for name, (count, places) in SEEN.items():
+        yield compared(f"{name} of a workspace", f"{HOUSE} --all", found.get(name), (count, 0, places))
+    ended = house(harness, ["--list", "long-files", "--root", folder])
+    yield compared("one measure of it", f"{HOUSE} --list long-files", list(measures(ended.out).items()), [("long-files", (1, 0, SEEN["long-files"][1]))])
+    ended = house(harness, ["--promises", "--root", folder])
+    due = ["definitions  lines  promise", "          2      6  two: is_row, IsRow", "          1      3  one: is_free, lost_law"]
+    yield compared("its promises", f"{HOUSE} --promises", (ended.status, ended.out.decode().splitlines()), (0, due))
+
+
+def of_limits(harness: Harness) -> Iterator[Outcome]:
+    """What is said where a count is below its limit, and where nothing can be measured."""
+    folder = written(harness, {"crates.txt": "mapf:\n", "crates/mapf/src/main.rt": "fn main() {}\n"})
+    shutil.copytree(ROOT / "tools", folder / "tools", ignore=shutil.ignore_patterns("__pycache__"))
+    ended = house(harness, [], folder)
+    hinted = [line.endswith(": the limit may fall to 0") for line in ended.out.decode().splitlines()]
+    due = [limit > 0 for _, limit, _ in measures(ended.out).values()]
+    yield compared("a workspace below its limits", str(HOUSE), (ended.status, ended.err, any(due), hinted), (0, b"", True, due))
+    (folder / "crates/mapf/src/main.rt").write_bytes(b"\xff")
+    ended = house(harness, [], folder)
+    told = "house: crates/mapf/src/main.rt is no text in UTF-8\n"
+    yield compared("a source that is no text", str(HOUSE), (ended.status, ended.out, ended.err.decode()), (1, b"", told))
+    ended = house(harness, ["--root", str(folder / "tools")])
+    told = f"house.py: error: {folder / 'tools'} has no folder crates/"
+    yield compared("no workspace", f"{HOUSE} --root tools", (ended.status, ended.out, ended.err.decode().splitlines()[-1:]), (2, b"", [told]))
+
+
+def outcomes(harness: Harness) -> Iterator[Outcome]:
     for line, count in FORMS:
         yield compared(f"how often it is said by {line!r}", "a search of this line", places(line), count)
     found = dict(making(ROOT / "crates"))
     for name in sorted({*found, *MADE}):
         yield compared(f"{name} says that memory is wanting", "a search of crates/*/src", found.get(name, 0), PLACES.get(name, 1) if name in MADE else 0)
+    yield from side_by_side([lambda part=part: list(part(harness)) for part in (of_the_sources, of_a_workspace, of_limits)])

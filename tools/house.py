@@ -1,0 +1,131 @@
+#!/usr/bin/env python3
+"""Measures how tidy the sources are, and holds each measure to what the last commit reached, so that it only falls.
+
+Usage: house.py [--list MEASURE | --all | --promises] [--root FOLDER]
+
+A line a measure: its count, and the most that it may be. `--list` shows the places that a measure counts, and `--all` those of each.
+`--promises` is a table of what each promise of docs/PROMISES.md reaches. Any folder but this checkout is held to 0 in all.
+
+Status 0: no measure is above its limit. 1: one is, or a file can't be measured. 2: a bad command line.
+"""
+import argparse
+import dataclasses
+import pathlib
+import sys
+from typing import Iterable, Sequence
+
+sys.dont_write_bytecode = True
+import product  # noqa: E402
+from measures.crates import foreign_crates, foreign_proofs, specs_twice  # noqa: E402
+from measures.definitions import Definitions  # noqa: E402
+from measures.promises import Promise, Promises  # noqa: E402
+from measures.sizes import long_files, long_functions, many_parameters  # noqa: E402
+from measures.stale_names import stale_names  # noqa: E402
+from measures.workspace import BadWorkspace, Place, Workspace  # noqa: E402
+
+# Each measure, what it counts, and what the last commit reached. Who brings a count down brings its limit down too.
+MEASURES: dict[str, tuple[str, int]] = {
+    "specs-twice": ("names that more than one file of specs/ defines", 58),
+    "foreign-proofs": ("lines by which a crate takes from another's proofs", 168),
+    "foreign-crates": ("pairs of crates with such lines", 35),
+    "stale-names": ("names of the code in docs/ that stand nowhere else", 1),
+    "lost-calls": ("names in the table of promises that nothing there has", 0),
+    "longest-promise": ("lines of definitions that a promise reaches, at the most", 2826),
+    "all-promises": ("lines of definitions that each promise reaches, summed up", 22979),
+    "long-functions": ("functions of the product with more than 40 lines", 2),
+    "long-files": ("files with more than 500 lines", 13),
+    "many-parameters": ("functions with six or more parameters", 37),
+}
+
+
+@dataclasses.dataclass(frozen=True)
+class Measured:
+    """What a measure came to, and the places that it counts."""
+
+    count: int
+    places: list[Place]
+
+
+def measured(workspace: Workspace) -> dict[str, Measured]:
+    """Each measure of a workspace, by its name."""
+    definitions = Definitions(workspace)
+    promises = Promises(workspace, definitions).all()
+    foreign = list(foreign_proofs(workspace))
+    lengths = [it.length for it in promises]
+    table = [it.place for it in sorted(promises, key=lambda it: -it.length)]
+    return {
+        "specs-twice": counted(specs_twice(definitions)),
+        "foreign-proofs": counted(foreign),
+        "foreign-crates": counted(foreign_crates(foreign)),
+        "stale-names": counted(stale_names(workspace)),
+        "lost-calls": counted(Place(it.place.path, it.line, call) for it in promises for call in it.lost),
+        "longest-promise": Measured(max(lengths, default=0), table[:1]),
+        "all-promises": Measured(sum(lengths), table),
+        "long-functions": counted(long_functions(workspace, product.crates())),
+        "long-files": counted(long_files(workspace)),
+        "many-parameters": counted(many_parameters(workspace)),
+    }
+
+
+def counted(places: Iterable[Place]) -> Measured:
+    found = list(places)
+    return Measured(len(found), found)
+
+
+def report(workspace: Workspace, given: argparse.Namespace, is_here: bool) -> tuple[list[str], bool]:
+    """The lines that were asked for, and whether no measure among them is above its limit."""
+    if given.promises:
+        return ["definitions  lines  promise", *map(row, Promises(workspace, Definitions(workspace)).all())], True
+    lines, is_well = [], True
+    for name, it in measured(workspace).items():
+        if given.list in (None, name):
+            limit = MEASURES[name][1] if is_here else 0
+            lines.append(line_of(name, it.count, limit))
+            lines += [f"  {place}" for place in it.places if given.list or given.all]
+            is_well &= it.count <= limit
+    return lines, is_well
+
+
+def line_of(name: str, count: int, limit: int) -> str:
+    """What is told of a measure: its count beside its limit."""
+    hint = ""
+    if count > limit:
+        hint = f": too many, and `house.py --list {name}` says where"
+    elif count < limit:
+        hint = f": the limit may fall to {count}"
+    return f"{name:<15} {count:>5} of at most {limit:>5}  {MEASURES[name][0]}{hint}"
+
+
+def row(it: Promise) -> str:
+    return f"{len(it.reached):>11} {it.length:>6}  {', '.join(it.crates)}: {', '.join(it.calls)}"
+
+
+def read_words(words: Sequence[str]) -> argparse.Namespace:
+    parser = argparse.ArgumentParser(prog="house.py", description=__doc__, formatter_class=argparse.RawDescriptionHelpFormatter)
+    shown = parser.add_mutually_exclusive_group()
+    shown.add_argument("--list", choices=MEASURES, metavar="MEASURE", help=f"the places of one measure: {', '.join(MEASURES)}")
+    shown.add_argument("--all", action="store_true", help="the places of each measure")
+    shown.add_argument("--promises", action="store_true", help="what each promise reaches, in the order of docs/PROMISES.md")
+    parser.add_argument("--root", type=pathlib.Path, default=product.ROOT, metavar="FOLDER", help="measures this folder, not the checkout")
+    given = parser.parse_args(words)
+    if not (given.root / "crates").is_dir():
+        parser.error(f"{given.root} has no folder crates/")
+    return given
+
+
+def main(words: Sequence[str]) -> int:
+    given = read_words(words)
+    is_here = given.root.resolve() == product.ROOT
+    # Its crates.txt says which crates the product of that folder is made of.
+    product.ROOT = given.root
+    try:
+        told, is_well = report(Workspace(given.root), given, is_here)
+    except (BadWorkspace, OSError) as error:
+        print(f"house: {error}", file=sys.stderr)
+        return 1
+    print("\n".join(told))
+    return 0 if is_well else 1
+
+
+if __name__ == "__main__":
+    sys.exit(main(sys.argv[1:]))
