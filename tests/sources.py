@@ -279,7 +279,8 @@ def of_the_sources(harness: Harness) -> Iterator[Outcome]:
     for name, (count, limit, places) in found.items():
         had = {re.sub(r":\d+", "", place) for place in last.get(name, (0, 0, []))[2]}
         new = [place for place in places if re.sub(r":\d+", "", place) not in had] or places
-        yield Outcome(name, "\n        ".join([f"ran    {HOUSE} --list {name}\n    wrote  {count} of at most {limit}", *new]) if count > limit else "")
+        told = "\n        ".join([f"ran    {HOUSE} --list {name}\n    wrote  {count} of at most {limit}", *new])
+        yield Outcome(name, told if count > limit else "")
 
 
 def of_a_workspace(harness: Harness) -> Iterator[Outcome]:
@@ -291,27 +292,42 @@ def of_a_workspace(harness: Harness) -> Iterator[Outcome]:
     for name, (count, places) in SEEN.items():
         yield compared(f"{name} of a workspace", f"{HOUSE} --all", found.get(name), (count, 0, places))
     ended = house(harness, ["--list", "long-files", "--root", folder])
-    yield compared("one measure of it", f"{HOUSE} --list long-files", list(measures(ended.out).items()), [("long-files", (1, 0, SEEN["long-files"][1]))])
+    due = {"long-files": (1, 0, SEEN["long-files"][1])}
+    yield compared("one measure of it", f"{HOUSE} --list long-files", measures(ended.out), due)
     ended = house(harness, ["--promises", "--root", folder])
     due = ["definitions  lines  promise", "          2      6  two: is_row, IsRow", "          1      3  one: is_free, lost_law"]
     yield compared("its promises", f"{HOUSE} --promises", (ended.status, ended.out.decode().splitlines()), (0, due))
 
 
 def of_limits(harness: Harness) -> Iterator[Outcome]:
-    """What is said where a count is below its limit, and where nothing can be measured."""
+    """What is said where counts are below their limits."""
     folder = written(harness, {"crates.txt": "mapf:\n", "crates/mapf/src/main.rt": "fn main() {}\n"})
     shutil.copytree(ROOT / "tools", folder / "tools", ignore=shutil.ignore_patterns("__pycache__"))
     ended = house(harness, [], folder)
     hinted = [line.endswith(": the limit may fall to 0") for line in ended.out.decode().splitlines()]
     due = [limit > 0 for _, limit, _ in measures(ended.out).values()]
     yield compared("a workspace below its limits", str(HOUSE), (ended.status, ended.err, any(due), hinted), (0, b"", True, due))
-    (folder / "crates/mapf/src/main.rt").write_bytes(b"\xff")
-    ended = house(harness, [], folder)
-    told = "house: crates/mapf/src/main.rt is no text in UTF-8\n"
-    yield compared("a source that is no text", str(HOUSE), (ended.status, ended.out, ended.err.decode()), (1, b"", told))
-    ended = house(harness, ["--root", str(folder / "tools")])
-    told = f"house.py: error: {folder / 'tools'} has no folder crates/"
-    yield compared("no workspace", f"{HOUSE} --root tools", (ended.status, ended.out, ended.err.decode().splitlines()[-1:]), (2, b"", [told]))
+
+
+# What can't be measured, by the file that is changed: its text, and what is said of it.
+UNREADABLE = [
+    ("crates/one/specs/Cells.antt", b"\xff", "crates/one/specs/Cells.antt is no text in UTF-8"),
+    ("docs/PROMISES.md", b"# Promises\n", "docs/PROMISES.md has no table under the heading '## Promise by promise'"),
+    ("docs/PROMISES.md", b"## Promise by promise\n\n| `one` | A | `b` | c | d |\n", "docs/PROMISES.md:3: a row with 5 cells, where 4 are due"),
+]
+
+
+def of_bad_workspaces(harness: Harness) -> Iterator[Outcome]:
+    """What is said where nothing can be measured."""
+    for name, content, due in UNREADABLE:
+        folder = written(harness, UNTIDY)
+        (folder / name).write_bytes(content)
+        ended = house(harness, ["--root", str(folder)])
+        yield compared(due, f"{HOUSE} --root", (ended.status, ended.out, ended.err.decode()), (1, b"", f"house: {due}\n"))
+    folder = harness.folder()
+    ended = house(harness, ["--root", str(folder)])
+    told = [f"house.py: error: {folder} has no folder crates/"]
+    yield compared("no workspace", f"{HOUSE} --root", (ended.status, ended.out, ended.err.decode().splitlines()[-1:]), (2, b"", told))
 
 
 def outcomes(harness: Harness) -> Iterator[Outcome]:
@@ -320,4 +336,5 @@ def outcomes(harness: Harness) -> Iterator[Outcome]:
     found = dict(making(ROOT / "crates"))
     for name in sorted({*found, *MADE}):
         yield compared(f"{name} says that memory is wanting", "a search of crates/*/src", found.get(name, 0), PLACES.get(name, 1) if name in MADE else 0)
-    yield from side_by_side([lambda part=part: list(part(harness)) for part in (of_the_sources, of_a_workspace, of_limits)])
+    parts = (of_the_sources, of_a_workspace, of_limits, of_bad_workspaces)
+    yield from side_by_side([lambda part=part: list(part(harness)) for part in parts])

@@ -19,6 +19,7 @@ import product  # noqa: E402
 from measures.crates import foreign_crates, foreign_proofs, specs_twice  # noqa: E402
 from measures.definitions import Definitions  # noqa: E402
 from measures.promises import Promise, Promises  # noqa: E402
+from measures.sizes import MOST_LINES_OF_FILE, MOST_LINES_OF_FUNCTION, MOST_PARAMETERS  # noqa: E402
 from measures.sizes import long_files, long_functions, many_parameters  # noqa: E402
 from measures.stale_names import stale_names  # noqa: E402
 from measures.workspace import BadWorkspace, Place, Workspace  # noqa: E402
@@ -32,9 +33,9 @@ MEASURES: dict[str, tuple[str, int]] = {
     "lost-calls": ("names in the table of promises that nothing there has", 0),
     "longest-promise": ("lines of definitions that a promise reaches, at the most", 2826),
     "all-promises": ("lines of definitions that each promise reaches, summed up", 22979),
-    "long-functions": ("functions of the product with more than 40 lines", 2),
-    "long-files": ("files with more than 500 lines", 13),
-    "many-parameters": ("functions with six or more parameters", 37),
+    "long-functions": (f"functions of the product with more than {MOST_LINES_OF_FUNCTION} lines", 2),
+    "long-files": (f"files with more than {MOST_LINES_OF_FILE} lines", 13),
+    "many-parameters": (f"functions with more than {MOST_PARAMETERS} parameters", 37),
 }
 
 
@@ -97,7 +98,7 @@ def line_of(name: str, count: int, limit: int) -> str:
 
 
 def row(it: Promise) -> str:
-    return f"{len(it.reached):>11} {it.length:>6}  {', '.join(it.crates)}: {', '.join(it.calls)}"
+    return f"{len(it.reached):>11} {it.length:>6}  {it.carried}"
 
 
 def read_words(words: Sequence[str]) -> argparse.Namespace:

@@ -97,7 +97,7 @@ class Definitions:
         return next((self.at(it.crate, it.module, it.name) for it in passed_on), own)
 
     def named_in(self, text: str, taken: tuple[Import, ...], own: tuple[str, str] = ("", "")) -> set[Definition]:
-        """The definitions that a text names, by what its file takes from elsewhere and by those of its own module. Fields of records are not followed."""
+        """The definitions that a text names, by what its file takes from elsewhere and by its own module. Fields of records are not followed."""
         words = [word.split(".") for word in WORD.findall(BOUND.sub("", text))]
         firsts = {parts[0] for parts in words}
         found = {self.at(*own, name) for name in firsts} if own in self.modules else set()

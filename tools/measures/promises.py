@@ -6,7 +6,7 @@ from typing import Iterator
 
 from measures.definitions import Definition, Definitions
 from measures.rattle import Contract, contracts_of_types, functions
-from measures.workspace import Place, Workspace
+from measures.workspace import BadWorkspace, Place, Workspace
 
 TABLE = "docs/PROMISES.md"
 HEADING = "## Promise by promise"
@@ -33,19 +33,24 @@ class Promise:
     @property
     def place(self) -> Place:
         """Where it is promised, and what it stands on."""
-        return Place(TABLE, self.line, f"{len(self.reached)} definitions, {self.length} lines: {', '.join(self.crates)}: {', '.join(self.calls)}")
+        return Place(TABLE, self.line, f"{len(self.reached)} definitions, {self.length} lines: {self.carried}")
+
+    @property
+    def carried(self) -> str:
+        """Which calls of which crates carry it."""
+        return f"{', '.join(self.crates)}: {', '.join(self.calls)}"
 
 
 def rows(workspace: Workspace) -> Iterator[tuple[int, str, str]]:
     """The rows of the table, each with its line, its crates and what carries it."""
-    if not (workspace.root / TABLE).exists():
-        return
     in_table = False
     for number, line in enumerate(workspace.lines(TABLE), 1):
         in_table = line == HEADING if line.startswith("#") else in_table
-        cells = [cell.strip() for cell in line.split("|")]
-        if in_table and len(cells) == 6 and QUOTED.match(cells[1]):
-            yield number, cells[1], cells[3]
+        if in_table and line.startswith("| `"):
+            cells = [cell.strip() for cell in line.strip(" |").split("|")]
+            if len(cells) != 4:
+                raise BadWorkspace(f"{TABLE}:{number}: a row with {len(cells)} cells, where 4 are due")
+            yield number, cells[0], cells[2]
 
 
 class Promises:
@@ -56,8 +61,13 @@ class Promises:
         self.definitions = definitions
 
     def all(self) -> list[Promise]:
-        """Each row of the table."""
-        return [self.promise(*row) for row in rows(self.workspace)]
+        """Each row of the table, none where the docs have no promises."""
+        if not (self.workspace.root / TABLE).exists():
+            return []
+        found = [self.promise(*row) for row in rows(self.workspace)]
+        if not found:
+            raise BadWorkspace(f"{TABLE} has no table under the heading '{HEADING}'")
+        return found
 
     def promise(self, line: int, crates: str, carried: str) -> Promise:
         of = tuple(it for it in QUOTED.findall(crates) if it in self.workspace.crates)

@@ -12,7 +12,6 @@ BLOCK = re.compile(r"^(?:unsafe )?(?:impl|trait|pub trait|pub\(\w+\) trait)\b.*\
 OF_TYPE = re.compile(r"^(?:unsafe )?(?:impl|(?:pub(?:\(\w+\))? )?trait)(?:<.*?>)? (?:.* for )?&?(\w+)")
 # What a function has to keep, and what a block says of its type: `ensures safe { .. }`, `ghost Value = { .. };`.
 CLAUSE = re.compile(r"^ +(?:requires|ensures|ghost (?!use))[^{]*\{")
-
 MARK = re.compile(r"[(\[<>\]),]")
 SELF = re.compile(r"\s*&?(?:'\w+ )?(?:mut )?self\b")
 
@@ -61,7 +60,7 @@ def contracts_of_types(text: str) -> Iterator[Contract]:
     for at, line in enumerate(lines):
         if line.endswith("{") and BLOCK.match(line):
             block = block_of(lines, at)
-            said = clauses([it for it in block.splitlines() if not CLAUSE.match(it) or it.lstrip().startswith("ghost")])
+            said = clauses([it for it in block.splitlines() if not re.match(" +(?:requires|ensures)", it)])
             yield Contract(type_of(line), "", True, said, outer_imports(lines) + tuple(imports(block)))
 
 
@@ -130,9 +129,13 @@ def parts_in_brackets(text: str) -> tuple[list[str], int]:
 
 
 def clauses(lines: list[str]) -> str:
-    """The clauses among these lines. One that has several lines goes on up to the next that begins one, or to one that is indented less."""
+    """The clauses among these lines, each up to the `}` that belongs to its first `{`."""
     found: list[str] = []
+    depth = 0
     for line in lines:
-        if CLAUSE.match(line) or (found and not re.match(r" *(?:\{|\}|fn |pub |#|//)|$", line)):
-            found.append(line.partition("{")[2] if CLAUSE.match(line) else line)
+        begun = CLAUSE.match(line)
+        if begun or depth > 0:
+            text = line[begun.end() :] if begun else line
+            depth = (1 if begun else depth) + text.count("{") - text.count("}")
+            found.append(text)
     return "\n".join(found)

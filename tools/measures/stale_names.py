@@ -7,7 +7,8 @@ from measures.workspace import Place, Workspace
 FENCED = re.compile(r"^ *```.*?^ *```", re.DOTALL | re.MULTILINE)
 QUOTED = re.compile(r"(?<!`)`([^`\n]+)`(?!`)")
 # `step_from`, `Map::width`, `harness.is_long`, `length-take-le`, `words()`; no option, no path and no file.
-NAME = re.compile(r"(?<![\w/\\$<*+=:@-])([A-Za-z]\w*(?:-\w+)*)(\(\))?(?![\w/*+=-]|\.\.|\.(?:py|sh|md|rt|antt|edit|txt|json|jsonl|csv|conf|service)\b)")
+FILE = r"\.(?:py|sh|md|rt|antt|edit|txt|json|jsonl|csv|conf|service)\b"
+NAME = re.compile(rf"(?<![\w/\\$<*+=:@-])([A-Za-z]\w*(?:-\w+)*)(\(\))?(?![\w/*+=-]|\.\.|{FILE})")
 LOOKS_LIKE_ONE = re.compile(r"\w_\w|^[A-Z]\w*[a-z]|[a-z]-[a-z]")
 # `AnswersX`, `x_cmd` and `X_commands` stand for names.
 STANDS_FOR_SOME = re.compile(r"(?:^|_|[a-z])X(?=_|$|[A-Z])|(?:^|_)x(?=_|$)")
@@ -18,7 +19,7 @@ TEXTS = (".rt", ".antt", ".edit", ".py", ".js", ".css", ".html", ".c", ".rs", ".
 
 
 def stale_names(workspace: Workspace) -> Iterator[Place]:
-    """Each name of README and docs/ that stands in no file of the sources, the tools, the tests, the examples and what is measured, nor in its path."""
+    """Each name of README and docs/ that stands neither in a file of the code, of the tools, of the tests or of the examples, nor in its path."""
     paths = [path for folder in FOLDERS for path in workspace.files(folder, *TEXTS)]
     # Most names stand where few lines are: the many of the proofs are searched last.
     paths.sort(key=lambda path: "/proofs/" in path)
