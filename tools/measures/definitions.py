@@ -100,7 +100,8 @@ class Definitions:
         """The definitions that a text names, by what its file takes from elsewhere and by its own module. Fields of records are not followed."""
         words = [word.split(".") for word in WORD.findall(BOUND.sub("", text))]
         firsts = {parts[0] for parts in words}
-        found = {self.at(*own, name) for name in firsts} if own in self.modules else set()
+        its_own = self.modules.get(own, {})
+        found = {its_own[name] for name in firsts & its_own.keys()}
         for it in taken:
             if it.folder == "specs" and it.known_as in firsts:
                 names = {it.name} if it.name else {parts[1] for parts in words if parts[0] == it.known_as and len(parts) > 1}

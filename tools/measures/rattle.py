@@ -57,11 +57,12 @@ def functions(text: str) -> tuple[Function, ...]:
 def contracts_of_types(text: str) -> Iterator[Contract]:
     """What the blocks of a source say of their types, beside what their functions do."""
     lines = text.splitlines()
+    outside = outer_imports(lines)
     for at, line in enumerate(lines):
         if line.endswith("{") and BLOCK.match(line):
             block = block_of(lines, at)
             said = clauses([it for it in block.splitlines() if not re.match(" +(?:requires|ensures)", it)])
-            yield Contract(type_of(line), "", True, said, outer_imports(lines) + tuple(imports(block)))
+            yield Contract(type_of(line), "", True, said, outside + tuple(imports(block)))
 
 
 def outer_imports(lines: list[str]) -> tuple[Import, ...]:
