@@ -24,7 +24,7 @@ use Rattle.agent_commands.specs.AgentCommand.{HasAgent, room_of}
 use Rattle.agent_commands.specs.AgentStatus.{agent_fault_status}
 use Rattle.agent_commands.specs.FaultWords.{agent_fault_words}
 use Rattle.agent_commands.specs.declared.agent_fault.AgentFault.{AgentFault}
-use Rattle.agent_commands.specs.declared.agent_fault.AgentFault.TheVariants.{Texts, File, Tape}
+use Rattle.agent_commands.specs.declared.agent_fault.AgentFault.TheVariants.{Texts, NoTape, File, Tape}
 
 -- the tape that an agent finds in a file of these bytes: what stands past its room, fewer than ten bytes, is left out
 abbrev pub tape_of_bytes : ℕ → List ℕ → TapeState
@@ -101,6 +101,10 @@ abbrev pub EndsByTape
 EndsByTape contents Told old new code (Ok text) = EndsWriting contents Told old new code Done text
 EndsByTape contents Told old new code (Err fault) =
     (code ≡ code_of (agent_fault_status fault)) × (new ≡ old) × Told (Some (agent_fault_words fault))
+
+-- there is no file of the tape: that was told, and nothing was read
+abbrev pub EndsWithoutTape : {W : Type 0} → (W → Option (List ℕ)) → (Told : Option (List (List ℕ)) → Type 0) → Counted W → Counted W → ℕ → Type 0
+EndsWithoutTape contents Told old new code = EndsByTape contents Told old new code (Err NoTape)
 
 -- the texts and the tape were read, and the command ended by that
 pub record AnswersTape

@@ -1,9 +1,8 @@
 //! `mapf tape`: says what the tape of an agent keeps.
-ghost use Rattle.std.specs.Prelude.{◌≡◌, MatchResult, Err};
+ghost use Rattle.std.specs.Prelude.{◌≡◌, MatchResult};
 ghost use Rattle.text_commands.specs.Telling.{Tells};
-ghost use Rattle.agent_commands.specs.TapeCommand.{AnswersTape, EndsByTape, Inspects};
+ghost use Rattle.agent_commands.specs.TapeCommand.{AnswersTape, EndsByTape, EndsWithoutTape, Inspects};
 ghost use Rattle.agent_commands.specs.Code.Reports.{IsReported, outcome_of};
-ghost use Rattle.agent_commands.specs.declared.agent_fault.AgentFault.TheVariants.{NoTape};
 
 use crate::agent_fault::AgentFault;
 use crate::agent_part::read_part;
@@ -35,7 +34,7 @@ pub fn tape_cmd<M: Read, P: Read, T: Read, W: Write, E: Write>(
 
 /// The same where there is no file of the tape: nothing is read, and only that is said.
 pub fn no_tape_cmd<W: Write, E: Write>(out: &mut Counted<W>, err: &mut Counted<E>) -> u8
-    ensures { EndsByTape W.contents (Tells E.contents err.old err.new) out.old out.new result (Err NoTape) }
+    ensures { EndsWithoutTape W.contents (Tells E.contents err.old err.new) out.old out.new result }
 {
     conclude(Err(AgentFault::NoTape), out, err)
 }

@@ -1,12 +1,11 @@
 -- What each command does with its files, each as it was opened: which file was opened for which word no clause can say.
-use Rattle.std.specs.Prelude.{◌≡◌, ℕ, ◌⊎◌, Bool, List, Option, Some, None, Err, codes}
+use Rattle.std.specs.Prelude.{◌≡◌, ℕ, ◌⊎◌, Bool, List, Option, Some, None, codes}
 use Rattle.clap.specs.Words.{Text}
 use Rattle.grid.specs.declared.cell.Cell.{Cell}
 use Rattle.grid.specs.declared.counted.Counted.{Counted}
 use Rattle.tape_claim.specs.declared.TapeClaim.{TapeClaim}
 use Rattle.agent_commands.specs.AgentCommand.{AnswersAgent}
-use Rattle.agent_commands.specs.TapeCommand.{AnswersTape, EndsByTape}
-use Rattle.agent_commands.specs.declared.agent_fault.AgentFault.TheVariants.{NoTape}
+use Rattle.agent_commands.specs.TapeCommand.{AnswersTape, EndsWithoutTape}
 use Rattle.path_commands.specs.PathCommand.{AnswersPath}
 use Rattle.plan_commands.specs.CheckCommand.{AnswersCheck, AnswersCheckFit}
 use Rattle.plan_commands.specs.DepsCellCommand.{AnswersDepsCell}
@@ -90,4 +89,4 @@ abbrev pub TapeOn
     → ℕ → Counted W → Counted W → ℕ → Type 0
 TapeOn {F} remaining contents Told id old new code =
     ((m n : Counted F) × (p q : Counted F) × (s t : Counted F) × AnswersTape remaining remaining remaining contents Told id m n p q s t old new code)
-    ⊎ EndsByTape contents Told old new code (Err NoTape)
+    ⊎ EndsWithoutTape contents Told old new code
