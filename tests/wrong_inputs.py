@@ -142,7 +142,7 @@ COMMANDS = [
     Wrong("agent land pair 0 no/tape", b"", ("no/tape, to be read as a tape: there is no such file, and it can't be made: its folder is missing.\n",)),
     Wrong("agent land pair 0 wrong/tape", b"", ("a part of its path is a file, and no folder.\nThe system says: Not a directory (os error 20).\n",)),
     # Nobody makes files there, not even root.
-    Wrong("agent land pair 0 /proc/tape", b"", ("it can't be made: its folder may not be written, or its disk has no room for one more.\n",)),
+    Wrong("agent land pair 0 /proc/tape", b"", ("it can't be made: its folder may not be written, or its disk has no room.\n",)),
     Wrong("agent land pair 0 wrong --tape new", RECORD, ("It has 10 bytes: 1 whole records", "`--tape kept`")),
     Wrong("agent land pair 0 .", b"", ("., to be read as a tape: it is a folder.\n",)),
 ]

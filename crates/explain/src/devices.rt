@@ -82,7 +82,7 @@ fn unmade_reason<R: Files>(rt: &R, path: &str) -> &'static str {
     };
     match fs::metadata(rt, folder) {
         Ok(metadata) if metadata.is_dir() =>
-            "there is no such file, and it can't be made: its folder may not be written, or its disk has no room for one more",
+            "there is no such file, and it can't be made: its folder may not be written, or its disk has no room",
         Ok(_) => "what should be its folder is none",
         Err(_) => "there is no such file, and it can't be made: its folder is missing",
     }
