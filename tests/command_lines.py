@@ -569,7 +569,7 @@ def helps(harness: Harness) -> Iterator[Outcome]:
     for line, text in texts:
         yield ended_as(line, f"mapf {line}", harness.mapf(line.split(), folder=folder), Ended(0, text.encode(), b""))
     # Help on faults; a word more, or another one, is none.
-    for line, is_help in (("help faults", True), ("help BadTerrain", True), ("help faults map", False), ("help badterrain", False), ("faults", False)):
+    for line, is_help in (("help faults", True), ("help BadTerrain", True), ("help faults map", False), ("help badterrain", True), ("help badterain", False), ("faults", False)):
         ended = harness.mapf(line.split(), folder=folder)
         wrote = (ended.status, bool(ended.out), bool(ended.err))
         yield compared(line, f"mapf {line}", wrote, (0, True, False) if is_help else (2, False, True))

@@ -229,7 +229,7 @@ def of_names(room: Room) -> Iterator[Outcome]:
     due = [
         ((*files, plans[0], "2"), ACCEPTED),
         ((*files, plans[1], "2"), ACCEPTED),
-        ((*files, plans[2], "5"), ("rejected", "AgentCount", "", "")),
+        ((*files, plans[2], "5"), ("rejected", "TooFewRows", "", "")),
     ]
     yield judged(room, "plans by their names", ["--maps", "maps", "--scens", "scens", *plans], "names.csv", due)
     due = [((files[0], "", *job[2:]), verdict) for job, verdict in due]
