@@ -547,7 +547,7 @@ def of_league_maps(harness: Harness) -> list[Outcome]:
     for (text, due, told), it in zip(LEAGUE_MAPS, done):
         wrote = (it.status, it.written, told in it.told)
         outcomes.append(compared(f"the map {text!r}", f"{it.shown}, which told {it.told!r}", wrote, (0 if due else 1, due, True)))
-    outcomes.append(compared("a map read as a plan", alone.shown, (alone.status, alone.written), (2, None)))
+    outcomes.append(compared("a map read as a plan", alone.shown, (alone.status, alone.written), (1, None)))
     room.gone()
     return outcomes
 

@@ -229,10 +229,11 @@ def of_names(room: Room) -> Iterator[Outcome]:
     due = [
         ((*files, plans[0], "2"), ACCEPTED),
         ((*files, plans[1], "2"), ACCEPTED),
-        ((*files, plans[2], "5"), ("rejected", "TooFewRows", "", "")),
     ]
-    yield judged(room, "plans by their names", ["--maps", "maps", "--scens", "scens", *plans], "names.csv", due)
-    due = [((files[0], "", *job[2:]), verdict) for job, verdict in due]
+    # Rows are counted before agents.
+    fewer = [((*files, plans[2], "5"), ("rejected", "TooFewRows", "", ""))]
+    yield judged(room, "plans by their names", ["--maps", "maps", "--scens", "scens", *plans], "names.csv", [*due, *fewer])
+    due = [((files[0], "", *job[2:]), verdict) for job, verdict in [*due, (fewer[0][0], ("rejected", "AgentCount", "", ""))]]
     yield judged(room, "plans by their names, without scenarios", ["--maps", "maps", *plans], "free.csv", due)
     own = room.file("plans/2@hall-1", BEHIND.encode())
     words = ["--maps", "maps", "--pattern", "{agents}@{map}", own]

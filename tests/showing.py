@@ -219,7 +219,7 @@ def not_converted(room: Room, words: list[str], told: str, status: int) -> list[
 
 def planners(room: Room) -> Iterator[Outcome]:
     bad = (
-        (["lane.map", "lane.map"], "lane.map:1: no format is known", 1),
+        (["lane.map", "lane.map"], "lane.map:1: the text is a map, a plan was due", 1),
         (["lane.map", "lane.map", "--from", "paths"], "lane.map:1: ", 1),
         ([str(EXAMPLES / "corner.map"), str(EXAMPLES / "planners" / "corner.tracker")], "convert: the format tracker leaves out where agents start", 2),
     )

@@ -182,7 +182,7 @@ def from_plan(given: argparse.Namespace, data: bytes, context: Given) -> None:
 def to_map(given: argparse.Namespace, data: bytes) -> None:
     """Writes the canonical map of a map of the League, which the program has to read as it is written."""
     if any((given.source, given.to, given.map, given.scen, given.number is not None, given.fill_waits)):
-        raise BadLine(f"{given.file} is a map, and no plan: only -o and --program go with it")
+        raise Fault(1, "the text is a map, a plan was due: with a map only -o and --program go")
     rows, counts = league_map.read(text_of(data))
     with draft(league_map.write(rows), given.output) as made:
         if Program(given.program).text("map", str(made.path)) != made.path.read_bytes():
