@@ -22,7 +22,7 @@ LONGEST = 120
 # The status of a command that could not be started, as a shell has it.
 CANNOT_START = 126
 # How many tests run at once where they may: most of their time they wait for a process.
-AT_ONCE = max(2, len(os.sched_getaffinity(0)))
+AT_ONCE = 2
 
 
 @dataclasses.dataclass(frozen=True)

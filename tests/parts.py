@@ -1,7 +1,9 @@
 """The parts of ./test, and which of them a call runs."""
 import argparse
 import contextlib
+import dataclasses
 import functools
+import json
 import pathlib
 import re
 import shutil
@@ -36,6 +38,7 @@ import showing
 import sources
 import vectors
 from harness import ROOT, SHIPPED, Harness, Outcome, Report
+from lanes import Lanes
 
 # Each part with what it tests, in the order in which they run: what is soonest done and tells most first.
 PARTS: dict[str, tuple[str, Callable[[Harness], Iterator[Outcome]]]] = {
@@ -79,6 +82,8 @@ def read_words(words: list[str]) -> argparse.Namespace:
     parser.add_argument("--program", type=pathlib.Path, default=ROOT / SHIPPED, metavar="PATH", help="tests this program")
     parser.add_argument("--long", action="store_true", help="runs what takes longer than two minutes too")
     parser.add_argument("--prove", action="store_true", help="proves everything (`rt ci`), and meanwhile tests all, --long too")
+    # So a part is run by itself, beside others.
+    parser.add_argument("--outcomes", type=pathlib.Path, help=argparse.SUPPRESS)
     given = parser.parse_args(words)
     given.names = [name for name in PARTS if not given.parts or any(name.startswith(word) for word in given.parts)]
     for word in given.parts:
@@ -142,20 +147,50 @@ def heed_signals() -> None:
             signal.signal(number, leave)
 
 
+def write_outcomes(given: argparse.Namespace) -> int:
+    """Runs one part, and writes each of its outcomes as a line of JSON."""
+    with tempfile.TemporaryDirectory(prefix="mapf-test-") as room, open(given.outcomes, "w", encoding="utf-8") as lines:
+        for outcome in PARTS[given.names[0]][1](Harness(given.program.resolve(), pathlib.Path(room), given.long)):
+            lines.write(f"{json.dumps(dataclasses.asdict(outcome))}\n")
+    return 0
+
+
+@contextlib.contextmanager
+def running(given: argparse.Namespace, harness: Harness) -> Iterator[Callable[[str], Iterator[Outcome]]]:
+    """How the outcomes of a part are come by. Parts run side by side, but where there is one alone, or the processors prove meanwhile."""
+    if given.prove or len(given.names) == 1:
+        yield lambda name: PARTS[name][1](harness)
+        return
+
+    def command(name: str, file: pathlib.Path) -> list[str]:
+        words = [name, "--program", str(harness.program), "--outcomes", str(file), *(["--long"] if given.long else [])]
+        return [sys.executable, str(ROOT / "test"), *words]
+
+    lanes = Lanes(given.names, harness.folder(), command)
+    try:
+        yield lanes.outcomes
+    finally:
+        lanes.end()
+
+
 def main(words: list[str]) -> int:
     given = read_words(words)
     heed_signals()
+    if given.outcomes:
+        return write_outcomes(given)
     report = Report()
     with tempfile.TemporaryDirectory(prefix="mapf-test-") as room, proving(given.prove, report) as wait_for_proof:
         harness = Harness(given.program.resolve(), pathlib.Path(room), given.long or given.prove, given.prove)
         version = harness.mapf(["--version"])
         starts = version.status == 0 and version.out.startswith(b"mapf ")
-        for name in sorted(given.names, key=lambda name: given.prove and name in NEED_PROOF):
-            if name in NEED_PROOF:
-                wait_for_proof()
-            # Of a program that does not start, only dist/ says more.
-            if starts or name == "dist":
-                report.take(name, PARTS[name][1](harness))
+        if not starts:
+            # Only dist/ says more of it.
+            given.names = [name for name in given.names if name == "dist"]
+        with running(given, harness) as outcomes_of:
+            for name in sorted(given.names, key=lambda name: given.prove and name in NEED_PROOF):
+                if name in NEED_PROOF:
+                    wait_for_proof()
+                report.take(name, outcomes_of(name))
         wait_for_proof()
         if not starts:
             report.fail(f"{given.program} does not start here; dist/README.md says what it needs, and how to make it again")
