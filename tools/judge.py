@@ -8,9 +8,10 @@ JOBS is a list with the columns map, plan, and perhaps scenario and agents: CSV 
 of the MAPF tracker, with a plan in each row. Else each plan is a job, by its name: `random-32-32-20-even-3-50.txt` is for 50 agents of
 random-32-32-20-even-3.scen on random-32-32-20.map.
 
-RESULTS, CSV or JSON lines by its name, has a line a job, in the order in which they are judged. The verdict is `accepted`, `rejected`, `unreadable`
-(a text has a fault) or `failed` (a file, a process or a tool failed, or the time was over). A judge that was stopped goes on behind what stands. A
-result whose plan, map, scenario, program or readers are others since is made anew.
+RESULTS, CSV or JSON lines by its name, has a line a job, in the order in which they are judged. The verdict is `accepted`, `CostDiffers` (the plan
+would be accepted, but its text states other costs), `rejected`, `unsolved` (the text says that its planner found no plan), `unreadable` (a text has a
+fault) or `failed` (a file, a process or a tool failed, or the time was over). A judge that was stopped goes on behind what stands. A result whose
+plan, map, scenario, program or readers are others since is made anew.
 
 Status 0: every job has a result. 1: the list of jobs has a fault. 2: a bad command line. 3: the results can't be written.
 """
