@@ -1,13 +1,17 @@
-# What bash offers where Tab is pressed behind `mapf`. `source` this file, or put it as ~/.local/share/bash-completion/completions/mapf.
+# What bash offers where Tab is pressed behind `mapf`, as tools/commands.py makes it of the help of
+# the program. `source` it, or put it as ~/.local/share/bash-completion/completions/mapf.
 
 _mapf() {
-    local commands='map scen row check deps path run agent tape help' word=${COMP_WORDS[COMP_CWORD]} before=${COMP_WORDS[COMP_CWORD - 1]}
+    local word=${COMP_WORDS[COMP_CWORD]} before=${COMP_WORDS[COMP_CWORD - 1]}
     local command='' offers='' at
-    local faults='AgentCount AlreadyMoving AtEnd BadAct BadAgent BadEntry BadEvent BadHeader BadLength BadLine BadMagic BadMove BadNumber BadStart
-        BadTable BadTear BadTerrain BadVersion BadWalk Broken Damaged FieldCount GoalDiffers LineTooLong LongRow MissingRows NoHeader
-        NoRoom NoSuchAgent NoSuchMessage NoSuchRow NoTape NoVersion NotMoving NotTight OpenFailed OutOfGrid OutOfMemory OutOfRange
-        ReadFailed ShortRow SizeDiffers StartDiffers StoreFailed Swap TapeExists TapeFailed TapeInUse TextAfter TooFewRows TooLarge
-        TooLong TooMany Unfinished Vertex Waits WriteFailed WrongAgent WrongPlan'
+    local commands='map scen row check deps path run agent tape help'
+    local faults='AgentCount AlreadyMoving AtEnd BadAct BadAgent BadEntry BadEvent BadHeader
+        BadLength BadLine BadMagic BadMove BadNumber BadStart BadTable BadTear BadTerrain BadVersion
+        BadWalk Broken Damaged FieldCount GoalDiffers LineTooLong LongRow MissingRows NoHeader
+        NoRoom NoSuchAgent NoSuchMessage NoSuchRow NoTape NoVersion NotMoving NotTight OpenFailed
+        OutOfGrid OutOfMemory OutOfRange ReadFailed ShortRow SizeDiffers StartDiffers StoreFailed
+        Swap TapeExists TapeFailed TapeInUse TextAfter TooFewRows TooLarge TooLong TooMany
+        Unfinished Vertex Waits WriteFailed WrongAgent WrongPlan'
     COMPREPLY=()
     # bash takes the = of --name=VALUE for a word of its own.
     if [[ $word == = ]]; then
@@ -23,14 +27,19 @@ _mapf() {
     case $command:$before in
         check:--scen | check:--agents | deps:--cell | path:--agent) return 0 ;;
         agent:--tape) mapfile -t COMPREPLY < <(compgen -W 'new kept' -- "$word"); return ;;
-        help:*) offers="$commands faults $faults" ;;
-        :*) offers="$commands -h --help -V --version" ;;
-        check:*) offers='--scen --agents --json --explain -h --help' ;;
-        deps:*) offers='--cell --explain -h --help' ;;
-        path:*) offers='--agent --explain -h --help' ;;
-        run:*) offers='--complete --explain -h --help' ;;
-        agent:*) offers='--tape --explain -h --help' ;;
-        *) offers='--explain -h --help' ;;
+    esac
+    case $command in
+        '') offers="$commands -h --help -V --version" ;;
+        map) offers='--explain -h --help' ;;
+        scen) offers='--explain -h --help' ;;
+        row) offers='--explain -h --help' ;;
+        check) offers='--scen --agents --json --explain -h --help' ;;
+        deps) offers='--cell --explain -h --help' ;;
+        path) offers='--agent --explain -h --help' ;;
+        run) offers='--complete --explain -h --help' ;;
+        agent) offers='--tape --explain -h --help' ;;
+        tape) offers='--explain -h --help' ;;
+        help) offers="$commands faults $faults" ;;
     esac
     # Where a file is due, options are offered to those alone who begin one.
     if [[ $word == -* || -z $command || $command == help ]]; then

@@ -1,8 +1,8 @@
 """Command lines: which words are a command and of which files, what is said of those that are none, and help."""
 from typing import Iterator, Mapping, Sequence
 
-import help_texts
-from harness import VERSION, Ended, Harness, Outcome, compared, ended_as, shown
+import helps
+from harness import Ended, Harness, Outcome, compared, ended_as, shown
 
 # A map, a plan, a scenario and events that are told apart by what each command answers.
 FILES = {
@@ -560,25 +560,10 @@ def long_names(harness: Harness) -> Iterator[Outcome]:
             yield ended(f"{words[0]}, a path of {size} bytes", words, refused)
 
 
-def helps(harness: Harness) -> Iterator[Outcome]:
-    folder = harness.folder(FILES)
-    texts = [(f"help {command}", text) for command, text in help_texts.COMMANDS.items()]
-    texts += [(f"{command} {word}", text) for command, text in help_texts.COMMANDS.items() if command != "help" for word in ("-h", "--help", "M --help")]
-    texts += [(line, help_texts.PROGRAM) for line in ("help", "-h", "--help", "-h map", "--help map M", "-h --version")]
-    texts += [(line, VERSION) for line in ("--version", "-V", "--version map M")]
-    for line, text in texts:
-        yield ended_as(line, f"mapf {line}", harness.mapf(line.split(), folder=folder), Ended(0, text.encode(), b""))
-    # Help on faults; a word more, or another one, is none.
-    for line, is_help in (("help faults", True), ("help BadTerrain", True), ("help faults map", False), ("help badterrain", True), ("help badterain", False), ("faults", False)):
-        ended = harness.mapf(line.split(), folder=folder)
-        wrote = (ended.status, bool(ended.out), bool(ended.err))
-        yield compared(line, f"mapf {line}", wrote, (0, True, False) if is_help else (2, False, True))
-
-
 def outcomes(harness: Harness) -> Iterator[Outcome]:
     yield from commands(harness)
     yield from inputs(harness)
     yield from bad_lines(harness)
     yield from names(harness)
     yield from long_names(harness)
-    yield from helps(harness)
+    yield from helps.outcomes(harness)

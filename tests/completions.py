@@ -1,9 +1,12 @@
-"""completions/mapf.bash: it offers the commands and options that the help of the program lists, and nothing else."""
+"""completions/mapf.bash: it offers the commands and options that the help of the program lists, and
+nothing else. And tools/commands.py, which writes it, and README's table too."""
+import pathlib
 import re
 import shutil
-from typing import Iterator, Sequence
+import sys
+from typing import Iterator, Mapping, Sequence
 
-from harness import ROOT, Harness, Outcome, compared
+from harness import ROOT, Ended, Harness, Outcome, compared, ended_as
 
 # Asks for the offers to the last word of a command line, as bash does.
 ASK = """
@@ -13,9 +16,151 @@ _mapf && printf '%s\\n' "${COMPREPLY[@]}"
 """
 
 
-def offered(harness: Harness, words: Sequence[str]) -> list[str]:
-    ended = harness.run(["bash", "-c", ASK, "bash", str(ROOT / "completions" / "mapf.bash"), "mapf", *words])
-    return sorted(ended.out.decode().split()) if ended.status == 0 and not ended.err else [f"status {ended.status}: {ended.err.decode()}"]
+TOOL = ROOT / "tools" / "commands.py"
+README, BASH = "README.md", "completions/mapf.bash"
+# The help of a program that is made up: what it says behind `help` and these words.
+MADE_UP = {
+    "": """Walks
+
+Usage: mapf <COMMAND>
+
+Commands:
+  walk  Walks | or stands
+  stay  Stays where it is
+  help  Print this message
+
+Options:
+  -h, --help  Print help
+
+  bees are no command
+""",
+    "walk": """Walks | or stands
+
+Usage: mapf walk [OPTIONS] <way> [home]...
+
+Arguments:
+  <way>  The way
+
+Options:
+      --pace <pace>      How fast it goes: slow, even or quick
+      --turn <turn>      Where it turns: l or r
+      --mark <X> <Y>     Where it stops: a column and a row
+      --day              Goes on and on
+      --quiet            Says nothing
+  -h, --help             Print help
+
+Options are free.
+""",
+    "stay": """Stays where it is
+
+Usage: mapf stay [OPTIONS]
+
+Options:
+      --quiet  Says nothing
+  -h, --help   Print help
+""",
+    "help": "Print this message\n\nUsage: mapf help [COMMAND]...\n",
+    "faults": "Of a way:\n  TooFar: It is.\n  Bad line: It is.\nOf all:\n  TooFar way: It is.\n",
+}
+# What bash offers then, and the rows.
+OFFERED = {
+    "": ["walk", "stay", "help", "-h", "--help"],
+    "help ": ["walk", "stay", "help", "faults", "Bad", "TooFar"],
+    "walk -": ["--pace", "--turn", "--mark", "--day", "--quiet", "-h", "--help"],
+    "walk --pace ": ["slow", "even", "quick"],
+    "walk W --turn r": ["r"],
+    "walk --mark -": [],
+    "walk ": [],
+    "stay -": ["--quiet", "-h", "--help"],
+    "stay --pace -": ["--quiet", "-h", "--help"],
+    "stop -": [],
+}
+ROWS = r"""
+| Command | What it does |
+|---|---|
+| `walk <way> [home]... [--pace slow\|even\|quick] [--turn l\|r] [--mark <X> <Y>] [--day]` | Walks \| or stands |
+| `stay` | Stays where it is |
+| `help [COMMAND]...` | Print this message |
+
+"""
+BEGIN, END = "<!-- The table is written by tools/commands.py. -->", "<!-- Here the table ends. -->"
+PAGE = f"# mapf\n\n{BEGIN}\n{{}}{END}\n\nMore.\n"
+# What is told where nothing can be made: the help or README.md in its place, and the status.
+UNMADE: list[tuple[Mapping[str, str], str, str]] = [
+    ({"": "Walks\n"}, PAGE, "`mapf help` lists no commands"),
+    ({"walk": "Walks\n"}, PAGE, "`mapf help walk` has no line of its usage"),
+    (
+        {"stay": "Stays\n\nUsage: mapf stay\n\nOptions:\n  quiet  Is it\n"},
+        PAGE,
+        "`mapf help stay`: no option stands in the line '  quiet  Is it'",
+    ),
+    ({}, f"{END}\n{BEGIN}\n", f"README.md has no table between the lines '{BEGIN}' and '{END}'"),
+    ({}, "# mapf\n", f"README.md has no table between the lines '{BEGIN}' and '{END}'"),
+]
+
+
+def offered(harness: Harness, words: Sequence[str], file: pathlib.Path = ROOT / BASH) -> list[str]:
+    ended = harness.run(["bash", "-c", ASK, "bash", str(file), "mapf", *words])
+    if ended.status or ended.err:
+        return [f"status {ended.status}: {ended.err.decode()}"]
+    return sorted(ended.out.decode().split())
+
+
+def made_up(harness: Harness, texts: Mapping[str, str], page: str) -> pathlib.Path:
+    """A folder with a program that has this help, a page, and no completion."""
+    folder = harness.folder({f"help {name}".strip(): it.encode() for name, it in texts.items()})
+    (folder / README).write_text(page)
+    (folder / "completions").mkdir()
+    program = folder / "program"
+    program.write_text('#!/bin/sh\ncat "${0%/*}/$*"\n')
+    program.chmod(0o755)
+    return folder
+
+
+def write(harness: Harness, folder: pathlib.Path, *words: str) -> Ended:
+    program = folder / "program"
+    given = ["--root", str(folder), "--program", str(program), *words]
+    return harness.run([sys.executable, str(TOOL), *given])
+
+
+def of_checkout(harness: Harness) -> Iterator[Outcome]:
+    """What stands in the checkout is what the program under test makes."""
+    ended = harness.run([sys.executable, str(TOOL), "--check", "--program", str(harness.program)])
+    yield ended_as("what is made of help", f"{TOOL.name} --check", ended, Ended(0, b"", b""))
+
+
+def of_made_up(harness: Harness) -> Iterator[Outcome]:
+    """A command more is offered and has its row, and nothing else is touched."""
+    folder = made_up(harness, MADE_UP, PAGE.format(""))
+    why = "is not as the program's help: tools/commands.py writes it"
+    due = Ended(1, f"commands: {BASH} {why}\ncommands: {README} {why}\n".encode(), b"")
+    ended = write(harness, folder, "--check")
+    yield ended_as("what isn't made yet", f"{TOOL.name} --check", ended, due)
+    left = ((folder / README).read_text(), (folder / BASH).exists())
+    yield compared("nothing is written", f"{TOOL.name} --check", left, (PAGE.format(""), False))
+    for words in ((), ("--check",)):
+        ended = write(harness, folder, *words)
+        yield ended_as("what is made", f"{TOOL.name} {words}", ended, Ended(0, b"", b""))
+    yield compared("the rows", TOOL.name, (folder / README).read_text(), PAGE.format(ROWS))
+    for words, due in OFFERED.items():
+        found = offered(harness, words.split(" "), folder / BASH)
+        yield compared(f"made up: mapf {words}", f"Tab behind 'mapf {words}'", found, sorted(due))
+
+
+def of_unmade(harness: Harness) -> Iterator[Outcome]:
+    """What is told where nothing can be made, and nothing is then."""
+    for texts, page, told in UNMADE:
+        folder = made_up(harness, {**MADE_UP, **texts}, page)
+        due = Ended(1, b"", f"commands: {told}\n".encode())
+        yield ended_as(told, TOOL.name, write(harness, folder), due)
+        left = (folder / README).read_text(), (folder / BASH).exists()
+        yield compared(f"nothing is written: {told}", TOOL.name, left, (page, False))
+    folder = made_up(harness, {}, PAGE)
+    why = "`mapf help` ended with status 1"
+    for told in (why, f"{folder / 'program'} can't be started: No such file or directory"):
+        due = Ended(3, b"", f"commands: {told}\n".encode())
+        yield ended_as(told, TOOL.name, write(harness, folder), due)
+        (folder / "program").unlink(missing_ok=True)
 
 
 def listed(help_text: str, heading: str) -> list[str]:
@@ -30,9 +175,13 @@ def options(help_text: str) -> list[str]:
 
 
 def outcomes(harness: Harness) -> Iterator[Outcome]:
+    yield from of_checkout(harness)
+    yield from of_unmade(harness)
     if not shutil.which("bash"):
         yield Outcome("completions", lacks="bash")
         return
+
+    yield from of_made_up(harness)
 
     def offers(words: str, due: Sequence[str]) -> Outcome:
         asked = words.split(" ")

@@ -1,4 +1,5 @@
 """tools/convert.py: what planners write becomes the plan that it says, and back; nothing else is written, whatever stands in the text."""
+import ast
 import collections
 import dataclasses
 import functools
@@ -7,6 +8,7 @@ import json
 import os
 import pathlib
 import random
+import re
 import shlex
 import shutil
 import subprocess
@@ -680,6 +682,38 @@ def of_examples(_: Harness) -> list[Outcome]:
     return [compared(f"examples/planners/{name}", "tests/example_texts.py", found[name], text) for name, text in example_texts.texts().items()]
 
 
+def of_pages(harness: Harness) -> list[Outcome]:
+    """The page of each format is the docstring of its module, and docs/CONVERTING.md names each."""
+    pages, outcomes = format_pages(), []
+    due = {name: (0, page, "") for name, page in pages.items()}
+    for name in ("yaml", "", "csv\n"):
+        told = f"convert: {name!r} is no format, one of {', '.join(pages)} was due\n"
+        due[name] = (2, "", told)
+    for name, answer in due.items():
+        ended = tool(harness, ["--help-format", name])
+        wrote = (ended.status, ended.out.decode(), ended.err.decode())
+        outcomes.append(compared(f"the page of {name!r}", "--help-format", wrote, answer))
+    script = f"{shlex.quote(sys.executable)} {shlex.quote(str(TOOL))} --help-format csv >/dev/full"
+    ended = harness.run(["sh", "-c", script])
+    full = (3, b"convert: No space left on device\n")
+    outcomes.append(compared("a page on a full device", script, (ended.status, ended.err), full))
+    text = (ROOT / "docs" / "CONVERTING.md").read_text(encoding="utf-8")
+    table = text.partition("| Format |")[2].partition("\n\n")[0]
+    named = sorted(re.findall(r"(?m)^\| `(\w+)` \|", table))
+    return [*outcomes, compared("the formats of the docs", str(TOOL), named, list(pages))]
+
+
+def format_pages() -> dict[str, str]:
+    """The docstrings of the modules that call a format by its name, by that name."""
+    pages = {}
+    for path in (TOOL.parent / "plan_formats").glob("*.py"):
+        text = path.read_text(encoding="utf-8")
+        name = re.search(r'^FORMAT = Format\(\s*"(\w+)"', text, re.MULTILINE)
+        if name:
+            pages[name[1]] = f"{ast.get_docstring(ast.parse(text))}\n"
+    return dict(sorted(pages.items()))
+
+
 def of_vectors(_: Harness) -> list[Outcome]:
     """The vectors of `mapf path` are those that the model makes."""
     text = "".join(f"{line}\n" for line in path_model.vector_lines())
@@ -698,6 +732,7 @@ def outcomes(harness: Harness) -> Iterator[Outcome]:
             functools.partial(of_peoples_texts, harness),
             functools.partial(of_no_yaml, harness),
             functools.partial(of_league_maps, harness),
+            functools.partial(of_pages, harness),
             functools.partial(of_vectors, harness),
             functools.partial(of_liars, harness),
             functools.partial(of_refusals, harness),

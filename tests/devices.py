@@ -182,8 +182,8 @@ def calls() -> Iterator[tuple[str, Ended]]:
         yield words, Ended(status, text.encode(), fault.encode())
     for words, line in FAULTY:
         yield words, Ended(1, b"", line.encode())
-    yield "help", Ended(0, help_texts.PROGRAM.encode(), b"")
-    yield "help check", Ended(0, help_texts.COMMANDS["check"].encode(), b"")
+    yield "help deps", Ended(0, help_texts.DEPS.encode(), b"")
+    yield "help check", Ended(0, help_texts.CHECK.encode(), b"")
     for words, told in command_lines.WHOLE.items():
         yield words, Ended(2, b"", told)
 

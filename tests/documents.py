@@ -1,8 +1,10 @@
-"""The commands that README and docs/ show, with their answers: each block of the language `console` is run as it stands there.
+"""The commands that README, docs/ and the pages of formats show, with their answers.
 
-A line that begins with `$ ` is a command of the shell, in the folder of the repository; the lines below it are all that it writes, to both
-outputs. What a block's commands leave behind is gone after it.
+Each block of the language `console` is run as it stands there. A line that begins with `$ ` is a
+command of the shell, in the folder of the repository; the lines below it are all that it writes, to
+both outputs. What a block's commands leave behind is gone after it.
 """
+import itertools
 import os
 import pathlib
 import re
@@ -38,8 +40,14 @@ def checkout(harness: Harness) -> pathlib.Path:
     return folder
 
 
+def documents() -> list[pathlib.Path]:
+    """The files that show commands. A format's page is the docstring of its module."""
+    names = ("README.md", "docs/*.md", "dist/*.md", "tools/plan_formats/*.py")
+    return list(itertools.chain(*(sorted(ROOT.glob(name)) for name in names)))
+
+
 def outcomes(harness: Harness) -> Iterator[Outcome]:
-    for document in [ROOT / "README.md", *sorted((ROOT / "docs").glob("*.md")), *sorted((ROOT / "dist").glob("*.md"))]:
+    for document in documents():
         for block in BLOCK.findall(document.read_text(encoding="utf-8")):
             folder, status = checkout(harness), 0
             for command, due in turns_of(block):

@@ -135,8 +135,7 @@ def documented() -> set[str]:
             column = 0
         elif column == 0:
             names.update(re.findall(r"`([A-Z]\w+)[^`]*`", cells[0]))
-    # They are told of in sentences, since every command has them.
-    return names | {"ReadFailed", "WriteFailed", "OutOfMemory", "AgentCount", "BadLine"}
+    return names
 
 
 def listed(text: str) -> set[str]:

@@ -167,8 +167,8 @@ CASES = [
     Case("map -", answer(0, CORNER_WRITTEN), CORNER.encode()),
     Case("scen -", answer(1, "BadNumber 2 5"), FILES["N"].encode()),
     Case("--version", answer(0, VERSION)),
-    Case("help", answer(0, help_texts.PROGRAM)),
-    Case("check --help", answer(0, help_texts.COMMANDS["check"])),
+    Case("help deps", answer(0, help_texts.DEPS)),
+    Case("check --help", answer(0, help_texts.CHECK)),
 ]
 # Bad command lines; in a short test one that `clap` refuses, and those that are refused behind it.
 BAD_LINES = [Case(words, Ended(2, b"", told)) for words, told in command_lines.WHOLE.items()]

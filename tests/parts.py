@@ -43,7 +43,10 @@ from lanes import Lanes
 # Each part with what it tests, in the order in which they run: what is soonest done and tells most first.
 PARTS: dict[str, tuple[str, Callable[[Harness], Iterator[Outcome]]]] = {
     "dist": ("that dist/ holds against the sources, and what is said where it does not", shipping.outcomes),
-    "sources": ("that few functions of the sources say that memory is wanting, and that no count of the house rises", sources.outcomes),
+    "sources": (
+        "that few functions say that memory is wanting, counts of the house, and pages made of it",
+        sources.outcomes,
+    ),
     "launcher": ("./mapf, also where the program of dist/ does not start", launcher.outcomes),
     "documents": ("the commands that README and docs/ show, with their answers", documents.outcomes),
     "lines": ("command lines, statuses and help", command_lines.outcomes),

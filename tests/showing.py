@@ -17,8 +17,8 @@ import zlib
 from typing import Iterator, Mapping, Optional
 
 import chromium
-import gif_reader
 import show_pages
+import show_pictures
 import show_replays
 from harness import ROOT, Ended, Harness, Outcome, compared, ended_as, shown, side_by_side
 from texts import BEHIND, HALL, LANE, NOBODY, SHORT, SQUARE, SWAP, TASKS, TURN, VERTEX, WALL, events, plan, scen
@@ -146,8 +146,10 @@ REFUSED: list[tuple[list[str], str, int]] = [
     (["lane.map", "behind.plan", "behind.plan"], "behind.plan: mapf: NoHeader", 1),
     (["lane.map", "behind.plan", "no.events"], "no.events: mapf: OpenFailed", 3),
     (["lane.map", "behind.plan", "--png", "1", "--browser", "no-browser"], f"show: no-browser is no program; {NEEDED}", 3),
-    (["lane.map", "behind.plan", "--gif", "0", "1", "--browser", "/bin/false"], "show: /bin/false has ended", 3),
 ]
+# What is told where a browser ends at once.
+GIF = ["lane.map", "behind.plan", "--gif", "0", "1"]
+ENDS = ([*GIF, "--browser", "/bin/false"], "show: /bin/false has ended", 3)
 BAD_LINES = (
     ["lane.map"],
     ["lane.map", "behind.plan", "--png", "x", "-o", "a"],
@@ -189,9 +191,30 @@ def without_browser(room: Room) -> list[Outcome]:
     return [ended_as("a picture without a browser", "PATH= tools/show.py lane.map behind.plan --png 1 -o a.png", ended, due)]
 
 
+def without_pillow(room: Room) -> list[Outcome]:
+    """Pages need no Pillow. What a picture needs is said before any file is looked at."""
+    (room.folder / "none" / "PIL").mkdir(parents=True)
+    (room.folder / "none" / "PIL" / "__init__.py").write_text("raise ImportError\n")
+    more = {"PYTHONPATH": str(room.folder / "none")}
+    words = ["no.map", "behind.plan", "--png", "1", "--browser", "/bin/false", "-o", "a.png"]
+    picture, page = room.show(*words, more=more), room.show("lane.map", "behind.plan", more=more)
+    wrote = (page.status, page.err, len(page.out) > 1000)
+    shutil.rmtree(room.folder / "none")
+    needed = "`apt install python3-pil`, or `pip install pillow`"
+    told = f"show: there is no Pillow here, and a picture needs it: {needed}\n"
+    due = Ended(3, b"", told.encode())
+    return [
+        ended_as("a picture without Pillow", shown(["tools/show.py", *words]), picture, due),
+        compared("a page without Pillow", "lane.map behind.plan", wrote, (0, b"", True)),
+    ]
+
+
 def refused(room: Room) -> Iterator[Outcome]:
-    tests = [functools.partial(refuses, room.harness, *it) for it in REFUSED]
-    yield from side_by_side([*tests, *(functools.partial(bad_line, room, it) for it in BAD_LINES), functools.partial(without_browser, room)])
+    ends = [ENDS] if show_pictures.has_pillow() else []
+    tests = [functools.partial(refuses, room.harness, *it) for it in (*REFUSED, *ends)]
+    lines = [functools.partial(bad_line, room, it) for it in BAD_LINES]
+    without = [functools.partial(it, room) for it in (without_browser, without_pillow)]
+    yield from side_by_side([*tests, *lines, *without])
 
 
 EXAMPLES = ROOT / "examples"
@@ -270,71 +293,6 @@ def words_of(file: pathlib.Path) -> bytes:
     return b""
 
 
-def png_size(data: bytes) -> tuple[bytes, int, int]:
-    return data[:8], *struct.unpack(">2I", data[16:24])
-
-
-def still(room: Room) -> list[Outcome]:
-    call = ["hall.map", "nobody.plan", "--png", "0", "--width", "500", "-o", "a.png"]
-    ended = room.show(*call)
-    mark, wide, high = png_size((room.folder / "a.png").read_bytes())
-    return [
-        ended_as("a picture", shown(call), ended, Ended(0, b"", b"")),
-        compared("its size", shown(call), (mark, 400 < wide <= 500, 200 < high < 500), (b"\x89PNG\r\n\x1a\n", True, True)),
-    ]
-
-
-def rows_of(data: bytes) -> tuple[list[bytes], int]:
-    """The rows of a picture, which has a byte a pixel, and its width."""
-    pieces, at, (_, wide, high) = [], 8, png_size(data)
-    while at < len(data):
-        size = struct.unpack(">I", data[at : at + 4])[0]
-        pieces.append((data[at + 4 : at + 8], data[at + 8 : at + 8 + size]))
-        at += size + 12
-    whole = zlib.decompress(b"".join(piece for kind, piece in pieces if kind == b"IDAT"))
-    return [whole[row * (wide + 1) + 1 : (row + 1) * (wide + 1)] for row in range(high)], wide
-
-
-def beside(room: Room, other: str) -> list[Outcome]:
-    """A picture of two plans has twice the same map above its lines just where they are alike."""
-    call = ["hall.map", "keys.plan", "--beside", other, "--png", "3", "-o", f"{other}.png"]
-    ended = room.show(*call)
-    rows, wide = rows_of((room.folder / f"{other}.png").read_bytes())
-    is_twice = all(row[: wide // 2] == row[wide // 2 :] for row in rows[: len(rows) * 2 // 3])
-    return [compared(f"a picture of two plans, the other {other}", shown(call), (ended, is_twice), (Ended(0, b"", b""), other == "keys.plan"))]
-
-
-def moving(room: Room, name: str, words: list[str], count: int) -> list[Outcome]:
-    """Four frames a step of a plan, one an event of a run, and both ends."""
-    call = [*words, "-o", f"{name}.gif"]
-    ended = room.show(*call)
-    read = gif_reader.read((room.folder / f"{name}.gif").read_bytes())
-    return [
-        ended_as(f"a moving picture of a {name}", shown(call), ended, Ended(0, b"", b"")),
-        compared(f"its frames: {name}", shown(call), (len(read.frames), {len(it) for it in read.frames}), (count, {read.width * read.height})),
-        compared(f"it moves: {name}", shown(call), len(set(read.frames)), count),
-    ]
-
-
-def no_such_time(room: Room, words: list[str], told: str) -> list[Outcome]:
-    ended = room.show(*words, "-o", "b.png")
-    return [ended_as(f"a time that isn't there: {' '.join(words)}", shown(words), ended, Ended(1, b"", f"{told}\n".encode()))]
-
-
-def pictures(room: Room) -> Iterator[Outcome]:
-    """Pictures, as they are read back."""
-    run, end = ["lane.map", "behind.plan", "run.events"], len(show_pages.RUN)
-    yield from side_by_side([
-        functools.partial(still, room),
-        functools.partial(beside, room, "keys.plan"),
-        functools.partial(beside, room, "train.plan"),
-        functools.partial(moving, room, "plan", ["square.map", "turn.plan", "--gif", "0", "1"], 5),
-        functools.partial(moving, room, "run", [*run, "--gif", "2", "8"], 7),
-        functools.partial(no_such_time, room, ["lane.map", "behind.plan", "--png", "3"], "show: the last time is 2, and 3 is wanted"),
-        functools.partial(no_such_time, room, [*run, "--gif", "0", "99"], f"show: the last time is {end}, and 99 is wanted"),
-    ])
-
-
 def large_texts() -> tuple[bytes, bytes]:
     """A thousand agents for a thousand steps on 512 x 512 cells: each goes at random, and into no cell that anybody holds or takes."""
     rng, side, agents, steps = random.Random(5), 512, 1000, 1000
@@ -396,8 +354,12 @@ def largest(room: Room, browser: Optional[chromium.Chromium]) -> Iterator[Outcom
 
 def of_texts(room: Room) -> list[Outcome]:
     """What is written, refused and drawn."""
-    with_browser = (pictures, stopped) if chromium.found() else ()
-    return [outcome for test in (held, refused, planners, written, *with_browser) for outcome in test(room)]
+    found = [outcome for test in (held, refused, planners, written) for outcome in test(room)]
+    if chromium.found() and show_pictures.has_pillow():
+        found += [*show_pictures.outcomes(room.show, room.folder), *stopped(room)]
+    elif chromium.found():
+        found.append(Outcome("pictures", lacks="Pillow"))
+    return found
 
 
 def of_pages(room: Room, browser: chromium.Chromium) -> list[Outcome]:

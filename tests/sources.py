@@ -9,7 +9,9 @@ import sys
 import zipfile
 from typing import Iterator
 
-from harness import ROOT, Ended, Harness, Outcome, compared, side_by_side
+import contracts
+import measuring
+from harness import ROOT, Ended, Harness, Outcome, compared, ended_as, side_by_side
 
 # Crates of tests, which are no part of the program.
 OF_TESTS = re.compile(r"fakes|fake_tapes|\w+_trials")
@@ -35,7 +37,6 @@ MADE = {
     "command_line/command_line.rt: LineFault: bad_command": NO_TEXT,
     "command_line/command_line.rt: refused": "has no memory for the text of clap's answer, or clap had none",
     "command_line/words.rt: no_number": NO_TEXT,
-    "depgraph/out_of_memory.rt: From<AllocError> for OutOfMemory: from": NAMED_ANEW,
     "dialogue/answering.rt: answer_hear": PASSED_ON,
     "dialogue/answering.rt: answer_tell": PASSED_ON,
     "dialogue/talk_fault.rt: From<AllocError> for TalkFault: from": NAMED_ANEW,
@@ -64,6 +65,7 @@ MADE = {
     "scen/scen_fault.rt: From<AllocError> for ScenFault: from": NAMED_ANEW,
     "scen/search_fault.rt: From<AllocError> for SearchFault: from": NAMED_ANEW,
     "text_commands/row_command.rt: propose": PASSED_ON,
+    "text_io/out_of_memory.rt: From<AllocError> for OutOfMemory: from": NAMED_ANEW,
 }
 # In how many places a function says it, where that is more than one.
 PLACES = {"command_line/command_line.rt: refused": 2, "command_line/words.rt: no_number": 2}
@@ -115,7 +117,9 @@ def making(crates: pathlib.Path) -> Iterator[tuple[str, int]]:
         crate = path.relative_to(crates).parts[0]
         if not OF_TESTS.fullmatch(crate):
             text = path.read_text(encoding="utf-8")
-            named = [(f"{crate}/{path.name}: {name}", places(body)) for name, body in bodies(text)]
+            # The words of a fault are forced by a contract.
+            told = [(name, body) for name, body in bodies(text) if not name.endswith(": words")]
+            named = [(f"{crate}/{path.name}: {name}", places(body)) for name, body in told]
             yield from ((name, count) for name, count in [*named, (f"{crate}/{path.name}: use .. as ..", len(RENAMED.findall(text)))] if count)
 
 
@@ -198,16 +202,39 @@ And `gone()`.
     "examples/put.py": "# put-all\n",
     "docs/PROMISES.md": """# Promises
 
-| `one` | It is no promise. | `never` | `one`: `Pair` |
+|It is no promise.|`never`|||`one`|1|
 
-## Promise by promise
+<!--promises-->
 
-| Crate | Promise | Carried by | Definitions to believe |
-|---|---|---|---|
-| `two` | A row is one. | `is_row`, by `IsRow` | `two`: `Rows` |
-| `one` | It is free. | `is_free`; the law `lost_law` | `one`: `Cells` |
+|Promise|Call|Premises|Law|To believe|Lines|
+|---|---|---|---|---|---|
+|A row is one.|`two::is_row`||`IsRow`|`two/Rows`<br>+1|6|
+| It is free. | `one::is_free` | | `lost_law` | `one/Cells` | 4 |
+|It is put.|`two::Row::put_all`<br>`put`|M||
+
+<!--end-->
+
+More.
 """,
 }
+# Its page of promises once it is written anew.
+PROMISES = UNTIDY["docs/PROMISES.md"]
+for was, now in (
+    ("| It is free. | `one::is_free` | | `lost_law` |", "|It is free.|`one::is_free`||`lost_law`|"),
+    (" `one/Cells` | 4 |", "`one/Cells`|3|"),
+    ("<br>`put`|M||", "<br>`put`|M||`two/Rows`<br>+1|6|"),
+):
+    PROMISES = PROMISES.replace(was, now)
+# What the promise of a call reaches, and what is said where no promise has it.
+REACHED = [
+    "crates/one/specs/Cells.antt:4: is_free, 3 lines",
+    "crates/two/specs/Rows.antt:5: IsRow, 3 lines",
+]
+NOT_REACHED = "house: no promise of docs/PROMISES.md has the call 'never'"
+# The rows of the page, as places that are measured.
+OF_ROW = "docs/PROMISES.md:9: 2 definitions, 6 lines: two: is_row, IsRow"
+OF_FREE = "docs/PROMISES.md:10: 1 definitions, 3 lines: one: is_free, lost_law"
+OF_PUT = "docs/PROMISES.md:11: 2 definitions, 6 lines: two: Row::put_all, put"
 # Each of its measures: the count, and the places.
 SEEN = {
     "specs-twice": (1, ["crates/one/specs/Cells.antt:4: is_free, as in crates/two/specs/More.antt:1"]),
@@ -221,11 +248,9 @@ SEEN = {
         ],
     ),
     "lost-calls": (1, ["docs/PROMISES.md:10: lost_law"]),
-    "longest-promise": (6, ["docs/PROMISES.md:9: 2 definitions, 6 lines: two: is_row, IsRow"]),
-    "all-promises": (
-        9,
-        ["docs/PROMISES.md:9: 2 definitions, 6 lines: two: is_row, IsRow", "docs/PROMISES.md:10: 1 definitions, 3 lines: one: is_free, lost_law"],
-    ),
+    "stale-promises": (2, [OF_FREE, OF_PUT]),
+    "longest-promise": (6, [OF_ROW]),
+    "all-promises": (15, [OF_ROW, OF_PUT, OF_FREE]),
     "long-functions": (1, ["crates/two/src/lib.rt:5: is_row has 41 lines"]),
     "long-files": (1, ["tests/long.py:501: the file has 501 lines"]),
     "many-parameters": (1, ["crates/two/src/lib.rt:59: put_all has 6 parameters"]),
@@ -295,8 +320,36 @@ def of_a_workspace(harness: Harness) -> Iterator[Outcome]:
     due = {"long-files": (1, 0, SEEN["long-files"][1])}
     yield compared("one measure of it", f"{HOUSE} --list long-files", measures(ended.out), due)
     ended = house(harness, ["--promises", "--root", folder])
-    due = ["definitions  lines  promise", "          2      6  two: is_row, IsRow", "          1      3  one: is_free, lost_law"]
-    yield compared("its promises", f"{HOUSE} --promises", (ended.status, ended.out.decode().splitlines()), (0, due))
+    due = [
+        "definitions  lines  promise",
+        "          2      6  two: is_row, IsRow",
+        "          1      3  one: is_free, lost_law",
+        "          2      6  two: Row::put_all, put",
+    ]
+    wrote = (ended.status, ended.out.decode().splitlines())
+    yield compared("its promises", f"{HOUSE} --promises", wrote, (0, due))
+
+
+def of_promises(harness: Harness) -> Iterator[Outcome]:
+    """Whether the page of promises is written as the sources have it, and what one reaches."""
+    folder = written(harness, UNTIDY)
+    root = ["--root", str(folder)]
+    for call, due in (("is_row", (0, REACHED, "")), ("never", (1, [], NOT_REACHED))):
+        ended = house(harness, ["--reached", call, *root])
+        wrote = (ended.status, ended.out.decode().splitlines(), ended.err.decode().strip())
+        yield compared(f"what {call} reaches", f"{HOUSE} --reached {call}", wrote, due)
+    ran, file = f"{HOUSE} --write-promises", folder / "docs/PROMISES.md"
+    for time in ("once", "twice"):
+        ended = house(harness, ["--write-promises", *root])
+        yield ended_as(f"promises written {time}", ran, ended, Ended(0, b"", b""))
+        page = file.read_text(encoding="utf-8")
+        yield compared(f"the page, written {time}", ran, page, PROMISES)
+    stale = measures(house(harness, ["--list", "stale-promises", *root]).out)
+    yield compared("no row is stale then", ran, stale, {"stale-promises": (0, 0, [])})
+    file.unlink()
+    due = Ended(1, b"", b"house: docs/PROMISES.md can't be read: No such file or directory\n")
+    ended = house(harness, ["--write-promises", *root])
+    yield ended_as("no page of promises", ran, ended, due)
 
 
 def of_limits(harness: Harness) -> Iterator[Outcome]:
@@ -309,11 +362,21 @@ def of_limits(harness: Harness) -> Iterator[Outcome]:
     yield compared("a workspace below its limits", str(HOUSE), (ended.status, ended.err, any(due), hinted), (0, b"", True, due))
 
 
+NO_TABLE = "has no table between the lines '<!--promises-->' and '<!--end-->'"
 # What can't be measured, by the file that is changed: its text, and what is said of it.
 UNREADABLE = [
     ("crates/one/specs/Cells.antt", b"\xff", "crates/one/specs/Cells.antt is no text in UTF-8"),
-    ("docs/PROMISES.md", b"# Promises\n", "docs/PROMISES.md has no table under the heading '## Promise by promise'"),
-    ("docs/PROMISES.md", b"## Promise by promise\n\n| `one` | A | `b` | c | d |\n", "docs/PROMISES.md:3: a row with 5 cells, where 4 are due"),
+    ("docs/PROMISES.md", b"# Promises\n", f"docs/PROMISES.md {NO_TABLE}"),
+    (
+        "docs/PROMISES.md",
+        b"<!--promises-->\n|a|\n|-|\n<!--end-->\n|b|\n",
+        f"docs/PROMISES.md {NO_TABLE}",
+    ),
+    (
+        "docs/PROMISES.md",
+        b"<!--promises-->\n|a|\n|-|\n|A|`b`|c|\n<!--end-->\n",
+        "docs/PROMISES.md:4: a row with 3 cells, where 6 are due",
+    ),
 ]
 
 
@@ -336,5 +399,6 @@ def outcomes(harness: Harness) -> Iterator[Outcome]:
     found = dict(making(ROOT / "crates"))
     for name in sorted({*found, *MADE}):
         yield compared(f"{name} says that memory is wanting", "a search of crates/*/src", found.get(name, 0), PLACES.get(name, 1) if name in MADE else 0)
-    parts = (of_the_sources, of_a_workspace, of_limits, of_bad_workspaces)
+    of_house = (of_the_sources, of_a_workspace, of_promises, of_limits, of_bad_workspaces)
+    parts = (*of_house, contracts.outcomes, measuring.outcomes)
     yield from side_by_side([lambda part=part: list(part(harness)) for part in parts])

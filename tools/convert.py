@@ -1,19 +1,23 @@
 #!/usr/bin/env python3
-"""Converts what planners write to a plan, `mapf-plan 1`, and back. docs/CONVERTING.md has the formats.
+"""Converts what planners write to a plan, `mapf-plan 1`, and back. docs/CONVERTING.md says more.
 
-Usage: convert.py FILE [-o PLAN] [--from FORMAT] [--map MAP] [--scen SCEN] [--number N] [--fill-waits]
+Usage: convert.py FILE [-o PLAN] [--from FORMAT] [--map MAP] [--scen SCEN] [--number N]
+                       [--fill-waits]
        convert.py PLAN --to FORMAT [-o FILE] [--map MAP] [--scen SCEN]
        convert.py MAP [-o MAP]
+       convert.py --help-format FORMAT
 
-Each conversion is held against what was read: `mapf path` says where each agent of the plan stands at each time, and that has to be each cell
-that the text has. So a mistake of this tool refuses a plan, and never passes off another one. With --scen, starts have to be those of the
-scenario's rows: row k is of agent k. What a planner did wrong, as a goal that is missed or a cell off the map, is converted and said:
-`mapf check` rejects it.
+Each conversion is held against what was read: `mapf path` says where each agent of the plan stands
+at each time, and that has to be each cell that the text has. So a mistake of this tool refuses a
+plan, and never passes off another one. With --scen, starts have to be those of the scenario's rows:
+row k is of agent k. What a planner did wrong, as a goal that is missed or a cell off the map, is
+converted and said: `mapf check` rejects it.
 
-A map of the League of Robot Runners becomes one of MovingAI: its emitters and stations (E, S) are free cells.
+A map of the League of Robot Runners becomes one of MovingAI: its emitters and stations (E, S) are
+free cells.
 
-Status 0: done. 1: a text has a fault, told in one line as `FILE:LINE: what is wrong, what was due`. 2: a bad command line. 3: a file or a tool
-failed. Unless it is 0, nothing is written.
+Status 0: done. 1: a text has a fault, told in one line as `FILE:LINE: what is wrong, what was due`.
+2: a bad command line. 3: a file or a tool failed. Unless it is 0, nothing is written.
 """
 import argparse
 import contextlib
@@ -26,7 +30,7 @@ sys.dont_write_bytecode = True
 import path_check  # noqa: E402
 from leaving import heed_signals  # noqa: E402
 from path_check import Failed, Program, Refused  # noqa: E402
-from plan_formats import HEAD, Format, formats, guess, league_map, mapf_plan  # noqa: E402
+from plan_formats import HEAD, Format, formats, guess, league_map, mapf_plan, page_of  # noqa: E402
 from plan_formats.texts import text_of  # noqa: E402
 from plan_formats.walks import MOST_NUMBER, Fault, Found, Given, Task, Walk, difference, moved, padded  # noqa: E402
 from whole_file import Draft, draft  # noqa: E402
@@ -57,6 +61,28 @@ def number(word: str) -> int:
     return int(word)
 
 
+class FormatHelp(argparse.Action):
+    """Shows the page of a format, and ends."""
+
+    def __call__(
+        self,
+        parser: argparse.ArgumentParser,
+        given: argparse.Namespace,
+        name: str,
+        option: Optional[str] = None,
+    ) -> None:
+        if name not in formats():
+            say(f"{name[:40]!r} is no format, one of {', '.join(formats())} was due")
+            parser.exit(BAD_LINE)
+        try:
+            with open(1, "wb", closefd=False) as out:
+                out.write(page_of(name).encode())
+        except OSError as fault:
+            say(str(fault.strerror))
+            parser.exit(FAILED)
+        parser.exit()
+
+
 def read_words(words: Sequence[str]) -> argparse.Namespace:
     names = list(formats())
     parser = argparse.ArgumentParser(prog="convert.py", description=__doc__, formatter_class=argparse.RawDescriptionHelpFormatter)
@@ -69,6 +95,8 @@ def read_words(words: Sequence[str]) -> argparse.Namespace:
     parser.add_argument("--number", type=number, metavar="N", help="the plan's number (CRC-32 of its text with number 0)")
     parser.add_argument("--fill-waits", action="store_true", help="an agent waits at times that a schedule leaves out")
     parser.add_argument("--program", type=pathlib.Path, default=ROOT / "mapf", metavar="PATH", help="the program mapf (that of this checkout)")
+    page = "shows what is to be known of a format, and ends"
+    parser.add_argument("--help-format", action=FormatHelp, metavar="FORMAT", help=page)
     given = parser.parse_args(words)
     for taken, name in ((given.source, "--from"), (given.number is not None, "--number"), (given.fill_waits, "--fill-waits")):
         if given.to and taken:

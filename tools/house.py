@@ -1,12 +1,20 @@
 #!/usr/bin/env python3
-"""Measures how tidy the sources are, and holds each measure to what the last commit reached, so that it only falls.
+"""Measures how tidy the sources are, and holds each measure to what the last commit reached, so
+that it only falls.
 
-Usage: house.py [--list MEASURE | --all | --promises] [--root FOLDER]
+Usage: house.py [--list MEASURE | --all | --promises | --reached CALL] [--root FOLDER]
+       house.py --write-promises [--root FOLDER]
 
-A line a measure: its count, and the most that it may be. `--list` shows the places that a measure counts, and `--all` those of each.
-`--promises` is a table of what each promise of docs/PROMISES.md reaches. Any folder but this checkout is held to 0 in all.
+A line a measure: its count, and the most that it may be. `--list` shows the places that a measure
+counts, and `--all` those of each. Any folder but this checkout is held to 0 in all.
 
-Status 0: no measure is above its limit. 1: one is, or a file can't be measured. 2: a bad command line.
+`--promises` is a table of what each promise of docs/PROMISES.md reaches, and `--reached` lists each
+definition that the promises of a call reach. `--write-promises` writes the last two cells of the
+rows there: the files of definitions to believe, by crate, with how many more of other crates; and
+how many lines these definitions have.
+
+Status 0: no measure is above its limit. 1: one is, or a file can't be measured, or no promise has
+the call. 2: a bad command line. 3: the page can't be written.
 """
 import argparse
 import dataclasses
@@ -18,21 +26,23 @@ sys.dont_write_bytecode = True
 import product  # noqa: E402
 from measures.crates import foreign_crates, foreign_proofs, specs_twice  # noqa: E402
 from measures.definitions import Definitions  # noqa: E402
-from measures.promises import Promise, Promises  # noqa: E402
+from measures.promises import TABLE, Promise, Promises  # noqa: E402
 from measures.sizes import MOST_LINES_OF_FILE, MOST_LINES_OF_FUNCTION, MOST_PARAMETERS  # noqa: E402
 from measures.sizes import long_files, long_functions, many_parameters  # noqa: E402
 from measures.stale_names import stale_names  # noqa: E402
 from measures.workspace import BadWorkspace, Place, Workspace  # noqa: E402
+from whole_file import draft  # noqa: E402
 
 # Each measure, what it counts, and what the last commit reached. Who brings a count down brings its limit down too.
 MEASURES: dict[str, tuple[str, int]] = {
-    "specs-twice": ("names that more than one file of specs/ defines", 58),
-    "foreign-proofs": ("lines by which a crate takes from another's proofs", 168),
-    "foreign-crates": ("pairs of crates with such lines", 35),
+    "specs-twice": ("names that more than one file of specs/ defines", 0),
+    "foreign-proofs": ("lines by which a crate takes from another's proofs", 0),
+    "foreign-crates": ("pairs of crates with such lines", 0),
     "stale-names": ("names of the code in docs/ that stand nowhere else", 0),
     "lost-calls": ("names in the table of promises that nothing there has", 0),
-    "longest-promise": ("lines of definitions that a promise reaches, at the most", 2841),
-    "all-promises": ("lines of definitions that each promise reaches, summed up", 23022),
+    "stale-promises": ("rows of that table that house.py --write-promises would change", 0),
+    "longest-promise": ("lines of definitions that a promise reaches, at the most", 2792),
+    "all-promises": ("lines of definitions that each promise reaches, summed up", 21707),
     "long-functions": (f"functions of the product with more than {MOST_LINES_OF_FUNCTION} lines", 2),
     "long-files": (f"files with more than {MOST_LINES_OF_FILE} lines", 13),
     "many-parameters": (f"functions with more than {MOST_PARAMETERS} parameters", 37),
@@ -59,13 +69,18 @@ def measured(workspace: Workspace) -> dict[str, Measured]:
         "foreign-proofs": counted(foreign),
         "foreign-crates": counted(foreign_crates(foreign)),
         "stale-names": counted(stale_names(workspace)),
-        "lost-calls": counted(Place(it.place.path, it.line, call) for it in promises for call in it.lost),
+        "lost-calls": counted(replaced(it.place, call) for it in promises for call in it.lost),
+        "stale-promises": counted(it.place for it in promises if it.is_stale),
         "longest-promise": Measured(max(lengths, default=0), table[:1]),
         "all-promises": Measured(sum(lengths), table),
         "long-functions": counted(long_functions(workspace, product.crates())),
         "long-files": counted(long_files(workspace)),
         "many-parameters": counted(many_parameters(workspace)),
     }
+
+
+def replaced(place: Place, what: str) -> Place:
+    return dataclasses.replace(place, what=what)
 
 
 def counted(places: Iterable[Place]) -> Measured:
@@ -75,8 +90,11 @@ def counted(places: Iterable[Place]) -> Measured:
 
 def report(workspace: Workspace, given: argparse.Namespace, is_here: bool) -> tuple[list[str], bool]:
     """The lines that were asked for, and whether no measure among them is above its limit."""
+    promises = Promises(workspace, Definitions(workspace))
     if given.promises:
-        return ["definitions  lines  promise", *map(row, Promises(workspace, Definitions(workspace)).all())], True
+        return ["definitions  lines  promise", *map(row, promises.all())], True
+    if given.reached:
+        return reached(promises, given.reached), True
     lines, is_well = [], True
     for name, it in measured(workspace).items():
         if given.list in (None, name):
@@ -85,6 +103,23 @@ def report(workspace: Workspace, given: argparse.Namespace, is_here: bool) -> tu
             lines += [f"  {place}" for place in it.places if given.list or given.all]
             is_well &= it.count <= limit
     return lines, is_well
+
+
+def reached(promises: Promises, call: str) -> list[str]:
+    """Each definition that the promises of a call reach."""
+    found = [it.reached for it in promises.all() if call in it.calls]
+    if not found:
+        raise BadWorkspace(f"no promise of {TABLE} has the call '{call}'")
+    those = sorted(set().union(*found), key=lambda it: (it.path, it.line))
+    return [f"{it.path}:{it.line}: {it.name}, {it.length} lines" for it in those]
+
+
+def write_promises(workspace: Workspace) -> None:
+    """Writes the page of promises as the sources have it."""
+    text = Promises(workspace, Definitions(workspace)).page()
+    if text != workspace.text(TABLE):
+        with draft([text.encode()], workspace.root / TABLE) as made:
+            made.put()
 
 
 def line_of(name: str, count: int, limit: int) -> str:
@@ -107,6 +142,10 @@ def read_words(words: Sequence[str]) -> argparse.Namespace:
     shown.add_argument("--list", choices=MEASURES, metavar="MEASURE", help=f"the places of one measure: {', '.join(MEASURES)}")
     shown.add_argument("--all", action="store_true", help="the places of each measure")
     shown.add_argument("--promises", action="store_true", help="what each promise reaches, in the order of docs/PROMISES.md")
+    about = "each definition that the promises of a call reach"
+    shown.add_argument("--reached", metavar="CALL", help=about)
+    about = "writes what each promise reaches into docs/PROMISES.md"
+    shown.add_argument("--write-promises", action="store_true", help=about)
     parser.add_argument("--root", type=pathlib.Path, default=product.ROOT, metavar="FOLDER", help="measures this folder, not the checkout")
     given = parser.parse_args(words)
     if not (given.root / "crates").is_dir():
@@ -120,10 +159,16 @@ def main(words: Sequence[str]) -> int:
     # Its crates.txt says which crates the product of that folder is made of.
     product.ROOT = given.root
     try:
+        if given.write_promises:
+            write_promises(Workspace(given.root))
+            return 0
         told, is_well = report(Workspace(given.root), given, is_here)
-    except (BadWorkspace, OSError) as error:
+    except BadWorkspace as error:
         print(f"house: {error}", file=sys.stderr)
         return 1
+    except OSError as error:
+        print(f"house: {error.filename}: {error.strerror}", file=sys.stderr)
+        return 3
     print("\n".join(told))
     return 0 if is_well else 1
 

@@ -1,17 +1,20 @@
 #!/usr/bin/env python3
-"""Shows a plan, or a run of it, as one page for a browser, or as pictures. docs/SHOWING.md says what is drawn how.
+"""Shows a plan, or a run of it, as one page for a browser, or as pictures. docs/CONVERTING.md says more.
 
 Usage: show.py MAP PLAN [EVENTS] [--scen SCEN] [--from FORMAT] [-o PAGE.html]
        show.py MAP PLAN --beside PLAN [--scen SCEN] [-o PAGE.html]
        show.py MAP PLAN [EVENTS] --png TIME -o PICTURE.png
        show.py MAP PLAN [EVENTS] --gif FROM TO -o PICTURE.gif
 
-All that is shown is what `mapf` says of the files. PLAN may also be what a planner wrote: convert.py makes a plan of it first, and says so. The page
-opens at the fault of a plan that is rejected, also for a scenario that it doesn't solve. With EVENTS it shows a run: TIME is then how many events have
-been answered. A picture is drawn by a Chromium, which has to be there; a page needs nothing but a browser to look at it.
+All that is shown is what `mapf` says of the files. PLAN may also be what a planner wrote:
+convert.py makes a plan of it first, and says so. The page opens at the fault of a plan that is
+rejected, also for a scenario that it doesn't solve. With EVENTS it shows a run: TIME is then how
+many events have been answered. A picture is drawn by a Chromium and written by Pillow
+(python3-pil), which have to be there; a page needs nothing but a browser to look at it.
 
-Status 0: done. 1: a text has a fault, told in the line of `mapf` or of convert.py with the file. 2: a bad command line. 3: a file or a tool failed, or
-there is no browser for a picture. Unless it is 0, nothing is written.
+Status 0: done. 1: a text has a fault, told in the line of `mapf` or of convert.py with the file.
+2: a bad command line. 3: a file or a tool failed, or there is no browser or no Pillow for a
+picture. Unless it is 0, nothing is written.
 """
 import argparse
 import contextlib
@@ -137,6 +140,7 @@ def write_picture(given: argparse.Namespace, shown: Shown, folder: pathlib.Path)
 def show(given: argparse.Namespace) -> None:
     if given.is_picture:
         find(given.browser)
+        pictures.hold_pillow()
     with tempfile.TemporaryDirectory(prefix="mapf-show-") as name:
         folder = pathlib.Path(name)
         shown = look(given, folder)

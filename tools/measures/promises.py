@@ -1,25 +1,48 @@
-"""What each promise of the table "Promise by promise" stands on: the definitions that the contracts of its calls reach."""
+"""What each promise of docs/PROMISES.md stands on: the definitions that the contracts of its calls
+reach."""
 import dataclasses
 import functools
 import re
-from typing import Iterator
+from typing import Iterator, Optional
 
 from measures.definitions import Definition, Definitions
 from measures.rattle import Contract, contracts_of_types, functions
 from measures.workspace import BadWorkspace, Place, Workspace
 
 TABLE = "docs/PROMISES.md"
-HEADING = "## Promise by promise"
+# Between these lines stands the table, which has two lines of its own above the promises.
+BEGIN, END, HEAD = "<!--promises-->", "<!--end-->", 2
+# A promise, its calls, its premises, its laws, the definitions to believe, and their lines.
+CELLS = 6
 QUOTED = re.compile(r"`([^`]+)`")
-# `the laws of `model`` are all of them.
-ALL_LAWS = re.compile(r"the laws of `(\w+)`")
+# `model::laws` are all laws of `model`.
+ALL_LAWS = "laws"
+
+
+@dataclasses.dataclass(frozen=True)
+class Row:
+    """A row of the table: its line there, and its cells."""
+
+    line: int
+    cells: tuple[str, ...]
+
+
+@dataclasses.dataclass(frozen=True)
+class Named:
+    """A call or a law that a row names: its crate, the types that it may be of, and its name there,
+    with its type in front where the row has it. A law without a crate is of any of the row."""
+
+    crate: str
+    owners: frozenset[str]
+    name: str
 
 
 @dataclasses.dataclass(frozen=True)
 class Promise:
-    """A row of the table: its line there, its crates, the calls that carry it, what the contracts of these reach, and which names are no calls."""
+    """A row of the table with its crates, the calls and laws that carry it, what the contracts of
+    these reach, and which names are none."""
 
-    line: int
+    row: Row
     crates: tuple[str, ...]
     calls: tuple[str, ...]
     reached: frozenset[Definition]
@@ -33,24 +56,49 @@ class Promise:
     @property
     def place(self) -> Place:
         """Where it is promised, and what it stands on."""
-        return Place(TABLE, self.line, f"{len(self.reached)} definitions, {self.length} lines: {self.carried}")
+        told = f"{len(self.reached)} definitions, {self.length} lines: {self.carried}"
+        return Place(TABLE, self.row.line, told)
 
     @property
     def carried(self) -> str:
         """Which calls of which crates carry it."""
         return f"{', '.join(self.crates)}: {', '.join(self.calls)}"
 
+    @property
+    def believed(self) -> str:
+        """The files of its own crates that have what it reaches, a line each, and how many files
+        of other crates do."""
+        files = {(it.crate, it.module) for it in self.reached}
+        own = sorted(it for it in files if it[0] in self.crates)
+        told = [f"`{crate}/{module.replace('.', '/')}`" for crate, module in own]
+        others = len(files) - len(own)
+        return "<br>".join([*told, *([f"+{others}"] if others else [])])
 
-def rows(workspace: Workspace) -> Iterator[tuple[int, str, str]]:
-    """The rows of the table, each with its line, its crates and what carries it."""
-    in_table = False
-    for number, line in enumerate(workspace.lines(TABLE), 1):
-        in_table = line == HEADING if line.startswith("#") else in_table
-        if in_table and line.startswith("| `"):
-            cells = [cell.strip() for cell in line.strip(" |").split("|")]
-            if len(cells) != 4:
-                raise BadWorkspace(f"{TABLE}:{number}: a row with {len(cells)} cells, where 4 are due")
-            yield number, cells[0], cells[2]
+    @property
+    def cells(self) -> tuple[str, ...]:
+        """Its row, as the sources have its last two cells."""
+        return (*self.row.cells[:-2], self.believed, str(self.length))
+
+    @property
+    def is_stale(self) -> bool:
+        return self.row.cells != self.cells
+
+
+def rows(workspace: Workspace) -> Iterator[Row]:
+    """The rows of the table."""
+    lines = workspace.lines(TABLE)
+    begin = lines.index(BEGIN) if BEGIN in lines else len(lines)
+    end = lines.index(END, begin) if END in lines[begin:] else len(lines)
+    in_table = [at for at in range(begin, end) if lines[at].startswith("|")]
+    for at in in_table[HEAD:]:
+        cells = [it.strip() for it in lines[at].strip()[1:-1].split("|")]
+        # The last two may still be to be written.
+        if CELLS - 2 <= len(cells) < CELLS:
+            cells += [""] * (CELLS - len(cells))
+        if len(cells) != CELLS:
+            told = f"a row with {len(cells)} cells, where {CELLS} are due"
+            raise BadWorkspace(f"{TABLE}:{at + 1}: {told}")
+        yield Row(at + 1, tuple(cells))
 
 
 class Promises:
@@ -64,38 +112,71 @@ class Promises:
         """Each row of the table, none where the docs have no promises."""
         if not (self.workspace.root / TABLE).exists():
             return []
-        found = [self.promise(*row) for row in rows(self.workspace)]
+        found = [self.promise(row) for row in rows(self.workspace)]
         if not found:
-            raise BadWorkspace(f"{TABLE} has no table under the heading '{HEADING}'")
+            raise BadWorkspace(f"{TABLE} has no table between the lines '{BEGIN}' and '{END}'")
         return found
 
-    def promise(self, line: int, crates: str, carried: str) -> Promise:
-        of = tuple(it for it in QUOTED.findall(crates) if it in self.workspace.crates)
-        calls = [it for it in QUOTED.findall(carried) if it not in self.workspace.crates]
-        # `of `model` the law ..`
-        places = {*of, *QUOTED.findall(carried)}.intersection(self.workspace.crates)
-        owners = {it.partition("::")[0] for it in calls if "::" in it}
-        carrying = {call: [it for crate in places for it in called(self.contracts(crate), call, owners)] for call in calls}
-        laws = [it for crate in ALL_LAWS.findall(carried) for it in self.contracts(crate, "laws")]
-        roots = {it for contract in sum(carrying.values(), laws) for it in self.definitions.named_in(contract.clauses, contract.imports)}
-        roots |= {it for call in calls for it in self.definitions.by_name.get(call, ()) if it.crate in of}
-        reached = self.definitions.reached(roots)
-        names = {it.name for it in reached}
-        return Promise(line, of, tuple(calls), frozenset(reached), tuple(it for it in calls if not carrying[it] and it not in names))
+    def page(self) -> str:
+        """The page, with the last two cells of each row as the sources have them."""
+        lines = self.workspace.lines(TABLE)
+        for it in self.all():
+            lines[it.row.line - 1] = f"|{'|'.join(it.cells)}|"
+        return "\n".join([*lines, ""])
+
+    def named(self, cell: str) -> Iterator[Named]:
+        """What a cell names. Behind `agent::Agent::start`, `finish` is one of `Agent` there too."""
+        crate, owners = "", frozenset()
+        for quoted in QUOTED.findall(cell):
+            first, _, rest = quoted.partition("::")
+            if first in self.workspace.crates and rest:
+                crate, owners = first, frozenset()
+            name = rest if crate == first and rest else quoted
+            owner, _, _ = name.rpartition("::")
+            owners = owners | {owner} if owner else owners
+            yield Named(crate, owners, name)
+
+    def promise(self, row: Row) -> Promise:
+        calls, laws = (list(self.named(row.cells[place])) for place in (1, 3))
+        of = tuple(dict.fromkeys(it.crate for it in (*calls, *laws) if it.crate))
+        found = {it: self.roots(it, (it.crate,) if it.crate else of) for it in (*calls, *laws)}
+        reached = self.definitions.reached(set().union(*filter(None, found.values())))
+        # A law may be one of the definitions of a lower crate.
+        known = {it.name for it in reached}
+        lost = [it.name for it, own in found.items() if own is None and it.name not in known]
+        names = dict.fromkeys(it.name for it in found)
+        return Promise(row, of, tuple(names), frozenset(reached), tuple(lost))
+
+    def roots(self, named: Named, crates: tuple[str, ...]) -> Optional[set[Definition]]:
+        """The definitions that a call or a law names by its contract, or that have its name.
+        Nothing, where there is neither."""
+        found: list[Contract] = []
+        for crate in crates:
+            if named.name == ALL_LAWS:
+                found += self.contracts(crate, ALL_LAWS)
+            else:
+                found += called(self.contracts(crate), named.name, named.owners)
+        own = {it for it in self.definitions.by_name.get(named.name, ()) if it.crate in crates}
+        by_contracts = (self.definitions.named_in(it.clauses, it.imports) for it in found)
+        return own.union(*by_contracts) if found or own else None
 
     @functools.lru_cache(maxsize=None)
     def contracts(self, crate: str, file: str = "") -> list[Contract]:
         """The contracts of a crate's code, or of one file of it."""
-        paths = self.workspace.files(f"crates/{crate}/src", ".rt")
-        texts = [self.workspace.text(path) for path in paths if not file or path.endswith(f"/{file}.rt")]
-        return [it for text in texts for it in (*(function.contract for function in functions(text)), *contracts_of_types(text))]
+        found: list[Contract] = []
+        for path in self.workspace.files(f"crates/{crate}/src", ".rt"):
+            if not file or path.endswith(f"/{file}.rt"):
+                text = self.workspace.text(path)
+                found += [*(it.contract for it in functions(text)), *contracts_of_types(text)]
+        return found
 
 
-def called(contracts: list[Contract], call: str, owners: set[str]) -> list[Contract]:
-    """The contracts that a call of the table means. Behind `Agent::start`, `finish` is one of `Agent` too; a type means all that is public of it."""
+def called(contracts: list[Contract], call: str, owners: frozenset[str]) -> list[Contract]:
+    """The contracts that a call of the table means. A type means all that is public of it."""
     owner, _, name = call.rpartition("::")
+    of = {owner} if owner else owners
     readings = [
-        [it for it in contracts if it.name == name and it.of_type in ({owner} if owner else owners)],
+        [it for it in contracts if it.name == name and it.of_type in of],
         [it for it in contracts if it.name == name and not it.of_type and not owner],
         [it for it in contracts if it.of_type == name and it.is_public],
         [it for it in contracts if it.name == name and not owner],

@@ -1,7 +1,9 @@
 """The functions of the code, read by its layout, which the kit's formatter fixes: what belongs to a block is indented, and its last line is not."""
 import dataclasses
 import functools
+import itertools
 import re
+import textwrap
 from typing import Iterator
 
 from measures.imports import Import, imports
@@ -29,12 +31,18 @@ class Contract:
 
 @dataclasses.dataclass(frozen=True)
 class Function:
-    """A function: where it stands, its parameters without `self`, how many lines its body has, and its contract."""
+    """A function: where it stands, its parameters without `self`, how many lines its body has, and
+    its contract; the first line of its block, whether it says `pub`, what its `///` lines say, and
+    its head with its clauses."""
 
     line: int
     parameters: int
     body: int
     contract: Contract
+    block: str
+    is_pub: bool
+    docs: str
+    head: str
 
 
 @functools.lru_cache(maxsize=None)
@@ -88,8 +96,19 @@ def function(lines: list[str], start: int, head: re.Match, block: str, taken: tu
     body = block_of(lines, end).count("\n") - 1 if lines[end].endswith("{") else 0
     # What a trait has is as public as the trait.
     is_public = public == "pub " or " for " in block or "trait " in block
+    whole = "\n".join(lines[start : end + 1])
     contract = Contract(type_of(block), name, is_public, clauses(lines[start : end + 1]), taken)
-    return Function(start + 1, parameters("\n".join(lines[start : end + 1])[head.end() :]), body, contract)
+    its_head = re.sub(r"\s*(?:\{\}?|;)$", "", textwrap.dedent(whole))
+    count = parameters(whole[head.end() :])
+    its_docs = docs_above(lines, start)
+    return Function(start + 1, count, body, contract, block, public == "pub ", its_docs, its_head)
+
+
+def docs_above(lines: list[str], start: int) -> str:
+    """What the `///` lines say above a line; attributes and comments may stand between."""
+    above = map(str.strip, reversed(lines[:start]))
+    belonging = list(itertools.takewhile(lambda line: line.startswith(("//", "#[")), above))
+    return "\n".join(it[3:].strip() for it in reversed(belonging) if it.startswith("///"))
 
 
 def end_of_head(lines: list[str], start: int, indent: str) -> int:

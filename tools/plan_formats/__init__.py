@@ -1,13 +1,16 @@
 """The formats of plans that convert.py reads and writes, a module each.
 
-A module of this package with a value `FORMAT` is a format. Its name, how a text of it begins, its reader and its writer stand there, and
-nothing of it stands anywhere else. A reader takes the text, and answers the walk of each agent or raises a `Fault`; it never guesses. A
-writer gives the pieces of the text of walks.
+A module of this package with a value `FORMAT` is a format. Its name, how a text of it begins, its
+reader, its writer and what people have to know of it, as its docstring, stand there, and nothing of
+it stands anywhere else. A reader takes the text, and answers the walk of each agent or raises a
+`Fault`; it never guesses. A writer gives the pieces of the text of walks.
 """
 import dataclasses
 import functools
 import importlib
+import inspect
 import pkgutil
+import types
 from typing import Callable, Iterator, Optional, Sequence
 
 from plan_formats.walks import Fault, Given, Walk
@@ -45,11 +48,21 @@ class Format:
 
 
 @functools.lru_cache(maxsize=None)
+def modules() -> dict[str, types.ModuleType]:
+    """The modules of all formats, by the names of these."""
+    names = [f"{__name__}.{it.name}" for it in pkgutil.iter_modules(__path__)]
+    found = [it for it in map(importlib.import_module, names) if hasattr(it, "FORMAT")]
+    return {it.FORMAT.name: it for it in sorted(found, key=lambda it: it.FORMAT.name)}
+
+
 def formats() -> dict[str, Format]:
     """All formats, by name."""
-    modules = [importlib.import_module(f"{__name__}.{found.name}") for found in pkgutil.iter_modules(__path__)]
-    found = [module.FORMAT for module in modules if hasattr(module, "FORMAT")]
-    return {it.name: it for it in sorted(found, key=lambda it: it.name)}
+    return {name: it.FORMAT for name, it in modules().items()}
+
+
+def page_of(name: str) -> str:
+    """What people have to know of a format."""
+    return f"{inspect.getdoc(modules()[name])}\n"
 
 
 def guess(text: bytes, due: str) -> Format:

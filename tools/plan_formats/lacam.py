@@ -1,6 +1,38 @@
-"""Lines `key=value`, then `solution=` and a line for each time, `0:(x,y),(x,y),`, as LaCAM, PIBT and their kin write them.
+"""Lines `key=value`, then `solution=` and a line for each time, of LaCAM, PIBT and their kin.
 
-pypibt and mapf-visualizer have the lines of the times alone.
+Columns stand before rows. Each time has a cell of each agent. The lines up to `solution=` may all
+be missing, as in texts of pypibt and mapf-visualizer. A key comes once.
+
+Refused are an `agents=` or `starts=` that says something else than the cells, a `makespan=` later
+than the last time, and `solved=0`: the planner found no plan. Other `goals=`, another `makespan=`
+and another `soc=`, the sum of the times from which each agent stays where it ends, are said. Other
+keys may say what they like: `sum_of_loss=` is another measure, and isn't compared.
+
+Going back, an agent that ends before the others is written as waiting up to the last time, since
+the format has no other way to say it. Those waits cost nothing in a verdict.
+
+```console
+$ cat examples/planners/corner.lacam
+agents=2
+map_file=corner.map
+solver=planner
+solved=1
+makespan=2
+starts=(0,1),(0,0),
+goals=(1,0),(2,0),
+solution=
+0:(0,1),(0,0),
+1:(0,0),(1,0),
+2:(1,0),(2,0),
+$ python3 tools/convert.py examples/planners/corner.lacam --number 7
+convert: examples/planners/corner.lacam is read as lacam
+mapf-plan 1
+number 7
+agents 2
+agent 0 1 ne
+agent 0 0 ee
+convert: 2 agents, 4 acts
+```
 """
 import re
 from array import array

@@ -1,4 +1,41 @@
-"""The JSON of the League of Robot Runners: `start` with a row, a column and a heading for each agent, and `actualPaths` with its actions."""
+"""The JSON of the League of Robot Runners: `start` and `actualPaths`.
+
+`start` has a row, a column and a heading (`E`, `S`, `W`, `N`) of each agent: rows stand before
+columns. `actualPaths` has a string of actions of each, in the letters of the action model `MAPF_T`:
+`F` goes ahead, `R` and `C` turn, `W` waits. A text whose `actionModel` is another one is refused,
+and so is one without `actionModel` whose letters are `R` and `W` alone: `R` turns in the one model,
+and goes right in another.
+
+A turn takes a step of time, and becomes a wait. So the plan says where the robots are at each time,
+and not which way they look; a verdict on it doesn't either. There is no way back.
+
+`teamSize`, where it is there, has to be the number of agents. Other members aren't read, but the
+text has to be JSON to its end. No cost of these paths is stated.
+
+```console
+$ cat examples/planners/corner.json
+{
+ "actionModel": "MAPF_T",
+ "AllValid": "Yes",
+ "teamSize": 2,
+ "start": [[1, 0, "E"], [0, 0, "E"]],
+ "numTaskFinished": 0,
+ "actualPaths": ["C,F,R,F", "F,F"],
+ "plannerPaths": ["C,F,R,F", "F,F"],
+ "errors": [],
+ "events": [[[0, 3, "assigned"]], [[0, 3, "assigned"]]]
+}
+$ python3 tools/convert.py examples/planners/corner.json --number 7
+convert: examples/planners/corner.json is read as lorr
+convert: turns are read as waits; headings are no part of the plan, nor of a verdict on it
+mapf-plan 1
+number 7
+agents 2
+agent 0 1 -n-e
+agent 0 0 ee
+convert: 2 agents, 6 acts
+```
+"""
 import json
 import re
 from itertools import accumulate, repeat

@@ -1,4 +1,24 @@
-"""Lines `Agent 0: (row,col)->(row,col)->`, as CBSH2-RTC, EECBS, PBS and MAPF-LNS2 write them. Rows stand before columns."""
+"""Lines `Agent 0: (row,col)->(row,col)->`, as CBSH2-RTC, EECBS, PBS and MAPF-LNS2 write them.
+
+Rows stand before columns. The blank behind the colon and the last arrow may be missing, but not the
+arrow of the last path alone: it may be cut. Lines come in any order. No cost is stated. An agent
+without a path is refused, since nobody knows where it stands; where none has one, the planner found
+no plan.
+
+```console
+$ cat examples/planners/corner.paths
+Agent 0: (1,0)->(0,0)->(0,1)->
+Agent 1: (0,0)->(0,1)->(0,2)->
+$ python3 tools/convert.py examples/planners/corner.paths --number 7
+convert: examples/planners/corner.paths is read as paths
+mapf-plan 1
+number 7
+agents 2
+agent 0 1 ne
+agent 0 0 ee
+convert: 2 agents, 4 acts
+```
+"""
 import re
 from typing import Iterator, Sequence
 

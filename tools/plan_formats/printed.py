@@ -1,6 +1,20 @@
-"""Lines `Agent 0 (3 -->3): 5->6->7->` of cell numbers, as CBSH2-RTC, EECBS and PBS print their paths. Lines around them tell no path.
+r"""Lines `Agent 0 (3 -->3): 5->6->7->` of cell numbers, as CBSH2-RTC, EECBS and PBS print paths.
 
-A cell's number is its row times the width of the map, and its column more.
+Behind the number of an agent stands how long its path is; a path of another length is refused. The
+number of a cell is its row times the width of the map, and its column more, so --map is needed.
+Lines around that don't begin with `Agent` are skipped, and that is said. There is no way back.
+
+```console
+$ printf 'Agent 0 (2 -->2): 3->0->1->\nAgent 1 (2 -->2): 0->1->2->\n' >corner.txt
+$ python3 tools/convert.py corner.txt --map examples/corner.map --number 7
+convert: corner.txt is read as printed
+mapf-plan 1
+number 7
+agents 2
+agent 0 1 ne
+agent 0 0 ee
+convert: 2 agents, 4 acts
+```
 """
 import re
 

@@ -1,6 +1,22 @@
-"""The file paths.txt of RHCR: the number of agents, and then a line for each, of items `location,orientation,timestep;`.
+r"""The file paths.txt of RHCR: the number of agents, and a line for each.
 
-A location is its row times the width of the map, and its column more. A turn takes a step of time, and is a wait.
+A line has items `location,orientation,timestep;`. The number of a location is its row times the
+width of the map, and its column more, so --map is needed. Orientations are left out: a turn takes a
+step of time, and is a wait, so a verdict says nothing of which way robots look. Gaps in time are
+refused, but with --fill-waits. There is no way back.
+
+```console
+$ printf '2\n3,3,0;0,3,1;0,0,2;1,0,3;\n0,0,0;1,0,1;2,0,2;\n' >paths.txt
+$ python3 tools/convert.py paths.txt --map examples/corner.map --number 7
+convert: paths.txt is read as rhcr
+convert: turns are read as waits; headings are no part of the plan, nor of a verdict on it
+mapf-plan 1
+number 7
+agents 2
+agent 0 1 n-e
+agent 0 0 ee
+convert: 2 agents, 5 acts
+```
 """
 import re
 from array import array

@@ -1,6 +1,53 @@
-"""The YAML of libMultiRobotPlanning: `statistics:`, then `schedule:`, `agent0:` and its items, in the one shape in which it is written.
+"""The YAML of libMultiRobotPlanning: `statistics:`, then `schedule:`, `agent0:` and its items.
 
-Another shape, as that of planners in Python, is read by `yaml_schedule`.
+It is read in the one shape in which that library writes it; `statistics:` may be missing. `cost:`
+is the sum of the last times of all agents. A `makespan:` later than the last time is refused.
+
+Some planners of the library, those with safe intervals, leave out the times at which an agent
+waits. Such a gap is refused, since other times may be missing too. With --fill-waits the agent
+waits in its cell, and takes its step just before the next time that is listed.
+
+Planners in Python (atb033's) write the keys in their order and items that aren't indented: `cost:`,
+`schedule:`, and of each cell `t:`, `x:` and `y:`. This shape, and any other that begins so, is read
+by the Python package yaml (Debian's python3-yaml); where it isn't installed, that is said. Their
+`cost:` counts the cells of each path, so it is by one an agent more than the sum of the times.
+
+```console
+$ cat examples/planners/corner.yaml
+statistics:
+  cost: 4
+  makespan: 2
+  runtime: 0.0125
+schedule:
+  agent0:
+    - x: 0
+      y: 1
+      t: 0
+    - x: 0
+      y: 0
+      t: 1
+    - x: 1
+      y: 0
+      t: 2
+  agent1:
+    - x: 0
+      y: 0
+      t: 0
+    - x: 1
+      y: 0
+      t: 1
+    - x: 2
+      y: 0
+      t: 2
+$ python3 tools/convert.py examples/planners/corner.yaml --number 7
+convert: examples/planners/corner.yaml is read as schedule
+mapf-plan 1
+number 7
+agents 2
+agent 0 1 ne
+agent 0 0 ee
+convert: 2 agents, 4 acts
+```
 """
 import re
 from typing import Iterator, Sequence

@@ -1,6 +1,36 @@
-"""A line of `u d l r w` for each agent, as the column `solution_plan` of the MAPF tracker's uploads has them.
+"""A line of `u d l r w` for each agent, as in the MAPF tracker's column `solution_plan`.
 
-Starts and goals are those of a scenario. The text doesn't say whether `u` leads to the row above or to the one below: the goals do.
+`w` is a wait; an agent without acts has an empty line. Starts are left out, so --scen is needed.
+
+Nothing says whether `u` leads to the row above or to the row below. The goals of the scenario
+settle it: the way counts that leads more agents to their goals, and of two equal ones the one by
+which more agents stay in the rows of the map. If not all come to their goals by it, that is said.
+If both ways are equal, the text is refused. Here `d` leads to the north, where the row number
+falls:
+
+```console
+$ cat examples/planners/corner.tracker
+dr
+rr
+$ python3 tools/convert.py examples/planners/corner.tracker --scen examples/corner.scen --number 7
+convert: examples/planners/corner.tracker is read as tracker
+mapf-plan 1
+number 7
+agents 2
+agent 0 1 ne
+agent 0 0 ee
+convert: 2 agents, 4 acts
+```
+
+An empty line at the end is an agent without acts, if the scenario has no rows for more agents; else
+it is refused, since it may be no line. Going back, `u` leads to the north, and that is said:
+
+```console
+$ python3 tools/convert.py examples/corner.plan --to tracker
+ur
+rr
+convert: u is written for north, where the row number falls; starts are left out
+```
 """
 from itertools import accumulate
 from typing import Iterator, Sequence

@@ -350,7 +350,7 @@ function offered(ready) {
     ready,
     get end() { return window.page.end; },
     get isRun() { return window.page.world.isRun; },
-    pixels: (time, width, isDark) => new Picture(window.page, time, width, isDark).pixels(),
+    picture: (time, width, isDark) => new Picture(window.page, time, width, isDark).address(),
   };
 }
 

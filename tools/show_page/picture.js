@@ -77,15 +77,8 @@ class Picture {
     context.fillText(last, 10, this.height - 5 - 0.5 * LINE, width - 20);
   }
 
-  /** Red, green and blue of each pixel, as text. */
-  pixels() {
-    const { data } = this.drawn().getImageData(0, 0, this.width, this.height);
-    const letters = [];
-    for (let row = 0; row < this.height; row += 1) {
-      const bytes = [];
-      for (let at = 4 * row * this.width; at < 4 * (row + 1) * this.width; at += 4) bytes.push(data[at], data[at + 1], data[at + 2]);
-      letters.push(String.fromCharCode(...bytes));
-    }
-    return { width: this.width, height: this.height, pixels: btoa(letters.join("")) };
+  /** The picture as a PNG, in an address that holds it. */
+  address() {
+    return this.drawn().canvas.toDataURL("image/png");
   }
 }

@@ -11,7 +11,7 @@ use Rattle.std.proofs.lemmas.Bool.Decides.{nat_tests}
 use Rattle.std.proofs.lemmas.Grind.{common_steps}
 use Rattle.agent.specs.declared.counters.Counter.{Counter}
 use Rattle.agent.specs.Counters.{heard_of, known_in, agent_at, SetsOnly, IsRising}
-use Rattle.agent.specs.Code.Places.{IsAt, IsGapFor}
+use Rattle.agent.specs.Code.Places.{IsCounterAt, IsGapFor}
 
 abbrev pub no_counter : Counter
 no_counter = record { agent = 0; done = 0 }
@@ -29,7 +29,7 @@ none_before_tail : (x : Counter) (l : List Counter) (a i : ℕ) → NoneBefore (
 none_before_tail x l a i none j lt = none (suc j) (omega arith)
 
 -- in the tail a counter is one place lower
-is_at_tail : (x : Counter) (l : List Counter) (a i : ℕ) → IsAt (x ∷ l) a (suc i) → IsAt l a i
+is_at_tail : (x : Counter) (l : List Counter) (a i : ℕ) → IsCounterAt (x ∷ l) a (suc i) → IsCounterAt l a i
 is_at_tail x l a i is_at = record { in_range = omega (arith, is_at.in_range); is_own = is_at.is_own }
 
 -- an agent without a counter is not found
@@ -38,13 +38,13 @@ heard_absent [] a none = refl
 heard_absent (x ∷ l) a none = grind (arith, nat_tests, none 0 (omega arith), heard_absent l a (none_before_tail x l a _ none))
 
 -- the first counter of the agent gives the number
-pub heard_present : (l : List Counter) (a i : ℕ) → IsAt l a i → NoneBefore l a i → heard_of l a ≡ Some (get_or l i no_counter).done
+pub heard_present : (l : List Counter) (a i : ℕ) → IsCounterAt l a i → NoneBefore l a i → heard_of l a ≡ Some (get_or l i no_counter).done
 heard_present [] a i is_at none = absurd (omega (arith, is_at.in_range))
 heard_present (x ∷ l) a zero is_at none = grind (arith, nat_tests, is_at.is_own)
 heard_present (x ∷ l) a (suc i) is_at none = grind (arith, nat_tests, none 0 (omega arith), heard_present l a i (is_at_tail x l a i is_at) (none_before_tail x l a i none))
 
 -- writing over the agent's first counter sets its number
-pub heard_set : (l : List Counter) (a n i : ℕ) → IsAt l a i → NoneBefore l a i → HearsAfterSet l (set l i (record { agent = a; done = n })) a n
+pub heard_set : (l : List Counter) (a n i : ℕ) → IsCounterAt l a i → NoneBefore l a i → HearsAfterSet l (set l i (record { agent = a; done = n })) a n
 heard_set [] a n i is_at none q = absurd (omega (arith, is_at.in_range))
 heard_set (x ∷ l) a n zero is_at none q = grind (arith, nat_tests, is_at.is_own)
 heard_set (x ∷ l) a n (suc i) is_at none q = grind (arith, nat_tests, none 0 (omega arith), heard_set l a n i (is_at_tail x l a i is_at) (none_before_tail x l a i none) q)
@@ -67,7 +67,7 @@ module _ (l : List Counter) (rising : IsRising l) (a : ℕ) where
       grind (arith, nat_tests))
 
   -- a binary search ends at the agent's counter, or at the gap for it
-  pub searched : (r : Result ℕ ℕ) → IsSearchInRange r (length l) → IsBinarySearchResult (λ c. nat_cmp c.agent a) l r → record { found : IfOk r (IsAt l a); absent : IfErr r (IsGapFor l a) }
+  pub searched : (r : Result ℕ ℕ) → IsSearchInRange r (length l) → IsBinarySearchResult (λ c. nat_cmp c.agent a) l r → record { found : IfOk r (IsCounterAt l a); absent : IfErr r (IsGapFor l a) }
   searched (Ok at) in_range equal = record { found = record { in_range = in_range; is_own = ranked _ a _ (sym (equal no_counter)) }; absent = tt }
   searched (Err at) in_range parted = record {
     found = tt;
@@ -78,7 +78,7 @@ module _ (l : List Counter) (rising : IsRising l) (a : ℕ) where
     };
   }
 
-module _ (l : List Counter) (rising : IsRising l) (a at : ℕ) (is_at : IsAt l a at) where
+module _ (l : List Counter) (rising : IsRising l) (a at : ℕ) (is_at : IsCounterAt l a at) where
   -- the agents before the place are lesser, so none is this one
   none_before_at : NoneBefore l a at
   none_before_at j lt same = omega (arith, rising j at lt is_at.in_range, is_at.is_own)

@@ -10,13 +10,13 @@ use Rattle.grid.specs.declared.cell.Cell.{Cell}
 use Rattle.model.specs.History.{record_length}
 use Rattle.model.specs.Timetable.{Track, Timetable, moves, path, track_of}
 use Rattle.model.specs.Rules.{path_cell}
-use Rattle.model.proofs.TrackLemmas.{length-path}
-use Rattle.agent.specs.Owning.{IsOwn, HasSize}
+use Rattle.model.specs.Laws.Tracks.{length-path}
+use Rattle.agent.specs.Owning.{IsOwn, HasTapeRoom}
 use Rattle.agent.specs.Records.{due_record, record_at}
-use Rattle.agent.specs.States.{State, done, is_moving, start_refusal, finish_refusal}
+use Rattle.agent.specs.States.{State, finished_moves, is_on_the_way, start_refusal, finish_refusal}
 use Rattle.agent.specs.Tape.{TapeState, whole_records, MayRead, MayWrite, IsWrite}
 use Rattle.depgraph.specs.AgentParts.{AgentPart, IsPartOf, IsOfGraph}
-use Rattle.depgraph.proofs.AgentPartLemmas.{moves-most, own-moves, own-most}
+use Rattle.depgraph.specs.Laws.AgentParts.{moves-limit, own-moves, own-most}
 use Rattle.depgraph.specs.Graphs.{IsGraphed}
 
 -- ---- how many moves there are
@@ -33,15 +33,6 @@ few_records p number of less = (let few = few-needs p of in omega (arith, less, 
 pub own-count : (p : AgentPart) → IsOfGraph p → slice_get p.moves p.agent ≡ Some (length p.needs)
 own-count p of = own-moves of.0 p of.2 ∙ ap Some (sym of.2.need_count)
 
--- a graph tells no more moves
-pub told-most : (table : Timetable) (i count : ℕ) → IsGraphed table → Some count ≡ option_map moves (track_of table i) → count ≤ 65535
-told-most table i count graphed is = told (track_of table i) refl is
-  where
-    told : (o : Option Track) → track_of table i ≡ o → Some count ≡ option_map moves o → count ≤ 65535
-    told None known same = absurd (none-some count (sym same))
-    told (Some track) known same =
-        (let most = moves-most table i track graphed known in let one = same_Some count (moves track) same in omega (arith, most, one))
-
 -- the track of an agent is that of its part
 pub same-track : (tt : Timetable) (p : AgentPart) → (is : IsPartOf tt p) → (track : Track) → track_of tt p.agent ≡ Some track → is.track ≡ track
 same-track tt p is track there = same_Some is.track track (sym is.is_track ∙ there)
@@ -51,7 +42,7 @@ same-track tt p is track there = same_Some is.track track (sym is.is_track ∙ t
 pub may-read : (t : TapeState) (n : ℕ) → n < whole_records t → MayRead t (record_length * n)
 may-read t n less = (let whole = mul-div-le (length t.contents) 10 in omega (arith, less, whole))
 
-pub may-write : (t : TapeState) (count : ℕ) → HasSize count t → whole_records t < 2 * count → MayWrite t (record_length * whole_records t)
+pub may-write : (t : TapeState) (count : ℕ) → HasTapeRoom count t → whole_records t < 2 * count → MayWrite t (record_length * whole_records t)
 may-write t count size less =
     let whole = mul-div-le (length t.contents) 10 in
     let next = lt-mul-div-succ (length t.contents) {b = 10} (omega arith) in
@@ -204,20 +195,20 @@ cell-there track cells k is most =
 pub start-room : (tt : Timetable) (i : ℕ) (track : Track) (s : State) → start_refusal tt i track s ≡ None → s.records ≤ 2 * moves track → s.records < 2 * moves track
 start-room tt i track s none limit = elim (cases_Bool s.broken) [
   | inl broken ↦ absurd (none-some _ (sym none ∙ cond-true s.broken _ _ broken))
-  | inr whole ↦ elim (cases_Bool (is_moving s)) [
-    | inl moving ↦ absurd (none-some _ (sym none ∙ cond-false s.broken _ _ whole ∙ cond-true (is_moving s) _ _ moving))
-    | inr still ↦ elim (cases_Bool (done s == moves track)) [
-      | inl end ↦ absurd (none-some _ (sym none ∙ cond-false s.broken _ _ whole ∙ cond-false (is_moving s) _ _ still ∙ cond-true (done s == moves track) _ _ end))
+  | inr whole ↦ elim (cases_Bool (is_on_the_way s)) [
+    | inl moving ↦ absurd (none-some _ (sym none ∙ cond-false s.broken _ _ whole ∙ cond-true (is_on_the_way s) _ _ moving))
+    | inr still ↦ elim (cases_Bool (finished_moves s == moves track)) [
+      | inl end ↦ absurd (none-some _ (sym none ∙ cond-false s.broken _ _ whole ∙ cond-false (is_on_the_way s) _ _ still ∙ cond-true (finished_moves s == moves track) _ _ end))
       | inr more ↦ elim (cases_lt s.records (2 * moves track)) [
         | inl less ↦ less
         | inr not_less ↦ (
             let all : s.records ≡ 2 * moves track = omega (arith, limit, not_less) in
-            absurd (true≢false (sym (eq-eqb (done s) (moves track) (ap (λ n. n / 2) all ∙ mul-div_cancel_left (moves track) (omega arith))) ∙ more))
+            absurd (true≢false (sym (eq-eqb (finished_moves s) (moves track) (ap (λ n. n / 2) all ∙ mul-div_cancel_left (moves track) (omega arith))) ∙ more))
             )
       ]
     ]
   ]
 ]
 
-pub finish-none : (s : State) → s.broken ≡ false → is_moving s ≡ true → finish_refusal s ≡ None
-finish-none s whole moving = cond-false s.broken _ _ whole ∙ cond-true (is_moving s) _ _ moving
+pub finish-none : (s : State) → s.broken ≡ false → is_on_the_way s ≡ true → finish_refusal s ≡ None
+finish-none s whole moving = cond-false s.broken _ _ whole ∙ cond-true (is_on_the_way s) _ _ moving

@@ -17,8 +17,8 @@ use Rattle.agent.specs.Counters.{heard_of, known_in, SetsOnly, tells_of, raised,
 use Rattle.agent.specs.Decoding.{any_fault}
 use Rattle.agent.specs.States.{Keeps, Refuses, names_nobody, moves_of, tells_too_many, message_refusal, telling_refusal, IsTaken}
 use Rattle.agent.specs.Tape.{TapeState}
-use Rattle.agent.specs.Tellings.{Telling, IsInRange, Tells}
-use Rattle.agent.specs.Code.Taking.{Takes}
+use Rattle.agent.specs.Tellings.{Telling, IsInRange, BytesTell}
+use Rattle.agent.specs.Code.Taking.{TakesTelling}
 use Rattle.agent.proofs.ToldLemmas.{no-fault}
 
 -- ---- the entry of a sender of its own
@@ -103,7 +103,7 @@ names-nobody tt message at entry there none =
 
 module _ {T : Type 0} (seen : T → TapeState) (tt : Timetable) (a : AgentOn T) (heard : List Counter) (t : Telling) (none : telling_refusal tt t ≡ None) where
   -- what raises the counters is kept
-  pub taken : (known : ℕ) → known ≡ known_in heard t.message.sender → Raises a.heard heard t.message.entries → Takes seen tt a (record a { heard = heard }) t (Ok (t.message.sender, known))
+  pub taken : (known : ℕ) → known ≡ known_in heard t.message.sender → Raises a.heard heard t.message.entries → TakesTelling seen tt a (record a { heard = heard }) t (Ok (t.message.sender, known))
   taken known is raises = record {
     state = subst (λ o. MatchOption o (Keeps (state_of seen a) (state_of seen (record a { heard = heard })) t.message (Ok (t.message.sender, known))) (Refuses (state_of seen a) (state_of seen (record a { heard = heard })) (Ok (t.message.sender, known))))
         (sym none) (ap {A = ℕ} {B = ℕ × ℕ} (λ n. (t.message.sender, n)) is, raises, refl, refl);
@@ -124,10 +124,10 @@ raised-within agents old new entries within raises known j heard = elim (cases_B
 
 -- what bytes of version 2 tell is heard as it is taken
 pub hears-told : {T : Type 0} (seen : T → TapeState) (tt : Timetable) (a b : AgentOn T) (bytes : List ℕ) (t : Telling) (answer : Result (ℕ × ℕ) HearFault) → a.broken ≡ false → IsInRange t
-    → IsTold t.plan t.message bytes → Takes seen tt a b t answer → Hears seen tt a b bytes answer
+    → IsTold t.plan t.message bytes → TakesTelling seen tt a b t answer → Hears seen tt a b bytes answer
 hears-told seen tt a b bytes t answer whole in_range told takes = record {
   state = subst
-      (λ o. MatchOption o ((u : Telling) × Tells bytes u × IsTaken tt (state_of seen a) (state_of seen b) u answer) (Refuses (state_of seen a) (state_of seen b) answer))
+      (λ o. MatchOption o ((u : Telling) × BytesTell bytes u × IsTaken tt (state_of seen a) (state_of seen b) u answer) (Refuses (state_of seen a) (state_of seen b) answer))
       (sym (ap (λ x. cond x (Some fault.Broken) (option_map (λ f. fault.Message f) (any_fault bytes))) whole ∙ ap (option_map (λ f. fault.Message f)) (no-fault t bytes in_range told)))
       (t, record { in_range = in_range; spelled = inr told }, takes.state);
   same = takes.same;

@@ -8,10 +8,10 @@ use Rattle.std.proofs.lemmas.Bool.Decides.{nat_tests}
 use Rattle.std.proofs.lemmas.Grind.{flat_map-append}
 use Rattle.model.specs.declared.entry.Entry.{Entry}
 use Rattle.model.specs.Messages.{entries_from, number_told, entry_bytes, big_endian, whole_message, IsTold}
-use Rattle.model.proofs.EntryLemmas.{entries-rising, entries-few}
+use Rattle.model.specs.Laws.Entries.{entries-rising, entries-few}
 use Rattle.agent.specs.declared.counters.Counter.{Counter}
 use Rattle.agent.specs.Counters.{heard_of, known_in, agent_at, AreWithin, IsRising}
-use Rattle.agent.specs.Code.Places.{IsAt, IsGapFor, AreAround}
+use Rattle.agent.specs.Code.Places.{IsCounterAt, IsGapFor, AreAround}
 use Rattle.agent.specs.Code.Told.{told_entries}
 use Rattle.agent.proofs.CounterLemmas.{no_counter}
 use Rattle.agent.proofs.MergeLemmas.{Rises, rises_from_0, heard_before, all_there}
@@ -39,7 +39,7 @@ later_greater [] a (suc n) all = tt
 later_greater (c ∷ l) a (suc n) all = later_greater l a n (λ j le in_range. all (suc j) (omega arith) (omega arith))
 
 module _ (l : List Counter) (rising : IsRising l) (a at : ℕ) where
-  pub around_own : IsAt l a at → AreAround a l (take at l) (take (length l - (at + 1)) (drop (at + 1) l))
+  pub around_own : IsCounterAt l a at → AreAround a l (take at l) (take (length l - (at + 1)) (drop (at + 1) l))
   around_own is_at = subst (AreAround a l (take at l)) (sym (all_there l (at + 1))) (record {
     own = get_or l at no_counter ∷ [];
     parts = sym (take-append-drop at l) ∙ ap (λ r. take at l ++ r) (let in_range = is_at.in_range in rw (add-one, drop-cons l at no_counter)) ∙ sym (append_assoc (take at l) (get_or l at no_counter ∷ []) (drop (at + 1) l));

@@ -12,7 +12,7 @@ use Rattle.agent.specs.declared.refusal.TellFault.{TellFault}
 use Rattle.agent.specs.declared.refusal.Refusal.{Refusal}
 use Rattle.agent.specs.declared.refusal.Refusal.TheVariants.{StoreFailed}
 use Rattle.agent.specs.Records.{due_record}
-use Rattle.agent.specs.States.{State, held, start_refusal, finish_refusal, next_cell, Answers, IsSaid, IsToldBy, IsHeard, IsHeardOf, IsHeardFrom}
+use Rattle.agent.specs.States.{State, held_by_tape, start_refusal, finish_refusal, next_cell, Answers, IsSaid, IsToldBy, IsHeard, IsHeardOf, IsHeardFrom}
 use Rattle.agent.specs.Tape.{TapeState, whole_records, HasFailed}
 use Rattle.depgraph.specs.AgentParts.{AgentPart}
 
@@ -67,8 +67,8 @@ pub record HearsFrom {T : Type 0} (seen : T → TapeState) (tt : Timetable) (old
   pub same : new ≡ record old { heard = new.heard }
 
 -- what it holds
-abbrev pub Holds : {T : Type 0} → (T → TapeState) → Timetable → AgentOn T → Held → Type 0
-Holds seen tt a answer = (track : Track) × (track_of tt a.part.agent ≡ Some track) × (answer ≡ held track (state_of seen a))
+abbrev pub IsHolding : {T : Type 0} → (T → TapeState) → Timetable → AgentOn T → Held → Type 0
+IsHolding seen tt a answer = (track : Track) × (track_of tt a.part.agent ≡ Some track) × (answer ≡ held_by_tape track (state_of seen a))
 
 -- what it says
 abbrev pub Says : {T : Type 0} → (T → TapeState) → Timetable → AgentOn T → Result (List ℕ) Refusal → Type 0

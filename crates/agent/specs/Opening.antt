@@ -5,7 +5,7 @@ use Rattle.model.specs.Timetable.{Track, Timetable, moves, track_of}
 use Rattle.agent.specs.declared.refusal.OpenFault.{OpenFault}
 use Rattle.agent.specs.declared.refusal.OpenFault.TheVariants.{NoSuchAgent, Damaged, WrongPlan, TooLong, TapeFailed, WrongAgent, NoRoom}
 use Rattle.agent.specs.Agents.{AgentOn}
-use Rattle.agent.specs.Owning.{HasSize}
+use Rattle.agent.specs.Owning.{HasTapeRoom}
 use Rattle.agent.specs.Records.{due_record, record_at, AreDue, SaysDue, SaysPlan, SaysAgent}
 use Rattle.agent.specs.Tape.{TapeState, IsKept, whole_records}
 use Rattle.depgraph.specs.AgentParts.{IsPartOf}
@@ -23,7 +23,7 @@ HasRead {T = T} may_read tape (suc n) after = (before : T) × HasRead may_read t
 pub record IsOpened {T : Type 0} (seen : T → TapeState) (may_read : T → ℕ → Bool → List ℕ → T → Type 0) (tt : Timetable) (i : ℕ) (tape : T) (opened : AgentOn T) : Type 0 where
   pub track : Track
   pub is_track : track_of tt i ≡ Some track
-  pub size : HasSize (moves track) (seen tape)
+  pub size : HasTapeRoom (moves track) (seen tape)
   pub due : AreDue tt.number i (seen tape).contents (whole_records (seen tape))
   pub reads : HasRead may_read tape (whole_records (seen tape)) opened.tape
   pub contents : (seen opened.tape).contents ≡ (seen tape).contents
@@ -54,7 +54,7 @@ pub record StopsAt {T : Type 0} (seen : T → TapeState) (may_read : T → ℕ �
 -- some record stops the reading of a tape that has the right size
 abbrev pub IsStopped : {T : Type 0} → (T → TapeState) → (T → ℕ → Bool → List ℕ → T → Type 0) → Timetable → ℕ → T → T → OpenFault → Type 0
 IsStopped seen may_read tt i tape after fault =
-    ((track : Track) × (track_of tt i ≡ Some track) × HasSize (moves track) (seen tape)) × ((n : ℕ) × StopsAt seen may_read tt i n tape after fault)
+    ((track : Track) × (track_of tt i ≡ Some track) × HasTapeRoom (moves track) (seen tape)) × ((n : ℕ) × StopsAt seen may_read tt i n tape after fault)
 
 -- what each fault says of the tape, and what was done with it before it was handed back
 abbrev pub IsRefused : {T : Type 0} → (T → TapeState) → (T → ℕ → Bool → List ℕ → T → Type 0) → Timetable → ℕ → T → T → OpenFault → Type 0

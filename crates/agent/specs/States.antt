@@ -20,7 +20,7 @@ use Rattle.agent.specs.declared.refusal.HearFault.{HearFault}
 use Rattle.agent.specs.declared.refusal.HearFault.TheVariants.{Message as bad_message, WrongPlan as wrong_plan, NoSuchAgent as no_such_agent, TooMany as too_many, Broken as broken_agent, OutOfMemory as out_of_memory}
 use Rattle.agent.specs.Counters.{known_in, Raises, TellsOfNew}
 use Rattle.agent.specs.Decoding.{wrong_entry, any_fault}
-use Rattle.agent.specs.Tellings.{Telling, Tells}
+use Rattle.agent.specs.Tellings.{Telling, BytesTell}
 
 -- how many whole records the tape has, what was heard since it was opened, and whether a write has failed since
 pub record State : Type 0 where
@@ -29,15 +29,15 @@ pub record State : Type 0 where
   pub broken : Bool
 
 -- how many moves are finished
-abbrev pub done : State → ℕ
-done s = s.records / 2
+abbrev pub finished_moves : State → ℕ
+finished_moves s = s.records / 2
 
-abbrev pub is_moving : State → Bool
-is_moving s = s.records % 2 == 1
+abbrev pub is_on_the_way : State → Bool
+is_on_the_way s = s.records % 2 == 1
 
 -- what the agent holds
-abbrev pub held : Track → State → Held
-held track s = if is_moving s then Between (path_cell track (done s)) (path_cell track (done s + 1)) else At (path_cell track (done s))
+abbrev pub held_by_tape : Track → State → Held
+held_by_tape track s = if is_on_the_way s then Between (path_cell track (finished_moves s)) (path_cell track (finished_moves s + 1)) else At (path_cell track (finished_moves s))
 
 -- ---- starts and finishes: the first refusal that stands, or a write of the due record
 
@@ -48,16 +48,16 @@ waits_for heard (Some n) = if nat_lt (known_in heard n.agent) n.count then Some 
 abbrev pub start_refusal : Timetable → ℕ → Track → State → Option Refusal
 start_refusal tt i track s =
     if s.broken then Some Broken
-    else (if is_moving s then Some AlreadyMoving
-    else (if done s == moves track then Some AtEnd
-    else waits_for s.heard (need tt i track (done s))))
+    else (if is_on_the_way s then Some AlreadyMoving
+    else (if finished_moves s == moves track then Some AtEnd
+    else waits_for s.heard (need tt i track (finished_moves s))))
 
 abbrev pub finish_refusal : State → Option Refusal
-finish_refusal s = if s.broken then Some Broken else (if is_moving s then None else Some NotMoving)
+finish_refusal s = if s.broken then Some Broken else (if is_on_the_way s then None else Some NotMoving)
 
 -- the cell of the move at hand
 abbrev pub next_cell : Track → State → Cell
-next_cell track s = path_cell track (done s + 1)
+next_cell track s = path_cell track (finished_moves s + 1)
 
 -- A write of the due record succeeded, and the cell is answered; or it failed, the agent is broken, and the record is stored or not.
 pub record Stores (old new : State) (cell : Cell) (answer : Result Cell Refusal) : Type 0 where
@@ -74,12 +74,12 @@ Answers (Some why) old new cell answer = (answer ≡ Err why) × (new ≡ old)
 
 -- the message of an agent, with its number of stored finished moves
 abbrev pub IsSaid : Timetable → ℕ → State → Result (List ℕ) Refusal → Type 0
-IsSaid tt i s (Ok bytes) = (s.broken ≡ false) × IsMessage tt.number i (done s) bytes
+IsSaid tt i s (Ok bytes) = (s.broken ≡ false) × IsMessage tt.number i (finished_moves s) bytes
 IsSaid tt i s (Err why) = (s.broken ≡ true) × (why ≡ Broken)
 
 -- the message of version 2, with all that an agent knows
 abbrev pub IsToldBy : Timetable → ℕ → State → Result (List ℕ) TellFault → Type 0
-IsToldBy tt i s (Ok bytes) = (s.broken ≡ false) × IsTold tt.number (whole_message (length tt.tracks) i (done s) (known_in s.heard)) bytes
+IsToldBy tt i s (Ok bytes) = (s.broken ≡ false) × IsTold tt.number (whole_message (length tt.tracks) i (finished_moves s) (known_in s.heard)) bytes
 IsToldBy tt i s (Err broken_teller) = s.broken ≡ true
 IsToldBy tt i s (Err no_memory) = s.broken ≡ false
 
@@ -127,7 +127,7 @@ IsTaken tt old new t answer = MatchOption (telling_refusal tt t) (Keeps old new 
 abbrev pub IsHeard : Timetable → State → State → List ℕ → Result (ℕ × ℕ) HearFault → Type 0
 IsHeard tt old new bytes answer =
     MatchOption (bytes_refusal old bytes)
-    ((t : Telling) × Tells bytes t × IsTaken tt old new t answer)
+    ((t : Telling) × BytesTell bytes t × IsTaken tt old new t answer)
     (Refuses old new answer)
 
 -- why what is told is not heard, where no bytes are: a broken agent hears nothing, and entries that don't rise have their fault

@@ -1,6 +1,6 @@
 -- What a tape is, and what a read and a write of it may come to.
 use Rattle.std.specs.Prelude.{◌≡◌, ℕ, ◌+◌, ◌/◌, ◌<◌, ◌≤◌, ◌⊎◌, Bool, true, false, List, ◌++◌, length, take, drop, Option, None, Some}
-use Rattle.grid.specs.Counted.{greatest}
+use Rattle.text_io.specs.Counted.{greatest}
 use Rattle.model.specs.History.{record_length}
 
 -- the bytes that a tape has, how many it has room for, and how often a call on it has failed

@@ -25,7 +25,7 @@ abbrev pub IsTwo : List ℕ → Telling → Type 0
 IsTwo bytes t = IsTold t.plan t.message bytes
 
 -- the bytes tell this, at one version or the other
-pub record Tells (bytes : List ℕ) (t : Telling) : Type 0 where
+pub record BytesTell (bytes : List ℕ) (t : Telling) : Type 0 where
   pub in_range : IsInRange t
   pub spelled : IsOne bytes t ⊎ IsTwo bytes t
 

@@ -46,14 +46,14 @@ impl<'g, T: Tape> Agent<'g, T> {
     ghost use Rattle.std.specs.Prelude.{None};
     ghost use Rattle.model.specs.Rules.{path_cell};
     ghost use Rattle.model.specs.Messages.{own_message, whole_message, AreRising};
-    ghost use Rattle.agent.specs.Agents.{AgentOn, state_of, Moves, Starts, Finishes, Hears, HearsOf, HearsFrom, Holds, Says, bytes_told, TellsAll};
+    ghost use Rattle.agent.specs.Agents.{AgentOn, state_of, Moves, Starts, Finishes, Hears, HearsOf, HearsFrom, IsHolding, Says, bytes_told, TellsAll};
     ghost use Rattle.agent.specs.Counters.{known_in};
     ghost use Rattle.agent.specs.Opening.{IsOpened, IsRefused, Restarts};
     ghost use Rattle.agent.specs.Owning.{IsOwn};
-    ghost use Rattle.agent.specs.States.{done, is_moving, start_refusal, finish_refusal, waits_for};
+    ghost use Rattle.agent.specs.States.{finished_moves, is_on_the_way, start_refusal, finish_refusal, waits_for};
     ghost use Rattle.agent.specs.Tape.{IsKept, whole_records};
     ghost use Rattle.agent.specs.Code.Listing.{entries_of};
-    ghost use Rattle.agent.specs.Code.Taking.{Takes};
+    ghost use Rattle.agent.specs.Code.Taking.{TakesTelling};
 
     /// Opens the tape of an agent, which has then heard nothing. A tape that is refused comes back with what it had.
     pub fn open(
@@ -183,7 +183,7 @@ impl<'g, T: Tape> Agent<'g, T> {
 
     /// Puts the entries of what `tell` says behind a list, which is as it was where memory is refused.
     pub fn put_entries(&self, entries: &mut Vec<Entry>) -> Result<(), AllocError>
-        ensures put { OnOk result (entries.new.items ≡ entries.old.items ++ (whole_message (length self.now.part.moves) self.now.part.agent (done (state_of T.state self.now)) (known_in self.now.heard)).entries) }
+        ensures put { OnOk result (entries.new.items ≡ entries.old.items ++ (whole_message (length self.now.part.moves) self.now.part.agent (finished_moves (state_of T.state self.now)) (known_in self.now.heard)).entries) }
         ensures few { OnOk result (length entries.new.items ≤ length entries.old.items + 10000) }
         ensures err { OnErr result (entries.new.items ≡ entries.old.items) }
     {
@@ -239,7 +239,7 @@ impl<'g, T: Tape> Agent<'g, T> {
     /// Takes what the sender of a message says of itself.
     #[inline(always)]
     fn take_own(&mut self, finished: Finished) -> Result<(u16, u32), HearFault>
-        ensures { (tt : Timetable) → IsPartOf tt self.old.part → Takes T.state tt self.old self.new (record { plan = finished.plan; message = own_message finished.from finished.done }) result }
+        ensures { (tt : Timetable) → IsPartOf tt self.old.part → TakesTelling T.state tt self.old self.new (record { plan = finished.plan; message = own_message finished.from finished.done }) result }
     {
         if finished.plan != self.part.number() {
             return Err(HearFault::WrongPlan);
@@ -262,7 +262,7 @@ impl<'g, T: Tape> Agent<'g, T> {
         entries: Entries<'_>,
     ) -> Result<(u16, u32), HearFault>
         requires { AreRising 0 (entries_of entries) }
-        ensures { (tt : Timetable) → IsPartOf tt self.old.part → Takes T.state tt self.old self.new (record { plan = plan; message = record { sender = from; entries = entries_of entries.entry } }) result }
+        ensures { (tt : Timetable) → IsPartOf tt self.old.part → TakesTelling T.state tt self.old self.new (record { plan = plan; message = record { sender = from; entries = entries_of entries.entry } }) result }
     {
         if plan != self.part.number() {
             return Err(HearFault::WrongPlan);
@@ -288,7 +288,7 @@ impl<'g, T: Tape> Agent<'g, T> {
 
     /// The cells that the agent holds, by its whole records.
     pub fn held(&self) -> Held
-        ensures holds { (tt : Timetable) → IsPartOf tt self.now.part → Holds T.state tt self.now result }
+        ensures holds { (tt : Timetable) → IsPartOf tt self.now.part → IsHolding T.state tt self.now result }
         ensures within { IsOfGraph self.now.part }
     {
         let records = self.records();
@@ -302,7 +302,7 @@ impl<'g, T: Tape> Agent<'g, T> {
 
     /// How many moves are finished, by the whole records.
     pub fn done(&self) -> u32
-        ensures done { result ≡ done (state_of T.state self.now) }
+        ensures finished_moves { result ≡ finished_moves (state_of T.state self.now) }
         ensures within { IsOwn self.now.part (T.state self.now.tape) }
     {
         self.records() / 2
@@ -310,7 +310,7 @@ impl<'g, T: Tape> Agent<'g, T> {
 
     /// Whether it has begun a move and not finished it, by the whole records.
     pub fn is_moving(&self) -> bool
-        ensures { result ≡ is_moving (state_of T.state self.now) }
+        ensures { result ≡ is_on_the_way (state_of T.state self.now) }
     {
         self.records() % 2 == 1
     }

@@ -5,7 +5,7 @@ ghost use Rattle.model.specs.Messages.{AreRising};
 ghost use Rattle.agent.specs.Counters.{known_in, is_heard_of, SetsOnly, Raises, TellsOfNew, IsRising};
 ghost use Rattle.agent.specs.Code.Listing.{entries_of};
 ghost use Rattle.agent.specs.Code.Merging.{merged, AreParted};
-ghost use Rattle.agent.specs.Code.Places.{IsAt, IsGapFor, AreAround};
+ghost use Rattle.agent.specs.Code.Places.{IsCounterAt, IsGapFor, AreAround};
 
 use crate::entries::Entries;
 use model::Entry;
@@ -124,7 +124,7 @@ impl Counters {
 
     /// Where the agent's counter is, or where it would go.
     fn search(&self, agent: u16) -> Result<usize, usize>
-        ensures found { IfOk result (IsAt self.now agent) }
+        ensures found { IfOk result (IsCounterAt self.now agent) }
         ensures absent { IfErr result (IsGapFor self.now agent) }
     {
         self.list

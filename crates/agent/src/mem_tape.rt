@@ -1,20 +1,41 @@
 //! A tape in memory.
-ghost use Rattle.std.specs.Prelude.{◌≡◌, ◌<◌, ◌≤◌, ◌^◌, ◌+◌, ◌++◌, ◌↔◌, [], length, take, IfOk, IsErrOf};
+ghost use Rattle.std.specs.Prelude.{◌≡◌, ◌<◌, ◌≤◌, ◌^◌, ◌+◌, ◌++◌, ◌↔◌, [], length, take, IfOk, IsErrOf, Some};
 ghost use Rattle.agent.specs.declared.mem_tape.TapeMakeFault.TheVariants.{OutOfMemory as out_of_memory};
+ghost use Rattle.text_io.specs.FaultWords.{words_of, words_text};
+ghost use Rattle.agent.specs.FaultWords.{tape_make_fault_words};
 
 use crate::tape::{Tape, TapeError};
-use depgraph::OutOfMemory;
 use std::alloc::Global;
+use std::fmt;
+use text_io::{Failure, FaultWords, OutOfMemory};
 use thiserror::Error;
 
 /// Why no tape was made.
 #[derive(Clone, Copy, Debug, PartialEq, Eq, Error)]
 pub enum TapeMakeFault {
     /// There are more bytes than room.
-    #[error("TooLong")]
     TooLong,
-    #[error("OutOfMemory")]
     OutOfMemory,
+}
+
+impl TapeMakeFault {
+    /// The words in which it is told.
+    pub fn words(self) -> FaultWords
+        ensures { words_of result ≡ tape_make_fault_words self }
+    {
+        match self {
+            TapeMakeFault::TooLong => FaultWords::new("TooLong", &[]),
+            TapeMakeFault::OutOfMemory => Failure::OutOfMemory.words(),
+        }
+    }
+}
+
+impl fmt::Display for TapeMakeFault {
+    ghost output = { λ fault. Some (words_text (tape_make_fault_words fault)) };
+
+    fn fmt<W: fmt::Write>(&self, f: &mut fmt::Formatter<W>) -> fmt::Result {
+        self.words().fmt(f)
+    }
 }
 
 impl From<OutOfMemory> for TapeMakeFault {

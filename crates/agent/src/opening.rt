@@ -4,7 +4,7 @@ ghost use Rattle.model.specs.History.{record_length};
 ghost use Rattle.agent.specs.Opening.{Gives, HasRead, IsRecordFault};
 ghost use Rattle.agent.specs.Records.{due_record, record_at, AreDue};
 ghost use Rattle.agent.specs.Tape.{MayRead, IsKept, whole_records};
-ghost use Rattle.agent.specs.Code.Stops.{StopsBy};
+ghost use Rattle.agent.specs.Code.Stops.{StopsAtRecord};
 
 use crate::record::{Difference, compare, due_record};
 use crate::refusal::OpenFault;
@@ -21,7 +21,7 @@ pub(crate) fn read_records<T: Tape>(
     requires limit { records ≤ 2 * 65535 }
     ensures due { OnOk result (AreDue plan agent (T.state tape.old).contents records) }
     ensures reads { OnOk result (HasRead T.may_read tape.old records tape.new) }
-    ensures stops { IfErr result (StopsBy T.state T.may_read plan agent records tape.old tape.new) }
+    ensures stops { IfErr result (StopsAtRecord T.state T.may_read plan agent records tape.old tape.new) }
     ensures kept { IsKept (T.state tape.old) (T.state tape.new) }
 {
     for number in 0..records {

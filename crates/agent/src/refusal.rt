@@ -1,14 +1,14 @@
 //! Why an agent refuses.
 ghost use Rattle.std.specs.Prelude.{◌≡◌, Some};
-ghost use Rattle.grid.specs.FaultWords.{words_of, words_text};
-ghost use Rattle.agent.specs.FaultWords.{open_fault_words};
+ghost use Rattle.text_io.specs.FaultWords.{words_of, words_text};
+ghost use Rattle.agent.specs.FaultWords.{open_fault_words, refusal_words, hear_fault_words, tell_fault_words};
 ghost use Rattle.agent.specs.declared.refusal.HearFault.TheVariants.{Message as message, OutOfMemory as out_of_memory};
 ghost use Rattle.agent.specs.declared.refusal.TellFault.TheVariants.{OutOfMemory as no_memory};
 
-use grid::FaultWords;
 use model::MsgFault;
 use std::alloc::AllocError;
 use std::fmt;
+use text_io::{Failure, FaultWords};
 use thiserror::Error;
 
 /// Why a tape is not opened. Records are counted from 0.
@@ -36,7 +36,7 @@ impl OpenFault {
             OpenFault::Damaged(record) => FaultWords::new("Damaged", &[u64::from(record)]),
             OpenFault::WrongPlan(record) => FaultWords::new("WrongPlan", &[u64::from(record)]),
             OpenFault::TooLong => FaultWords::new("TooLong", &[]),
-            OpenFault::TapeFailed => FaultWords::new("TapeFailed", &[]),
+            OpenFault::TapeFailed => Failure::TapeFailed.words(),
             OpenFault::WrongAgent(record) => FaultWords::new("WrongAgent", &[u64::from(record)]),
             OpenFault::NoRoom => FaultWords::new("NoRoom", &[]),
         }
@@ -55,46 +55,103 @@ impl fmt::Display for OpenFault {
 #[derive(Clone, Copy, Debug, PartialEq, Eq, Error)]
 pub enum Refusal {
     /// A write of the agent failed, and its tape has not been opened since.
-    #[error("Broken")]
     Broken,
-    #[error("AlreadyMoving")]
     AlreadyMoving,
-    #[error("AtEnd")]
     AtEnd,
     /// The agent has not been heard to have finished so many moves.
-    #[error("Waits {agent} {count}")]
     Waits { agent: u16, count: u32 },
-    #[error("NotMoving")]
     NotMoving,
-    #[error("StoreFailed")]
     StoreFailed,
+}
+
+impl Refusal {
+    /// The words in which it is told.
+    pub fn words(self) -> FaultWords
+        ensures { words_of result ≡ refusal_words self }
+    {
+        match self {
+            Refusal::Broken => FaultWords::new("Broken", &[]),
+            Refusal::AlreadyMoving => FaultWords::new("AlreadyMoving", &[]),
+            Refusal::AtEnd => FaultWords::new("AtEnd", &[]),
+            Refusal::Waits { agent, count } => FaultWords::new(
+                "Waits",
+                &[u64::from(agent), u64::from(count)],
+            ),
+            Refusal::NotMoving => FaultWords::new("NotMoving", &[]),
+            Refusal::StoreFailed => Failure::StoreFailed.words(),
+        }
+    }
+}
+
+impl fmt::Display for Refusal {
+    ghost output = { λ fault. Some (words_text (refusal_words fault)) };
+
+    fn fmt<W: fmt::Write>(&self, f: &mut fmt::Formatter<W>) -> fmt::Result {
+        self.words().fmt(f)
+    }
 }
 
 /// Why a message is not heard.
 #[derive(Clone, Copy, Debug, PartialEq, Eq, Error)]
 pub enum HearFault {
-    #[error("{0}")]
     Message(MsgFault),
-    #[error("WrongPlan")]
     WrongPlan,
-    #[error("NoSuchAgent")]
     NoSuchAgent,
     /// The message tells more moves of an agent than that one has.
-    #[error("TooMany")]
     TooMany,
-    #[error("Broken")]
     Broken,
-    #[error("OutOfMemory")]
     OutOfMemory,
+}
+
+impl HearFault {
+    /// The words in which it is told.
+    pub fn words(self) -> FaultWords
+        ensures { words_of result ≡ hear_fault_words self }
+    {
+        match self {
+            HearFault::Message(fault) => fault.words(),
+            HearFault::WrongPlan => FaultWords::new("WrongPlan", &[]),
+            HearFault::NoSuchAgent => FaultWords::new("NoSuchAgent", &[]),
+            HearFault::TooMany => FaultWords::new("TooMany", &[]),
+            HearFault::Broken => FaultWords::new("Broken", &[]),
+            HearFault::OutOfMemory => Failure::OutOfMemory.words(),
+        }
+    }
+}
+
+impl fmt::Display for HearFault {
+    ghost output = { λ fault. Some (words_text (hear_fault_words fault)) };
+
+    fn fmt<W: fmt::Write>(&self, f: &mut fmt::Formatter<W>) -> fmt::Result {
+        self.words().fmt(f)
+    }
 }
 
 /// Why an agent does not tell all that it knows.
 #[derive(Clone, Copy, Debug, PartialEq, Eq, Error)]
 pub enum TellFault {
-    #[error("Broken")]
     Broken,
-    #[error("OutOfMemory")]
     OutOfMemory,
+}
+
+impl TellFault {
+    /// The words in which it is told.
+    pub fn words(self) -> FaultWords
+        ensures { words_of result ≡ tell_fault_words self }
+    {
+        match self {
+            TellFault::Broken => FaultWords::new("Broken", &[]),
+            TellFault::OutOfMemory => Failure::OutOfMemory.words(),
+        }
+    }
+}
+
+impl fmt::Display for TellFault {
+    ghost output = { λ fault. Some (words_text (tell_fault_words fault)) };
+
+    fn fmt<W: fmt::Write>(&self, f: &mut fmt::Formatter<W>) -> fmt::Result {
+        self.words().fmt(f)
+    }
 }
 
 impl From<AllocError> for TellFault {

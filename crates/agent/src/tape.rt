@@ -1,14 +1,34 @@
 //! The tape of an agent's progress: a write-ahead log of records of ten bytes.
-ghost use Rattle.std.specs.Prelude.{◌≡◌, ◌≤◌, ℕ, Bool, List, Option, true, is_ok, length, IfSome};
+ghost use Rattle.std.specs.Prelude.{◌≡◌, ◌≤◌, ℕ, Bool, List, Option, Some, true, is_ok, length, IfSome};
+ghost use Rattle.text_io.specs.FaultWords.{failed, words_of, words_text};
+ghost use Rattle.text_io.specs.declared.failure.Failure.TheVariants as failure;
 ghost use Rattle.model.specs.History.{record_length};
 ghost use Rattle.agent.specs.Tape.{TapeState, MayRead, MayWrite, IsRead, IsWrite, IsTorn};
 
+use std::fmt;
+use text_io::{Failure, FaultWords};
 use thiserror::Error;
 
 /// A read or a write of a tape failed.
 #[derive(Clone, Copy, Debug, PartialEq, Eq, Error)]
-#[error("TapeFailed")]
 pub struct TapeError;
+
+impl TapeError {
+    /// The words in which it is told.
+    pub fn words(self) -> FaultWords
+        ensures { words_of result ≡ failed failure.TapeFailed }
+    {
+        Failure::TapeFailed.words()
+    }
+}
+
+impl fmt::Display for TapeError {
+    ghost output = { λ _. Some (words_text (failed failure.TapeFailed)) };
+
+    fn fmt<W: fmt::Write>(&self, f: &mut fmt::Formatter<W>) -> fmt::Result {
+        self.words().fmt(f)
+    }
+}
 
 /// Bytes that outlive a restart, with room for so many.
 pub trait Tape {

@@ -1,10 +1,10 @@
 //! A plan of two agents, the records of one, and calls of `mapf agent` over a disk, that the tests share.
 use agent_commands::{agent_claim_cmd, agent_cmd};
 use fakes::{DiskFiles, FakeDisk, Keeper};
-use grid::Counted;
 use std::alloc::{AllocError, Global};
 use std::io::Write;
 use tape_claim::TapeClaim;
+use text_io::Counted;
 
 /// A map of a row of three free cells.
 pub const LANE: &str = "type octile\nheight 1\nwidth 3\nmap\n...\n";

@@ -2,8 +2,8 @@
 use Rattle.std.proofs.Common.{◌≡◌, ◌∙◌, ℕ, ◌+◌, ◌-◌, ◌*◌, ◌≤◌, List, [], ◌∷◌, ◌++◌, length, Some, None, refl, sym, ap, ap₂, subst, append-nil}
 use Rattle.std.specs.Prelude.{Option, option_map, MatchResult, Result, Ok, Err}
 use Rattle.std.proofs.lemmas.Option.{same_Some}
-use Rattle.grid.specs.declared.counted.Counted.{Counted}
-use Rattle.grid.specs.Text.{line_feed}
+use Rattle.text_io.specs.declared.counted.Counted.{Counted}
+use Rattle.text_io.specs.Text.{line_feed}
 use Rattle.model.specs.History.{record_length}
 use Rattle.model.specs.Timetable.{Timetable, moves, track_of}
 use Rattle.agent.specs.declared.mem_tape.MemTape.{MemTape}
@@ -15,7 +15,7 @@ use Rattle.agent.specs.Agents.{AgentOn, state_of}
 use Rattle.agent.specs.MemTape.{mem_state, mem_reads}
 use Rattle.agent.specs.Opening.{IsOpened, IsRefused}
 use Rattle.agent.specs.Replies.{stood}
-use Rattle.agent.specs.States.{done, held}
+use Rattle.agent.specs.States.{finished_moves, held_by_tape}
 use Rattle.event_text.specs.ReplyText.{reply_line}
 use Rattle.file_tape.specs.FileTape.{file_fault_of}
 use Rattle.file_tape.specs.declared.file_tape.FileTapeFault.{FileTapeFault}
@@ -74,8 +74,8 @@ is_shown remaining table i n old new image a r is of opened report =
     let s = state_of mem_state a in
     let own : track_of table a.part.agent ≡ Some t.0 = ap (track_of table) opened.id ∙ t.1 in
     let same : report.holds.0 ≡ t.0 = same_Some _ _ (sym report.holds.1 ∙ own) in
-    let stands : standing_of r ≡ reply_line (stood (held t.0 s) (done s))
-    = ap₂ (λ h d. reply_line (stood h d)) (report.holds.2 ∙ ap (λ track. held track s) same) report.is_done in
+    let stands : standing_of r ≡ reply_line (stood (held_by_tape t.0 s) (finished_moves s))
+    = ap₂ (λ h d. reply_line (stood h d)) (report.holds.2 ∙ ap (λ track. held_by_tape track s) same) report.is_done in
     let torn : r.torn ≡ length of.bytes - record_length * s.records = report.torn ∙ ap (λ (m : ℕ). m - record_length * s.records) of.count in
     record {
       track = t.0;
@@ -87,7 +87,7 @@ is_shown remaining table i n old new image a r is of opened report =
       agent = a;
       opened = opened;
       is_text = ap₂ (λ x y. (x ++ line_feed ∷ []) ++ (y ++ line_feed ∷ [])) stands (ap₂ records_line report.records torn)
-          ∙ ap (λ l. (reply_line (stood (held t.0 s) (done s)) ++ line_feed ∷ []) ++ l)
+          ∙ ap (λ l. (reply_line (stood (held_by_tape t.0 s) (finished_moves s)) ++ line_feed ∷ []) ++ l)
           (sym (append-nil (records_line s.records (length of.bytes - record_length * s.records) ++ line_feed ∷ [])));
     }
 

@@ -1,6 +1,7 @@
 -- What `mapf agent` does and answers.
 use Rattle.std.specs.Prelude.{◌≡◌, ℕ, ◌+◌, ◌*◌, ◌<◌, ◌≤◌, ◌⊎◌, true, List, length, Option, None, Some, IfSome, Result, Ok, Err, MatchResult}
-use Rattle.grid.specs.declared.counted.Counted.{Counted}
+use Rattle.text_io.specs.FaultWords.{Words}
+use Rattle.text_io.specs.declared.counted.Counted.{Counted}
 use Rattle.model.specs.History.{record_length}
 use Rattle.model.specs.Timetable.{Track, Timetable, moves, track_of}
 use Rattle.agent.specs.declared.refusal.OpenFault.{OpenFault}
@@ -74,9 +75,9 @@ IsNotOnTape remaining claim tt i fault =
     IsNoTape remaining claim tt i fault ⊎ ((refusal : OpenFault) × (fault ≡ Tape refusal) × IsRefusedTape remaining claim tt i refusal)
 
 -- what a dialogue comes to
-abbrev pub told : Result Unit TalkFault → Result Unit AgentFault
-told (Ok done) = Ok done
-told (Err fault) = Err (Dialogue fault)
+abbrev pub told_of_dialogue : Result Unit TalkFault → Result Unit AgentFault
+told_of_dialogue (Ok done) = Ok done
+told_of_dialogue (Err fault) = Err (Dialogue fault)
 
 -- The agent was opened on its tape and then led a dialogue, or it was not opened, and then neither input nor output were touched.
 pub record Converses
@@ -86,7 +87,7 @@ pub record Converses
   pub opens : MatchResult opened (IsOnTape remaining claim tt i) (IsNotOnTape remaining claim tt i)
   pub ends : MatchResult opened
       (λ agent. (answer : Result Unit TalkFault) × (after : AgentOn (FileTape F))
-      × Talks input_left contents file_state tt old_in new_in old_out new_out agent after answer × (result ≡ told answer))
+      × Talks input_left contents file_state tt old_in new_in old_out new_out agent after answer × (result ≡ told_of_dialogue answer))
       (λ fault. (result ≡ Err fault) × (new_in ≡ old_in) × (new_out ≡ old_out))
 
 -- The map and the plan were read and the plan was checked; where it is valid, the agent answered, and else neither input nor output
@@ -104,7 +105,7 @@ pub record Serves
 -- The texts were read and the agent answered, and the status and the fault that was told are by what that came to.
 pub record AnswersAgent
     {F M P I W : Type 0} (remaining : F → Option (List ℕ)) (map_left : M → Option (List ℕ)) (plan_left : P → Option (List ℕ))
-    (input_left : I → Option (List ℕ)) (contents : W → Option (List ℕ)) (Told : Option (List (List ℕ)) → Type 0) (claim : TapeClaim) (i : ℕ)
+    (input_left : I → Option (List ℕ)) (contents : W → Option (List ℕ)) (Told : Option Words → Type 0) (claim : TapeClaim) (i : ℕ)
     (old_map new_map : Counted M) (old_plan new_plan : Counted P) (old_in new_in : Counted I) (old_out new_out : Counted W) (code : ℕ) : Type 0 where
   pub answer : Result Unit AgentFault
   pub serves : Serves remaining map_left plan_left input_left contents claim i old_map new_map old_plan new_plan old_in new_in old_out new_out answer

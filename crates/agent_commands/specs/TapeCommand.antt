@@ -1,9 +1,10 @@
 -- What `mapf tape` does and answers.
 use Rattle.std.specs.Prelude.{◌≡◌, ℕ, ◌+◌, ◌-◌, ◌*◌, ◌≤◌, List, [], ◌∷◌, ◌++◌, length, take, codes, decimal, Option, None, Some, Result, Ok, Err, MatchResult}
 use Rattle.std.specs.Io.KnownBytes.{Consumes, IsAtEnd}
-use Rattle.grid.specs.declared.counted.Counted.{Counted}
-use Rattle.grid.specs.Counted.{counted_inner, failures_of, Rises}
-use Rattle.grid.specs.Text.{ended}
+use Rattle.text_io.specs.FaultWords.{Words}
+use Rattle.text_io.specs.declared.counted.Counted.{Counted}
+use Rattle.text_io.specs.Counted.{counted_inner, failures_of, Rises}
+use Rattle.text_io.specs.Text.{ended}
 use Rattle.model.specs.History.{record_length}
 use Rattle.model.specs.Timetable.{Track, Timetable, track_of}
 use Rattle.agent.specs.declared.mem_tape.MemTape.{MemTape}
@@ -19,9 +20,8 @@ use Rattle.plan_commands.specs.DepsCommand.{ReadsTimetable}
 use Rattle.plan_commands.specs.declared.check_fault.CheckFault.{CheckFault}
 use Rattle.text_commands.specs.declared.status.Status.TheVariants.{Done}
 use Rattle.text_commands.specs.Rewriting.{EndsWriting}
-use Rattle.text_commands.specs.Status.{code_of}
+use Rattle.text_commands.specs.Status.{code_of, status_of}
 use Rattle.agent_commands.specs.AgentCommand.{HasAgent, room_of}
-use Rattle.agent_commands.specs.AgentStatus.{agent_fault_status}
 use Rattle.agent_commands.specs.FaultWords.{agent_fault_words}
 use Rattle.agent_commands.specs.declared.agent_fault.AgentFault.{AgentFault}
 use Rattle.agent_commands.specs.declared.agent_fault.AgentFault.TheVariants.{Texts, NoTape, File, Tape}
@@ -97,19 +97,19 @@ pub record Inspects
 
 -- the exit status, what the output got and which fault was told
 abbrev pub EndsByTape
-    : {W : Type 0} → (W → Option (List ℕ)) → (Told : Option (List (List ℕ)) → Type 0) → Counted W → Counted W → ℕ → Result (List ℕ) AgentFault → Type 0
+    : {W : Type 0} → (W → Option (List ℕ)) → (Told : Option Words → Type 0) → Counted W → Counted W → ℕ → Result (List ℕ) AgentFault → Type 0
 EndsByTape contents Told old new code (Ok text) = EndsWriting contents Told old new code Done text
 EndsByTape contents Told old new code (Err fault) =
-    (code ≡ code_of (agent_fault_status fault)) × (new ≡ old) × Told (Some (agent_fault_words fault))
+    (code ≡ code_of (status_of (agent_fault_words fault))) × (new ≡ old) × Told (Some (agent_fault_words fault))
 
 -- there is no file of the tape: that was told, and nothing was read
-abbrev pub EndsWithoutTape : {W : Type 0} → (W → Option (List ℕ)) → (Told : Option (List (List ℕ)) → Type 0) → Counted W → Counted W → ℕ → Type 0
+abbrev pub EndsWithoutTape : {W : Type 0} → (W → Option (List ℕ)) → (Told : Option Words → Type 0) → Counted W → Counted W → ℕ → Type 0
 EndsWithoutTape contents Told old new code = EndsByTape contents Told old new code (Err NoTape)
 
 -- the texts and the tape were read, and the command ended by that
 pub record AnswersTape
     {M P T W : Type 0} (map_left : M → Option (List ℕ)) (plan_left : P → Option (List ℕ)) (tape_left : T → Option (List ℕ)) (contents : W → Option (List ℕ))
-    (Told : Option (List (List ℕ)) → Type 0) (i : ℕ) (old_map new_map : Counted M) (old_plan new_plan : Counted P) (old_tape new_tape : Counted T)
+    (Told : Option Words → Type 0) (i : ℕ) (old_map new_map : Counted M) (old_plan new_plan : Counted P) (old_tape new_tape : Counted T)
     (old_out new_out : Counted W) (code : ℕ) : Type 0 where
   pub answer : Result (List ℕ) AgentFault
   pub inspects : Inspects map_left plan_left tape_left i old_map new_map old_plan new_plan old_tape new_tape answer

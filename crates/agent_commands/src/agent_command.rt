@@ -16,12 +16,12 @@ use agent::{Agent, OpenFault, Tape};
 use depgraph::Part;
 use dialogue::talk;
 use file_tape::{FileTape, FileTapeFault};
-use grid::Counted;
 use std::fs::{self, OpenFile, OpenOptions};
 use std::io::{ErrorKind, Read, Write};
 use std::rt::Files;
 use tape_claim::{LockFile, TapeClaim};
 use text_commands::{Status, report};
+use text_io::Counted;
 
 /// Reads a map from `map` and a plan from `plan`, checks the plan on the map, and opens the tape file at `path` for the agent with
 /// this number. Then it answers the lines of `input` on `out`, each before the next is waited for. A fault's line goes to `err`, but
@@ -245,10 +245,11 @@ fn conclude<E: Write>(answer: Result<(), AgentFault>, err: &mut Counted<E>) -> S
 {
     match answer {
         Ok(()) => Status::Done,
-        Err(fault) if fault.is_answered() => fault.status(),
+        Err(fault) if fault.is_answered() => Status::of_fault(&fault.words()),
         Err(fault) => {
-            report(err, fault.words());
-            fault.status()
+            let words = fault.words();
+            report(err, words);
+            Status::of_fault(&words)
         }
     }
 }

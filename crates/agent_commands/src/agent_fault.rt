@@ -1,17 +1,15 @@
 //! Why an agent does not answer its input to the end.
 ghost use Rattle.std.specs.Prelude.{◌≡◌, Some};
-ghost use Rattle.grid.specs.FaultWords.{words_of, words_text};
-ghost use Rattle.agent_commands.specs.AgentStatus.{agent_fault_status, file_fault_status, tape_fault_status};
+ghost use Rattle.text_io.specs.FaultWords.{words_of, words_text};
 ghost use Rattle.agent_commands.specs.FaultWords.{agent_fault_words, is_answered};
 ghost use Rattle.agent_commands.specs.declared.agent_fault.AgentFault.TheVariants as agent_fault;
 
 use agent::OpenFault;
 use dialogue::TalkFault;
 use file_tape::FileTapeFault;
-use grid::FaultWords;
 use plan_commands::CheckFault;
 use std::fmt;
-use text_commands::Status;
+use text_io::{Failure, FaultWords};
 use thiserror::Error;
 
 /// Why an agent does not answer its input to the end.
@@ -34,19 +32,6 @@ pub(crate) enum AgentFault {
 }
 
 impl AgentFault {
-    /// The status that it ends with.
-    pub(crate) fn status(self) -> Status
-        ensures { result ≡ agent_fault_status self }
-    {
-        match self {
-            AgentFault::Texts(fault) => fault.status(),
-            AgentFault::OpenFailed | AgentFault::Dialogue(_) => Status::Failure,
-            AgentFault::TapeExists | AgentFault::NoTape => Status::Fault,
-            AgentFault::File(fault) => file_fault_status(fault),
-            AgentFault::Tape(fault) => tape_fault_status(fault),
-        }
-    }
-
     /// Whether the last answer of the dialogue said it.
     pub(crate) fn is_answered(self) -> bool
         ensures { result ≡ is_answered self }
@@ -60,7 +45,7 @@ impl AgentFault {
     {
         match self {
             AgentFault::Texts(fault) => fault.words(),
-            AgentFault::OpenFailed => FaultWords::new("OpenFailed", &[]),
+            AgentFault::OpenFailed => Failure::OpenFailed.words(),
             AgentFault::TapeExists => FaultWords::new("TapeExists", &[]),
             AgentFault::NoTape => FaultWords::new("NoTape", &[]),
             AgentFault::File(fault) => fault.words(),
@@ -75,28 +60,6 @@ impl fmt::Display for AgentFault {
 
     fn fmt<W: fmt::Write>(&self, f: &mut fmt::Formatter<W>) -> fmt::Result {
         self.words().fmt(f)
-    }
-}
-
-/// The status that a fault of a tape file ends with.
-fn file_fault_status(fault: FileTapeFault) -> Status
-    ensures { result ≡ file_fault_status fault }
-{
-    match fault {
-        FileTapeFault::TooLong => Status::Fault,
-        FileTapeFault::InUse | FileTapeFault::TapeFailed | FileTapeFault::OutOfMemory => {
-            Status::Failure
-        }
-    }
-}
-
-/// The status that a refused tape ends with.
-fn tape_fault_status(fault: OpenFault) -> Status
-    ensures { result ≡ tape_fault_status fault }
-{
-    match fault {
-        OpenFault::TapeFailed => Status::Failure,
-        _ => Status::Fault,
     }
 }
 

@@ -5,10 +5,10 @@ ghost use Rattle.depgraph.specs.AgentParts.{IsPartOf};
 ghost use Rattle.agent_commands.specs.Code.Reading.{ReadsPart};
 
 use depgraph::{OwnPart, Part};
-use grid::Counted;
 use plan_commands::{CheckFault, read_dependencies};
 use std::alloc::Global;
 use std::io::Read;
+use text_io::Counted;
 
 /// Reads a map and then a plan, checks the plan, and takes what an agent needs of it; `None` where there is no such agent. The map, the plan
 /// and its dependencies, which are large, are gone then.

@@ -8,10 +8,10 @@ use crate::agent_fault::AgentFault;
 use crate::agent_part::read_part;
 use crate::tape_report::{TapeReport, read_report, write_report};
 use agent::OpenFault;
-use grid::Counted;
 use std::alloc::Global;
 use std::io::{Read, Write};
-use text_commands::{Status, finish, report};
+use text_commands::{Status, finish, give_up};
+use text_io::Counted;
 
 /// Reads a map from `map` and a plan from `plan`, checks the plan on the map, and then reads the file of a tape from `tape`. It writes to `out` where
 /// the agent with this number is by it, and how many whole records it has, as `agent_cmd` would find them. A fault's line goes to `err`. Nothing is
@@ -68,9 +68,6 @@ fn conclude<W: Write, E: Write>(
             let written = write_report(kept, out);
             finish(written, Status::Done, out, err).code()
         }
-        Err(fault) => {
-            report(err, fault.words());
-            fault.status().code()
-        }
+        Err(fault) => give_up(fault.words(), err),
     }
 }

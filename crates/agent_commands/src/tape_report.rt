@@ -1,10 +1,10 @@
 //! What the file of a tape keeps.
 ghost use Rattle.std.specs.Prelude.{◌≡◌, ◌+◌, ◌-◌, ◌*◌, ◌<◌, ◌≤◌, ◌^◌, [], ◌∷◌, ◌++◌, is_ok, length, take, IfOk, IfErr, OnOk, OnErr, MatchResult};
 ghost use Rattle.std.specs.Io.KnownBytes.{Consumes, IsAtEnd};
-ghost use Rattle.grid.specs.Counted.{counted_inner, failures_of, Rises};
-ghost use Rattle.grid.specs.Sink.{held_back, Puts, Breaks};
-ghost use Rattle.grid.specs.Text.{line_feed};
-ghost use Rattle.grid.specs.Writing.{WritesText};
+ghost use Rattle.text_io.specs.Counted.{counted_inner, failures_of, Rises};
+ghost use Rattle.text_io.specs.Sink.{held_back, Puts, Breaks};
+ghost use Rattle.text_io.specs.Text.{line_feed};
+ghost use Rattle.text_io.specs.Writing.{WritesText};
 ghost use Rattle.model.specs.Timetable.{Timetable};
 ghost use Rattle.depgraph.specs.AgentParts.{IsPartOf};
 ghost use Rattle.agent.specs.MemTape.{mem_state};
@@ -18,10 +18,10 @@ use agent::{Agent, Held, MemTape, Tape};
 use depgraph::Part;
 use event_text::put_reply;
 use file_tape::FileTapeFault;
-use grid::{Counted, Sink, WriteFault};
 use plan_commands::put_number;
 use std::alloc::Global;
 use std::io::{Read, Write};
+use text_io::{Counted, Sink, WriteFault};
 
 /// How many bytes at the most stand behind the whole records of a file.
 const TAIL: usize = 9;

@@ -1,10 +1,11 @@
 //! Graphs of many agents, none of which waits for another, and one of these agents. For all of it nothing but memory can be lacking.
 use agent::{Agent, MemTape, TellFault};
 use depgraph::{Graph, OutOfMemory};
-use grid::{Cell, Counted, Map, read_map};
+use grid::{Cell, Map, read_map};
 use plan::{Act, Plan, check};
 use std::alloc::{AllocError, Global};
 use std::ops::Range;
+use text_io::Counted;
 
 /// A row of 200 free cells.
 const ROW: [u8; 200] = [b'.'; 200];

@@ -4,7 +4,7 @@ ghost use Rattle.std.specs.Char.{is_ascii_digit};
 ghost use Rattle.std.specs.List.{list_all};
 ghost use Rattle.clap.specs.Words.{app_of, with_subcommand, first_of, found_of, rows_of, rule_of, takes, fault_of};
 ghost use Rattle.grid.specs.declared.cell.Cell.{Cell};
-ghost use Rattle.grid.specs.Text.{SpellsNumber};
+ghost use Rattle.text_io.specs.Text.{SpellsNumber};
 ghost use Rattle.tape_claim.specs.declared.TapeClaim.{TapeClaim};
 ghost use Rattle.command_line.specs.Words.{program_app, AsksToExplain, IsFlagGiven, HasValues, GivesNumber, GivesNumberBelow, GiveValues, SpellsCell, MayGiveCell, GivesCells, GivesClaim, MakesClaim, SaysClaim, MayGiveNumber, GivesNumbers, IsCommand, IsLineOf, IsFaultOf};
 ghost use Rattle.command_line.specs.Code.Parts.{HasWords, IsRefusal, rule_of_word, shape_of_text};

@@ -6,7 +6,7 @@ use Rattle.std.proofs.lemmas.List.{map_push}
 use Rattle.std.proofs.lemmas.Option.{none-some, slice_get-get_or, slice_get_within}
 use Rattle.model.specs.declared.visit.Rotation.{Rotation}
 use Rattle.depgraph.specs.Rotations.{Turn, turns_of}
-use Rattle.depgraph.specs.Code.Cycles.{Leads, AreLinks, IsCycle, IsCut, IsWalked}
+use Rattle.depgraph.specs.Code.Cycles.{LinksTo, AreLinks, IsCycle, IsCut, IsCycleWalked}
 use Rattle.depgraph.proofs.RingLemmas.{push-old, push-new, push-cases, same_at, follower}
 use Rattle.depgraph.proofs.WalkLemmas.{cycle-leads, cycle-cut}
 
@@ -22,7 +22,7 @@ pub record AreFound (turn : List ℕ → Turn) (ahead now : List ℕ) (m : ℕ) 
   pub cycles : List (List ℕ)
   pub are_turns : turns ≡ map turn cycles
   pub is_cut : IsCut ahead now
-  pub linked : (i j : ℕ) → Leads now i j → m ≤ i
+  pub linked : (i j : ℕ) → LinksTo now i j → m ≤ i
   pub sound : (n : ℕ) (entries : List ℕ) → slice_get cycles n ≡ Some entries → IsCycle ahead entries
   pub whole : (entries : List ℕ) → IsCycle ahead entries → ((n : ℕ) × (slice_get cycles n ≡ Some entries)) ⊎ IsCycle now entries
   pub rising : (n m i j : ℕ) (entries others : List ℕ) → n < m → slice_get cycles n ≡ Some entries → slice_get cycles m ≡ Some others
@@ -58,16 +58,16 @@ cut-cut : (ahead now next : List ℕ) → IsCut ahead now → IsCut now next →
 cut-cut ahead now next one other = record { count = other.count ∙ one.count; kept = λ i j leads. one.kept i j (other.kept i j leads) }
 
 still-linked : (turn : List ℕ → Turn) (ahead now next trail : List ℕ) (m : ℕ) (turns : List Turn) (is : Type 0) → AreFound turn ahead now m turns
-    → IsWalked m now next trail is → (i j : ℕ) → Leads next i j → m + 1 ≤ i
+    → IsCycleWalked m now next trail is → (i j : ℕ) → LinksTo next i j → m + 1 ≤ i
 still-linked turn ahead now next trail m turns is found walked i j leads =
     let from = found.linked i j (walked.is_cut.kept i j leads) in
     elim (cases_lt m i) [
       | inl later ↦ omega (arith, later)
-      | inr same ↦ (let one : i ≡ m = omega (arith, from, same) in absurd (walked.gone j (subst (λ n. Leads next n j) one leads)))
+      | inr same ↦ (let one : i ≡ m = omega (arith, from, same) in absurd (walked.gone j (subst (λ n. LinksTo next n j) one leads)))
     ]
 
 pub found-none : (turn : List ℕ → Turn) (ahead now next trail : List ℕ) (m : ℕ) (turns : List Turn) (is : Type 0) → AreFound turn ahead now m turns
-    → IsWalked m now next trail is → (is → ⊥) → AreFound turn ahead next (m + 1) turns
+    → IsCycleWalked m now next trail is → (is → ⊥) → AreFound turn ahead next (m + 1) turns
 found-none turn ahead now next trail m turns is found walked not_found = record {
   cycles = found.cycles;
   are_turns = found.are_turns;
@@ -84,13 +84,13 @@ found-none turn ahead now next trail m turns is found walked not_found = record 
 
 -- the walk went round a cycle
 pub walked-cycle : (turn : List ℕ → Turn) (ahead now next trail : List ℕ) (m : ℕ) (turns : List Turn) (is : Type 0) → AreLinks ahead → AreFound turn ahead now m turns
-    → IsWalked m now next trail is → is → IsCycle ahead trail × (slice_get trail 0 ≡ Some m)
+    → IsCycleWalked m now next trail is → is → IsCycle ahead trail × (slice_get trail 0 ≡ Some m)
 walked-cycle turn ahead now next trail m turns is links found walked is_found =
     let own = walked.is_cycle is_found in
     (cycle-cut ahead now trail links found.is_cut own.0, own.1)
 
 pub found-one : (turn : List ℕ → Turn) (ahead now next trail : List ℕ) (m : ℕ) (turns : List Turn) (is : Type 0) → AreLinks ahead → AreFound turn ahead now m turns
-    → IsWalked m now next trail is → is → AreFound turn ahead next (m + 1) (turns ++ turn trail ∷ [])
+    → IsCycleWalked m now next trail is → is → AreFound turn ahead next (m + 1) (turns ++ turn trail ∷ [])
 found-one turn ahead now next trail m turns is links found walked is_found = record {
   cycles = found.cycles ++ trail ∷ [];
   are_turns = ap (λ l. l ++ turn trail ∷ []) found.are_turns ∙ sym (map_push turn found.cycles trail);

@@ -6,8 +6,8 @@ use Rattle.std.proofs.lemmas.Option.{same_Some}
 use Rattle.grid.specs.declared.cell.Cell.{Cell}
 use Rattle.model.specs.Dependency.{IsVisit}
 use Rattle.model.specs.Timetable.{Track, Timetable, moves_before, IsConflictFree}
-use Rattle.model.proofs.NeedLemmas.{stands-from}
-use Rattle.model.proofs.TrackLemmas.{length-path, moves-rise, moves-most}
+use Rattle.model.specs.Laws.Needs.{stands-from}
+use Rattle.model.specs.Laws.Tracks.{length-path, moves-rise, moves-most}
 use Rattle.depgraph.specs.Code.Entries.{begin_in, IsEntry, AreFew}
 use Rattle.depgraph.specs.Code.Following.{AreEntries}
 use Rattle.depgraph.specs.Code.Numbers.{no_cell, AreNumbered}

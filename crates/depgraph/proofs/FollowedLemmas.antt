@@ -11,7 +11,7 @@ use Rattle.depgraph.specs.Code.Following.{IsLastIn, wait_after, AreFollowed}
 use Rattle.depgraph.specs.Code.Numbers.{no_cell, AreNumbered}
 use Rattle.depgraph.specs.Code.Paths.{all_entered, all_times}
 use Rattle.depgraph.specs.Code.Placing.{IsTimeline, IsPlacing}
-use Rattle.depgraph.specs.Code.Schedules.{entry_of, entry_in}
+use Rattle.depgraph.specs.Code.Schedules.{entry_of_arrival, entry_in}
 use Rattle.depgraph.specs.Code.Waits.{no_visit, no_wait, entry_for, wait_of, before_at, AreWaits}
 use Rattle.depgraph.proofs.BlockLemmas.{name-of}
 use Rattle.depgraph.proofs.BeforeLemmas.{later-is, in_block, just_before}
@@ -69,7 +69,7 @@ module _ (number : ℕ) (tracks : List Track) (ends : List ℕ) (arrivals : List
       → IsLastIn (all_times tracks) ends numbers (number_at (entry_at p)) (time_at (entry_at p)) o → o ≡ None
   none_before n p None in_p first last = refl
   none_before n p (Some a) in_p first last =
-      let x = earlier p a.agent a.index (entry_of ends a) in_p last.0 last.1 last.2 in
+      let x = earlier p a.agent a.index (entry_of_arrival ends a) in_p last.0 last.1 last.2 in
       let before = x.1 in
       let after = occurrence-first h.listed n p x.0 first (x.3 ∙ first.key) in
       absurd (omega (arith, before, after))
@@ -81,7 +81,7 @@ module _ (number : ℕ) (tracks : List Track) (ends : List ℕ) (arrivals : List
       absurd (last (came q).agent (came q).index (entry_at q) (is_entry q in_q) (sym (listed-is q in_q) ∙ just.key ∙ listed-is p in_p)
       (times-rise number tracks ends arrivals step_ends line q p free just.before in_p just.cell))
   one_before q p (Some a) in_q in_p just last =
-      let x = earlier p a.agent a.index (entry_of ends a) in_p last.0 last.1 last.2 in
+      let x = earlier p a.agent a.index (entry_of_arrival ends a) in_p last.0 last.1 last.2 in
       let one : q ≡ x.0 = (elim (cases_lt q x.0) [
         | inl after ↦ absurd (none_between number tracks ends arrivals step_ends line visits visit_ends h free q x.0 p in_p just after x.1 x.3)
         | inr not_after ↦ elim (cases_lt x.0 q) [
@@ -90,12 +90,12 @@ module _ (number : ℕ) (tracks : List Track) (ends : List ℕ) (arrivals : List
         ]
       ]) in
       let own = subst (IsEntry ends (came q).agent (came q).index) (ap entry_at one ∙ x.2) (is_entry q in_q) in
-      let same = entry-one tracks (all_entered tracks) (all_times tracks) ends line.paths a.agent (came q).agent a.index (came q).index (entry_of ends a) last.0 own in
+      let same = entry-one tracks (all_entered tracks) (all_times tracks) ends line.paths a.agent (came q).agent a.index (came q).index (entry_of_arrival ends a) last.0 own in
       ap (λ j. wait_after (came p).agent (Some (record { agent = j; index = a.index }))) same.0
       ∙ ap (λ k. wait_after (came p).agent (Some (record { agent = (came q).agent; index = k }))) same.1
     where
       -- nobody who came before that one came last
-      never : (x : ℕ) → x < q → entry_at x ≡ entry_of ends a → get_or h.listed x 0 ≡ get_or h.listed p 0 → ⊥
+      never : (x : ℕ) → x < q → entry_at x ≡ entry_of_arrival ends a → get_or h.listed x 0 ≡ get_or h.listed p 0 → ⊥
       never x sooner at key =
           let in_x : x < length arrivals = omega (arith, sooner, in_q) in
           let cell = sym (name-of number tracks ends arrivals step_ends line visits visit_ends h x in_x) ∙ ap (λ m. get_or h.names m no_cell) (key ∙ sym just.key)

@@ -10,7 +10,7 @@ use Rattle.depgraph.specs.declared.following.Follower.{Follower}
 use Rattle.depgraph.specs.declared.following.Coming.{Coming}
 use Rattle.depgraph.specs.Code.Entries.{begin_in, IsEntry}
 use Rattle.depgraph.specs.Code.Following.{IsMeeting}
-use Rattle.depgraph.specs.Code.Meetings.{AreMeetings, IsNextMeeting, IsComing, AllComing, IsIn, AreAdded, IsAt, AreAllUnderWay, IsPast, block_times, coming_at, coming_by, list_at, entry_next, follower_at, is_under_way, no_coming, no_follower}
+use Rattle.depgraph.specs.Code.Meetings.{AreMeetings, IsNextMeeting, IsComing, AllComing, IsInComings, AreAdded, ComesNextAt, AreAllUnderWay, NobodyComes, block_times, coming_at, coming_by, list_at, entry_next, follower_at, is_under_way, no_coming, no_follower}
 
 -- ---- elements that pass a test
 
@@ -56,8 +56,8 @@ module _ (m : Meetings) where
   pub record AreAddedTo (t agent entry : ℕ) (old new : List (List Coming)) : Type 0 where
     pub count : length new ≡ length old
     pub sound : (s : ℕ) → s < block_times → AllComing m (t + s) (list_at old s) → AllComing m (t + s) (list_at new s)
-    pub kept : (s : ℕ) (c : Coming) → s < block_times → IsIn (list_at old s) c → IsIn (list_at new s) c
-    pub own : (k e s : ℕ) → s < block_times → Entry agent k e → e < entry → Meets e → time e ≡ t + s → IsIn (list_at new s) (coming_by m agent k e)
+    pub kept : (s : ℕ) (c : Coming) → s < block_times → IsInComings (list_at old s) c → IsInComings (list_at new s) c
+    pub own : (k e s : ℕ) → s < block_times → Entry agent k e → e < entry → Meets e → time e ≡ t + s → IsInComings (list_at new s) (coming_by m agent k e)
 
   -- an agent comes next to an entry, which leads into a shared cell
   pub record ComesTo (t agent entry : ℕ) : Type 0 where
@@ -80,7 +80,7 @@ module _ (m : Meetings) where
 
     pub under-way-kept : (t : ℕ) (old new : List Follower) → new ≡ filter (is_under_way m.ends.now) old → AreAllUnderWay m t old → AreAllUnderWay m t new
     under-way-kept t old new is all = subst (AreAllUnderWay m t) (sym is) (record {
-      at = λ b less. (let was = kept-each (is_under_way m.ends.now) old no_follower b less in subst (IsAt m t) (sym was.2) (all.at was.0 was.1));
+      at = λ b less. (let was = kept-each (is_under_way m.ends.now) old no_follower b less in subst (ComesNextAt m t) (sym was.2) (all.at was.0 was.1));
       all = λ i k e entry meets after. (
           let found = all.all i k e entry meets after in
           let f = follower_at old found.0 in
@@ -99,19 +99,19 @@ module _ (m : Meetings) where
     })
 
     -- where nobody is under way, nobody comes any more
-    pub past-none : (t : ℕ) (followers : List Follower) → length followers ≡ 0 → AreAllUnderWay m t followers → IsPast m t
+    pub past-none : (t : ℕ) (followers : List Follower) → length followers ≡ 0 → AreAllUnderWay m t followers → NobodyComes m t
     past-none t followers none all i k e entry meets = elim (cases_lt (time e) t) [
       | inl sooner ↦ sooner
       | inr later ↦ (let found = all.all i k e entry meets later in let inside = found.1 in absurd (omega (arith, inside, none)))
     ]
 
     -- nor at a time that no path has
-    pub past-all : (t : ℕ) → 65536 ≤ t → IsPast m t
+    pub past-all : (t : ℕ) → 65536 ≤ t → NobodyComes m t
     past-all t end i k e entry meets = (let early = h.entries.early e (h.entries.inside i k e entry) in omega (arith, early, end))
 
     -- an agent at its first shared cell
     pub at-first : (agent next : ℕ) → agent < length m.ends.now → IsNextMeeting m (begin_in m.ends.now agent) (end_of agent) next
-        → IsAt m 0 (record { agent = agent; index = next - begin_in m.ends.now agent })
+        → ComesNextAt m 0 (record { agent = agent; index = next - begin_in m.ends.now agent })
     at-first agent next is_agent n =
         let after = n.after in
         let within = n.within in
@@ -125,7 +125,7 @@ module _ (m : Meetings) where
         }
 
     pub all-first : (followers : List Follower) → length m.ends.now ≤ length followers → length followers ≤ length m.ends.now
-        → ((b : ℕ) → b < length followers → IsAt m 0 (follower_at followers b) × ((follower_at followers b).agent ≡ b)) → AreAllUnderWay m 0 followers
+        → ((b : ℕ) → b < length followers → ComesNextAt m 0 (follower_at followers b) × ((follower_at followers b).agent ≡ b)) → AreAllUnderWay m 0 followers
     all-first followers many few each = record {
       at = λ b less. (each b less).0;
       all = λ i k e entry meets after. (let agent = entry.is_agent in let less : i < length followers = omega (arith, agent, many) in (i, less, (each i less).1));
@@ -133,7 +133,7 @@ module _ (m : Meetings) where
 
     -- ---- one agent's entries in a block
 
-    pub added-none : (t : ℕ) (f : Follower) (block : List (List Coming)) → IsAt m t f → AreAddedTo t f.agent (entry_next m f) block block
+    pub added-none : (t : ℕ) (f : Follower) (block : List (List Coming)) → ComesNextAt m t f → AreAddedTo t f.agent (entry_next m f) block block
     added-none t f block at = record {
       count = refl;
       sound = λ s less was. was;
@@ -141,7 +141,7 @@ module _ (m : Meetings) where
       own = λ k e s less entry before meets now. (let sooner = at.before k e entry before meets in absurd (omega (arith, sooner, now)));
     }
 
-    pub comes-first : (t : ℕ) (f : Follower) → IsAt m t f → ComesTo t f.agent (entry_next m f)
+    pub comes-first : (t : ℕ) (f : Follower) → ComesNextAt m t f → ComesTo t f.agent (entry_next m f)
     comes-first t f at = record { after = omega arith; within = at.within; meets = at.meets; later = at.later }
 
     -- the entry to which an agent comes
@@ -226,26 +226,26 @@ module _ (m : Meetings) where
         there : (s : ℕ) → (s ≡ s0 → ⊥) → list_at new s ≡ list_at now s
         there s other = ap (λ b. list_at b s) added ∙ get_or-set_other now s0 s (list_at now s0 ++ coming ∷ []) [] other
 
-        is_in : IsIn (list_at new s0) coming
+        is_in : IsInComings (list_at new s0) coming
         is_in =
             let long = length-append (list_at now s0) (coming ∷ []) in
             let size = ap length here in
             (length (list_at now s0), omega (arith, long, size), ap (λ l. coming_at l (length (list_at now s0))) here ∙ get_or_push (list_at now s0) coming no_coming (length (list_at now s0)) refl)
 
-        still : (s : ℕ) (c : Coming) → IsIn (list_at now s) c → IsIn (list_at new s) c
+        still : (s : ℕ) (c : Coming) → IsInComings (list_at now s) c → IsInComings (list_at new s) c
         still s c was = elim (cases_eq s s0) [
           | inl same ↦ (
-              let old = subst (λ q. IsIn (list_at now q) c) same was in
+              let old = subst (λ q. IsInComings (list_at now q) c) same was in
               let long = length-append (list_at now s0) (coming ∷ []) in
               let size = ap length here in
               let inside = old.1 in
-              subst (λ q. IsIn (list_at new q) c) (sym same) (
+              subst (λ q. IsInComings (list_at new q) c) (sym same) (
                 old.0,
                 omega (arith, long, size, inside),
                 ap (λ l. coming_at l old.0) here ∙ get_or_append_left (list_at now s0) (coming ∷ []) no_coming old.0 inside ∙ old.2,
               )
               )
-          | inr other ↦ subst (λ l. IsIn l c) (sym (there s other)) was
+          | inr other ↦ subst (λ l. IsInComings l c) (sym (there s other)) was
         ]
 
         -- who comes at the time of the block
@@ -283,8 +283,8 @@ module _ (m : Meetings) where
             | inr same ↦ (
                 let one : s ≡ s0 = (let at_e = ap time same in omega (arith, at_e, is)) in
                 let index = (h.entries.one agent agent k (entry - begin_in m.ends.now agent) entry (subst (Entry agent k) same other) own_entry).1 in
-                subst (λ q. IsIn (list_at new q) (coming_by m agent k e)) (sym one)
-                (subst (IsIn (list_at new s0)) (sym (ap (λ q. coming_by m agent k q) same ∙ ap (λ q. coming_by m agent q entry) index)) is_in)
+                subst (λ q. IsInComings (list_at new q) (coming_by m agent k e)) (sym one)
+                (subst (IsInComings (list_at new s0)) (sym (ap (λ q. coming_by m agent k q) same ∙ ap (λ q. coming_by m agent q entry) index)) is_in)
                 )
           ];
         }
@@ -293,7 +293,7 @@ module _ (m : Meetings) where
 
     module _ (t agent entry : ℕ) (is_agent : agent < length m.ends.now) (at : ComesTo t agent entry)
         (before : (k e : ℕ) → Entry agent k e → e < entry → Meets e → time e < t + block_times) (end : (entry < end_of agent) → t + block_times ≤ time entry) where
-      pub at-next : IsAt m (t + block_times) (record { agent = agent; index = entry - begin_in m.ends.now agent })
+      pub at-next : ComesNextAt m (t + block_times) (record { agent = agent; index = entry - begin_in m.ends.now agent })
       at-next =
           let after = at.after in
           let place : begin_in m.ends.now agent + (entry - begin_in m.ends.now agent) ≡ entry = omega (arith, after) in

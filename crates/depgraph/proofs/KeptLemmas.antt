@@ -10,12 +10,12 @@ use Rattle.grid.specs.declared.cell.Cell.{Cell}
 use Rattle.model.specs.declared.visit.Visit.{Visit}
 use Rattle.model.specs.Dependency.{need}
 use Rattle.model.specs.Timetable.{Track, Timetable, cell_at, moves, path, step_of, track_of}
-use Rattle.model.proofs.TrackLemmas.{length-path}
+use Rattle.model.specs.Laws.Tracks.{length-path}
 use Rattle.depgraph.specs.Routes.{IsRouteOf, asked_by}
 use Rattle.depgraph.specs.Visits.{IsVisitTo, AreVisitsTo, Visited, AreAllVisits}
 use Rattle.depgraph.specs.declared.waiting.Wait.{Wait}
 use Rattle.depgraph.specs.Code.Entries.{begin_in, IsEntry, arrival_time}
-use Rattle.depgraph.specs.Code.Keeping.{IsKept, route_by, route_in, need_of, asked_of}
+use Rattle.depgraph.specs.Code.Keeping.{AreKeptVisits, route_by, route_in, need_of, asked_of}
 use Rattle.depgraph.specs.Code.Numbers.{no_cell}
 use Rattle.depgraph.specs.Code.Orders.{IsOrder}
 use Rattle.depgraph.specs.Code.Paths.{all_entered, all_times}
@@ -32,7 +32,7 @@ use Rattle.depgraph.proofs.PathLemmas.{no_track}
 use Rattle.depgraph.proofs.VisitLemmas.{begin_is, end_is, IsArrival, arrives, arrival-cell, entry_own, entry_track, entry_at, entry-one, entry-within}
 use Rattle.depgraph.proofs.WaitLemmas.{IsJustBefore, need_none, need_some}
 
-module _ (tt : Timetable) (cells : List Cell) (times ends : List ℕ) (needs : List Wait) (visits : List Visit) (visit_ends : List ℕ) (h : IsKept tt cells times ends needs visits visit_ends) where
+module _ (tt : Timetable) (cells : List Cell) (times ends : List ℕ) (needs : List Wait) (visits : List Visit) (visit_ends : List ℕ) (h : AreKeptVisits tt cells times ends needs visits visit_ends) where
   -- ---- routes
 
   -- what an entry of an agent's path tells

@@ -10,7 +10,7 @@ use Rattle.depgraph.specs.declared.waiting.Wait.{Wait}
 use Rattle.depgraph.specs.Graphs.{IsGraphed}
 use Rattle.depgraph.specs.Code.Entries.{AreFew}
 use Rattle.depgraph.specs.Code.Following.{AreEntries, AreFollowed}
-use Rattle.depgraph.specs.Code.Keeping.{IsKept}
+use Rattle.depgraph.specs.Code.Keeping.{AreKeptVisits}
 use Rattle.depgraph.specs.Code.Laying.{AreFound, AreLaidOut}
 use Rattle.depgraph.specs.Code.Links.{all_links}
 use Rattle.depgraph.specs.Code.Numbers.{cells_by, AreNumbered, AreListed}
@@ -167,7 +167,7 @@ module _ (tt : Timetable) (is : IsGraphed tt) (names : List Cell) (numbers times
         are_ahead = are_ahead_of;
       }
 
-      abbrev kept : IsKept tt (cells_by names numbers) times ends waits visits visit_ends
+      abbrev kept : AreKeptVisits tt (cells_by names numbers) times ends waits visits visit_ends
       kept = record {
         graphed = is;
         are_cells = h.are_cells;

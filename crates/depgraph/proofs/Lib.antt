@@ -1,5 +1,4 @@
 -- Lemmas that several proofs share.
-pub mod RisingLemmas
 pub mod ArrivalLemmas
 pub mod PathLemmas
 pub mod TrackLemmas
@@ -25,7 +24,6 @@ pub mod PassLemmas
 pub mod FollowerLemmas
 pub mod LinkLemmas
 pub mod KeptLemmas
-pub mod AgentPartLemmas
 pub mod ShareLemmas
 pub mod RingLemmas
 pub mod WalkLemmas

@@ -6,13 +6,13 @@ use Rattle.grid.specs.declared.cell.Cell.{Cell}
 use Rattle.depgraph.specs.declared.tiles.Tiles.{Tiles}
 use Rattle.depgraph.specs.Code.Numbering.{AreNumbering}
 use Rattle.depgraph.specs.Code.Numbers.{cells_by, HasNumber}
-use Rattle.depgraph.specs.Code.Tiles.{held, IsCovered, AreTiles, IsSameMap, IsHeld, AreHeld}
+use Rattle.depgraph.specs.Code.Tiles.{number_held, IsCovered, AreTiles, IsSameMap, IsNumbered, AreHeld}
 use Rattle.depgraph.proofs.NumberLemmas.{cells-next, numbered-more, names_more, names_same}
 use Rattle.depgraph.proofs.TileLemmas.{held_next, held_distinct}
 
 -- The cell has its number in the new tiles, and stands in the new names if the number is the next one.
 module _ (old new : Tiles) (names now : List Cell) (numbers : List ℕ) (cell : Cell) (n next : ℕ) (was : AreNumbering old names numbers) (tiles : AreTiles new) (map : IsSameMap old new)
-    (covered : IsCovered old cell) (number : IsHeld old new cell next n) (others : (c : Cell) → IsCovered old c → c ≢ cell → held new c ≡ held old c) (count : next ≡ length names)
+    (covered : IsCovered old cell) (number : IsNumbered old new cell next n) (others : (c : Cell) → IsCovered old c → c ≢ cell → number_held new c ≡ number_held old c) (count : next ≡ length names)
     (size : length new.numbers.items ≤ length old.numbers.items + 256) (added : ((n ≡ next) × (now ≡ names ++ cell ∷ [])) ⊎ ((n ≡ next → ⊥) × (now ≡ names))) where
   named : HasNumber names now cell n × AreHeld new now
   named =

@@ -11,8 +11,8 @@ use Rattle.depgraph.specs.declared.following.Coming.{Coming}
 use Rattle.depgraph.specs.declared.following.Pass.{Pass}
 use Rattle.depgraph.specs.Code.Entries.{IsEntry}
 use Rattle.depgraph.specs.Code.Following.{IsLastIn, IsFollowed, AreFollowed, IsMeeting, wait_after}
-use Rattle.depgraph.specs.Code.Meetings.{AreMeetings, IsComing, AllComing, HasAll, IsDone, IsPast, coming_at, entry_by, noted}
-use Rattle.depgraph.specs.Code.Schedules.{entry_of}
+use Rattle.depgraph.specs.Code.Meetings.{AreMeetings, IsComing, AllComing, HasAll, IsPassDone, NobodyComes, coming_at, entry_by, noted}
+use Rattle.depgraph.specs.Code.Schedules.{entry_of_arrival}
 use Rattle.depgraph.specs.Code.Waits.{no_wait}
 
 -- all entries are the same
@@ -77,7 +77,7 @@ module _ (m : Meetings) where
         × Followed waits (coming_at comings b).arrival.agent (by (coming_at comings b))
 
   module _ (h : AreMeetings m) where
-    pub taken-none : (p : Pass) (comings : List Coming) → IsDone m p → AreTaken p.time comings 0 p.last.items p.waits.items
+    pub taken-none : (p : Pass) (comings : List Coming) → IsPassDone m p → AreTaken p.time comings 0 p.last.items p.waits.items
     taken-none p comings d = record {
       last_count = d.last_count;
       wait_count = d.wait_count;
@@ -135,7 +135,7 @@ module _ (m : Meetings) where
             let found = subst (Last c.number t) there before in
             let sooner = found.2 in
             let now = is.time in
-            h.entries.left b.agent c.arrival.agent b.index c.arrival.index (entry_of m.ends.now b) e found.0 is.entry (found.1 ∙ sym is.number) (omega (arith, sooner, now)) other
+            h.entries.left b.agent c.arrival.agent b.index c.arrival.index (entry_of_arrival m.ends.now b) e found.0 is.entry (found.1 ∙ sym is.number) (omega (arith, sooner, now)) other
             )
         | inr new ↦ (
             let one = one_entry new.agent c.arrival.agent new.index c.arrival.index new.at e t new.entry is.entry (new.there ∙ sym is.number) new.now is.time in
@@ -264,7 +264,7 @@ module _ (m : Meetings) where
       ],
     )
 
-    pub done-next : (t : ℕ) (comings : List Coming) (a : ℕ) (p : Pass) → AreTaken t comings a p.last.items p.waits.items → length comings ≤ a → HasAll m t comings → p.time ≡ t + 1 → IsDone m p
+    pub done-next : (t : ℕ) (comings : List Coming) (a : ℕ) (p : Pass) → AreTaken t comings a p.last.items p.waits.items → length comings ≤ a → HasAll m t comings → p.time ≡ t + 1 → IsPassDone m p
     done-next t comings a p st whole all is = record {
       last_count = st.last_count;
       wait_count = st.wait_count;
@@ -301,7 +301,7 @@ module _ (m : Meetings) where
           (own.0, subst (Followed p.waits.items i) (sym entry.place) own.1)
 
     -- once all times are gone through, each move is told what it waits for
-    pub all-followed : (p : Pass) → IsDone m p → IsPast m p.time → AreFollowed m.times.now m.ends.now m.numbers.now p.waits.items
+    pub all-followed : (p : Pass) → IsPassDone m p → NobodyComes m p.time → AreFollowed m.times.now m.ends.now m.numbers.now p.waits.items
     all-followed p d end = record {
       count = d.wait_count;
       each = λ i k e entry. elim (cases_Bool (get_or m.shared.items (number e) true)) [
@@ -313,7 +313,7 @@ module _ (m : Meetings) where
       ];
     }
 
-    pub done-start : (p : Pass) (a b : ℕ) → p.time ≡ 0 → p.last.items ≡ replicate a None → p.waits.items ≡ replicate b no_wait → a ≡ length m.shared.items → b ≡ length m.times.now → IsDone m p
+    pub done-start : (p : Pass) (a b : ℕ) → p.time ≡ 0 → p.last.items ≡ replicate a None → p.waits.items ≡ replicate b no_wait → a ≡ length m.shared.items → b ≡ length m.times.now → IsPassDone m p
     done-start p a b start lasts none shared all = record {
       last_count = ap length lasts ∙ length-replicate {A = Option Arrival} a None ∙ shared;
       wait_count = ap length none ∙ length-replicate {A = Wait} b no_wait ∙ all;

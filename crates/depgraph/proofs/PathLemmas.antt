@@ -7,13 +7,13 @@ use Rattle.std.proofs.lemmas.Option.{slice_get-get_or}
 use Rattle.std.proofs.lemmas.List.{append-nil, length-append, take_more, drop_more, take_all, take-append-le, take-append-drop, get_or_push, get_or_append_left}
 use Rattle.grid.specs.declared.cell.Cell.{Cell}
 use Rattle.model.specs.Timetable.{Track, Timetable, Stands, cell_after, path}
-use Rattle.model.proofs.NeedLemmas.{stands-from}
-use Rattle.model.proofs.TrackLemmas.{cell_at-start}
+use Rattle.model.specs.Laws.Needs.{stands-from}
+use Rattle.model.specs.Laws.Tracks.{cell_at-start}
 use Rattle.plan.specs.Checking.{cells_of}
 use Rattle.depgraph.specs.Code.Arrivals.{is_new, entered, entry_times}
 use Rattle.depgraph.specs.Code.Paths.{all_entered, all_times, ArePaths, begin_of}
 use Rattle.depgraph.proofs.ArrivalLemmas.{entered_path}
-use Rattle.depgraph.proofs.RisingLemmas.{some_one}
+use Rattle.depgraph.specs.Laws.Rising.{some_one}
 
 pub no_track : Track
 no_track = record { start = record { x = 0; y = 0 }; later = [] }

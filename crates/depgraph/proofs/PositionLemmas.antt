@@ -6,7 +6,7 @@ use Rattle.grid.specs.declared.cell.Cell.{Cell}
 use Rattle.model.specs.declared.visit.Visit.{Visit}
 use Rattle.model.specs.Timetable.{Track, Timetable, moves_before, track_of, IsConflictFree}
 use Rattle.model.specs.Dependency.{IsVisit}
-use Rattle.model.proofs.NeedLemmas.{stands-from}
+use Rattle.model.specs.Laws.Needs.{stands-from}
 use Rattle.depgraph.specs.declared.placing.Arrival.{Arrival}
 use Rattle.depgraph.specs.Visits.{IsVisitTo, ComesBefore}
 use Rattle.depgraph.specs.Code.Entries.{IsEntry}
@@ -14,7 +14,7 @@ use Rattle.depgraph.specs.Code.Numbers.{no_cell}
 use Rattle.depgraph.specs.Code.Paths.{all_entered, all_times}
 use Rattle.depgraph.specs.Code.Placing.{visit_in, IsTimeline}
 use Rattle.depgraph.specs.Code.Ranks.{rank}
-use Rattle.depgraph.specs.Code.Schedules.{no_arrival, entry_of, entry_in}
+use Rattle.depgraph.specs.Code.Schedules.{no_arrival, entry_of_arrival, entry_in}
 use Rattle.depgraph.proofs.RankLemmas.{rank-one, rank-within, rank-order}
 use Rattle.depgraph.proofs.ScheduleLemmas.{same_count, arrival-within, arrivals_apart}
 use Rattle.depgraph.proofs.VisitLemmas.{entry_visit, visit_entry, entry-one, entry-before, entry-within}
@@ -89,7 +89,7 @@ module _ (number : ℕ) (tracks : List Track) (ends : List ℕ) (arrivals : List
       let a = (line.schedule.entries p in_p).place in
       let b = (line.schedule.entries q in_q).place in
       arrivals_apart (all_times tracks) ends arrivals p q line.schedule in_p in_q
-      (ap (λ i. entry_of ends (record { agent = i; index = (visit_at p).index })) agent ∙ ap (λ k. entry_of ends (record { agent = (visit_at q).agent; index = k })) index)
+      (ap (λ i. entry_of_arrival ends (record { agent = i; index = (visit_at p).index })) agent ∙ ap (λ k. entry_of_arrival ends (record { agent = (visit_at q).agent; index = k })) index)
 
   -- two arrivals in one cell at one time are one
   pub one_there : (p q : ℕ) → IsConflictFree table → p < length arrivals → q < length arrivals → cell_of p ≡ cell_of q → (visit_at p).time ≡ (visit_at q).time → p ≡ q

@@ -7,10 +7,10 @@ use Rattle.grid.specs.declared.cell.Cell.{Cell}
 use Rattle.model.specs.declared.visit.Visit.{Visit}
 use Rattle.model.specs.Timetable.{Track, Timetable, cell_at, moves_before, track_of}
 use Rattle.model.specs.Dependency.{Stand, moves_in, moves_to, MovesInto}
-use Rattle.model.proofs.NeedLemmas.{IsLastBelow, stands-from}
+use Rattle.model.specs.Laws.Needs.{IsLastBelow, stands-from}
 use Rattle.depgraph.specs.declared.waiting.Wait.{Wait}
 use Rattle.depgraph.specs.Visits.{IsVisitTo}
-use Rattle.depgraph.specs.Code.Keeping.{IsKept}
+use Rattle.depgraph.specs.Code.Keeping.{AreKeptVisits}
 use Rattle.depgraph.specs.Code.Paths.{all_entered, all_times}
 use Rattle.depgraph.specs.Code.Schedules.{entry_in}
 use Rattle.depgraph.specs.Code.Turning.{AreLaid}
@@ -21,7 +21,7 @@ use Rattle.depgraph.proofs.WaitLemmas.{same_place, nobody-before, last-visit}
 
 -- what finds the rotations knows all that a graph keeps
 abbrev pub kept : (tt : Timetable) (ends : List ℕ) (waits : List Wait) (ahead : List ℕ) (l : AreLaid tt ends waits ahead)
-    → IsKept tt (all_entered tt.tracks) (all_times tt.tracks) ends waits l.visits l.visit_ends
+    → AreKeptVisits tt (all_entered tt.tracks) (all_times tt.tracks) ends waits l.visits l.visit_ends
 kept tt ends waits ahead l = record {
   graphed = l.graphed;
   are_cells = refl;
@@ -33,7 +33,7 @@ kept tt ends waits ahead l = record {
   are_needs = l.are_waits;
 }
 
-module _ (tt : Timetable) (cells : List Cell) (times ends : List ℕ) (needs : List Wait) (visits : List Visit) (visit_ends : List ℕ) (h : IsKept tt cells times ends needs visits visit_ends) where
+module _ (tt : Timetable) (cells : List Cell) (times ends : List ℕ) (needs : List Wait) (visits : List Visit) (visit_ends : List ℕ) (h : AreKeptVisits tt cells times ends needs visits visit_ends) where
   -- the visit and the cell of an arrival
   abbrev pub visit_of : ℕ → Visit
   visit_of p = arrives_at tt cells times ends needs visits visit_ends h p

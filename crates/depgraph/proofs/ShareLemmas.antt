@@ -14,10 +14,10 @@ use Rattle.depgraph.specs.declared.waiting.Wait.{Wait}
 use Rattle.depgraph.specs.AgentParts.{IsPartOf}
 use Rattle.depgraph.specs.Routes.{asked_by}
 use Rattle.depgraph.specs.Code.Entries.{begin_in, IsEntry}
-use Rattle.depgraph.specs.Code.Keeping.{IsKept, asked_of}
+use Rattle.depgraph.specs.Code.Keeping.{AreKeptVisits, asked_of}
 use Rattle.depgraph.specs.Code.Numbers.{no_cell, cells_by, AreKnown}
 use Rattle.depgraph.specs.Code.Paths.{all_entered, all_times}
-use Rattle.depgraph.specs.Code.Shares.{count_in, counts_by, need_told, needs_told, part_by, entries_of, HasShare}
+use Rattle.depgraph.specs.Code.Shares.{count_in, counts_by, need_told, needs_told, part_by, entries_among, HasShare}
 use Rattle.depgraph.specs.Code.Waits.{no_wait}
 use Rattle.depgraph.proofs.KeptLemmas.{kept_need, kept_moves, kept_route, entry_inside, ends_count}
 use Rattle.depgraph.proofs.NumberLemmas.{length-cells_by, get_or-cells_by}
@@ -80,7 +80,7 @@ untold o w is = elim (cases_Bool (w.count == 0)) [
 -- ---- the share of an agent in what a graph keeps
 
 module _ (tt : Timetable) (names : List Cell) (numbers times ends : List ℕ) (needs : List Wait) (visits : List Visit) (visit_ends : List ℕ)
-    (h : IsKept tt (cells_by names numbers) times ends needs visits visit_ends) (i : ℕ) (less : i < length ends) where
+    (h : AreKeptVisits tt (cells_by names numbers) times ends needs visits visit_ends) (i : ℕ) (less : i < length ends) where
   abbrev track : Track
   track = get_or tt.tracks i no_track
 
@@ -105,10 +105,10 @@ module _ (tt : Timetable) (names : List Cell) (numbers times ends : List ℕ) (n
       (omega (arith, cells, long), omega (arith, waits))
 
   abbrev own_numbers : List ℕ
-  own_numbers = entries_of ends i numbers
+  own_numbers = entries_among ends i numbers
 
   abbrev own_needs : List Wait
-  own_needs = entries_of ends i needs
+  own_needs = entries_among ends i needs
 
   own_cells : cells_by names own_numbers ≡ path track
   own_cells =

@@ -7,10 +7,10 @@ use Rattle.std.proofs.lemmas.Nat.{div-mul-add, mod-mul-add}
 use Rattle.std.proofs.lemmas.Option.{slice_get-get_or, slice_get_within, slice_get_read}
 use Rattle.grid.specs.declared.cell.Cell.{Cell}
 use Rattle.model.specs.Timetable.{same_cell}
-use Rattle.model.proofs.TrackLemmas.{same_cell-same, same_cell-true}
+use Rattle.model.specs.Laws.Tracks.{same_cell-same, same_cell-true}
 use Rattle.depgraph.specs.declared.tiles.Tiles.{Tiles}
 use Rattle.depgraph.specs.Code.Numbers.{AreDistinct, HasNumber}
-use Rattle.depgraph.specs.Code.Tiles.{tile_of, offset_of, part_of, place_of, held, IsCovered, AreTiles, IsSameMap, AreHeld}
+use Rattle.depgraph.specs.Code.Tiles.{tile_of, offset_of, tile_part, place_of, number_held, IsCovered, AreTiles, IsSameMap, AreHeld}
 
 -- ---- places
 
@@ -26,11 +26,11 @@ same_cells across c d in_c in_d tile offset =
     let y : c.y ≡ d.y = omega (arith, row, offset) in
     ap {A = ℕ} {B = Cell} (λ n. record { x = n; y = c.y }) x ∙ ap {A = ℕ} {B = Cell} (λ n. record { x = d.x; y = n }) y
 
-pub places_apart : (t : Tiles) (c d : Cell) → AreTiles t → IsCovered t c → IsCovered t d → 0 < part_of t c → place_of t c ≡ place_of t d → c ≡ d
+pub places_apart : (t : Tiles) (c d : Cell) → AreTiles t → IsCovered t c → IsCovered t d → 0 < tile_part t c → place_of t c ≡ place_of t d → c ≡ d
 places_apart t c d h in_c in_d own same =
     let less = offset-less c in
     let also = offset-less d in
-    let part : part_of t c ≡ part_of t d = omega (arith, same, less, also) in
+    let part : tile_part t c ≡ tile_part t d = omega (arith, same, less, also) in
     let offset : offset_of c ≡ offset_of d = omega (arith, same, part) in
     same_cells t.across c d in_c.column in_d.column (h.apart (tile_of t.across c) (tile_of t.across d) own part) offset
 
@@ -53,8 +53,8 @@ still_same old now new first then = record { across = then.across ∙ first.acro
 pub held_distinct : (t : Tiles) (names : List Cell) → AreHeld t names → AreDistinct names
 held_distinct t names h a b c at_a at_b = let first = h.named a c at_a in let second = h.named b c at_b in omega (arith, first, second)
 
-module _ (old new : Tiles) (names : List Cell) (cell : Cell) (n : ℕ) (h : AreHeld old names) (map : IsSameMap old new) (covered : IsCovered old cell) (now : held new cell ≡ n + 1)
-    (others : (c : Cell) → IsCovered old c → c ≢ cell → held new c ≡ held old c) where
+module _ (old new : Tiles) (names : List Cell) (cell : Cell) (n : ℕ) (h : AreHeld old names) (map : IsSameMap old new) (covered : IsCovered old cell) (now : number_held new cell ≡ n + 1)
+    (others : (c : Cell) → IsCovered old c → c ≢ cell → number_held new c ≡ number_held old c) where
   same_map : IsSameMap new old
   same_map = record { across = sym map.across; count = sym map.count }
 
@@ -65,17 +65,17 @@ module _ (old new : Tiles) (names : List Cell) (cell : Cell) (n : ℕ) (h : AreH
   ]
 
   -- a cell that was numbered before
-  stays : held old cell ≡ n + 1 → AreHeld new names
+  stays : number_held old cell ≡ n + 1 → AreHeld new names
   stays was = record {
     covered = λ m c at. still_covered old new c map (h.covered m c at);
     named = λ m c at. kept c (h.covered m c at) ∙ h.named m c at;
     known = λ m c in_c is. let there = still_covered new old c same_map in_c in h.known m c there (sym (kept c there) ∙ is);
   } where
-    kept : (c : Cell) → IsCovered old c → held new c ≡ held old c
-    kept c there = elim (is_cell c) [ inl same ↦ ap (held new) same ∙ now ∙ sym was ∙ ap (held old) (sym same) | inr other ↦ others c there other ]
+    kept : (c : Cell) → IsCovered old c → number_held new c ≡ number_held old c
+    kept c there = elim (is_cell c) [ inl same ↦ ap (number_held new) same ∙ now ∙ sym was ∙ ap (number_held old) (sym same) | inr other ↦ others c there other ]
 
   -- a cell that comes first
-  module _ (none : held old cell ≡ 0) (next : n ≡ length names) where
+  module _ (none : number_held old cell ≡ 0) (next : n ≡ length names) where
     all : List Cell
     all = names ++ cell ∷ []
 
@@ -104,8 +104,8 @@ module _ (old new : Tiles) (names : List Cell) (cell : Cell) (n : ℕ) (h : AreH
     ]
 
     -- a name isn't the new cell, which had no number
-    old_name : (m : ℕ) (c : Cell) → slice_get names m ≡ Some c → held new c ≡ held old c
-    old_name m c at = others c (h.covered m c at) (λ same. let is = h.named m c at in let zero_there = ap (held old) same ∙ none in omega (arith, is, zero_there))
+    old_name : (m : ℕ) (c : Cell) → slice_get names m ≡ Some c → number_held new c ≡ number_held old c
+    old_name m c at = others c (h.covered m c at) (λ same. let is = h.named m c at in let zero_there = ap (number_held old) same ∙ none in omega (arith, is, zero_there))
 
     grows : AreHeld new (names ++ cell ∷ [])
     unfolding all
@@ -116,11 +116,11 @@ module _ (old new : Tiles) (names : List Cell) (cell : Cell) (n : ℕ) (h : AreH
       ];
       named = λ m c at. elim (which m c at) [
         | inl old_at ↦ old_name m c old_at ∙ h.named m c old_at
-        | inr own ↦ (let here = own.0 in ap (held new) own.1 ∙ now ∙ ap (λ k. k + 1) (sym here))
+        | inr own ↦ (let here = own.0 in ap (number_held new) own.1 ∙ now ∙ ap (λ k. k + 1) (sym here))
       ];
       known = λ m c in_c is. elim (is_cell c) [
         | inl same ↦ (
-            let holds = ap (held new) (sym same) ∙ is in
+            let holds = ap (number_held new) (sym same) ∙ is in
             let one : n ≡ m = omega (arith, holds, now) in
             ap (slice_get all) (sym one) ∙ last ∙ ap Some (sym same)
             )
@@ -133,7 +133,7 @@ module _ (old new : Tiles) (names : List Cell) (cell : Cell) (n : ℕ) (h : AreH
     }
 
   -- the names afterwards
-  pub held_next : (next : ℕ) → next ≡ length names → ((held old cell ≡ 0) × (n ≡ next)) ⊎ (held old cell ≡ n + 1) → (all : List Cell) × HasNumber names all cell n × AreHeld new all
+  pub held_next : (next : ℕ) → next ≡ length names → ((number_held old cell ≡ 0) × (n ≡ next)) ⊎ (number_held old cell ≡ n + 1) → (all : List Cell) × HasNumber names all cell n × AreHeld new all
   unfolding all
   held_next next count number = elim number [
     | inl fresh ↦ (

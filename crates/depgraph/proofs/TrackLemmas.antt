@@ -8,7 +8,7 @@ use Rattle.std.proofs.lemmas.List.Elements.{All-get_or}
 use Rattle.grid.specs.declared.cell.Cell.{Cell}
 use Rattle.model.specs.Costs.{cost, cost_after, EndsAtRest}
 use Rattle.model.specs.Timetable.{Track, same_cell}
-use Rattle.model.proofs.TrackLemmas.{same_cell-same}
+use Rattle.model.specs.Laws.Tracks.{same_cell-same}
 use Rattle.plan.specs.Checking.{cells_of}
 use Rattle.depgraph.specs.Code.Arrivals.{entered, entry_times}
 use Rattle.depgraph.specs.Code.Paths.{ArePaths, begin_of}

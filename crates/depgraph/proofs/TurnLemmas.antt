@@ -7,13 +7,13 @@ use Rattle.std.proofs.lemmas.Option.{same_Some, slice_get-get_or, slice_get_with
 use Rattle.model.specs.declared.visit.Visit.{Visit}
 use Rattle.model.specs.Timetable.{Timetable, cell_at, moves_before, track_of}
 use Rattle.model.specs.Dependency.{moves_in, moves_to, MovesInto, following, IsRotation}
-use Rattle.model.proofs.NeedLemmas.{stands-from}
-use Rattle.model.proofs.TrackLemmas.{moves-leave}
+use Rattle.model.specs.Laws.Needs.{stands-from}
+use Rattle.model.specs.Laws.Tracks.{moves-leave}
 use Rattle.depgraph.specs.Rotations.{Turn}
 use Rattle.depgraph.specs.declared.waiting.Wait.{Wait}
-use Rattle.depgraph.specs.Code.Cycles.{Leads, AreLinks, IsCycle, IsWalked}
+use Rattle.depgraph.specs.Code.Cycles.{LinksTo, AreLinks, IsCycle, IsCycleWalked}
 use Rattle.depgraph.specs.Code.Entries.{begin_in, IsEntry}
-use Rattle.depgraph.specs.Code.Keeping.{IsKept}
+use Rattle.depgraph.specs.Code.Keeping.{AreKeptVisits}
 use Rattle.depgraph.specs.Code.Links.{entry_before, AreBound}
 use Rattle.depgraph.specs.Code.Numbers.{no_cell}
 use Rattle.depgraph.specs.Code.Paths.{all_entered, all_times}
@@ -81,7 +81,7 @@ module _ (tt : Timetable) (ends : List ℕ) (waits : List Wait) (ahead : List �
   abbrev times : List ℕ
   times = all_times tt.tracks
 
-  abbrev h : IsKept tt (all_entered tt.tracks) (all_times tt.tracks) ends waits l.visits l.visit_ends
+  abbrev h : AreKeptVisits tt (all_entered tt.tracks) (all_times tt.tracks) ends waits l.visits l.visit_ends
   h = kept tt ends waits ahead l
 
   -- the visit of an arrival
@@ -238,7 +238,7 @@ module _ (tt : Timetable) (ends : List ℕ) (waits : List Wait) (ahead : List �
     pub into : MovesInto tt s (owner e) (owner f)
     pub waits_for : (get_or waits e no_wait).agent ≡ owner f
 
-  leads-moves : (e f : ℕ) → Leads ahead e f → (s : ℕ) × AreMoves e f s
+  leads-moves : (e f : ℕ) → LinksTo ahead e f → (s : ℕ) × AreMoves e f s
   leads-moves e f leads =
       let all = entry_count in
       let inside = slice_get_within ahead e f leads.0 in
@@ -301,7 +301,7 @@ module _ (tt : Timetable) (ends : List ℕ) (waits : List Wait) (ahead : List �
         ap (λ x. get_or times x 0) (sym same) ∙ found.3,
       )
 
-  into-leads : (i j k s : ℕ) → MovesInto tt s i j → MovesInto tt s j k → Leads ahead (entry_after s i) (entry_after s j)
+  into-leads : (i j k s : ℕ) → MovesInto tt s i j → MovesInto tt s j k → LinksTo ahead (entry_after s i) (entry_after s j)
   into-leads i j k s into on =
       let own = entry_of_move i s j into in
       let other = entry_of_move j s k on in
@@ -590,7 +590,7 @@ module _ (tt : Timetable) (ends : List ℕ) (waits : List Wait) (ahead now : Lis
       let all = found-all (turn tt ends waits ahead t.laid) ahead now m turns all_links t.found (omega (arith, past, last)) in
       subst (AreAllRotations tt) (sym all.2) (all-rotations tt ends waits ahead t.laid all.0 all.1)
 
-  module _ (next trail : List ℕ) (is : Type 0) (walked : IsWalked m now next trail is) where
+  module _ (next trail : List ℕ) (is : Type 0) (walked : IsCycleWalked m now next trail is) where
     pub turned-none : (is → ⊥) → AreTurned tt ends waits ahead next (m + 1) turns
     turned-none not_found = record { laid = t.laid; found = found-none (turn tt ends waits ahead t.laid) ahead now next trail m turns is t.found walked not_found }
 

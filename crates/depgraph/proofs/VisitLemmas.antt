@@ -7,14 +7,13 @@ use Rattle.std.proofs.lemmas.Option.{slice_get-get_or, slice_get_within, get_or_
 use Rattle.grid.specs.declared.cell.Cell.{Cell}
 use Rattle.model.specs.Timetable.{Track, same_cell, cell_at, moves_before, path, step_of}
 use Rattle.model.specs.Dependency.{IsVisit}
-use Rattle.model.proofs.TrackLemmas.{same_cell-same, same_cell-true, moves-stay, moves-leave, moves-most, moves_at-start, cell-visit, length-path, visit_time, step-of_move}
+use Rattle.model.specs.Laws.Tracks.{same_cell-same, same_cell-true, moves-stay, moves-leave, moves-most, moves_at-start, cell-visit, length-path, visit_time, step-of_move}
 use Rattle.plan.specs.Checking.{cells_of}
 use Rattle.depgraph.specs.Code.Arrivals.{entered, entry_times}
 use Rattle.depgraph.specs.Code.Entries.{begin_in, IsEntry, arrival_time}
 use Rattle.depgraph.specs.Code.Paths.{all_entered, ArePaths, begin_of}
 use Rattle.depgraph.proofs.ArrivalLemmas.{step-entered, entered_path}
-use Rattle.depgraph.proofs.PathLemmas.{own_path, own_times, begin_before, all_entered-push, all_entered-append}
-use Rattle.depgraph.proofs.PathLemmas.{no_track}
+use Rattle.depgraph.proofs.PathLemmas.{own_path, own_times, begin_before, all_entered-push, all_entered-append, no_track}
 
 -- ---- the arrivals of one agent
 

@@ -7,8 +7,8 @@ use Rattle.grid.specs.declared.cell.Cell.{Cell}
 use Rattle.model.specs.declared.visit.Visit.{Visit}
 use Rattle.model.specs.Timetable.{Track, Timetable, cell_at, moves_before, path, step_of, track_of, Stands, IsConflictFree}
 use Rattle.model.specs.Dependency.{Stand, moves_in, moves_to, need_by, need, last_stand}
-use Rattle.model.proofs.TrackLemmas.{cell-visit, moves-rise, moves-leave}
-use Rattle.model.proofs.NeedLemmas.{IsLastBelow, last_stand-is, stands-track, stands-from}
+use Rattle.model.specs.Laws.Tracks.{cell-visit, moves-rise, moves-leave}
+use Rattle.model.specs.Laws.Needs.{IsLastBelow, last_stand-is, stands-track, stands-from}
 use Rattle.depgraph.specs.declared.placing.Arrival.{Arrival}
 use Rattle.depgraph.specs.Visits.{IsVisitTo}
 use Rattle.depgraph.specs.Code.Keeping.{need_of}

@@ -7,7 +7,7 @@ use Rattle.std.proofs.lemmas.List.{length-set, length_push}
 use Rattle.std.proofs.lemmas.List.Sums.{sum_by-set}
 use Rattle.std.proofs.lemmas.Option.{slice_get-get_or, slice_get_within}
 use Rattle.model.specs.Dependency.{following}
-use Rattle.depgraph.specs.Code.Cycles.{Leads, AreLinks, IsCycle, IsCut, IsWalked}
+use Rattle.depgraph.specs.Code.Cycles.{LinksTo, AreLinks, IsCycle, IsCut, IsCycleWalked}
 use Rattle.depgraph.specs.Code.Waits.{no_entry}
 use Rattle.depgraph.proofs.RingLemmas.{push-old, push-new, push-cases, write-same, write-other, one_at, same_at, following-next, following-first, follower-within, follower, followed, same_by_places}
 
@@ -15,7 +15,7 @@ use Rattle.depgraph.proofs.RingLemmas.{push-old, push-new, push-cases, write-sam
 pub record IsPath (first : ℕ) (ahead path : List ℕ) : Type 0 where
   pub head : slice_get path 0 ≡ Some first
   pub different : (place other i : ℕ) → slice_get path place ≡ Some i → slice_get path other ≡ Some i → place ≡ other
-  pub linked : (place i j : ℕ) → slice_get path place ≡ Some i → slice_get path (suc place) ≡ Some j → Leads ahead i j
+  pub linked : (place i j : ℕ) → slice_get path place ≡ Some i → slice_get path (suc place) ≡ Some j → LinksTo ahead i j
   pub within : (place i : ℕ) → slice_get path place ≡ Some i → i < length ahead
 
 -- The links of these entries are gone, and no others.
@@ -94,7 +94,7 @@ fewer-links now index inside linked =
 
 -- two entries with a link to one are one
 pub path-more : (first : ℕ) (ahead taken : List ℕ) (entry next : ℕ) → AreLinks ahead → IsPath first ahead (taken ++ entry ∷ [])
-    → Leads ahead entry next → (next ≡ first → ⊥) → IsPath first ahead ((taken ++ entry ∷ []) ++ next ∷ [])
+    → LinksTo ahead entry next → (next ≡ first → ⊥) → IsPath first ahead ((taken ++ entry ∷ []) ++ next ∷ [])
 path-more first ahead taken entry next links path leads other_than = record {
   head = push-old (taken ++ entry ∷ []) next first 0 path.head;
   different = λ place other i at_place at_other. elim (push-cases (taken ++ entry ∷ []) next i place at_place) [
@@ -155,7 +155,7 @@ not_none : (ahead : List ℕ) (i : ℕ) → AreLinks ahead → i < length ahead 
 not_none ahead i links inside same = let few = links.few in omega (arith, few, inside, same)
 
 pub cycle-leads : (ahead entries : List ℕ) (place i j : ℕ) → AreLinks ahead → IsCycle ahead entries → slice_get entries place ≡ Some i → following entries place ≡ Some j
-    → Leads ahead i j
+    → LinksTo ahead i j
 cycle-leads ahead entries place i j links h there next =
     let other = follower-within entries place j next in
     (h.cycle place i j there next, not_none ahead j links (inside_links ahead entries other.0 j h other.1))
@@ -253,7 +253,7 @@ cycle_is_path first ahead path last next entries links whole h begins = elim (ca
   along = path-along first ahead path entries is_path h begins
 
 -- a path whose last entry has a link to the first is a cycle
-path_is_cycle : (first : ℕ) (ahead path : List ℕ) (last next : ℕ) → AreLinks ahead → ((i j : ℕ) → Leads ahead i j → first ≤ i) → IsWhole first ahead path last next
+path_is_cycle : (first : ℕ) (ahead path : List ℕ) (last next : ℕ) → AreLinks ahead → ((i j : ℕ) → LinksTo ahead i j → first ≤ i) → IsWhole first ahead path last next
     → next ≡ first → IsCycle ahead path
 path_is_cycle first ahead path last next links least whole back = record {
   some = slice_get_within path 0 first is_path.head;
@@ -296,8 +296,8 @@ cycle-apart first ahead now path entries links is_path taken h outside = record 
       taken.rest i (λ other too. path-outside first ahead path entries links is_path h outside other i too place there) ∙ h.cycle place i j there next;
 }
 
-walked : (first : ℕ) (ahead now path : List ℕ) (last next : ℕ) (found : Type 0) → AreLinks ahead → ((i j : ℕ) → Leads ahead i j → first ≤ i)
-    → IsWhole first ahead path last next → AreTaken ahead now path → (found → next ≡ first) → (next ≡ first → found) → IsWalked first ahead now path found
+walked : (first : ℕ) (ahead now path : List ℕ) (last next : ℕ) (found : Type 0) → AreLinks ahead → ((i j : ℕ) → LinksTo ahead i j → first ≤ i)
+    → IsWhole first ahead path last next → AreTaken ahead now path → (found → next ≡ first) → (next ≡ first → found) → IsCycleWalked first ahead now path found
 walked first ahead now path last next found links least whole taken back is_found = record {
   is_cut = record {
     count = taken.count;
@@ -321,9 +321,9 @@ walked first ahead now path last next found links least whole taken back is_foun
 }
 
 -- a walk ends where the last entry has a link back to the first, or no link
-pub walk-ends : (first : ℕ) (ahead now taken trail : List ℕ) (entry : ℕ) (found : Type 0) → AreLinks ahead → ((i j : ℕ) → Leads ahead i j → first ≤ i)
+pub walk-ends : (first : ℕ) (ahead now taken trail : List ℕ) (entry : ℕ) (found : Type 0) → AreLinks ahead → ((i j : ℕ) → LinksTo ahead i j → first ≤ i)
     → IsPath first ahead (taken ++ entry ∷ []) → AreTaken ahead now taken → trail ≡ taken ++ entry ∷ []
-    → ((get_or now entry 0 ≡ first) × found) ⊎ ((get_or now entry 0 ≡ no_entry) × (found → ⊥)) → IsWalked first ahead (set now entry no_entry) trail found
+    → ((get_or now entry 0 ≡ first) × found) ⊎ ((get_or now entry 0 ≡ no_entry) × (found → ⊥)) → IsCycleWalked first ahead (set now entry no_entry) trail found
 walk-ends first ahead now taken trail entry found links least path before is_trail ends =
     let told = link-taken first ahead now taken entry path before in
     let long = length_push taken entry in
@@ -335,13 +335,13 @@ walk-ends first ahead now taken trail entry found links least path before is_tra
       leads = told.0;
       ends = elim ends [ inl back ↦ inl back.0 | inr none ↦ inr none.0 ];
     } in
-    subst (λ l. IsWalked first ahead (set now entry no_entry) l found) (sym is_trail)
+    subst (λ l. IsCycleWalked first ahead (set now entry no_entry) l found) (sym is_trail)
     (walked first ahead (set now entry no_entry) (taken ++ entry ∷ []) entry (get_or now entry 0) found links least whole told.1
     (λ is. elim ends [ inl back ↦ back.0 | inr none ↦ absurd (none.1 is) ])
     (λ is. elim ends [ inl back ↦ back.1 | inr none ↦ absurd (not_none ahead first links (first-inside first ahead (taken ++ entry ∷ []) path) (sym is ∙ none.0)) ]))
 
 -- from an entry without a link there is no walk
-pub walked-none : (first : ℕ) (ahead trail : List ℕ) (found : Type 0) → first < length ahead → get_or ahead first 0 ≡ no_entry → (found → ⊥) → IsWalked first ahead ahead trail found
+pub walked-none : (first : ℕ) (ahead trail : List ℕ) (found : Type 0) → first < length ahead → get_or ahead first 0 ≡ no_entry → (found → ⊥) → IsCycleWalked first ahead ahead trail found
 walked-none first ahead trail found less none never = record {
   is_cut = record { count = refl; kept = λ i j leads. leads };
   gone = λ j leads. leads.1 (same_at ahead first j no_entry leads.0 (slice_get-get_or ahead first 0 less ∙ ap Some none));

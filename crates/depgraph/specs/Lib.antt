@@ -12,3 +12,5 @@ pub mod Graphs
 pub mod AgentParts
 -- the code's own words
 pub mod Code
+-- What follows from these definitions, each with its proof: proofs of other crates cite it, and nothing of it has to be believed.
+pub mod Laws

@@ -13,11 +13,11 @@ const SCATTER: u64 = 0x9E37_79B9_7F4A_7C15;
 pub(crate) struct CellHashing;
 
 impl BuildHasher for CellHashing {
-    ghost use Rattle.depgraph.specs.Code.CellHashes.{begun};
+    ghost use Rattle.depgraph.specs.Code.CellHashes.{new_hasher};
 
     type Hasher = CellHasher;
 
-    ghost build_hasher = { begun };
+    ghost build_hasher = { new_hasher };
 
     fn build_hasher(&self) -> CellHasher {
         CellHasher { x: 0, y: 0 }

@@ -1,6 +1,6 @@
 //! The cycles of entries that follow one another.
 ghost use Rattle.std.specs.Prelude.{◌≡◌, ◌<◌, ◌≤◌, ℕ, IfOk, IsTrue, [], length, get_or, slice_set as set};
-ghost use Rattle.depgraph.specs.Code.Cycles.{Leads, AreLinks, IsWalked};
+ghost use Rattle.depgraph.specs.Code.Cycles.{LinksTo, AreLinks, IsCycleWalked};
 ghost use Rattle.depgraph.specs.Code.Links.{link_of, all_links, links_in, AreBound, AreLinksIn};
 ghost use Rattle.depgraph.specs.Code.Waits.{no_entry};
 
@@ -99,9 +99,9 @@ pub(crate) fn walk(
     requires whole { AreLinksIn links.old }
     requires links { AreLinks (links_in links.old) }
     requires first { first < length (links_in links.old) }
-    requires least { (i j : ℕ) → Leads (links_in links.old) i j → first ≤ i }
+    requires least { (i j : ℕ) → LinksTo (links_in links.old) i j → first ≤ i }
     requires trail { trail.old.items ≡ [] }
-    ensures walked { IfOk result (λ found. IsWalked first (links_in links.old) (links_in links.new) trail.new.items (IsTrue found)) }
+    ensures walked { IfOk result (λ found. IsCycleWalked first (links_in links.old) (links_in links.new) trail.new.items (IsTrue found)) }
     ensures whole { AreLinksIn links.new }
 {
     // Of most moves none leads on: they wait for nobody, or for a move of another step.

@@ -11,7 +11,6 @@ ghost use Rattle.depgraph.specs.Code.Laying.{AreFound};
 use crate::entries::{begin_in, entry_at};
 use crate::laying::{Found, find};
 use crate::numbering::cell_at;
-use crate::out_of_memory::OutOfMemory;
 use crate::part::Part;
 use crate::paths::Paths;
 use crate::rotations::find_rotations;
@@ -21,6 +20,7 @@ use model::Rotation;
 use plan::CheckedPlan;
 use std::alloc::{AllocError, Global};
 use std::marker::Model;
+use text_io::OutOfMemory;
 
 /// What a checked plan says of who waits for whom. It keeps no visits, so it takes less time and memory than a graph.
 #[derive(Debug, Drop)]

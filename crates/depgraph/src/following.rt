@@ -3,7 +3,7 @@ ghost use Rattle.std.specs.Prelude.{◌≡◌, ◌≢◌, ◌+◌, ◌<◌, ◌�
 ghost use Rattle.depgraph.specs.declared.placing.Arrival.{Arrival};
 ghost use Rattle.depgraph.specs.Code.Entries.{begin_in};
 ghost use Rattle.depgraph.specs.Code.Following.{AreEntries, AreFollowed};
-ghost use Rattle.depgraph.specs.Code.Meetings.{entry_by, noted, block_times, is_under_way, AreMeetings, IsNextMeeting, AllComing, HasAll, IsDone, IsAt, AreAllUnderWay, AreAdded, AreBlock, IsPast};
+ghost use Rattle.depgraph.specs.Code.Meetings.{entry_by, noted, block_times, is_under_way, AreMeetings, IsNextMeeting, AllComing, HasAll, IsPassDone, ComesNextAt, AreAllUnderWay, AreAdded, AreBlock, NobodyComes};
 ghost use Rattle.depgraph.specs.Code.Waits.{no_wait};
 
 use crate::entries::begin_in;
@@ -101,10 +101,10 @@ impl Pass {
     fn take_step(&mut self, meetings: &Meetings<'_>, comings: &[Coming])
         requires meetings { AreMeetings meetings.now }
         requires limit { self.old.time < 2 ^ 32 }
-        requires done { IsDone meetings.now self.old }
+        requires done { IsPassDone meetings.now self.old }
         requires sound { AllComing meetings.now self.old.time comings.now }
         requires all { HasAll meetings.now self.old.time comings.now }
-        ensures done { IsDone meetings.now self.new }
+        ensures done { IsPassDone meetings.now self.new }
         ensures time { self.new.time ≡ self.old.time + 1 }
     {
         for coming in comings {
@@ -170,9 +170,9 @@ pub(crate) fn waits_by_time(
 fn follow(alloc: Global, meetings: &Meetings<'_>, pass: &mut Pass) -> Result<(), AllocError>
     requires meetings { AreMeetings meetings.now }
     requires start { pass.old.time ≡ 0 }
-    requires done { IsDone meetings.now pass.old }
-    ensures done { OnOk result (IsDone meetings.now pass.new) }
-    ensures end { OnOk result (IsPast meetings.now pass.new.time) }
+    requires done { IsPassDone meetings.now pass.old }
+    ensures done { OnOk result (IsPassDone meetings.now pass.new) }
+    ensures end { OnOk result (NobodyComes meetings.now pass.new.time) }
 {
     let mut followers = all_followers(alloc, meetings)?;
     let mut block = empty_block(alloc, followers.len())?;
@@ -268,10 +268,10 @@ fn look_ahead(
 ) -> Result<(), AllocError>
     requires meetings { AreMeetings meetings.now }
     requires limit { time < 2 ^ 32 }
-    requires at { IsAt meetings.now time follower.old }
+    requires at { ComesNextAt meetings.now time follower.old }
     requires count { length block.old ≡ block_times }
     ensures agent { OnOk result (follower.new.agent ≡ follower.old.agent) }
-    ensures at { OnOk result (IsAt meetings.now (time + block_times) follower.new) }
+    ensures at { OnOk result (ComesNextAt meetings.now (time + block_times) follower.new) }
     ensures added { OnOk result (AreAdded meetings.now time follower.old.agent block.old block.new) }
 {
     let agent = follower.agent;

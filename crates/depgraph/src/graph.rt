@@ -11,7 +11,6 @@ use crate::cell_hash::CellHashing;
 use crate::dependencies::{Dependencies, Route};
 use crate::laying::{Laid, lay_out};
 use crate::order::{numbered_cells, order_of};
-use crate::out_of_memory::OutOfMemory;
 use crate::part::Part;
 use crate::placing::visits_of;
 use grid::Cell;
@@ -20,6 +19,7 @@ use model::{Rotation, Visit};
 use plan::CheckedPlan;
 use std::alloc::Global;
 use std::marker::Model;
+use text_io::OutOfMemory;
 
 /// What a checked plan says of who waits for whom, and of who comes into each cell.
 #[derive(Debug, Drop)]

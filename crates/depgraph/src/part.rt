@@ -3,15 +3,15 @@ ghost use Rattle.std.specs.Prelude.{◌≡◌, ◌<◌, ◌^◌, length, slice_g
 ghost use Rattle.depgraph.specs.AgentParts.{IsOfGraph};
 ghost use Rattle.depgraph.specs.Routes.{asked_by};
 ghost use Rattle.depgraph.specs.Code.Numbers.{cells_by, AreKnown};
-ghost use Rattle.depgraph.specs.Code.Shares.{part_by, entries_of, HasShare};
+ghost use Rattle.depgraph.specs.Code.Shares.{part_by, entries_among, HasShare};
 
 use crate::entries::begin_in;
 use crate::numbering::cell_at;
-use crate::out_of_memory::OutOfMemory;
 use crate::waiting::Wait;
 use grid::Cell;
 use std::alloc::{AllocError, Global};
 use std::marker::Model;
+use text_io::OutOfMemory;
 
 /// What one agent needs of a graph: its path, what its moves wait for, how many moves each agent makes, and the plan's number.
 #[derive(Debug, Drop)]
@@ -50,7 +50,7 @@ impl<'g> Part<'g> {
         ends: &'g [usize],
     ) -> Part<'g>
         requires { HasShare number agent names.now numbers.now needs.now ends.now }
-        ensures { result ≡ part_by number agent names.now (entries_of ends.now agent numbers.now) (entries_of ends.now agent needs.now) ends.now }
+        ensures { result ≡ part_by number agent names.now (entries_among ends.now agent numbers.now) (entries_among ends.now agent needs.now) ends.now }
     {
         let begin = begin_in(ends, usize::from(agent));
         let end = ends[usize::from(agent)];

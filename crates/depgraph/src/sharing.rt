@@ -1,7 +1,7 @@
 //! Which cells more than one agent comes into.
 ghost use Rattle.std.specs.Prelude.{◌≡◌, ◌≢◌, ◌<◌, ◌^◌, ℕ, length, get_or, true, false, Some, None, IfOk};
 ghost use Rattle.depgraph.specs.Code.Following.{AreEntries, AreShared};
-ghost use Rattle.depgraph.specs.Code.Meetings.{IsSeen};
+ghost use Rattle.depgraph.specs.Code.Meetings.{IsOwnerSeen};
 
 use std::alloc::{AllocError, Global};
 
@@ -17,7 +17,7 @@ impl Owners {
     fn see(&mut self, number: u32, agent: u16)
         requires owner { number < length self.old.owners.items }
         requires shared { number < length self.old.shared.items }
-        ensures { IsSeen number agent self.old self.new }
+        ensures { IsOwnerSeen number agent self.old self.new }
     {
         let number = number as usize;
         match self.owners[number] {

@@ -1,7 +1,7 @@
 //! Where the numbers of cells stand: those of a tile, 16 x 16 cells, side by side, so that the numbers along a path lie close.
 ghost use Rattle.std.specs.Prelude.{◌≡◌, ◌≢◌, ◌+◌, ◌/◌, ◌<◌, ◌≤◌, ◌^◌, ℕ, length, get_or, IfOk, OnOk};
 ghost use Rattle.grid.specs.declared.cell.Cell.{Cell};
-ghost use Rattle.depgraph.specs.Code.Tiles.{tile_of, offset_of, part_of, place_of, held, AreTiles, IsCovered, IsSameMap, HasRoom, IsHeld};
+ghost use Rattle.depgraph.specs.Code.Tiles.{tile_of, offset_of, tile_part, place_of, number_held, AreTiles, IsCovered, IsSameMap, HasRoom, IsNumbered};
 
 use grid::Cell;
 use std::alloc::{AllocError, Global};
@@ -29,7 +29,7 @@ impl Tiles {
         requires height { height < 2 ^ 16 }
         ensures tiles { IfOk result (λ t. AreTiles t) }
         ensures covered { IfOk result (λ t. (c : Cell) → c.x < width → c.y < height → IsCovered t c) }
-        ensures none { IfOk result (λ t. (c : Cell) → held t c ≡ 0) }
+        ensures none { IfOk result (λ t. (c : Cell) → number_held t c ≡ 0) }
         ensures size { IfOk result (λ t. length t.numbers.items ≡ 256) }
     {
         let across = width as usize / SIDE + 1;
@@ -49,8 +49,8 @@ impl Tiles {
         requires next { next + 1 < 2 ^ 32 }
         ensures tiles { OnOk result (AreTiles self.new) }
         ensures map { OnOk result (IsSameMap self.old self.new) }
-        ensures number { IfOk result (λ n. IsHeld self.old self.new cell next n) }
-        ensures others { OnOk result ((c : Cell) → IsCovered self.old c → c ≢ cell → held self.new c ≡ held self.old c) }
+        ensures number { IfOk result (λ n. IsNumbered self.old self.new cell next n) }
+        ensures others { OnOk result ((c : Cell) → IsCovered self.old c → c ≢ cell → number_held self.new c ≡ number_held self.old c) }
         ensures size { OnOk result (length self.new.numbers.items ≤ length self.old.numbers.items + 256) }
     {
         let place = self.place_of(cell)?;
@@ -83,7 +83,7 @@ impl Tiles {
     fn make_room(&mut self, cell: Cell) -> Result<(), AllocError>
         requires tiles { AreTiles self.old }
         requires covered { IsCovered self.old cell }
-        requires none { part_of self.old cell ≡ 0 }
+        requires none { tile_part self.old cell ≡ 0 }
         requires size { length self.old.numbers.items < 2 ^ 40 }
         ensures { OnOk result (HasRoom self.old self.new cell) }
     {

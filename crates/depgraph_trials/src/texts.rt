@@ -1,9 +1,10 @@
 //! Maps and plans that the tests share.
 use depgraph::Graph;
-use grid::{Counted, Map, MapFault, read_map};
+use grid::{Map, MapFault, read_map};
 use plan::{CheckedPlan, Plan, PlanTextFault, check, read_plan};
 use std::alloc::Global;
 use std::test::Fail;
+use text_io::Counted;
 
 /// A row of three passable cells.
 pub const ROW: &str = "type octile\nheight 1\nwidth 3\nmap\n...\n";

@@ -3,16 +3,16 @@ use Rattle.std.proofs.Common.{◌≡◌, ℕ, ◌<◌, List, [], ◌∷◌, ◌+
 use Rattle.std.specs.List.{AllByRecursion}
 use Rattle.std.specs.Io.KnownBytes.{Appends, Consumes, IsAtEnd as IsSpent}
 use Rattle.std.proofs.KnownBytes.{Appends-trans}
-use Rattle.grid.specs.declared.counted.Counted.{Counted}
-use Rattle.grid.specs.declared.sink.Sink.{Sink}
-use Rattle.grid.specs.declared.source.Source.{Source}
-use Rattle.grid.specs.Counted.{counted_inner, failures_of, Rises}
-use Rattle.grid.specs.Lines.{HasTaken}
-use Rattle.grid.specs.Sink.{held_back, sink_writer, Puts, Breaks}
-use Rattle.grid.specs.Source.{at_hand, source_reader}
-use Rattle.grid.specs.Text.{line_feed, ended, lines_of}
-use Rattle.grid.proofs.LineLemmas.{ended_push, AllByRecursion_push, lines_of-all, lines_of-open}
-use Rattle.grid.proofs.SinkLemmas.{Puts-same, Puts-trans}
+use Rattle.text_io.specs.declared.counted.Counted.{Counted}
+use Rattle.text_io.specs.declared.sink.Sink.{Sink}
+use Rattle.text_io.specs.declared.source.Source.{Source}
+use Rattle.text_io.specs.Counted.{counted_inner, failures_of, Rises}
+use Rattle.text_io.specs.Lines.{HasTaken}
+use Rattle.text_io.specs.Sink.{held_back, sink_writer, Puts, Breaks}
+use Rattle.text_io.specs.Source.{at_hand, source_reader}
+use Rattle.text_io.specs.Text.{line_feed, ended, lines_of}
+use Rattle.text_io.specs.Laws.Lines.{ended_push, AllByRecursion_push, lines_of-all, lines_of-open}
+use Rattle.text_io.specs.Laws.Putting.{Puts-same, Puts-trans}
 use Rattle.model.specs.Timetable.{Track, Timetable, track_of}
 use Rattle.agent.specs.Agents.{AgentOn, state_of}
 use Rattle.agent.specs.States.{State}
@@ -21,7 +21,7 @@ use Rattle.depgraph.specs.AgentParts.{IsPartOf}
 use Rattle.dialogue.specs.Turns.{IsTurn, state_line, store_failed}
 use Rattle.dialogue.specs.Dialogue.{AreTurns, dialogue_lines, EndsInFailedStore, AreFirst, BreaksInLast, BlamesTape, Leads, Talks}
 use Rattle.dialogue.specs.Code.Answering.{IsSameAgent, Sends, Replies}
-use Rattle.dialogue.specs.Code.Reading.{HasRest, IsOver, IsKept}
+use Rattle.dialogue.specs.Code.Reading.{HasRest, IsInputOver, IsLineKept}
 use Rattle.dialogue.specs.declared.talk_fault.TalkFault.{TalkFault}
 use Rattle.dialogue.specs.declared.talk_fault.TalkFault.TheVariants.{ReadFailed, WriteFailed, StoreFailed, OutOfMemory}
 
@@ -97,8 +97,8 @@ module _ {W : Type 0} (contents : W → Option (List ℕ)) (first : Sink W) (non
 
 -- These lines were read and answered, and the answers sent.
 pub record SoFar
-    {R W T : Type 0} (remaining : R → Option (List ℕ)) (contents : W → Option (List ℕ)) (seen : T → TapeState) (table : Timetable) (first_in : Counted R)
-    (source : Source R) (first_sink sink : Sink W) (old new : AgentOn T) : Type 0 where
+    {R W T : Type 0} {ahead : ℕ} (remaining : R → Option (List ℕ)) (contents : W → Option (List ℕ)) (seen : T → TapeState) (table : Timetable) (first_in : Counted R)
+    (source : Source R ahead) (first_sink sink : Sink W) (old new : AgentOn T) : Type 0 where
   pub track : Track
   pub is_track : track_of table old.part.agent ≡ Some track
   pub part : new.part ≡ old.part
@@ -113,7 +113,7 @@ pub record SoFar
 
 -- These lines were read, and they are the first.
 pub record HasRead
-    {R : Type 0} (remaining : R → Option (List ℕ)) (first_in : Counted R) (source : Source R) (lines : List (List ℕ)) : Type 0 where
+    {R : Type 0} {ahead : ℕ} (remaining : R → Option (List ℕ)) (first_in : Counted R) (source : Source R ahead) (lines : List (List ℕ)) : Type 0 where
   pub input : List ℕ
   pub consumed : Consumes (remaining (counted_inner first_in)) (remaining (counted_inner (source_reader source))) input
   pub are_first : AreFirst lines input (remaining (counted_inner (source_reader source)))
@@ -121,14 +121,14 @@ pub record HasRead
 
 -- And they are all.
 pub record HasReadAll
-    {R : Type 0} (remaining : R → Option (List ℕ)) (first_in : Counted R) (source : Source R) (lines : List (List ℕ)) : Type 0 where
+    {R : Type 0} {ahead : ℕ} (remaining : R → Option (List ℕ)) (first_in : Counted R) (source : Source R ahead) (lines : List (List ℕ)) : Type 0 where
   pub input : List ℕ
   pub consumed : Consumes (remaining (counted_inner first_in)) (remaining (counted_inner (source_reader source))) input
   pub are_all : lines ≡ lines_of input
   pub spent : IsSpent (remaining (counted_inner (source_reader source)))
   pub failures : failures_of (source_reader source) ≡ failures_of first_in
 
-module _ {R : Type 0} (remaining : R → Option (List ℕ)) (first_in : Counted R) (source : Source R) where
+module _ {R : Type 0} {ahead : ℕ} (remaining : R → Option (List ℕ)) (first_in : Counted R) (source : Source R ahead) where
   pub read_first : (lines : List (List ℕ)) → HasTaken remaining first_in source lines → HasRead remaining first_in source lines
   read_first lines taken = record {
     input = taken.delivered;
@@ -137,7 +137,7 @@ module _ {R : Type 0} (remaining : R → Option (List ℕ)) (first_in : Counted 
     failures = taken.failures;
   }
 
-  pub read_last : (before : List (List ℕ)) (line : List ℕ) → 0 < length line → IsOver remaining first_in source before line
+  pub read_last : (before : List (List ℕ)) (line : List ℕ) → 0 < length line → IsInputOver remaining first_in source before line
       → HasReadAll remaining first_in source (before ++ line ∷ [])
   read_last before line some over =
       let rest = over.has_rest in
@@ -149,7 +149,7 @@ module _ {R : Type 0} (remaining : R → Option (List ℕ)) (first_in : Counted 
         failures = over.failures;
       }
 
-  pub read_all : (lines : List (List ℕ)) → IsOver remaining first_in source lines [] → HasReadAll remaining first_in source lines
+  pub read_all : (lines : List (List ℕ)) → IsInputOver remaining first_in source lines [] → HasReadAll remaining first_in source lines
   read_all lines over =
       let rest = over.has_rest in
       record {
@@ -165,17 +165,17 @@ module _ {R : Type 0} (remaining : R → Option (List ℕ)) (first_in : Counted 
       record { input = all.input; consumed = all.consumed; are_first = inr (all.are_all, all.spent); failures = all.failures }
 
 module _
-    {R W T : Type 0} (remaining : R → Option (List ℕ)) (contents : W → Option (List ℕ)) (seen : T → TapeState) (table : Timetable) (first_in : Counted R)
+    {R W T : Type 0} {ahead : ℕ} (remaining : R → Option (List ℕ)) (contents : W → Option (List ℕ)) (seen : T → TapeState) (table : Timetable) (first_in : Counted R)
     (first_sink : Sink W) (none : held_back first_sink ≡ []) (old : AgentOn T)
   where
-    abbrev Far : Source R → Sink W → AgentOn T → Type 0
+    abbrev Far : Source R ahead → Sink W → AgentOn T → Type 0
     Far source sink new = SoFar remaining contents seen table first_in source first_sink sink old new
 
-    abbrev Led : Source R → Sink W → AgentOn T → Result Unit TalkFault → Type 0
+    abbrev Led : Source R ahead → Sink W → AgentOn T → Result Unit TalkFault → Type 0
     Led source sink new result = Leads remaining contents seen table first_in (source_reader source) (sink_writer first_sink) (sink_writer sink) old new result
 
     -- the writer failed at the first line
-    pub state_not_said : (source : Source R) (sink : Sink W) (track : Track) → track_of table old.part.agent ≡ Some track
+    pub state_not_said : (source : Source R ahead) (sink : Sink W) (track : Track) → track_of table old.part.agent ≡ Some track
         → HasTaken remaining first_in source [] → Breaks contents first_sink sink (state_line track (state_of seen old) ++ line_feed ∷ [])
         → Led source sink old (Err WriteFailed)
     state_not_said source sink track is_track taken breaks =
@@ -194,12 +194,12 @@ module _
           written = broke contents first_sink none first_sink sink [] (state_line track (state_of seen old)) none (Puts-same contents first_sink) breaks;
         }
 
-    module _ (source : Source R) (sink : Sink W) (mid : AgentOn T) (far : Far source sink mid) where
+    module _ (source : Source R ahead) (sink : Sink W) (mid : AgentOn T) (far : Far source sink mid) where
       abbrev said : List (List ℕ)
       said = dialogue_lines far.track (state_of seen old) far.texts
 
       -- the input ended
-      pub led_to_end : (next : Source R) → IsOver remaining first_in next far.lines [] → Led next sink mid (Ok tt)
+      pub led_to_end : (next : Source R ahead) → IsInputOver remaining first_in next far.lines [] → Led next sink mid (Ok tt)
       led_to_end next over =
           let read = read_all remaining first_in next far.lines over in
           record {
@@ -217,7 +217,7 @@ module _
           }
 
       -- the reader failed
-      pub led_to_failure : (next : Source R) (rest : List ℕ) → HasRest remaining first_in next far.lines rest
+      pub led_to_failure : (next : Source R ahead) (rest : List ℕ) → HasRest remaining first_in next far.lines rest
           → Rises (failures_of first_in) (failures_of (source_reader next)) → Led next sink mid (Err ReadFailed)
       led_to_failure next rest has rises = record {
         track = far.track;
@@ -233,7 +233,7 @@ module _
         written = wrote contents first_sink none sink (ended said) far.none_held far.put;
       }
 
-      module _ (line : List ℕ) (next : Source R) (sent : Sink W) (new : AgentOn T) (same : IsSameAgent mid new) where
+      module _ (line : List ℕ) (next : Source R ahead) (sent : Sink W) (new : AgentOn T) (same : IsSameAgent mid new) where
         abbrev Replied : Result Unit TalkFault → Type 0
         Replied result = Replies contents table old.part.agent far.track line (state_of seen mid) (state_of seen new) sink sent result
 
@@ -246,9 +246,9 @@ module _
 
         -- the answer as one to the agent of the first
         pub replied : (room : List ℕ) (kept : Option ℕ) (result : Result Unit TalkFault)
-            → ((tab : Timetable) → IsPartOf tab mid.part → (track : Track) (text : List ℕ) → track_of tab mid.part.agent ≡ Some track → IsKept text room kept
+            → ((tab : Timetable) → IsPartOf tab mid.part → (track : Track) (text : List ℕ) → track_of tab mid.part.agent ≡ Some track → IsLineKept text room kept
             → Replies contents tab mid.part.agent track text (state_of seen mid) (state_of seen new) sink sent result)
-            → IsPartOf table old.part → IsKept line room kept → Replied result
+            → IsPartOf table old.part → IsLineKept line room kept → Replied result
         replied room kept result replies is is_kept =
             let own : mid.part.agent ≡ old.part.agent = ap (λ p. p.agent) far.part in
             let is_track : track_of table mid.part.agent ≡ Some far.track = ap (track_of table) own ∙ far.is_track in

@@ -10,7 +10,7 @@ use Rattle.agent.specs.declared.refusal.Refusal.{Refusal}
 use Rattle.agent.specs.declared.refusal.TellFault.{TellFault}
 use Rattle.agent.specs.declared.refusal.TellFault.TheVariants.{Broken, OutOfMemory}
 use Rattle.agent.specs.Replies.{answered, delivered, stood, why_of}
-use Rattle.agent.specs.States.{State, done, held as held_in, start_refusal, finish_refusal, next_cell, Answers, IsSaid, IsToldBy, IsHeard}
+use Rattle.agent.specs.States.{State, finished_moves, held_by_tape as held_in, start_refusal, finish_refusal, next_cell, Answers, IsSaid, IsToldBy, IsHeard}
 use Rattle.event_text.specs.ReplyText.{reply_line}
 use Rattle.dialogue.specs.Requests.{Request, start, finish, say, tell, held, hear, AsksFor, AsksNothing}
 
@@ -18,7 +18,7 @@ use Rattle.dialogue.specs.Requests.{Request, start, finish, say, tell, held, hea
 
 -- where the agent is, and how many moves it has finished
 abbrev pub state_line : Track → State → List ℕ
-state_line track s = reply_line (stood (held_in track s) (done s))
+state_line track s = reply_line (stood (held_in track s) (finished_moves s))
 
 -- the message that was said, two digits a byte
 abbrev pub said_line : Result (List ℕ) Refusal → List ℕ
@@ -49,18 +49,18 @@ store_failed = reply_line (refused why.StoreFailed)
 -- ---- turns
 
 -- what is asked is answered by this line, as the agent's call may answer, and leaves the agent in the new state
-abbrev pub Takes : Timetable → ℕ → Track → Request → State → State → List ℕ → Type 0
-Takes tt i track start old new text =
+abbrev pub TakesRequest : Timetable → ℕ → Track → Request → State → State → List ℕ → Type 0
+TakesRequest tt i track start old new text =
     (answer : Result Cell Refusal) × Answers (start_refusal tt i track old) old new (next_cell track old) answer × (text ≡ reply_line (answered moving answer))
-Takes tt i track finish old new text =
+TakesRequest tt i track finish old new text =
     (answer : Result Cell Refusal) × Answers (finish_refusal old) old new (next_cell track old) answer × (text ≡ reply_line (answered arrived answer))
-Takes tt i track say old new text = (answer : Result (List ℕ) Refusal) × IsSaid tt i old answer × (new ≡ old) × (text ≡ said_line answer)
-Takes tt i track tell old new text = (answer : Result (List ℕ) TellFault) × IsToldBy tt i old answer × (new ≡ old) × (text ≡ told_line answer)
-Takes tt i track held old new text = (new ≡ old) × (text ≡ state_line track old)
-Takes tt i track (hear bytes) old new text = (answer : Result (ℕ × ℕ) HearFault) × IsHeard tt old new bytes answer × (text ≡ heard_line answer)
+TakesRequest tt i track say old new text = (answer : Result (List ℕ) Refusal) × IsSaid tt i old answer × (new ≡ old) × (text ≡ said_line answer)
+TakesRequest tt i track tell old new text = (answer : Result (List ℕ) TellFault) × IsToldBy tt i old answer × (new ≡ old) × (text ≡ told_line answer)
+TakesRequest tt i track held old new text = (new ≡ old) × (text ≡ state_line track old)
+TakesRequest tt i track (hear bytes) old new text = (answer : Result (ℕ × ℕ) HearFault) × IsHeard tt old new bytes answer × (text ≡ heard_line answer)
 
 -- a line is answered by another: what it asks for is done, or it isn't understood, and nothing happens
 abbrev pub IsTurn : Timetable → ℕ → Track → List ℕ → State → State → List ℕ → Type 0
 IsTurn tt i track line old new text =
-    ((request : Request) × AsksFor request line × Takes tt i track request old new text)
+    ((request : Request) × AsksFor request line × TakesRequest tt i track request old new text)
     ⊎ (AsksNothing line × (new ≡ old) × (text ≡ not_understood))

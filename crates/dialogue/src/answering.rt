@@ -4,9 +4,9 @@ ghost use Rattle.model.specs.Timetable.{Track, Timetable, track_of};
 ghost use Rattle.depgraph.specs.AgentParts.{IsPartOf, IsOfGraph};
 ghost use Rattle.agent.specs.Agents.{state_of};
 ghost use Rattle.dialogue.specs.Requests.{longest_request, say, tell, hear};
-ghost use Rattle.dialogue.specs.Turns.{Takes, IsTurn, state_line};
+ghost use Rattle.dialogue.specs.Turns.{TakesRequest, IsTurn, state_line};
 ghost use Rattle.dialogue.specs.Code.Answering.{answer_line, says_store_failed, CountsFailures, IsSameAgent};
-ghost use Rattle.dialogue.specs.Code.Reading.{request_in, FitsIn, IsKept};
+ghost use Rattle.dialogue.specs.Code.Reading.{request_in, FitsIn, IsLineKept};
 
 use crate::line_answer::LineAnswer;
 use crate::request::{Request, read_request};
@@ -29,7 +29,7 @@ pub(crate) fn answer_kept<T: Tape>(
     ensures same { IsSameAgent agent.old agent.new }
     ensures counts { CountsFailures (says_store_failed result) (T.state agent.old.tape).failures (T.state agent.new.tape).failures }
     ensures turn { (tt : Timetable) → IsPartOf tt agent.old.part → (track : Track) (text : List ℕ) → track_of tt agent.old.part.agent ≡ Some track
-        → IsKept text line.now kept → IsTurn tt agent.old.part.agent track text (state_of T.state agent.old) (state_of T.state agent.new) (answer_line result) }
+        → IsLineKept text line.now kept → IsTurn tt agent.old.part.agent track text (state_of T.state agent.old) (state_of T.state agent.new) (answer_line result) }
 {
     match kept {
         Some(count) => answer_text(agent, &line[..count], room),
@@ -58,7 +58,7 @@ fn answer_request<T: Tape>(agent: &mut Agent<'_, T>, request: Request, room: &[u
     ensures same { IsSameAgent agent.old agent.new }
     ensures counts { CountsFailures (says_store_failed result) (T.state agent.old.tape).failures (T.state agent.new.tape).failures }
     ensures takes { (tt : Timetable) → IsPartOf tt agent.old.part → (track : Track) → track_of tt agent.old.part.agent ≡ Some track
-        → Takes tt agent.old.part.agent track (request_in room.now request) (state_of T.state agent.old) (state_of T.state agent.new) (answer_line result) }
+        → TakesRequest tt agent.old.part.agent track (request_in room.now request) (state_of T.state agent.old) (state_of T.state agent.new) (answer_line result) }
 {
     match request {
         Request::Start => LineAnswer::Reply(reply_to_start(agent.start())),
@@ -72,7 +72,7 @@ fn answer_request<T: Tape>(agent: &mut Agent<'_, T>, request: Request, room: &[u
 
 fn answer_say<T: Tape>(agent: &Agent<'_, T>) -> LineAnswer
     ensures never { says_store_failed result ≡ false }
-    ensures takes { (tt : Timetable) → IsPartOf tt agent.now.part → (track : Track) → Takes tt agent.now.part.agent track say (state_of T.state agent.now) (state_of T.state agent.now) (answer_line result) }
+    ensures takes { (tt : Timetable) → IsPartOf tt agent.now.part → (track : Track) → TakesRequest tt agent.now.part.agent track say (state_of T.state agent.now) (state_of T.state agent.now) (answer_line result) }
 {
     match agent.say() {
         Ok(message) => LineAnswer::Said(message),
@@ -82,7 +82,7 @@ fn answer_say<T: Tape>(agent: &Agent<'_, T>) -> LineAnswer
 
 fn answer_tell<T: Tape>(agent: &Agent<'_, T>) -> LineAnswer
     ensures never { says_store_failed result ≡ false }
-    ensures takes { (tt : Timetable) → IsPartOf tt agent.now.part → (track : Track) → Takes tt agent.now.part.agent track tell (state_of T.state agent.now) (state_of T.state agent.now) (answer_line result) }
+    ensures takes { (tt : Timetable) → IsPartOf tt agent.now.part → (track : Track) → TakesRequest tt agent.now.part.agent track tell (state_of T.state agent.now) (state_of T.state agent.now) (answer_line result) }
 {
     match agent.tell() {
         Ok(message) => LineAnswer::Told(message),
@@ -94,7 +94,7 @@ fn answer_tell<T: Tape>(agent: &Agent<'_, T>) -> LineAnswer
 fn answer_hear<T: Tape>(agent: &mut Agent<'_, T>, message: &[u8]) -> LineAnswer
     ensures same { IsSameAgent agent.old agent.new }
     ensures counts { CountsFailures (says_store_failed result) (T.state agent.old.tape).failures (T.state agent.new.tape).failures }
-    ensures takes { (tt : Timetable) → IsPartOf tt agent.old.part → (track : Track) → Takes tt agent.old.part.agent track (hear message.now) (state_of T.state agent.old) (state_of T.state agent.new) (answer_line result) }
+    ensures takes { (tt : Timetable) → IsPartOf tt agent.old.part → (track : Track) → TakesRequest tt agent.old.part.agent track (hear message.now) (state_of T.state agent.old) (state_of T.state agent.new) (answer_line result) }
 {
     match reply_to_delivery(agent.hear(message)) {
         Ok(reply) => LineAnswer::Reply(reply),

@@ -1,14 +1,14 @@
 //! The answers to input lines, and writing them.
 ghost use Rattle.std.specs.Prelude.{◌≡◌, ◌++◌, [], ◌∷◌, ◌↔◌, IsTrue, OnOk, OnErr, Ok};
-ghost use Rattle.grid.specs.Text.{line_feed};
-ghost use Rattle.grid.specs.Sink.{held_back, Puts, Breaks};
+ghost use Rattle.text_io.specs.Text.{line_feed};
+ghost use Rattle.text_io.specs.Sink.{held_back, Puts, Breaks};
 ghost use Rattle.dialogue.specs.Turns.{said_line, store_failed};
 ghost use Rattle.dialogue.specs.Code.Answering.{answer_line, says_store_failed};
 
 use event_text::{put_hexadecimal, put_reply};
-use grid::{Sink, WriteFault};
 use model::{Reply, Why};
 use std::io::Write;
+use text_io::{Sink, WriteFault};
 
 /// The answer to an input line.
 #[derive(Debug, Drop)]

@@ -1,12 +1,12 @@
 //! Why a dialogue ended before its input did.
 ghost use Rattle.std.specs.Prelude.{◌≡◌, Some};
-ghost use Rattle.grid.specs.FaultWords.{words_of, words_text};
+ghost use Rattle.text_io.specs.FaultWords.{words_of, words_text};
 ghost use Rattle.dialogue.specs.FaultWords.{talk_fault_words};
 ghost use Rattle.dialogue.specs.declared.talk_fault.TalkFault.TheVariants as talk_fault;
 
-use grid::{FaultWords, WriteFault};
 use std::alloc::AllocError;
 use std::fmt;
+use text_io::{Failure, FaultWords, WriteFault};
 use thiserror::Error;
 
 /// Why a dialogue ended before its input did.
@@ -26,10 +26,10 @@ impl TalkFault {
         ensures { words_of result ≡ talk_fault_words self }
     {
         match self {
-            TalkFault::ReadFailed => FaultWords::new("ReadFailed", &[]),
-            TalkFault::WriteFailed => FaultWords::new("WriteFailed", &[]),
-            TalkFault::StoreFailed => FaultWords::new("StoreFailed", &[]),
-            TalkFault::OutOfMemory => FaultWords::new("OutOfMemory", &[]),
+            TalkFault::ReadFailed => Failure::ReadFailed.words(),
+            TalkFault::WriteFailed => Failure::WriteFailed.words(),
+            TalkFault::StoreFailed => Failure::StoreFailed.words(),
+            TalkFault::OutOfMemory => Failure::OutOfMemory.words(),
         }
     }
 }

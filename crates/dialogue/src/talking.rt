@@ -1,15 +1,15 @@
 //! The dialogue with an agent.
 ghost use Rattle.std.specs.Prelude.{◌≡◌, ◌≤◌, ◌*◌, ◌++◌, ℕ, List, [], ◌∷◌, Some, length, IfOk, IfSome};
-ghost use Rattle.grid.specs.Lines.{HasTaken};
-ghost use Rattle.grid.specs.Sink.{held_back, sink_writer};
-ghost use Rattle.grid.specs.Source.{source_reader};
+ghost use Rattle.text_io.specs.Lines.{HasTaken};
+ghost use Rattle.text_io.specs.Sink.{held_back, sink_writer};
+ghost use Rattle.text_io.specs.Source.{source_reader};
 ghost use Rattle.model.specs.Timetable.{Track, Timetable, track_of};
 ghost use Rattle.depgraph.specs.AgentParts.{IsPartOf, IsOfGraph};
 ghost use Rattle.agent.specs.Agents.{state_of};
 ghost use Rattle.dialogue.specs.Requests.{longest_request};
 ghost use Rattle.dialogue.specs.Dialogue.{BlamesTape, Leads, Talks};
 ghost use Rattle.dialogue.specs.Code.Answering.{IsSameAgent, SaysState, Replies};
-ghost use Rattle.dialogue.specs.Code.Reading.{IsKept};
+ghost use Rattle.dialogue.specs.Code.Reading.{IsLineKept};
 
 use crate::TalkFault;
 use crate::answering::{answer_kept, state_answer};
@@ -17,9 +17,9 @@ use crate::input_lines::{NextLine, next_line};
 use crate::line_answer::send_answer;
 use crate::request::LONGEST_LINE;
 use agent::{Agent, Tape};
-use grid::{Counted, Sink, Source, WriteFault};
 use std::alloc::{AllocError, Global};
 use std::io::{Read, Write};
+use text_io::{Counted, PIECE, Sink, Source, WriteFault};
 
 /// Leads a dialogue: first the line of the agent's state is written, and then each input line is answered by one. Each of these lines
 /// has left the writer, flushed, before the next input line is read. The dialogue ends with the input, or after the answer that a
@@ -67,7 +67,7 @@ fn talk_with_room<R: Read, W: Write, T: Tape>(
 /// Leads a dialogue over a source and a sink of which nothing was taken or put.
 fn lead<R: Read, W: Write, T: Tape>(
     agent: &mut Agent<'_, T>,
-    source: &mut Source<'_, R>,
+    source: &mut Source<'_, R, PIECE>,
     sink: &mut Sink<'_, W>,
     line: &mut [u8],
     message: &mut [u8],
@@ -116,7 +116,7 @@ fn reply<W: Write, T: Tape>(
     requires within { IfSome kept (λ count. count ≤ length line.now) }
     ensures same { IsSameAgent agent.old agent.new }
     ensures blames { BlamesTape result (T.state agent.old.tape).failures (T.state agent.new.tape).failures }
-    ensures replies { (tt : Timetable) → IsPartOf tt agent.old.part → (track : Track) (text : List ℕ) → track_of tt agent.old.part.agent ≡ Some track → IsKept text line.now kept
+    ensures replies { (tt : Timetable) → IsPartOf tt agent.old.part → (track : Track) (text : List ℕ) → track_of tt agent.old.part.agent ≡ Some track → IsLineKept text line.now kept
         → Replies W.contents tt agent.old.part.agent track text (state_of T.state agent.old) (state_of T.state agent.new) sink.old sink.new result }
 {
     let answer = answer_kept(agent, line, kept, message);

@@ -4,9 +4,10 @@ use depgraph::{Graph, OutOfMemory};
 use dialogue::talk;
 use fake_tapes::FailTape;
 use fakes::{Keeper, Record};
-use grid::{Counted, Map, read_map};
+use grid::{Map, read_map};
 use plan::{Plan, check, read_plan};
 use std::alloc::{AllocError, Global};
+use text_io::Counted;
 
 /// Two agents in a row of three cells: the one from the middle to the right, and the other behind it.
 pub const BEHIND: &str = "mapf-plan 1\nnumber 7\nagents 2\nagent 1 0 e-\nagent 0 0 e\n";

@@ -5,8 +5,8 @@ use depgraph::{Graph, OutOfMemory};
 use dialogue::{TalkFault, talk};
 use fake_tapes::FailTape;
 use fakes::Record;
-use grid::Counted;
 use std::alloc::Global;
+use text_io::Counted;
 
 /// An agent that makes two moves.
 const ALONG: &str = "mapf-plan 1\nnumber 7\nagents 1\nagent 0 0 ee\n";

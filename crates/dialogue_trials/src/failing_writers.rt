@@ -6,8 +6,8 @@ use agent::{Agent, MemTape};
 use depgraph::{Graph, OutOfMemory};
 use dialogue::{TalkFault, talk};
 use fakes::{Keeper, Record, Trouble};
-use grid::Counted;
 use std::alloc::Global;
+use text_io::Counted;
 
 /// What is noted of the lines that are read, and of the end of the input.
 const READ: &[u8] =

@@ -4,10 +4,10 @@ use agent::{Agent, MemTape};
 use depgraph::{Graph, OutOfMemory};
 use dialogue::{TalkFault, talk};
 use fakes::Keeper;
-use grid::Counted;
 use std::alloc::Global;
 use std::process::Abort;
 use std::test::Fail;
+use text_io::Counted;
 
 /// What agent 1 is asked, and what it may write: all, or one answer that memory was refused.
 static DIALOGUES: [(&[u8], &[&[u8]]); 2] = [

@@ -6,9 +6,9 @@ use agent::{Agent, MemTape};
 use depgraph::{Graph, OutOfMemory};
 use dialogue::{TalkFault, talk};
 use fakes::{Keeper, Pieces};
-use grid::Counted;
 use std::alloc::{AllocError, Global};
 use std::io::ErrorKind;
+use text_io::Counted;
 
 const FAILED: Result<(), TalkFault> = Err(TalkFault::ReadFailed);
 

@@ -9,15 +9,16 @@ use Rattle.std.proofs.lemmas.Bool.Decides.{not_from_Decides}
 use Rattle.std.proofs.lemmas.Slice.Eq.{bytes_eq-Decides}
 use Rattle.std.proofs.lemmas.List.{get_or-take, length-take}
 use Rattle.std.proofs.Math.Seq.{take-append_seam}
-use Rattle.grid.specs.Text.{space}
-use Rattle.grid.proofs.LineLemmas.{differs}
+use Rattle.text_io.specs.Text.{space}
+use Rattle.text_io.specs.Laws.Lines.{differs}
 use Rattle.memchr.specs.Find.{Nowhere, NoneBefore, Passes, is_byte}
 use Rattle.model.specs.declared.event.Event.{Event}
 use Rattle.model.specs.declared.event.Event.TheVariants.{Start, Finish, Say, Deliver, Restart, Tear}
-use Rattle.plan_text.proofs.PartLemmas.{about, prefixed}
+use Rattle.text_io.specs.Laws.Parts.{about, prefixed}
 use Rattle.event_text.specs.EventText.{NamesAgent, NamesAgentAnd, SpellsEvent}
-use Rattle.event_text.specs.Code.EventLines.{numeral_below, behind_word, with_front, cut_at_space, with_agent, with_both, with_parts, told_or, one_number, two_numbers, event_of}
-use Rattle.event_text.proofs.NumeralLemmas.{below-found, below-says}
+use Rattle.text_io.specs.Numerals.{numeral_below}
+use Rattle.event_text.specs.Code.EventLines.{behind_word, with_front, cut_at_space, with_agent, with_both, with_parts, told_or, one_number, two_numbers, event_of}
+use Rattle.text_io.specs.Laws.Numerals.{below-found, below-says}
 
 -- ---- the first space
 

@@ -2,16 +2,16 @@
 use Rattle.std.proofs.Common.{◌≡◌, ℕ, ◌+◌, ◌<◌, ◌≤◌, ◌⊎◌, inl, inr, List, [], ◌∷◌, ◌++◌, length, take, refl, sym, ap, ◌∙◌, subst, arith, append-nil, append_assoc, Some, None, Err}
 use Rattle.std.specs.Prelude.{Option}
 use Rattle.std.proofs.lemmas.List.{length-take, nil_from_length}
-use Rattle.grid.specs.declared.counted.Counted.{Counted}
-use Rattle.grid.specs.declared.source.Source.{Source}
-use Rattle.grid.specs.Counted.{counted_inner, failures_of}
-use Rattle.grid.specs.Source.{source_reader}
-use Rattle.grid.specs.Text.{ended, line_feed}
-use Rattle.grid.specs.Lines.{HasTaken, HasCome, LineEnded, InputEnded, LineTooLong, ReaderFailed, LineTaken}
-use Rattle.grid.specs.declared.lines.TakenLine.{TakenLine}
-use Rattle.grid.specs.declared.lines.TakenLine.TheVariants.{AtEnd, TooLong}
-use Rattle.grid.specs.Reading.{by_line_feed, Place, at_line_feed, at_byte, at_end, StopsIn, Outcome, is_fault, is_value, is_refused, ReadsText, line_number, IsByte}
-use Rattle.grid.proofs.LineLemmas.{whole_parts, open_parts}
+use Rattle.text_io.specs.declared.counted.Counted.{Counted}
+use Rattle.text_io.specs.declared.source.Source.{Source}
+use Rattle.text_io.specs.Counted.{counted_inner, failures_of}
+use Rattle.text_io.specs.Source.{source_reader}
+use Rattle.text_io.specs.Text.{ended, line_feed}
+use Rattle.text_io.specs.Lines.{HasTaken, HasCome, LineEnded, InputEnded, LineTooLong, ReaderFailed, LineTaken}
+use Rattle.text_io.specs.declared.lines.TakenLine.{TakenLine}
+use Rattle.text_io.specs.declared.lines.TakenLine.TheVariants.{AtEnd, TooLong}
+use Rattle.text_io.specs.Reading.{by_line_feed, Place, at_line_feed, at_byte, at_end, StopsIn, Outcome, is_fault, is_value, is_refused, ReadsText, line_number, IsByte}
+use Rattle.text_io.specs.Laws.Lines.{whole_parts, open_parts}
 use Rattle.model.specs.declared.event.Event.{Event}
 use Rattle.model.specs.declared.version.Version.{Version}
 use Rattle.event_text.specs.declared.event_fault.EventFault.{EventFault}
@@ -20,7 +20,7 @@ use Rattle.event_text.specs.declared.event_reader.EventReader.{EventReader}
 use Rattle.event_text.specs.declared.header.Headers.{Headers}
 use Rattle.event_text.specs.EventText.{RunText}
 use Rattle.event_text.specs.FirstEvents.{BeginsWithEvents}
-use Rattle.event_text.specs.EventFault.{EventDue, longest_event_line, HasOtherForm, HasEventFault, EventFaultAt, event_outcome}
+use Rattle.event_text.specs.EventFault.{EventDue, longest_event_line, HasOtherEventForm, HasEventFault, EventFaultAt, event_outcome}
 use Rattle.event_text.specs.Taking.{SayEvents, IsAtStart, HasReadEvents, NoMoreEvents}
 use Rattle.event_text.proofs.FirstLemmas.{due_of, BeginsWithNone, none-other, none-long, none-open, first-stopped}
 use Rattle.event_text.proofs.TextScanned.{none_decided}
@@ -35,7 +35,7 @@ outcome-from_fault (Unfinished at) place due number line h = refl
 outcome-from_fault ReadFailed place due number line h = absurd h
 outcome-from_fault OutOfMemory place due number line h = absurd h
 
-module _ {R : Type 0} (remaining : R → Option (List ℕ)) (first : Counted R) (now : Source R) (headers : Headers) (read : Option Version) (events : List Event)
+module _ {R : Type 0} {ahead : ℕ} (remaining : R → Option (List ℕ)) (first : Counted R) (now : Source R ahead) (headers : Headers) (read : Option Version) (events : List Event)
     (before : List (List ℕ))
   where
     -- the reader stops so
@@ -74,7 +74,7 @@ module _ {R : Type 0} (remaining : R → Option (List ℕ)) (first : Counted R) 
 
     -- a line has another form
     pub other_line : (room : List ℕ) (count number : ℕ) → number ≡ line_number before → length room ≡ longest_event_line
-        → LineEnded remaining first now before room count → SayEvents headers read events before → HasOtherForm (due_of headers read) (take count room)
+        → LineEnded remaining first now before room count → SayEvents headers read events before → HasOtherEventForm (due_of headers read) (take count room)
         → Stops (wrong_here read number)
     other_line room count number is size t said other =
         let line = take count room in
@@ -156,7 +156,7 @@ module _ {R : Type 0} (remaining : R → Option (List ℕ)) (first : Counted R) 
           failures = t.failures;
         })
 
-module _ {R : Type 0} (remaining : R → Option (List ℕ)) (first : Counted R) (now : Source R) (headers : Headers) (events : List Event) (before : List (List ℕ)) where
+module _ {R : Type 0} {ahead : ℕ} (remaining : R → Option (List ℕ)) (first : Counted R) (now : Source R ahead) (headers : Headers) (events : List Event) (before : List (List ℕ)) where
   -- it ended before the header's LF
   pub no_header : (room : List ℕ) (count : ℕ) → length room ≡ longest_event_line → InputEnded remaining first now before room count
       → SayEvents headers None events before → Stops remaining first now headers None events before NoHeader
@@ -202,7 +202,7 @@ module _ {R : Type 0} (remaining : R → Option (List ℕ)) (first : Counted R) 
 
 -- ---- all events
 
-module _ {R : Type 0} (remaining : R → Option (List ℕ)) (first : Counted R) (now : Source R) (headers : Headers) (events : List Event) where
+module _ {R : Type 0} {ahead : ℕ} (remaining : R → Option (List ℕ)) (first : Counted R) (now : Source R ahead) (headers : Headers) (events : List Event) where
   -- a reader of all events answers so
   abbrev pub Reads : Outcome (Version × List Event) EventFault → Type 0
   Reads outcome =
@@ -237,10 +237,3 @@ module _ {R : Type 0} (remaining : R → Option (List ℕ)) (first : Counted R) 
     begins = subst (λ v. BeginsWithEvents headers v [] taken.delivered) (sym start.no_header) refl;
     numbered = start.first_line;
   }
-
--- no more events came, whatever the version is called
-pub stopped_as : {R : Type 0} (remaining : R → Option (List ℕ)) (first now : Counted R) (headers : Headers) (version read : Option Version) (events : List Event)
-    (outcome : Outcome (List Event) EventFault) → read ≡ version → NoMoreEvents headers remaining first now version events outcome
-    → NoMoreEvents headers remaining first now read events outcome
-stopped_as remaining first now headers version read events outcome e h =
-    subst (λ v. NoMoreEvents headers remaining first now v events outcome) (sym e) h

@@ -2,14 +2,14 @@
 use Rattle.std.proofs.Common.{◌≡◌, ℕ, ◌+◌, ◌≤◌, ◌⊎◌, inl, inr, List, [], ◌∷◌, ◌++◌, length, refl, sym, ap, ◌∙◌, subst, arith, append-nil, Some, None}
 use Rattle.std.specs.Prelude.{Option}
 use Rattle.std.specs.List.{AllByRecursion}
-use Rattle.grid.specs.Text.{line_feed, IsLine, ended}
-use Rattle.grid.proofs.LineLemmas.{ended-line}
-use Rattle.grid.proofs.PlaceLemmas.{cut}
+use Rattle.text_io.specs.Text.{line_feed, IsLine, ended}
+use Rattle.text_io.specs.Laws.Lines.{ended-line}
+use Rattle.text_io.specs.Laws.Places.{cut}
 use Rattle.model.specs.declared.event.Event.{Event}
 use Rattle.model.specs.declared.version.Version.{Version}
 use Rattle.event_text.specs.declared.header.Headers.{Headers}
 use Rattle.event_text.specs.EventText.{event_header, SpellsEvent, AreEvents, RunText}
-use Rattle.event_text.specs.EventFault.{EventDue, event_header_due, event_due, longest_event_line, HasOtherForm}
+use Rattle.event_text.specs.EventFault.{EventDue, event_header_due, event_due, longest_event_line, HasOtherEventForm}
 use Rattle.event_text.specs.FirstEvents.{BeginsWithHeader, BeginsWithNoHeader, BeginsWithNoEvent, FirstEvents, BeginsWithEvents}
 use Rattle.event_text.specs.Taking.{SayEvents}
 use Rattle.event_text.specs.Code.EventLines.{event_of}
@@ -38,7 +38,7 @@ no_event-open : (line : List ℕ) → IsLine line → BeginsWithNoEvent line
 no_event-open line is = λ event found rest spells e. line_alone line found rest is e
 
 -- a line of another form
-pub none-other : (headers : Headers) (read : Option Version) (line more : List ℕ) → IsLine line → HasOtherForm (due_of headers read) line
+pub none-other : (headers : Headers) (read : Option Version) (line more : List ℕ) → IsLine line → HasOtherEventForm (due_of headers read) line
     → BeginsWithNone headers read (line ++ line_feed ∷ more)
 none-other headers None line more is other = λ version takes h.
     other (version, takes, (line_split line (event_header version) more h.0 is (header-is_line version) h.1).0)

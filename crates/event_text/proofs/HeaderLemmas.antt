@@ -1,13 +1,12 @@
 -- Headers: which lines are taken as one, and of which version.
 use Rattle.std.proofs.Common.{◌≡◌, ℕ, ◌≤◌, ◌⊎◌, inl, inr, List, [], ◌∷◌, ◌++◌, length, get_or, refl, ap, ◌∙◌, arith}
-use Rattle.grid.specs.Text.{line_feed, IsLine}
+use Rattle.text_io.specs.Text.{line_feed, IsLine, BeginsWith}
 use Rattle.model.specs.declared.version.Version.{Version}
 use Rattle.model.specs.declared.version.Version.TheVariants.{One, Two}
-use Rattle.plan_text.specs.PlanTextFault.{BeginsWith}
-use Rattle.plan_text.proofs.LineDecisions.{same_or_not, begins_or_not}
+use Rattle.text_io.specs.Laws.Parts.{same_or_not, begins_or_not}
 use Rattle.event_text.specs.declared.header.Headers.{Headers}
 use Rattle.event_text.specs.declared.header.Headers.TheVariants.{VersionOne, Either}
-use Rattle.event_text.specs.EventText.{event_header, Takes, IsHeader}
+use Rattle.event_text.specs.EventText.{event_header, TakesHeader, IsHeader}
 use Rattle.event_text.specs.EventFault.{longest_event_line}
 use Rattle.event_text.specs.FirstEvents.{BeginsWithHeader, BeginsWithNoHeader}
 use Rattle.event_text.proofs.LineLemmas.{line_split}
@@ -55,7 +54,7 @@ header_or_not Either line = go (same_or_not line (event_header One)) (same_or_no
 
 -- a header that is taken stands at the front of a text
 abbrev pub BeginsWithTaken : Headers → List ℕ → Type 0
-BeginsWithTaken headers text = (version : Version) × Takes headers version × BeginsWithHeader version text
+BeginsWithTaken headers text = (version : Version) × TakesHeader headers version × BeginsWithHeader version text
 
 module _ (text : List ℕ) where
   abbrev Begins : Version → Type 0

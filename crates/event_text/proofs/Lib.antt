@@ -1,5 +1,4 @@
 -- Lemmas that several proofs share.
-pub mod NumeralLemmas
 pub mod EventLemmas
 pub mod LineLemmas
 pub mod LeadingLemmas

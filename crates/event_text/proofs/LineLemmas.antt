@@ -5,13 +5,13 @@ use Rattle.std.specs.List.{list_all, AllByRecursion}
 use Rattle.std.proofs.lemmas.Bool.{and_parts, and_from, both_ways, eq-eqb}
 use Rattle.std.proofs.lemmas.Fmt.{length-decimal-le}
 use Rattle.std.proofs.lemmas.List.Folds.{list_all-append}
-use Rattle.grid.specs.Text.{space, line_feed, is_line_byte, IsLine}
-use Rattle.grid.proofs.LineLemmas.{is_line_byte-true}
+use Rattle.text_io.specs.Text.{space, line_feed, is_line_byte, IsLine}
+use Rattle.text_io.specs.Laws.Lines.{is_line_byte-true}
 use Rattle.model.specs.declared.event.Event.{Event}
 use Rattle.model.specs.declared.event.Event.TheVariants.{Start, Finish, Say, Deliver, Restart, Tear}
-use Rattle.plan_text.specs.PlanText.{IsNumeral}
-use Rattle.plan_text.proofs.NumeralLemmas.{decimal-from_IsNumeral}
-use Rattle.plan_text.proofs.SpellingLemmas.{IsPart-digits, IsLine-part}
+use Rattle.text_io.specs.Numerals.{IsNumeral}
+use Rattle.text_io.specs.Laws.Numerals.{decimal-from_IsNumeral}
+use Rattle.text_io.specs.Laws.Parts.{IsPart-digits, IsLine-part}
 use Rattle.event_text.specs.EventText.{NamesAgent, NamesAgentAnd, SpellsEvent, AreEvents}
 use Rattle.event_text.specs.EventFault.{longest_event_line}
 

@@ -1,6 +1,6 @@
 -- A text has one reading, whichever headers are taken.
 use Rattle.std.proofs.Common.{◌≡◌, ℕ, List, Some, sym, ◌∙◌}
-use Rattle.grid.specs.Reading.{IsFirstFault}
+use Rattle.text_io.specs.Reading.{IsFirstFault}
 use Rattle.model.specs.declared.event.Event.{Event}
 use Rattle.model.specs.declared.version.Version.{Version}
 use Rattle.event_text.specs.declared.event_fault.EventFault.{EventFault}

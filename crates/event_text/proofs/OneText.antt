@@ -3,14 +3,13 @@ use Rattle.std.proofs.Common.{◌≡◌, ℕ, ◌^◌, ◌<◌, List, [], ◌∷
 use Rattle.std.specs.Prelude.{decimal}
 use Rattle.std.specs.List.{All, join_with_byte}
 use Rattle.std.proofs.lemmas.List.Elements.{All-nil, All-cons, All-head, All-tail}
-use Rattle.grid.specs.Text.{space}
-use Rattle.grid.proofs.WordLemmas.{joined}
+use Rattle.text_io.specs.Text.{space, spaced_numbers}
+use Rattle.text_io.specs.Laws.Words.{joined}
 use Rattle.model.specs.declared.event.Event.{Event}
 use Rattle.model.specs.declared.event.Event.TheVariants.{Start, Finish, Say, Deliver, Restart, Tear}
-use Rattle.plan_text.proofs.NumeralLemmas.{decimal-from_IsNumeral, decimal-IsNumeral}
+use Rattle.text_io.specs.Laws.Numerals.{decimal-from_IsNumeral, decimal-IsNumeral}
 use Rattle.event_text.specs.EventText.{NamesAgent, NamesAgentAnd, SpellsEvent, AreEvents}
 use Rattle.event_text.specs.EventLine.{event_line, IsWithinWidths}
-use Rattle.event_text.specs.ReplyText.{spaced_numbers}
 
 -- ---- the line of an event
 

@@ -2,17 +2,17 @@
 use Rattle.std.proofs.Common.{◌≡◌, ℕ, ◌+◌, ◌<◌, ◌≤◌, ◌⊎◌, inl, inr, true, List, [], ◌∷◌, ◌++◌, length, take, drop, Option, Some, None, refl, sym, ap, ◌∙◌, subst, arith, append_assoc, append-nil, length-take}
 use Rattle.std.proofs.lemmas.Bool.{cases_lt}
 use Rattle.std.proofs.lemmas.List.{take-append-drop, nil_from_length}
-use Rattle.grid.specs.Text.{lines_of, ended, ends_in_line_feed}
-use Rattle.grid.specs.Reading.{by_line_feed, Place, at_line_feed, at_byte, StandsIn, StopsIn, IsByte, IsFirstFault, line_number}
-use Rattle.grid.proofs.LineLemmas.{ends_in_line_feed-ended}
-use Rattle.grid.proofs.PlaceLemmas.{found, last, cut}
+use Rattle.text_io.specs.Text.{lines_of, ended, ends_in_line_feed}
+use Rattle.text_io.specs.Reading.{by_line_feed, Place, at_line_feed, at_byte, StandsIn, StopsIn, IsByte, IsFirstFault, line_number}
+use Rattle.text_io.specs.Laws.Lines.{ends_in_line_feed-ended}
+use Rattle.text_io.specs.Laws.Places.{found, last, cut}
 use Rattle.model.specs.declared.event.Event.{Event}
 use Rattle.model.specs.declared.version.Version.{Version}
 use Rattle.event_text.specs.declared.event_fault.EventFault.{EventFault}
 use Rattle.event_text.specs.declared.event_fault.EventFault.TheVariants.{NoHeader, BadEvent, Unfinished}
 use Rattle.event_text.specs.declared.header.Headers.{Headers}
-use Rattle.event_text.specs.EventText.{event_header, SpellsEvent, AreEvents, Takes, IsHeader, RunText}
-use Rattle.event_text.specs.EventFault.{event_header_due, event_due, longest_event_line, HasOtherForm, HasEventFault, EventFaultAt}
+use Rattle.event_text.specs.EventText.{event_header, SpellsEvent, AreEvents, TakesHeader, IsHeader, RunText}
+use Rattle.event_text.specs.EventFault.{event_header_due, event_due, longest_event_line, HasOtherEventForm, HasEventFault, EventFaultAt}
 use Rattle.event_text.specs.Taking.{SayEvents}
 use Rattle.event_text.specs.Code.EventLines.{event_of, EventLeads}
 use Rattle.event_text.proofs.EventLemmas.{event_of-says, none-spells}
@@ -30,7 +30,7 @@ AreEvents-push events (l ∷ lines) event line h k =
 
 -- a header is read
 pub SayEvents-header : (headers : Headers) (version : Version) (events : List Event) (lines : List (List ℕ)) (line : List ℕ)
-    → SayEvents headers None events lines → Takes headers version → line ≡ event_header version → SayEvents headers (Some version) events (lines ++ line ∷ [])
+    → SayEvents headers None events lines → TakesHeader headers version → line ≡ event_header version → SayEvents headers (Some version) events (lines ++ line ∷ [])
 SayEvents-header headers version events lines line said takes is =
     (takes, ([], ap (λ ls. ls ++ line ∷ []) said.0 ∙ ap (λ l. l ∷ []) is, said.1))
 
@@ -61,7 +61,7 @@ wrong_here None number = NoHeader
 wrong_here (Some version) number = BadEvent number
 
 pub has_other : (headers : Headers) (read : Option Version) (number : ℕ) (line : List ℕ) → length line ≤ longest_event_line
-    → HasOtherForm (due_of headers read) line → HasEventFault (wrong_here read number) at_line_feed (due_of headers read) number line
+    → HasOtherEventForm (due_of headers read) line → HasEventFault (wrong_here read number) at_line_feed (due_of headers read) number line
 has_other headers None number line short other = inl (short, other)
 has_other headers (Some version) number line short other = (refl, (short, other))
 
@@ -161,7 +161,7 @@ module _ (headers : Headers) (text tail : List ℕ) (all : List (List ℕ)) (sto
 
   -- a line of another form
   other_form : (read : Option Version) (events : List Event) (before : List (List ℕ)) (line : List ℕ) → length line ≤ longest_event_line
-      → HasOtherForm (due_of headers read) line → StandsIn by_line_feed at_line_feed before line text → SayEvents headers read events before → Reading headers text
+      → HasOtherEventForm (due_of headers read) line → StandsIn by_line_feed at_line_feed before line text → SayEvents headers read events before → Reading headers text
   other_form read events before line short other stands said =
       decided read events (wrong_here read (line_number before)) at_line_feed before line tt stands said
       (has_other headers read (line_number before) line short other)

@@ -3,17 +3,17 @@ use Rattle.std.proofs.Common.{◌≡◌, ℕ, suc, ◌+◌, ◌<◌, ◌≤◌, 
 use Rattle.std.specs.Prelude.{nat_lt}
 use Rattle.std.specs.List.{AllByRecursion}
 use Rattle.std.proofs.lemmas.Bool.{cond-true, cond-false, lt-ltb, le-ltb}
-use Rattle.grid.specs.Counted.{greatest}
-use Rattle.grid.specs.Text.{IsLine, lines_of, ended, ends_in_line_feed}
-use Rattle.grid.specs.Reading.{by_line_feed, Place, at_line_feed, at_byte, at_end, StandsIn, StopsIn, IsByte, Decides, IsFirstFault, line_number}
-use Rattle.grid.proofs.LineLemmas.{lines_of-all, ends_in_line_feed-ended, ends_in_line_feed-open}
-use Rattle.grid.proofs.PlaceLemmas.{stands, last}
+use Rattle.text_io.specs.Counted.{greatest}
+use Rattle.text_io.specs.Text.{IsLine, lines_of, ended, ends_in_line_feed}
+use Rattle.text_io.specs.Reading.{by_line_feed, Place, at_line_feed, at_byte, at_end, StandsIn, StopsIn, IsByte, Decides, IsFirstFault, line_number}
+use Rattle.text_io.specs.Laws.Lines.{lines_of-all, ends_in_line_feed-ended, ends_in_line_feed-open}
+use Rattle.text_io.specs.Laws.Places.{stands, last}
 use Rattle.model.specs.declared.event.Event.{Event}
 use Rattle.model.specs.declared.version.Version.{Version}
 use Rattle.event_text.specs.declared.event_fault.EventFault.{EventFault}
 use Rattle.event_text.specs.declared.event_fault.EventFault.TheVariants.{NoHeader, BadEvent, Unfinished, ReadFailed, OutOfMemory}
 use Rattle.event_text.specs.declared.header.Headers.{Headers}
-use Rattle.event_text.specs.EventText.{event_header, SpellsEvent, AreEvents, Takes, RunText}
+use Rattle.event_text.specs.EventText.{event_header, SpellsEvent, AreEvents, TakesHeader, RunText}
 use Rattle.event_text.specs.EventFault.{EventDue, event_header_due, event_due, EventFollows, longest_event_line, HasEventFault, EventFaultAt}
 use Rattle.event_text.specs.Code.EventLines.{event_of, EventLeads}
 use Rattle.event_text.proofs.EventLemmas.{event_of-spells, event_of-says}
@@ -318,7 +318,7 @@ events_lead events [] h = refl
 events_lead events (line ∷ lines) h = (event_due, (h.0, h.3, refl), events_lead h.1 lines h.4)
 
 -- a header that is taken and lines of events lead to more of them
-pub header_leads : (headers : Headers) (version : Version) (events : List Event) (lines : List (List ℕ)) → Takes headers version → AreEvents events lines
+pub header_leads : (headers : Headers) (version : Version) (events : List Event) (lines : List (List ℕ)) → TakesHeader headers version → AreEvents events lines
     → EventLeads (event_header_due headers) (event_header version ∷ lines) event_due
 header_leads headers version events lines takes h = (event_due, ((version, takes, refl), refl), events_lead events lines h)
 

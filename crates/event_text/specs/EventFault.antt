@@ -1,6 +1,6 @@
 -- The faults of a text of events, and where each stands.
 use Rattle.std.specs.Prelude.{◌≡◌, ℕ, ◌+◌, ◌<◌, ◌≤◌, ◌⊎◌, List, length, Vec, Result, Ok, Err}
-use Rattle.grid.specs.Reading.{by_line_feed, Place, at_line_feed, at_byte, at_end, FaultAt, Outcome, is_value, is_fault, is_failed, is_refused}
+use Rattle.text_io.specs.Reading.{by_line_feed, Place, at_line_feed, at_byte, at_end, FaultAt, Outcome, is_value, is_fault, is_failed, is_refused}
 use Rattle.model.specs.declared.event.Event.{Event}
 use Rattle.model.specs.declared.version.Version.{Version}
 use Rattle.event_text.specs.declared.event_fault.EventFault.{EventFault}
@@ -23,13 +23,13 @@ abbrev pub longest_event_line : ℕ
 longest_event_line = 64
 
 -- the line has not the form that is due
-abbrev pub HasOtherForm : EventDue → List ℕ → Type 0
-HasOtherForm (event_header_due headers) line = IsHeader headers line → ⊥
-HasOtherForm event_due line = (event : Event) → SpellsEvent event line → ⊥
+abbrev pub HasOtherEventForm : EventDue → List ℕ → Type 0
+HasOtherEventForm (event_header_due headers) line = IsHeader headers line → ⊥
+HasOtherEventForm event_due line = (event : Event) → SpellsEvent event line → ⊥
 
 -- The line is wrong: at its LF it has not the form that is due, or it is too long, which is known at its first byte too many.
 abbrev pub IsWrongAt : Place → EventDue → List ℕ → Type 0
-IsWrongAt at_line_feed due line = (length line ≤ longest_event_line) × HasOtherForm due line
+IsWrongAt at_line_feed due line = (length line ≤ longest_event_line) × HasOtherEventForm due line
 IsWrongAt at_byte due line = length line ≡ longest_event_line + 1
 IsWrongAt at_end due line = ⊥
 

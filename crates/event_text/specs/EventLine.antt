@@ -1,9 +1,8 @@
 -- The text that is written for events.
 use Rattle.std.specs.Prelude.{ℕ, ◌^◌, ◌<◌, List, [], ◌∷◌, ◌++◌, map, codes}
-use Rattle.grid.specs.Text.{ended}
+use Rattle.text_io.specs.Text.{ended, spaced_numbers}
 use Rattle.model.specs.declared.event.Event.{Event}
 use Rattle.model.specs.declared.event.Event.TheVariants.{Start, Finish, Say, Deliver, Restart, Tear}
-use Rattle.event_text.specs.ReplyText.{spaced_numbers}
 
 -- the line of an event, without its LF
 abbrev pub event_line : Event → List ℕ

@@ -1,12 +1,12 @@
 -- The text of a run's events: which texts spell a version of messages and a list of events.
 use Rattle.std.specs.Prelude.{◌≡◌, ℕ, ◌^◌, ◌<◌, List, [], ◌∷◌, codes, ⊤}
 use Rattle.std.specs.List.{join_with_byte}
-use Rattle.grid.specs.Text.{space, ended}
+use Rattle.text_io.specs.Text.{space, ended}
 use Rattle.model.specs.declared.event.Event.{Event}
 use Rattle.model.specs.declared.event.Event.TheVariants.{Start, Finish, Say, Deliver, Restart, Tear}
 use Rattle.model.specs.declared.version.Version.{Version}
 use Rattle.model.specs.declared.version.Version.TheVariants.{One, Two}
-use Rattle.plan_text.specs.PlanText.{IsNumeral}
+use Rattle.text_io.specs.Numerals.{IsNumeral}
 use Rattle.event_text.specs.declared.header.Headers.{Headers}
 use Rattle.event_text.specs.declared.header.Headers.TheVariants.{VersionOne, Either}
 
@@ -48,14 +48,14 @@ pub record EventText (version : Version) (events : List Event) (text : List ℕ)
 -- ---- which headers are taken
 
 -- the header of the version is taken: that of version 1 alone, or either
-abbrev pub Takes : Headers → Version → Type 0
-Takes VersionOne version = version ≡ One
-Takes Either version = ⊤
+abbrev pub TakesHeader : Headers → Version → Type 0
+TakesHeader VersionOne version = version ≡ One
+TakesHeader Either version = ⊤
 
 -- the line is a header that is taken
 abbrev pub IsHeader : Headers → List ℕ → Type 0
-IsHeader headers line = (version : Version) × Takes headers version × (line ≡ event_header version)
+IsHeader headers line = (version : Version) × TakesHeader headers version × (line ≡ event_header version)
 
 -- the text spells the run, a version and events, and its header is taken
 abbrev pub RunText : Headers → Version × List Event → List ℕ → Type 0
-RunText headers run text = Takes headers run.0 × EventText run.0 run.1 text
+RunText headers run text = TakesHeader headers run.0 × EventText run.0 run.1 text

@@ -1,15 +1,10 @@
 -- The text that is written for replies.
-use Rattle.std.specs.Prelude.{ℕ, List, [], ◌∷◌, ◌++◌, map, codes, decimal}
-use Rattle.std.specs.List.{flat_map}
+use Rattle.std.specs.Prelude.{ℕ, List, [], ◌∷◌, ◌++◌, map, codes}
 use Rattle.hex.specs.Hex.{encode_lower}
-use Rattle.grid.specs.Text.{space, ended}
+use Rattle.text_io.specs.Text.{space, ended, spaced_numbers}
 use Rattle.model.specs.declared.why.Why.{Why}
 use Rattle.model.specs.declared.why.Why.TheVariants.{NoSuchAgent, NoSuchMessage, BadTear, Broken, AlreadyMoving, AtEnd, Waits, NotMoving, StoreFailed, BadLength, BadMagic, BadVersion, BadEntry, WrongPlan, TooMany}
 use Rattle.model.specs.History.{Answer, moving, arrived, said, heard, at, between, armed, refused}
-
--- each number, with a space before it
-abbrev pub spaced_numbers : List ℕ → List ℕ
-spaced_numbers numbers = flat_map (λ n. space ∷ decimal n) numbers
 
 -- the name of a refusal
 abbrev pub refusal_name : Why → List ℕ

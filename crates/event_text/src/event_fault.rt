@@ -1,12 +1,12 @@
 //! Why a text of events could not be read.
 ghost use Rattle.std.specs.Prelude.{◌≡◌, Some};
-ghost use Rattle.grid.specs.FaultWords.{words_of, words_text};
+ghost use Rattle.text_io.specs.FaultWords.{words_of, words_text};
 ghost use Rattle.event_text.specs.FaultWords.{event_fault_words};
 ghost use Rattle.event_text.specs.declared.event_fault.EventFault.TheVariants.{OutOfMemory as out_of_memory};
 
-use grid::FaultWords;
 use std::alloc::AllocError;
 use std::fmt;
+use text_io::{Failure, FaultWords};
 use thiserror::Error;
 
 /// The first fault of a text of events, with its line from 1 on, or why the text was not read to that point.
@@ -28,8 +28,8 @@ impl EventFault {
             EventFault::NoHeader => FaultWords::new("NoHeader", &[]),
             EventFault::BadEvent(line) => FaultWords::new("BadEvent", &[line]),
             EventFault::Unfinished(line) => FaultWords::new("Unfinished", &[line]),
-            EventFault::ReadFailed => FaultWords::new("ReadFailed", &[]),
-            EventFault::OutOfMemory => FaultWords::new("OutOfMemory", &[]),
+            EventFault::ReadFailed => Failure::ReadFailed.words(),
+            EventFault::OutOfMemory => Failure::OutOfMemory.words(),
         }
     }
 }

@@ -1,10 +1,11 @@
 //! The line of an event.
 ghost use Rattle.std.specs.Prelude.{◌≡◌, ◌^◌, ◌++◌, Some, None, IfSome, MatchOption};
-ghost use Rattle.event_text.specs.Code.EventLines.{cut_at_space, event_of, numeral_below, one_number, two_numbers, IsBehindEvent, BeginsWithEvent};
+ghost use Rattle.event_text.specs.Code.EventLines.{cut_at_space, event_of, one_number, two_numbers, IsBehindEvent, BeginsWithEvent};
+ghost use Rattle.text_io.specs.Numerals.{numeral_below};
 
-use crate::numerals::{number_before, numeral, small_number_before, small_numeral};
 use memchr::memchr;
 use model::Event;
+use text_io::{number_before, numeral, small_number_before, small_numeral};
 
 /// The event of a line without its LF.
 pub(crate) fn read_event(line: &[u8]) -> Option<Event>

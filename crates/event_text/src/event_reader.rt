@@ -1,11 +1,11 @@
 //! Reading a text of events.
 ghost use Rattle.std.specs.Prelude.{◌≡◌, ◌≤◌, ℕ, Option, Some, None, Ok, List, [], take, min, IfOk};
-ghost use Rattle.grid.specs.declared.counted.Counted.{Counted};
-ghost use Rattle.grid.specs.Counted.{counted_inner, failures_of};
-ghost use Rattle.grid.specs.declared.source.Source.{Source};
-ghost use Rattle.grid.specs.Source.{source_reader, most_left};
-ghost use Rattle.grid.specs.Lines.{HasTaken};
-ghost use Rattle.grid.specs.Reading.{ReadsText};
+ghost use Rattle.text_io.specs.declared.counted.Counted.{Counted};
+ghost use Rattle.text_io.specs.Counted.{counted_inner, failures_of};
+ghost use Rattle.text_io.specs.declared.source.Source.{Source};
+ghost use Rattle.text_io.specs.Source.{source_reader, most_left};
+ghost use Rattle.text_io.specs.Lines.{HasTaken};
+ghost use Rattle.text_io.specs.Reading.{ReadsText};
 ghost use Rattle.model.specs.declared.event.Event.{Event};
 ghost use Rattle.model.specs.declared.version.Version.{Version};
 ghost use Rattle.model.specs.declared.version.Version.TheVariants.{One};
@@ -18,10 +18,10 @@ ghost use Rattle.event_text.specs.Taking.{IsAtStart, HasReadEvents, VersionTaken
 use crate::EventFault;
 use crate::event_line::{leading_event, read_event};
 use crate::header::{Headers, version_of};
-use grid::{Counted, Source, TakenLine};
 use model::{Event, Version};
 use std::alloc::{AllocError, Global};
 use std::io::Read;
+use text_io::{Counted, PIECE, Source, TakenLine};
 
 /// A line of a text of events has no more bytes before its LF.
 const LONGEST_LINE: usize = 64;
@@ -63,7 +63,10 @@ impl EventReader {
 
     /// The version of a source's header, which is read where it wasn't yet. After a fault there is nothing more to be read.
     #[inline(always)]
-    pub fn version<R: Read>(&mut self, source: &mut Source<'_, R>) -> Result<Version, EventFault>
+    pub fn version<R: Read>(
+        &mut self,
+        source: &mut Source<'_, R, PIECE>,
+    ) -> Result<Version, EventFault>
         ensures same_reader { source.new.reader.ghost_name ≡ source.old.reader.ghost_name }
         ensures taken { (headers : Headers) (first : Counted R) (events : List Event) → HasReadEvents headers R.remaining first source.old self.old events
             → VersionTaken headers R.remaining first source.new self.new events result }
@@ -80,7 +83,7 @@ impl EventReader {
     /// The next event of a source, or none where the text ended well. After an end or a fault there is nothing more to be read.
     pub fn next_event<R: Read>(
         &mut self,
-        source: &mut Source<'_, R>,
+        source: &mut Source<'_, R, PIECE>,
     ) -> Result<Option<Event>, EventFault>
         ensures same_reader { source.new.reader.ghost_name ≡ source.old.reader.ghost_name }
         ensures next { (headers : Headers) (first : Counted R) (events : List Event) → HasReadEvents headers R.remaining first source.old self.old events
@@ -93,7 +96,10 @@ impl EventReader {
     }
 
     #[cold]
-    fn read_header<R: Read>(&mut self, source: &mut Source<'_, R>) -> Result<Version, EventFault>
+    fn read_header<R: Read>(
+        &mut self,
+        source: &mut Source<'_, R, PIECE>,
+    ) -> Result<Version, EventFault>
         ensures same_reader { source.new.reader.ghost_name ≡ source.old.reader.ghost_name }
         ensures taken { (headers : Headers) (first : Counted R) (events : List Event) → HasReadEvents headers R.remaining first source.old self.old events
             → self.old.version ≡ None → VersionTaken headers R.remaining first source.new self.new events result }
@@ -125,7 +131,7 @@ impl EventReader {
     #[inline(always)]
     fn read_line<R: Read>(
         &mut self,
-        source: &mut Source<'_, R>,
+        source: &mut Source<'_, R, PIECE>,
     ) -> Result<Option<Event>, EventFault>
         ensures same_reader { source.new.reader.ghost_name ≡ source.old.reader.ghost_name }
         ensures next { (headers : Headers) (first : Counted R) (events : List Event) (version : Version)
@@ -152,7 +158,7 @@ impl EventReader {
     #[cold]
     fn read_other_line<R: Read>(
         &mut self,
-        source: &mut Source<'_, R>,
+        source: &mut Source<'_, R, PIECE>,
     ) -> Result<Option<Event>, EventFault>
         ensures same_reader { source.new.reader.ghost_name ≡ source.old.reader.ghost_name }
         ensures next { (headers : Headers) (first : Counted R) (events : List Event) (version : Version)
@@ -207,7 +213,7 @@ pub fn read_events_any<R: Read>(
 fn read_all<R: Read>(
     alloc: Global,
     headers: Headers,
-    source: &mut Source<'_, R>,
+    source: &mut Source<'_, R, PIECE>,
 ) -> Result<(Version, Vec<Event>), EventFault>
     requires { HasTaken R.remaining (source_reader source.old) source.old [] }
     ensures same_reader { source.new.reader.ghost_name ≡ source.old.reader.ghost_name }

@@ -1,13 +1,13 @@
 //! Writing events as text.
 ghost use Rattle.std.specs.Prelude.{[], ◌∷◌, ◌++◌, OnOk, OnErr};
-ghost use Rattle.grid.specs.Text.{line_feed};
-ghost use Rattle.grid.specs.Sink.{Puts, Breaks};
+ghost use Rattle.text_io.specs.Text.{line_feed};
+ghost use Rattle.text_io.specs.Sink.{Puts, Breaks};
 ghost use Rattle.event_text.specs.EventLine.{event_line};
 
 use crate::reply_writer::put_numbers;
-use grid::{Sink, WriteFault};
 use model::Event;
 use std::io::Write;
+use text_io::{Sink, WriteFault};
 
 /// Puts an event's line and its LF.
 pub fn put_event<W: Write>(sink: &mut Sink<'_, W>, event: &Event) -> Result<(), WriteFault>

@@ -1,10 +1,10 @@
 //! What the definitions of a text of events mean: laws, which hold of all values and need no code.
 ghost use Rattle.std.specs.Prelude.{◌≡◌, ◌≢◌, ℕ, ◌⊎◌, ◌↔◌, List, [], ◌∷◌, map, All, Option, Some};
-ghost use Rattle.grid.specs.declared.counted.Counted.{Counted};
-ghost use Rattle.grid.specs.declared.source.Source.{Source};
-ghost use Rattle.grid.specs.Lines.{HasTaken};
-ghost use Rattle.grid.specs.Reading.{IsFirstFault};
-ghost use Rattle.grid.specs.Text.{ended};
+ghost use Rattle.text_io.specs.declared.counted.Counted.{Counted};
+ghost use Rattle.text_io.specs.declared.source.Source.{Source};
+ghost use Rattle.text_io.specs.Lines.{HasTaken};
+ghost use Rattle.text_io.specs.Reading.{IsFirstFault};
+ghost use Rattle.text_io.specs.Text.{ended};
 ghost use Rattle.model.specs.declared.event.Event.{Event};
 ghost use Rattle.model.specs.declared.version.Version.{Version};
 ghost use Rattle.model.specs.declared.version.Version.TheVariants.{One, Two};
@@ -65,7 +65,7 @@ pub fn first_events()
 {}
 
 /// Of a source of which nothing was taken, no event was read.
-pub fn none_read<R: Read>()
-    ensures { (headers : Headers) (first : Counted R) (source : Source R) (now : EventReader) → HasTaken R.remaining first source []
+pub fn none_read<R: Read, const AHEAD: usize>()
+    ensures { (headers : Headers) (first : Counted R) (source : Source R AHEAD) (now : EventReader) → HasTaken R.remaining first source []
         → IsAtStart headers now → HasReadEvents headers R.remaining first source now [] }
 {}

@@ -7,7 +7,6 @@ mod event_reader;
 mod event_writer;
 mod header;
 pub mod laws;
-mod numerals;
 mod reply_writer;
 
 pub use event_fault::EventFault;

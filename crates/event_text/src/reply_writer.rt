@@ -1,18 +1,19 @@
 //! Writing replies as text.
 ghost use Rattle.std.specs.Prelude.{◌≡◌, ◌<◌, ◌≤◌, [], ◌∷◌, ◌++◌, length, map, slice_index, OnOk, OnErr, is_ok};
 ghost use Rattle.hex.specs.Hex.{encode_lower, lower_digits};
-ghost use Rattle.grid.specs.Counted.{counted_inner, failures_of};
-ghost use Rattle.grid.specs.Text.{line_feed};
-ghost use Rattle.grid.specs.Sink.{held_back, Puts, Breaks};
-ghost use Rattle.grid.specs.Writing.{WritesText};
+ghost use Rattle.text_io.specs.Counted.{counted_inner, failures_of};
+ghost use Rattle.text_io.specs.Text.{line_feed, spaced_numbers};
+ghost use Rattle.text_io.specs.Sink.{held_back, Puts, Breaks};
+ghost use Rattle.text_io.specs.Writing.{WritesText};
 ghost use Rattle.model.specs.History.{said, at, between, refused};
 ghost use Rattle.model.specs.Replies.{answer_of};
-ghost use Rattle.event_text.specs.ReplyText.{spaced_numbers, refusal_name, standing_line, reply_line, replies_text};
+ghost use Rattle.event_text.specs.ReplyText.{refusal_name, standing_line, reply_line, replies_text};
 
-use grid::{Cell, Counted, Sink, WriteFault};
+use grid::Cell;
 use hex::encode_to_slice;
 use model::{Reply, Why};
 use std::io::Write;
+use text_io::{Counted, Sink, WriteFault};
 
 /// So many bytes of a message are put at a time: a message of version 1 has no more.
 const PIECE: usize = 12;

@@ -1,10 +1,10 @@
 //! What a text of events is answered with, as text: each event with a space behind it, or the fault.
 use event_text::{EventReader, read_events, read_events_any};
-use grid::{Counted, Source};
 use model::Event;
 use std::alloc::Global;
 use std::io::Read;
 use std::test::Fail;
+use text_io::{Counted, Source};
 
 /// What a reader of a text is answered with, when all its events are read at once.
 pub fn answer<R: Read + Drop>(alloc: Global, reader: R) -> Result<String, Fail> {

@@ -2,10 +2,10 @@
 use crate::answers::{answer, stepwise};
 use event_text::read_events;
 use fakes::Pieces;
-use grid::Counted;
 use model::Event;
 use std::alloc::Global;
 use std::test::Fail;
+use text_io::Counted;
 
 /// A text with each kind of event, and what it is answered with.
 const EACH: &str = "mapf-events 1\nstart 0\nfinish 1\nsay 2\ndeliver 3 4\nrestart 5\ntear 6 7\n";

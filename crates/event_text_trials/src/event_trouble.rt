@@ -1,9 +1,9 @@
 //! Texts of events from readers that fail.
 use event_text::{EventFault, read_events};
 use fakes::Pieces;
-use grid::Counted;
 use std::io::ErrorKind;
 use std::test::Fail;
+use text_io::Counted;
 
 #[test]
 fn reader_fails_at_each_call(rt: HostRuntime) {

@@ -1,10 +1,10 @@
 //! Events that are read while memory may be refused, as `./test --prove` refuses each allocation of these tests in turn: at the most one in a run.
 use event_text::{EventFault, read_events, read_events_any};
-use grid::Counted;
 use model::{Event, Version};
 use std::alloc::Global;
 use std::process::Abort;
 use std::test::Fail;
+use text_io::Counted;
 
 const ONE: &str = "mapf-events 1\nstart 0\nfinish 1\nsay 2\ndeliver 3 4\nrestart 5\ntear 6 7\n";
 

@@ -1,10 +1,11 @@
 //! The lines of replies, and writers that fail.
 use event_text::{put_reply, write_replies};
 use fakes::{Keeper, Trouble};
-use grid::{Cell, Counted, Sink, WriteFault};
+use grid::Cell;
 use model::{Reply, Why};
 use std::alloc::{AllocError, Global};
 use std::test::Fail;
+use text_io::{Counted, Sink, WriteFault};
 
 /// Refusals, and the words of each behind `refused `.
 static REFUSALS: [(Why, &str); 15] = [

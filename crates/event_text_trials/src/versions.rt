@@ -2,10 +2,10 @@
 use crate::answers::{answer, answer_any};
 use event_text::{EventFault, EventReader, read_events_any};
 use fakes::Pieces;
-use grid::{Counted, Source};
 use model::{Event, Version};
 use std::io::ErrorKind;
 use std::test::Fail;
+use text_io::{Counted, Source};
 
 #[test]
 fn headers(rt: HostRuntime) -> Result<(), Fail> {

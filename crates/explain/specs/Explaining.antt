@@ -3,5 +3,5 @@ use Rattle.std.specs.Prelude.{ℕ, List, Option}
 use Rattle.std.specs.Io.KnownBytes.{Appends}
 
 -- the writer holds what it held, and something behind it, perhaps nothing
-abbrev pub GoesOn : Option (List ℕ) → Option (List ℕ) → Type 0
-GoesOn old new = (more : List ℕ) × Appends old new more
+abbrev pub AddsMore : Option (List ℕ) → Option (List ℕ) → Type 0
+AddsMore old new = (more : List ℕ) × Appends old new more

@@ -1,8 +1,8 @@
 //! The explanation of a fault.
 ghost use Rattle.std.specs.Prelude.{◌≡◌};
-ghost use Rattle.grid.specs.Counted.{counted_inner};
-ghost use Rattle.grid.specs.Sink.{sink_writer};
-ghost use Rattle.explain.specs.Explaining.{GoesOn};
+ghost use Rattle.text_io.specs.Counted.{counted_inner};
+ghost use Rattle.text_io.specs.Sink.{sink_writer};
+ghost use Rattle.explain.specs.Explaining.{AddsMore};
 
 use crate::devices::explain_device;
 use crate::faults::Fault;
@@ -13,10 +13,10 @@ use crate::row_words::{no_such_agent, no_such_row, size_differs};
 use crate::tapes::explain_tape;
 use crate::texts::{explain_either, explain_text, is_of_map, is_of_plan};
 use crate::told::Told;
-use grid::{Counted, Sink, WriteFault};
 use std::alloc::Global;
 use std::io::Write;
 use std::rt::Files;
+use text_io::{Counted, Sink, WriteFault};
 
 /// Writes for people what a fault means, behind the line that told it: `told` is that line, and `files` are those that the command names, in the order
 /// in which it opens them; `-` alone is standard input. They are read once more, and what isn't there any more is left out. Any other line is
@@ -28,7 +28,7 @@ pub fn explain<R: Files + AllocGlobal, E: Write>(
     style: Style,
     err: &mut Counted<E>,
 )
-    ensures { GoesOn (E.contents (counted_inner err.old)) (E.contents (counted_inner err.new)) }
+    ensures { AddsMore (E.contents (counted_inner err.old)) (E.contents (counted_inner err.new)) }
 {
     let mut page = Page::new(style);
     if let Some(told) = Told::read(told) {
@@ -39,7 +39,7 @@ pub fn explain<R: Files + AllocGlobal, E: Write>(
 
 /// Writes the page, or a beginning of it where the writer fails.
 fn write_page<E: Write>(text: &[u8], err: &mut Counted<E>) -> Result<(), WriteFault>
-    ensures { GoesOn (E.contents (counted_inner err.old)) (E.contents (counted_inner err.new)) }
+    ensures { AddsMore (E.contents (counted_inner err.old)) (E.contents (counted_inner err.new)) }
 {
     let mut sink = Sink::new(err);
     put_page(&mut sink, text)
@@ -47,7 +47,7 @@ fn write_page<E: Write>(text: &[u8], err: &mut Counted<E>) -> Result<(), WriteFa
 
 fn put_page<E: Write>(sink: &mut Sink<'_, E>, text: &[u8]) -> Result<(), WriteFault>
     ensures same_writer { sink.new.writer.ghost_name ≡ sink.old.writer.ghost_name }
-    ensures goes_on { GoesOn (E.contents (counted_inner (sink_writer sink.old))) (E.contents (counted_inner (sink_writer sink.new))) }
+    ensures goes_on { AddsMore (E.contents (counted_inner (sink_writer sink.old))) (E.contents (counted_inner (sink_writer sink.new))) }
 {
     sink.put(text)?;
     sink.hand_on()

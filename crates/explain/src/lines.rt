@@ -1,8 +1,8 @@
 //! A line of a text that is read once more.
 use crate::files::open_again;
-use grid::{Counted, Source, Stop, TakenLine};
 use std::io::Read;
 use std::rt::Files;
+use text_io::{Counted, PIECE, Source, Stop, TakenLine};
 
 /// No line of a right text is longer.
 const LONGEST: usize = 65_664;
@@ -56,7 +56,7 @@ impl Line {
     }
 
     /// Takes the next line of a text.
-    pub(crate) fn take<F: Read>(&mut self, source: &mut Source<'_, F>) {
+    pub(crate) fn take<F: Read>(&mut self, source: &mut Source<'_, F, PIECE>) {
         self.number = self.number.saturating_add(1);
         let (len, end) = match source.take_line(&mut self.room) {
             TakenLine::WithLineFeed(count) => (count, LineEnd::LineFeed),
@@ -84,7 +84,7 @@ impl Line {
         }
     }
 
-    fn take_numbered<F: Read>(&mut self, source: &mut Source<'_, F>, number: u64) {
+    fn take_numbered<F: Read>(&mut self, source: &mut Source<'_, F, PIECE>, number: u64) {
         self.number = number.saturating_sub(1);
         match pass_lines(source, self.number) {
             Ok(()) => self.take(source),
@@ -100,7 +100,10 @@ impl Line {
 }
 
 /// Passes so many lines.
-pub(crate) fn pass_lines<F: Read>(source: &mut Source<'_, F>, count: u64) -> Result<(), Stop> {
+pub(crate) fn pass_lines<F: Read>(
+    source: &mut Source<'_, F, PIECE>,
+    count: u64,
+) -> Result<(), Stop> {
     for _ in 0..count {
         source.pass_line()?;
     }

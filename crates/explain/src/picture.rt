@@ -4,9 +4,10 @@ use crate::lines::{Line, pass_lines};
 use crate::map_words::{Size, map_size};
 use crate::page::Page;
 use crate::walks::Place;
-use grid::{Counted, Source, Terrain};
+use grid::Terrain;
 use std::io::Read;
 use std::rt::Files;
+use text_io::{Counted, PIECE, Source};
 
 /// So many columns and rows are shown, where the map has as many.
 const COLUMNS: i64 = 11;
@@ -79,7 +80,12 @@ fn put_columns(window: Window, time: u64, page: &mut Page) {
 }
 
 /// Puts the rows that are shown of a map.
-fn put_rows<F: Read>(source: &mut Source<'_, F>, window: Window, marks: &Marks, page: &mut Page) {
+fn put_rows<F: Read>(
+    source: &mut Source<'_, F, PIECE>,
+    window: Window,
+    marks: &Marks,
+    page: &mut Page,
+) {
     let above = u64::try_from(window.top).unwrap_or(0).saturating_add(4);
     if pass_lines(source, above).is_ok() {
         let mut line = Line::new();

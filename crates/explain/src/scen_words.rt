@@ -6,9 +6,9 @@ use crate::page::Page;
 use crate::showing::show_line;
 use crate::spans::{Parts, Span, content, number};
 use crate::told::Told;
-use grid::{Counted, Source};
 use std::io::Read;
 use std::rt::Files;
+use text_io::{Counted, PIECE, Source};
 
 /// The fields of a row.
 static FIELDS: [&str; 9] = [
@@ -44,7 +44,7 @@ pub(crate) fn find_filled<R: Files>(rt: &R, path: &str, count: u64, line: &mut L
     }
 }
 
-fn take_filled<F: Read>(source: &mut Source<'_, F>, count: u64, line: &mut Line) -> u64 {
+fn take_filled<F: Read>(source: &mut Source<'_, F, PIECE>, count: u64, line: &mut Line) -> u64 {
     let mut before = 0u64;
     for _ in 0..u64::MAX {
         line.take(source);

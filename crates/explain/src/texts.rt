@@ -12,9 +12,10 @@ use crate::showing::show_line;
 use crate::spans::{Span, ends_with_return};
 use crate::table::put_sentence;
 use crate::told::Told;
-use grid::{Counted, MapFault, Source, read_map};
+use grid::{MapFault, read_map};
 use std::alloc::Global;
 use std::rt::Files;
+use text_io::{Counted, Source};
 
 /// Explains the fault of a text that is read as this kind.
 pub(crate) fn explain_text<R: Files>(

@@ -8,28 +8,6 @@ use Rattle.std.proofs.lemmas.List.{length-take-le, take-append-le, take-take, ta
 use borrow.Rule.Slice.PartMut.{put_mid, post_of}
 use Rattle.agent.specs.Tape.{TapeState}
 
--- the front of a buffer of which a later part was written
-take-part : (count more : ℕ) (room part : List ℕ) → count ≤ length room → more ≤ length part
-    → take (count + more) (put_mid count (length room - count) room part) ≡ take count room ++ take more part
-take-part count more room part in_room fits =
-    let rest = drop (length room - count) (drop count room) in
-    ap (λ n. take (n + more) (take count room ++ (part ++ rest))) (sym (length-take-le count room in_room))
-    ∙ take-append-add (take count room) (part ++ rest) more ∙ ap (λ l. take count room ++ l) (take-append-le more part rest fits)
-
--- a piece is read behind those before it
-pub reads_more : (old mid new : Option (List ℕ)) (count more : ℕ) (room part : List ℕ) → count ≤ length room → more ≤ length part
-    → Consumes old mid (take count room) → Consumes mid new (take more part)
-    → Consumes old new (take (count + more) (put_mid count (length room - count) room part))
-reads_more old mid new count more room part in_room fits before now =
-    subst (Consumes old new) (sym (take-part count more room part in_room fits)) (Consumes-trans old mid new _ _ before now)
-
--- so many bytes are in the buffer
-pub within_more : (count more : ℕ) (room part : List ℕ) → count ≤ length room → more ≤ length part
-    → count + more ≤ length (put_mid count (length room - count) room part)
-within_more count more room part in_room fits =
-    let rest = post_of count (length room - count) room in
-    omega (arith, length-append (take count room) (part ++ rest), length-append part rest, length-take-le count room in_room, fits)
-
 -- the part of what was read that there is room for, in a buffer that has its vector's length
 pub read_front : (room len size : ℕ) (bytes rest : List ℕ) → len ≤ length bytes → size ≡ length bytes
     → take (min room len) (take size (bytes ++ rest)) ≡ take room (take len bytes)

@@ -6,3 +6,5 @@ pub mod Stored
 pub mod FileTape
 -- the words in which it is told why there is none
 pub mod FaultWords
+-- What follows from these definitions, each with its proof: proofs of other crates cite it, and nothing of it has to be believed.
+pub mod Laws

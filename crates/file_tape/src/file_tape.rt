@@ -1,18 +1,18 @@
 //! A tape in a file, behind an image of it in memory.
 ghost use Rattle.std.specs.Prelude.{◌≡◌, ◌+◌, ◌<◌, ◌≤◌, true, length, Some, IfOk, IfErr, IfSome, IsErrOf, OnOk};
-ghost use Rattle.grid.specs.FaultWords.{words_of, words_text};
+ghost use Rattle.text_io.specs.FaultWords.{words_of, words_text};
 ghost use Rattle.file_tape.specs.FaultWords.{file_tape_fault_words};
 ghost use Rattle.file_tape.specs.declared.file_tape.FileTapeFault.TheVariants.{TapeFailed as tape_failed, OutOfMemory as out_of_memory};
 ghost use Rattle.file_tape.specs.FileTape.{file_fault_of};
 
 use crate::disk::{Disk, read_up_to};
 use agent::{MemTape, Tape, TapeError, TapeMakeFault};
-use grid::FaultWords;
 use std::alloc::{AllocError, Global};
 use std::fs::{OpenFile, TryLockError};
 use std::io::{Read, Seek, Write};
 use std::{fmt, io};
 use tape_claim::LockFile;
+use text_io::{Failure, FaultWords};
 use thiserror::Error;
 
 /// How many bytes at the most stand behind the whole records of a file.
@@ -37,9 +37,9 @@ impl FileTapeFault {
     {
         match self {
             FileTapeFault::TooLong => FaultWords::new("TooLong", &[]),
-            FileTapeFault::InUse => FaultWords::new("TapeInUse", &[]),
-            FileTapeFault::TapeFailed => FaultWords::new("TapeFailed", &[]),
-            FileTapeFault::OutOfMemory => FaultWords::new("OutOfMemory", &[]),
+            FileTapeFault::InUse => Failure::TapeInUse.words(),
+            FileTapeFault::TapeFailed => Failure::TapeFailed.words(),
+            FileTapeFault::OutOfMemory => Failure::OutOfMemory.words(),
         }
     }
 }

@@ -13,15 +13,15 @@ use Rattle.grid.specs.declared.header_line.Saying.TheVariants.{Whole, Size, NoSi
 use Rattle.grid.specs.declared.map_fault.MapFault.{MapFault}
 use Rattle.grid.specs.declared.map_fault.MapFault.TheVariants.{BadHeader, BadNumber, TooLarge, BadTerrain, ShortRow, LongRow, MissingRows, TextAfter}
 use Rattle.grid.specs.declared.terrain.Terrain.{Terrain}
-use Rattle.grid.specs.Text.{line_feed, carriage_return, is_line_byte, lines_of, ended, ends_in_line_feed, IsLine}
+use Rattle.text_io.specs.Text.{line_feed, carriage_return, is_line_byte, lines_of, ended, ends_in_line_feed, IsLine}
 use Rattle.grid.specs.Terrain.{is_terrain, kind_of}
 use Rattle.grid.specs.Map.{Grid, IsSize}
 use Rattle.grid.specs.MapText.{IsNumberLine, IsTypeLine, IsMapLine, IsRowOf, is_rest_byte, AreRows, MapText}
-use Rattle.grid.specs.Reading.{Place, at_line_feed, at_byte, at_end, IsOver, IsByte, Decides, IsFirstFault, line_number}
+use Rattle.text_io.specs.Reading.{Place, at_line_feed, at_byte, at_end, IsOver, IsByte, Decides, IsFirstFault, line_number}
 use Rattle.grid.specs.MapFault.{MapDue, type_due, height_due, width_due, map_due, rows_due, IsHeight, IsRow, MapFollows, HasValue, HasPositive, HasOtherForm, HasMapFault, MapFaultAt}
 use Rattle.grid.specs.Code.HeaderLine.{word_of, saying_of}
-use Rattle.grid.specs.Code.Following.{IsOpen, MapLeads}
-use Rattle.grid.proofs.LineLemmas.{is_line_byte-from, lines_of-whole, lines_of-open, lines_of-all, ends_in_line_feed-whole, ends_in_line_feed-open, ended_push, AllByRecursion_push}
+use Rattle.grid.specs.Code.Following.{IsLineOpen, MapLeads}
+use Rattle.text_io.specs.Laws.Lines.{is_line_byte-from, lines_of-whole, lines_of-open, lines_of-all, ends_in_line_feed-whole, ends_in_line_feed-open, ended_push, AllByRecursion_push}
 use Rattle.grid.proofs.HeaderLemmas.{HasSize, height_has_size, width_has_size, Whole-from_type_line, type_line-from_Whole, Whole-from_map_line, map_line-from_Whole, Size-from_number_line, number_line-from_Size, HasValue-from_Size, HasValue-from_NoSize, says-from_HasValue}
 use Rattle.grid.proofs.Standing.{Standing, going, stopped, number_of, after_words, after_number, is_large_height, is_large_width, row_state, row_length, row_length-row, row_state-terrain, row_state-returned, after_line, on_byte, on_row_byte, pass, standing_of}
 use Rattle.grid.proofs.Judging.{MapLeads-append}
@@ -150,7 +150,7 @@ small_width-parts height m h =
     (small, subst (λ n. n * height ≤ 4194304) same (ltb-false 4194304 (min m 65536 * height) parts.1))
 
 -- a whole line is right or has a fault
-pub line_decides : (due : MapDue) (count : ℕ) (line : List ℕ) → IsDue due → IsOpen due line → LineDecides due count line
+pub line_decides : (due : MapDue) (count : ℕ) (line : List ℕ) → IsDue due → IsLineOpen due line → LineDecides due count line
 line_decides type_due count line known is_open =
     words_decide type_due height_due count line (saying_of TypeLine line) refl tt
     (λ e. (type_line-from_Whole line e, refl)) (λ h is. h (Whole-from_type_line line is))
@@ -218,7 +218,7 @@ line_decides (rows_due width (suc rows)) count line known (row, within, terrain,
 -- one more byte of a line leaves it open, or has a fault
 abbrev pub ByteDecides : MapDue → ℕ → List ℕ → ℕ → Type 0
 ByteDecides due count line b =
-    (IsOpen due (line ++ b ∷ []) × (on_byte due count line b ≡ going due count (line ++ b ∷ [])))
+    (IsLineOpen due (line ++ b ∷ []) × (on_byte due count line b ≡ going due count (line ++ b ∷ [])))
     ⊎ ((fault : MapFault) × (on_byte due count line b ≡ stopped fault) × HasMapFault fault at_byte due (number_of count) (line ++ b ∷ []))
 
 -- one more that passes a test
@@ -325,7 +325,7 @@ returned_decides width rows count row b within terrain false short =
     )
 
 -- one more byte of an open line
-pub byte_decides : (due : MapDue) (count : ℕ) (line : List ℕ) (b : ℕ) → IsOpen due line → IsTrue (is_line_byte b)
+pub byte_decides : (due : MapDue) (count : ℕ) (line : List ℕ) (b : ℕ) → IsLineOpen due line → IsTrue (is_line_byte b)
     → ByteDecides due count line b
 byte_decides type_due count line b h k = inl (list_all_push is_line_byte line b h k, refl)
 byte_decides height_due count line b h k = inl (list_all_push is_line_byte line b h k, refl)
@@ -351,7 +351,7 @@ pub record HasCome (seen : List ℕ) (due : MapDue) (count : ℕ) (line : List �
   pub number : count ≡ length before
   pub right : MapLeads type_due before due
   pub known : IsDue due
-  pub is_open : IsOpen due line
+  pub is_open : IsLineOpen due line
 
 -- what the pass says of the bytes up to where it stands
 abbrev pub Means : List ℕ → Standing → Type 0
@@ -404,11 +404,11 @@ Means-line_feed seen due count line h = elim (line_decides due count line h.know
     whole : seen ++ line_feed ∷ [] ≡ ended h.before ++ (line ++ line_feed ∷ [])
     whole = ap (λ xs. xs ++ line_feed ∷ []) h.bytes ∙ append_assoc (ended h.before) line (line_feed ∷ [])
 
-    empty_row : (width rows : ℕ) → IsOpen (rows_due width rows) []
+    empty_row : (width rows : ℕ) → IsLineOpen (rows_due width rows) []
     empty_row width zero = refl
     empty_row width (suc rows) = ([], omega arith, refl, inl refl)
 
-    open_line : (next : MapDue) → MapFollows due line next → IsOpen next []
+    open_line : (next : MapDue) → MapFollows due line next → IsLineOpen next []
     open_line type_due follows = refl
     open_line height_due follows = refl
     open_line (width_due height) follows = refl

@@ -8,7 +8,7 @@ use Rattle.grid.specs.declared.header_line.Saying.TheVariants.{Whole, Size, NoSi
 use Rattle.grid.specs.declared.map_fault.MapFault.{MapFault}
 use Rattle.grid.specs.declared.map_fault.MapFault.TheVariants.{BadHeader, BadNumber, TooLarge, BadTerrain, ShortRow, LongRow, MissingRows, TextAfter, ReadFailed, OutOfMemory}
 use Rattle.grid.specs.Map.{IsSize}
-use Rattle.grid.specs.Reading.{Place, IsOver}
+use Rattle.text_io.specs.Reading.{Place, IsOver}
 use Rattle.grid.specs.MapText.{IsNumberLine}
 use Rattle.grid.specs.MapFault.{height_due, width_due, map_due, MapFollows, HasMapFault, HasValue, HasPositive}
 use Rattle.grid.specs.Code.HeaderLine.{word_of, saying_of}

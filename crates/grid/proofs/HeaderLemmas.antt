@@ -12,10 +12,10 @@ use Rattle.grid.specs.declared.header_line.HeaderLine.TheVariants.{TypeLine, Hei
 use Rattle.grid.specs.declared.header_line.Progress.{Progress}
 use Rattle.grid.specs.declared.header_line.Progress.TheVariants.{Word, Gap, GapReturn, Octile, Number, Tail, OtherValue, OtherForm}
 use Rattle.grid.specs.declared.header_line.Saying.TheVariants.{Whole, Size, NoSize, NoForm}
-use Rattle.grid.specs.Text.{carriage_return, is_blank, SpellsNumber, IsGap}
+use Rattle.text_io.specs.Text.{carriage_return, is_blank, SpellsNumber, IsGap}
 use Rattle.grid.specs.MapText.{is_empty, is_tail, IsTypeLine, IsNumberLine, IsMapLine}
 use Rattle.grid.specs.MapFault.{HasValue}
-use Rattle.grid.proofs.LineLemmas.{differs}
+use Rattle.text_io.specs.Laws.Lines.{differs}
 use Rattle.grid.specs.Code.HeaderLine.{word_of, broken, tail_step, octile_step, with_digit, size_step, after_gap, after_word, header_step, tail_saying, word_saying, saying_at, saying_of}
 
 -- ---- bytes

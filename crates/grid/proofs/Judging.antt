@@ -8,20 +8,20 @@ use Rattle.std.proofs.lemmas.List.Sums.{fold-append}
 use Rattle.std.proofs.lemmas.List.Folds.{list_all-append}
 use Rattle.grid.specs.declared.map_fault.MapFault.{MapFault}
 use Rattle.grid.specs.declared.map_fault.MapFault.TheVariants.{BadHeader, BadNumber, TooLarge, BadTerrain, ShortRow, LongRow, MissingRows, TextAfter, ReadFailed, OutOfMemory}
-use Rattle.grid.specs.Text.{line_feed, carriage_return, is_line_byte, lines_of, IsLine}
+use Rattle.text_io.specs.Text.{line_feed, carriage_return, is_line_byte, lines_of, IsLine}
 use Rattle.grid.specs.Terrain.{is_terrain}
 use Rattle.grid.specs.MapText.{IsRowOf, is_rest_byte}
-use Rattle.grid.specs.Reading.{Place, at_line_feed, at_byte, at_end, IsOver, IsByte, Decides, IsFirstFault, line_number}
-use Rattle.grid.specs.MapFault.{MapDue, type_due, height_due, width_due, map_due, rows_due, MapFollows, HasOtherForm, HasOtherValue, HasLargeValue, IsBeginning, IsWhole, RunsOver, GoesWrong, HasMapFault, MapFaultAt}
-use Rattle.grid.specs.Code.Following.{IsOpen, IsUndecided, MapLeads}
-use Rattle.grid.proofs.LineLemmas.{is_line_byte-true, whole_parts, open_parts, lines_parts, AreLines}
+use Rattle.text_io.specs.Reading.{Place, at_line_feed, at_byte, at_end, IsOver, IsByte, Decides, IsFirstFault, line_number}
+use Rattle.grid.specs.MapFault.{MapDue, type_due, height_due, width_due, map_due, rows_due, MapFollows, HasOtherForm, HasOtherValue, HasLargeValue, IsBeginning, IsWholeRow, RunsOver, GoesWrong, HasMapFault, MapFaultAt}
+use Rattle.grid.specs.Code.Following.{IsLineOpen, IsUndecided, MapLeads}
+use Rattle.text_io.specs.Laws.Lines.{is_line_byte-true, whole_parts, open_parts, lines_parts, AreLines}
 use Rattle.grid.proofs.Standing.{going, stopped, number_of, characters, returned, row_state, row_length, row_length-row, row_state-terrain, row_state-returned, after_line, on_byte, on_row_byte, pass, standing_of, stopped-stays, missing, fault_after, fault_of, after_line-form, after_line-value, after_line-large, after_line-next, pass-terrain, pass-returned, pass-open, open-from_Follows, pass-line_feed, standing_of-lines}
 
 -- ---- a fault of a whole line
 
 -- a line of another form, value or size is open at its end, as each line of the header is
 open-from_header : (due : MapDue) (line : List ℕ) → IsLine line
-    → HasOtherForm due line ⊎ (HasOtherValue due line ⊎ HasLargeValue due line) → IsOpen due line
+    → HasOtherForm due line ⊎ (HasOtherValue due line ⊎ HasLargeValue due line) → IsLineOpen due line
 open-from_header type_due line is h = is
 open-from_header height_due line is h = is
 open-from_header (width_due height) line is h = is
@@ -30,7 +30,7 @@ open-from_header (rows_due width rows) line is h = absurd (elim h [ inl e ↦ e 
 
 -- the pass finds the fault where the line ends, and none before
 abbrev pub StopsAfter : MapFault → MapDue → ℕ → List ℕ → Type 0
-StopsAfter fault due count line = IsOpen due line × (after_line due count line ≡ stopped fault)
+StopsAfter fault due count line = IsLineOpen due line × (after_line due count line ≡ stopped fault)
 
 -- a row that is too short
 short_row : (width rows count : ℕ) (row line : List ℕ) → IsBeginning width row → IsRowOf row line
@@ -116,7 +116,7 @@ pass-bad_terrain width rows count row line is h (inr (b, e)) =
     (cond-true (nat_lt (length row) width) _ _ (lt-ltb (length row) width short))
 
 -- more than the width
-pass-long_row : (width rows count : ℕ) (row line : List ℕ) → IsLine line → IsWhole width row → RunsOver row line
+pass-long_row : (width rows count : ℕ) (row line : List ℕ) → IsLine line → IsWholeRow width row → RunsOver row line
     → fold pass (going (rows_due width (suc rows)) count []) line ≡ stopped (LongRow (number_of count))
 pass-long_row width rows count row line is h (inl (b, e, other)) =
     let whole = h.whole in

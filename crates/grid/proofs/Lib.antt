@@ -1,13 +1,8 @@
 -- Lemmas that several proofs share.
-pub mod SourceLemmas
-pub mod SinkLemmas
 pub mod RowLemmas
 pub mod TerrainLemmas
-pub mod LineLemmas
 pub mod HeaderLemmas
-pub mod FollowLemmas
 pub mod TakenLines
-pub mod RunLemmas
 pub mod ScanLemmas
 pub mod RowTaken
 pub mod RowsTaken
@@ -19,7 +14,3 @@ pub mod Judging
 pub mod MapTaken
 pub mod MapLemmas
 pub mod Deciding
-pub mod LineTaking
-pub mod PlaceLemmas
-pub mod WordLemmas
-pub mod PairLemmas

@@ -13,15 +13,15 @@ use Rattle.grid.specs.declared.header_line.HeaderLine.{HeaderLine}
 use Rattle.grid.specs.declared.map_fault.MapFault.{MapFault}
 use Rattle.grid.specs.declared.terrain.Terrain.{Terrain}
 use Rattle.grid.specs.declared.terrain.Terrain.TheVariants.{Floor, Grass, Void, OutOfBounds, Trees, Swamp, Water}
-use Rattle.grid.specs.Text.{line_feed, carriage_return, is_line_byte, IsLine}
+use Rattle.text_io.specs.Text.{line_feed, carriage_return, is_line_byte, IsLine}
 use Rattle.grid.specs.Terrain.{character_of, is_terrain, kind_of}
 use Rattle.grid.specs.Map.{Grid, IsMap}
 use Rattle.grid.specs.MapText.{IsNumberLine, IsRowOf, is_rest_byte, AreRows, MapText, rows_of, header_lines, canonical_map_text}
-use Rattle.grid.specs.Reading.{IsFirstFault}
+use Rattle.text_io.specs.Reading.{IsFirstFault}
 use Rattle.grid.specs.MapFault.{type_due, height_due, width_due, map_due, rows_due, MapFaultAt}
 use Rattle.grid.specs.Code.Following.{MapLeads}
 use Rattle.grid.specs.Code.HeaderLine.{word_of, saying_of}
-use Rattle.grid.proofs.LineLemmas.{differs, is_line_byte-from, lines_of-all}
+use Rattle.text_io.specs.Laws.Lines.{differs, is_line_byte-from, lines_of-all}
 use Rattle.grid.proofs.HeaderLemmas.{HasSize, height_has_size, width_has_size, Size-from_number_line}
 use Rattle.grid.proofs.Judging.{MapLeads-append, fault_of-lines, fault_of-first}
 

@@ -6,23 +6,22 @@ use Rattle.std.specs.Io.KnownBytes.{IsAtEnd as IsSpent}
 use Rattle.std.proofs.lemmas.List.{map-append, length-map}
 use Rattle.std.proofs.lemmas.List.Folds.{list_all-append}
 use Rattle.std.proofs.Math.Nat.{mul-suc, mul-zero}
-use Rattle.grid.specs.declared.source.Source.{Source}
+use Rattle.text_io.specs.declared.source.Source.{Source}
 use Rattle.grid.specs.declared.map_fault.MapFault.{MapFault}
 use Rattle.grid.specs.declared.map_fault.MapFault.TheVariants.{BadHeader, BadNumber, TooLarge, BadTerrain, ShortRow, LongRow, MissingRows, TextAfter, ReadFailed, OutOfMemory}
-use Rattle.grid.specs.Counted.{greatest}
-use Rattle.grid.specs.Text.{lines_of, ended, IsLine}
+use Rattle.text_io.specs.Counted.{greatest}
+use Rattle.text_io.specs.Text.{lines_of, ended, IsLine}
 use Rattle.grid.specs.Terrain.{kind_of, is_terrain}
 use Rattle.grid.specs.Map.{Grid, IsSize}
-use Rattle.grid.specs.Source.{at_hand, source_reader, has_ended, has_failed, is_stopped, GoesOn, Takes, IsAtEnd}
-use Rattle.grid.specs.Reading.{by_input, Place, at_line_feed, at_byte, at_end, JudgedAt, ReadsText, is_value, is_fault, is_failed, is_refused, line_number}
+use Rattle.text_io.specs.Source.{at_hand, source_reader, has_ended, has_failed, is_stopped, GoesOn, Takes, IsAtEnd}
+use Rattle.text_io.specs.Reading.{by_input, Place, at_line_feed, at_byte, at_end, JudgedAt, ReadsText, is_value, is_fault, is_failed, is_refused, line_number}
 use Rattle.grid.specs.MapText.{MapText, IsTypeLine, IsNumberLine, IsMapLine, IsRowOf, AreRows, is_rest_byte}
 use Rattle.grid.specs.MapFault.{MapDue, type_due, height_due, width_due, map_due, rows_due, HasMapFault, MapFaultAt, map_outcome}
 use Rattle.grid.specs.Code.Following.{TakesLines, TakesRight, TakesUpTo, number_after, TakesFault, TakesFailure, TakesRefusal, StopsReading, TakesRows, HaveRows, MapLeads}
-use Rattle.grid.proofs.LineLemmas.{lines_of-whole, lines_of-open, lines_of-all, ends_in_line_feed-whole, ends_in_line_feed-open, AllByRecursion-append}
+use Rattle.text_io.specs.Laws.Lines.{lines_of-whole, lines_of-open, lines_of-all, ends_in_line_feed-whole, ends_in_line_feed-open, AllByRecursion-append}
 use Rattle.grid.proofs.Judging.{undecided}
 use Rattle.grid.proofs.TerrainLemmas.{map-character_of-kind}
-use Rattle.grid.proofs.SourceLemmas.{slice_range-empty, spent, same_failures, more_failures, not_ended, failed_is_stopped}
-use Rattle.grid.proofs.FollowLemmas.{has_failed-goes_on}
+use Rattle.text_io.specs.Laws.Taking.{slice_range-empty, spent, same_failures, more_failures, not_ended, failed_is_stopped, has_failed-goes_on}
 use Rattle.grid.proofs.RowsTaken.{MapLeads-rows}
 
 -- ---- the lines of a map
@@ -134,7 +133,7 @@ map_of_lines text header rows rest width height characters is h size have count 
 number_of_line : (before : List (List ℕ)) → number_after 0 before ≡ line_number before
 number_of_line before = let none : 0 + length before + 1 ≡ length before + 1 = omega arith in ap (λ n. min n greatest) none
 
-module _ {R : Type 0} (remaining : R → Option (List ℕ)) (old new : Source R) (fresh : at_hand old ≡ []) (goes_on : GoesOn old) where
+module _ {R : Type 0} {ahead : ℕ} (remaining : R → Option (List ℕ)) (old new : Source R ahead) (fresh : at_hand old ≡ []) (goes_on : GoesOn old) where
   -- what was delivered is what was taken, and what is at hand
   delivered_is : (taken : List ℕ) → (p : Takes remaining old new taken) → p.read ≡ taken ++ at_hand new
   delivered_is taken p = ap (λ l. l ++ p.read) (sym fresh) ∙ p.in_order
@@ -288,7 +287,7 @@ module _ {R : Type 0} (remaining : R → Option (List ℕ)) (old new : Source R)
 
 -- ---- the reader stays the same
 
-module _ {R : Type 0} (remaining : R → Option (List ℕ)) (old new : Source R) where
+module _ {R : Type 0} {ahead : ℕ} (remaining : R → Option (List ℕ)) (old new : Source R ahead) where
   pub same_reader_of_lines : (lines : List (List ℕ)) → TakesLines remaining old new lines → new.reader.ghost_name ≡ old.reader.ghost_name
   same_reader_of_lines lines (inl p) = p.same_reader
   same_reader_of_lines lines (inr p) = p.4.same_reader
@@ -314,7 +313,7 @@ module _ {R : Type 0} (remaining : R → Option (List ℕ)) (old new : Source R)
 -- ---- the three parts of a text
 
 -- the rows that were taken are right
-pub rows_right : {R : Type 0} (remaining : R → Option (List ℕ)) (old new : Source R) (width height : ℕ) (characters : List ℕ)
+pub rows_right : {R : Type 0} {ahead : ℕ} (remaining : R → Option (List ℕ)) (old new : Source R ahead) (width height : ℕ) (characters : List ℕ)
     → (p : TakesRows remaining old new width height characters) → TakesRight remaining old new (rows_due width height) (rows_due width zero) p.lines
 rows_right remaining old new width height characters p = record {
   are_lines = p.are_lines;

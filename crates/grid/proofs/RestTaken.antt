@@ -4,18 +4,17 @@ use Rattle.std.specs.Prelude.{Option, IsTrue, ◌&&◌}
 use Rattle.std.specs.List.{list_all, AllByRecursion}
 use Rattle.std.proofs.lemmas.List.Folds.{list_all-append}
 use Rattle.std.proofs.lemmas.Bool.{and_parts}
-use Rattle.grid.specs.declared.source.Source.{Source}
+use Rattle.text_io.specs.declared.source.Source.{Source}
 use Rattle.grid.specs.declared.map_fault.MapFault.TheVariants.{TextAfter}
-use Rattle.grid.specs.Counted.{greatest}
-use Rattle.grid.specs.Text.{line_feed, is_line_byte, ended, IsLine}
-use Rattle.grid.specs.Source.{has_failed, GoesOn, Takes, IsAtEnd}
-use Rattle.grid.specs.Reading.{at_byte}
+use Rattle.text_io.specs.Counted.{greatest}
+use Rattle.text_io.specs.Text.{line_feed, is_line_byte, ended, IsLine}
+use Rattle.text_io.specs.Source.{has_failed, GoesOn, Takes, IsAtEnd}
+use Rattle.text_io.specs.Reading.{at_byte}
 use Rattle.grid.specs.MapText.{is_rest_byte}
 use Rattle.grid.specs.MapFault.{rows_due}
 use Rattle.grid.specs.Code.Following.{TakesRight, number_after, TakesFault, TakesFailure, MapLeads}
-use Rattle.grid.proofs.LineLemmas.{is_line_byte-from, differs, ended_push}
-use Rattle.grid.proofs.SourceLemmas.{Takes-trans, Takes-then_none}
-use Rattle.grid.proofs.FollowLemmas.{has_failed-goes_on, has_failed-at_end, is_line_byte-other}
+use Rattle.text_io.specs.Laws.Lines.{is_line_byte-from, differs, ended_push}
+use Rattle.text_io.specs.Laws.Taking.{Takes-trans, Takes-then_none, has_failed-goes_on, has_failed-at_end, is_line_byte-other}
 use Rattle.grid.proofs.TakenLines.{all-append}
 
 -- no more than blanks and CRs
@@ -50,7 +49,7 @@ number_after-next skipped number next before line e n =
     let len : length (before ++ line ∷ []) ≡ length before + 1 = length-append before (line ∷ []) in
     omega (arith, e, n, len)
 
-module _ {R : Type 0} (remaining : R → Option (List ℕ)) (old mid new : Source R) (before : List (List ℕ)) (line : List ℕ)
+module _ {R : Type 0} {ahead : ℕ} (remaining : R → Option (List ℕ)) (old mid new : Source R ahead) (before : List (List ℕ)) (line : List ℕ)
     (blanks : AllByRecursion IsBlankLine before) (blank : IsBlankLine line) (taken : Takes remaining old mid (ended before ++ line)) where
   -- an LF ends the line
   pub rest_line : Takes remaining mid new (line_feed ∷ []) → Takes remaining old new (ended (before ++ line ∷ []) ++ [])
@@ -90,7 +89,7 @@ module _ {R : Type 0} (remaining : R → Option (List ℕ)) (old mid new : Sourc
   }
 
 -- the end came after blank lines
-pub rest_right : {R : Type 0} (remaining : R → Option (List ℕ)) (old mid new : Source R) (before : List (List ℕ)) (line : List ℕ)
+pub rest_right : {R : Type 0} {ahead : ℕ} (remaining : R → Option (List ℕ)) (old mid new : Source R ahead) (before : List (List ℕ)) (line : List ℕ)
     → AllByRecursion IsBlankLine before → IsBlankLine line → Takes remaining old mid (ended before ++ line) → (width : ℕ) → Takes remaining mid new [] → IsAtEnd new
     → (lines : List (List ℕ)) × TakesRight remaining old new (rows_due width zero) (rows_due width zero) lines
 rest_right remaining old mid new before [] blanks blank taken width p end = (

@@ -2,7 +2,7 @@
 use Rattle.std.proofs.Common.{◌≡◌, ℕ, ◌+◌, ◌-◌, ◌*◌, ◌<◌, suc, List, [], ◌∷◌, ◌++◌, length, take, drop, map, sym, ap, ◌∙◌, arith, length-drop}
 use Rattle.std.proofs.Math.Nat.{mul-suc}
 use Rattle.std.proofs.lemmas.Grind.{flat_map-append}
-use Rattle.grid.specs.Text.{line_feed, ended}
+use Rattle.text_io.specs.Text.{line_feed, ended}
 use Rattle.grid.specs.Terrain.{character_of}
 use Rattle.grid.specs.Map.{Grid}
 use Rattle.grid.specs.MapText.{rows_of, header_lines, canonical_map_text}

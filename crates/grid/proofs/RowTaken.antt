@@ -4,21 +4,20 @@ use Rattle.std.specs.Prelude.{Option, IsTrue, ◌&&◌}
 use Rattle.std.specs.List.{list_all}
 use Rattle.std.proofs.lemmas.Bool.{and_parts, true_from_ne_false}
 use Rattle.std.proofs.lemmas.List.Folds.{list_all-append}
-use Rattle.grid.specs.declared.source.Source.{Source}
+use Rattle.text_io.specs.declared.source.Source.{Source}
 use Rattle.grid.specs.declared.map_fault.MapFault.{MapFault}
 use Rattle.grid.specs.declared.map_fault.MapFault.TheVariants.{BadHeader, BadNumber, TooLarge, BadTerrain, ShortRow, LongRow, MissingRows, TextAfter, ReadFailed, OutOfMemory}
 use Rattle.grid.specs.declared.map_reader.LineEnd.TheVariants.{Line, Input, Other, Failure}
-use Rattle.grid.specs.Counted.{greatest}
-use Rattle.grid.specs.Text.{line_feed, carriage_return, is_line_byte, IsLine}
+use Rattle.text_io.specs.Counted.{greatest}
+use Rattle.text_io.specs.Text.{line_feed, carriage_return, is_line_byte, IsLine}
 use Rattle.grid.specs.Terrain.{is_terrain}
-use Rattle.grid.specs.Source.{at_hand, is_stopped, GoesOn, Takes}
-use Rattle.grid.specs.Reading.{at_line_feed, at_byte, at_end}
+use Rattle.text_io.specs.Source.{at_hand, is_stopped, GoesOn, Takes}
+use Rattle.text_io.specs.Reading.{at_line_feed, at_byte, at_end}
 use Rattle.grid.specs.MapText.{IsRowOf}
 use Rattle.grid.specs.MapFault.{rows_due}
 use Rattle.grid.specs.Code.Following.{number_after, TakesFault, TakesFailure, StopsReading, HasNoTerrain, IsRowEnd, TakesOther, EndsRow, StopsRow, TakesRow}
-use Rattle.grid.proofs.LineLemmas.{is_line_byte-from, differs}
-use Rattle.grid.proofs.SourceLemmas.{Takes-trans, Takes-then_none, slice_range-empty}
-use Rattle.grid.proofs.FollowLemmas.{has_failed-goes_on, has_failed-at_end}
+use Rattle.text_io.specs.Laws.Lines.{is_line_byte-from, differs}
+use Rattle.text_io.specs.Laws.Taking.{Takes-trans, Takes-then_none, slice_range-empty, has_failed-goes_on, has_failed-at_end}
 
 -- terrain characters are bytes of a line
 pub terrain_is_line : (row : List ℕ) → IsTrue (list_all is_terrain row) → IsLine row
@@ -56,7 +55,7 @@ length_zero (b ∷ line) h = absurd (let bad : suc (length line) ≡ 0 = h in om
 pub number_is : (number skipped : ℕ) → number ≡ min (skipped + 1) greatest → number ≡ number_after skipped []
 number_is number skipped e = let none : skipped + 1 ≡ skipped + 0 + 1 = omega arith in e ∙ ap (λ n. min n greatest) none
 
-module _ {R : Type 0} (remaining : R → Option (List ℕ)) (old mid new : Source R) (row : List ℕ) (taken : Takes remaining old mid row)
+module _ {R : Type 0} {ahead : ℕ} (remaining : R → Option (List ℕ)) (old mid new : Source R ahead) (row : List ℕ) (taken : Takes remaining old mid row)
     (terrain : IsTrue (list_all is_terrain row)) where
   -- the characters, and what ends them
   taken_line : (ending : List ℕ) → Takes remaining mid new (ending ++ line_feed ∷ []) → Takes remaining old new ((row ++ ending) ++ line_feed ∷ [])
@@ -264,7 +263,7 @@ module _ {R : Type 0} (remaining : R → Option (List ℕ)) (old mid new : Sourc
   row_stop width rows count skipped number OutOfMemory count_is short e no_terrain p = absurd p
 
 -- memory was refused after the first characters
-pub refused_after : {R : Type 0} (remaining : R → Option (List ℕ)) (old mid new : Source R) (row : List ℕ) (rows skipped : ℕ) (fault : MapFault) (width : ℕ)
+pub refused_after : {R : Type 0} {ahead : ℕ} (remaining : R → Option (List ℕ)) (old mid new : Source R ahead) (row : List ℕ) (rows skipped : ℕ) (fault : MapFault) (width : ℕ)
     → Takes remaining old mid row → (fault ≡ OutOfMemory) × GoesOn new × Takes remaining mid new []
     → StopsReading remaining old new (rows_due width (suc rows)) skipped fault
 refused_after remaining old mid new row rows skipped fault width taken p = subst (StopsReading remaining old new (rows_due width (suc rows)) skipped) (sym p.0)

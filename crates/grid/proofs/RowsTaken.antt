@@ -2,13 +2,13 @@
 use Rattle.std.proofs.Common.{◌≡◌, ℕ, zero, suc, ◌+◌, ◌-◌, ◌<◌, false, List, [], ◌∷◌, ◌++◌, length, refl, sym, ap, ◌∙◌, arith, append_assoc, append-nil}
 use Rattle.std.specs.Prelude.{Option, IsTrue}
 use Rattle.std.specs.List.{list_all, AllByRecursion}
-use Rattle.grid.specs.declared.source.Source.{Source}
+use Rattle.text_io.specs.declared.source.Source.{Source}
 use Rattle.grid.specs.declared.map_fault.MapFault.{MapFault}
 use Rattle.grid.specs.Terrain.{is_terrain}
-use Rattle.grid.specs.Source.{has_failed}
+use Rattle.text_io.specs.Source.{has_failed}
 use Rattle.grid.specs.MapText.{IsRowOf}
 use Rattle.grid.specs.MapFault.{rows_due}
-use Rattle.grid.specs.Text.{IsLine}
+use Rattle.text_io.specs.Text.{IsLine}
 use Rattle.grid.specs.Code.Following.{TakesLines, StopsReading, TakesRow, HaveRows, MapLeads}
 use Rattle.grid.proofs.TakenLines.{TakesLines-append, StopsReading-after, all-append}
 
@@ -28,9 +28,9 @@ MapLeads-rows width characters (line ∷ lines) zero left rows e = absurd (omega
 MapLeads-rows width characters (line ∷ lines) (suc count) left (row, rest, is, p, q, r, others) e =
     (rows_due width count, (record { characters = row; bytes = r; count = p; terrain = q }, refl), MapLeads-rows width rest lines count left others (omega (arith, e)))
 
-module _ {R : Type 0} (remaining : R → Option (List ℕ)) where
+module _ {R : Type 0} {ahead : ℕ} (remaining : R → Option (List ℕ)) where
   -- rows and then one row more
-  pub TakesRows-push : (old mid new : Source R) (width : ℕ) (characters row : List ℕ) (lines : List (List ℕ)) → AllByRecursion IsLine lines
+  pub TakesRows-push : (old mid new : Source R ahead) (width : ℕ) (characters row : List ℕ) (lines : List (List ℕ)) → AllByRecursion IsLine lines
       → HaveRows width characters lines → TakesLines remaining old mid lines → (next : TakesRow remaining mid new width row)
       → AllByRecursion IsLine (lines ++ next.line ∷ []) × HaveRows width (characters ++ row) (lines ++ next.line ∷ [])
       × TakesLines remaining old new (lines ++ next.line ∷ [])
@@ -41,7 +41,7 @@ module _ {R : Type 0} (remaining : R → Option (List ℕ)) where
   )
 
   -- a stop in a row after others
-  pub rows_stop : (old mid new : Source R) (width height i skipped passed : ℕ) (characters : List ℕ) (lines : List (List ℕ)) (fault : MapFault)
+  pub rows_stop : (old mid new : Source R ahead) (width height i skipped passed : ℕ) (characters : List ℕ) (lines : List (List ℕ)) (fault : MapFault)
       → AllByRecursion IsLine lines → HaveRows width characters lines → TakesLines remaining old mid lines → has_failed mid ≡ false
       → length lines ≡ i → i < height → passed ≡ skipped + i
       → ((rows : ℕ) → StopsReading remaining mid new (rows_due width (suc rows)) passed fault)

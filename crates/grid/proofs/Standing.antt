@@ -10,15 +10,15 @@ use Rattle.grid.specs.declared.header_line.Saying.{Saying}
 use Rattle.grid.specs.declared.header_line.Saying.TheVariants.{Whole, Size, NoSize, NoForm}
 use Rattle.grid.specs.declared.map_fault.MapFault.{MapFault}
 use Rattle.grid.specs.declared.map_fault.MapFault.TheVariants.{BadHeader, BadNumber, TooLarge, BadTerrain, ShortRow, LongRow, MissingRows, TextAfter}
-use Rattle.grid.specs.Counted.{greatest}
-use Rattle.grid.specs.Text.{line_feed, carriage_return, is_line_byte, ended, IsLine}
+use Rattle.text_io.specs.Counted.{greatest}
+use Rattle.text_io.specs.Text.{line_feed, carriage_return, is_line_byte, ended, IsLine}
 use Rattle.grid.specs.Terrain.{is_terrain}
 use Rattle.grid.specs.Map.{IsSize}
 use Rattle.grid.specs.MapText.{IsNumberLine, IsRowOf, is_rest_byte}
 use Rattle.grid.specs.MapFault.{MapDue, type_due, height_due, width_due, map_due, rows_due, MapFollows, HasValue, HasPositive, HasOtherForm, HasOtherValue, HasLargeValue}
 use Rattle.grid.specs.Code.HeaderLine.{word_of, saying_of}
-use Rattle.grid.specs.Code.Following.{IsOpen, MapLeads}
-use Rattle.grid.proofs.LineLemmas.{is_line_byte-true, differs, ended-line}
+use Rattle.grid.specs.Code.Following.{IsLineOpen, MapLeads}
+use Rattle.text_io.specs.Laws.Lines.{is_line_byte-true, differs, ended-line}
 use Rattle.grid.proofs.HeaderLemmas.{HasSize, height_has_size, width_has_size, Whole-from_type_line, type_line-from_Whole, Whole-from_map_line, map_line-from_Whole, Size-from_number_line, number_line-from_Size, HasValue-from_Size, HasValue-from_NoSize, says-from_HasValue}
 
 -- Where the pass stands: at a line that is due, after so many lines, with the bytes of the line so far, or at a fault.
@@ -367,7 +367,7 @@ pass-returned width rows count row h within =
     ∙ ap (on_row_byte width rows count row carriage_return) (row_state-terrain row h))
 
 -- the beginning of a line in which no fault is judged
-pub pass-open : (due : MapDue) (count : ℕ) (line : List ℕ) → IsOpen due line → fold pass (going due count []) line ≡ going due count line
+pub pass-open : (due : MapDue) (count : ℕ) (line : List ℕ) → IsLineOpen due line → fold pass (going due count []) line ≡ going due count line
 pass-open type_due count line h = pass-header type_due (λ count seen b. refl) count [] line h
 pass-open height_due count line h = pass-header height_due (λ count seen b. refl) count [] line h
 pass-open (width_due height) count line h = pass-header (width_due height) (λ count seen b. refl) count [] line h
@@ -381,7 +381,7 @@ pass-open (rows_due width (suc rows)) count line (row, within, terrain, inr is) 
     (pass-returned width rows count row terrain within)
 
 -- a right line is open at its end
-pub open-from_Follows : (due : MapDue) (line : List ℕ) (next : MapDue) → IsLine line → MapFollows due line next → IsOpen due line
+pub open-from_Follows : (due : MapDue) (line : List ℕ) (next : MapDue) → IsLine line → MapFollows due line next → IsLineOpen due line
 open-from_Follows type_due line next is h = is
 open-from_Follows height_due line next is h = is
 open-from_Follows (width_due height) line next is h = is
@@ -391,7 +391,7 @@ open-from_Follows (rows_due width (suc rows)) line next is h =
     (h.0.characters, omega (arith, h.0.count), h.0.terrain, h.0.bytes)
 
 -- the LF of an open line
-pub pass-line_feed : (due : MapDue) (count : ℕ) (line : List ℕ) → IsOpen due line
+pub pass-line_feed : (due : MapDue) (count : ℕ) (line : List ℕ) → IsLineOpen due line
     → fold pass (going due count []) (line ++ line_feed ∷ []) ≡ after_line due count line
 pass-line_feed due count line h =
     fold-append pass (going due count []) line (line_feed ∷ []) ∙ ap (λ s. pass s line_feed) (pass-open due count line h)

@@ -4,18 +4,17 @@ use Rattle.std.specs.Prelude.{Option, is_some}
 use Rattle.std.specs.List.{AllByRecursion}
 use Rattle.std.proofs.lemmas.Bool.{false≢true}
 use Rattle.std.proofs.lemmas.Grind.{flat_map-append}
-use Rattle.grid.specs.declared.source.Source.{Source}
-use Rattle.grid.specs.declared.source.Stop.{Stop}
+use Rattle.text_io.specs.declared.source.Source.{Source}
+use Rattle.text_io.specs.declared.source.Stop.{Stop}
 use Rattle.grid.specs.declared.map_fault.MapFault.{MapFault}
 use Rattle.grid.specs.declared.map_fault.MapFault.TheVariants.{BadHeader, BadNumber, TooLarge, BadTerrain, ShortRow, LongRow, MissingRows, TextAfter, ReadFailed, OutOfMemory}
-use Rattle.grid.specs.Counted.{greatest}
-use Rattle.grid.specs.Text.{line_feed, ended, IsLine}
-use Rattle.grid.specs.Source.{at_hand, is_end, Takes, IsAtEnd}
-use Rattle.grid.specs.Reading.{Place, at_line_feed, at_byte, at_end}
+use Rattle.text_io.specs.Counted.{greatest}
+use Rattle.text_io.specs.Text.{line_feed, ended, IsLine}
+use Rattle.text_io.specs.Source.{at_hand, is_end, Takes, IsAtEnd}
+use Rattle.text_io.specs.Reading.{Place, at_line_feed, at_byte, at_end}
 use Rattle.grid.specs.MapFault.{MapDue, MapFollows, HasMapFault}
 use Rattle.grid.specs.Code.Following.{TakesLine, TakesLines, TakesRight, TakesUpTo, number_after, TakesFault, TakesFailure, TakesRefusal, StopsReading}
-use Rattle.grid.proofs.SourceLemmas.{Takes-trans, Takes-then_none}
-use Rattle.grid.proofs.FollowLemmas.{has_failed-goes_on, has_failed-at_end}
+use Rattle.text_io.specs.Laws.Taking.{Takes-trans, Takes-then_none, has_failed-goes_on, has_failed-at_end}
 use Rattle.grid.proofs.Judging.{MapLeads-append}
 
 -- two lists that make none are none
@@ -49,16 +48,16 @@ end_is_stop : (stop : Option Stop) → is_end stop ≡ true → is_some stop ≡
 end_is_stop None h = absurd (false≢true h)
 end_is_stop (Some stop) h = refl
 
-module _ {R : Type 0} (remaining : R → Option (List ℕ)) where
+module _ {R : Type 0} {ahead : ℕ} (remaining : R → Option (List ℕ)) where
   -- past the end nothing is taken
-  pub Takes-at_end : (old new : Source R) (taken : List ℕ) → IsAtEnd old → Takes remaining old new taken → (taken ≡ []) × IsAtEnd new
+  pub Takes-at_end : (old new : Source R ahead) (taken : List ℕ) → IsAtEnd old → Takes remaining old new taken → (taken ≡ []) × IsAtEnd new
   Takes-at_end old new taken h p =
       let same = p.stays (end_is_stop old.stop h.0) in
       let both = append_empty taken (at_hand new) (sym p.in_order ∙ ap (λ l. l ++ p.read) h.1 ∙ same.0) in
       (both.0, (ap is_end same.1 ∙ h.0, both.1))
 
   -- lines and then lines
-  pub TakesLines-append : (old mid new : Source R) (lines more : List (List ℕ)) → TakesLines remaining old mid lines → TakesLines remaining mid new more
+  pub TakesLines-append : (old mid new : Source R ahead) (lines more : List (List ℕ)) → TakesLines remaining old mid lines → TakesLines remaining mid new more
       → TakesLines remaining old new (lines ++ more)
   TakesLines-append old mid new lines more p q = elim p [
     | inl a ↦ elim q [
@@ -91,7 +90,7 @@ module _ {R : Type 0} (remaining : R → Option (List ℕ)) where
   ]
 
   -- lines, and then the bytes up to a place
-  pub TakesUpTo-after : (old mid new : Source R) (lines : List (List ℕ)) (place : Place) (before : List (List ℕ)) (line : List ℕ)
+  pub TakesUpTo-after : (old mid new : Source R ahead) (lines : List (List ℕ)) (place : Place) (before : List (List ℕ)) (line : List ℕ)
       → TakesLines remaining old mid lines → TakesUpTo remaining mid new place before line → TakesUpTo remaining old new place (lines ++ before) line
   TakesUpTo-after old mid new lines at_line_feed before line p q = elim p [
     | inl a ↦ subst (Takes remaining old new) (ended-before lines before (line ++ line_feed ∷ [])) (Takes-trans remaining old mid new _ _ a q)
@@ -120,7 +119,7 @@ module _ {R : Type 0} (remaining : R → Option (List ℕ)) where
   )
 
   -- right lines, and then more of them
-  pub TakesRight-append : (old mid new : Source R) (first middle last : MapDue) (lines more : List (List ℕ)) → TakesRight remaining old mid first middle lines
+  pub TakesRight-append : (old mid new : Source R ahead) (first middle last : MapDue) (lines more : List (List ℕ)) → TakesRight remaining old mid first middle lines
       → TakesRight remaining mid new middle last more → TakesRight remaining old new first last (lines ++ more)
   TakesRight-append old mid new first middle last lines more p q = record {
     are_lines = all-append IsLine lines more p.are_lines q.are_lines;
@@ -130,7 +129,7 @@ module _ {R : Type 0} (remaining : R → Option (List ℕ)) where
   }
 
   -- right lines, and then a fault
-  TakesFault-after : (old mid new : Source R) (first middle : MapDue) (lines : List (List ℕ)) (skipped passed : ℕ) (f : MapFault)
+  TakesFault-after : (old mid new : Source R ahead) (first middle : MapDue) (lines : List (List ℕ)) (skipped passed : ℕ) (f : MapFault)
       → passed ≡ skipped + length lines → TakesRight remaining old mid first middle lines → TakesFault remaining mid new middle passed f
       → TakesFault remaining old new first skipped f
   TakesFault-after old mid new first middle lines skipped passed f e p q = record {
@@ -148,7 +147,7 @@ module _ {R : Type 0} (remaining : R → Option (List ℕ)) where
     well = q.well;
   }
 
-  TakesFailure-after : (old mid new : Source R) (first middle : MapDue) (lines : List (List ℕ)) → TakesRight remaining old mid first middle lines
+  TakesFailure-after : (old mid new : Source R ahead) (first middle : MapDue) (lines : List (List ℕ)) → TakesRight remaining old mid first middle lines
       → TakesFailure remaining mid new middle → TakesFailure remaining old new first
   TakesFailure-after old mid new first middle lines p q = record {
     before = lines ++ q.before;
@@ -166,7 +165,7 @@ module _ {R : Type 0} (remaining : R → Option (List ℕ)) where
     failed = q.failed;
   }
 
-  TakesRefusal-after : (old mid new : Source R) (lines : List (List ℕ)) → TakesLines remaining old mid lines → TakesRefusal remaining mid new
+  TakesRefusal-after : (old mid new : Source R ahead) (lines : List (List ℕ)) → TakesLines remaining old mid lines → TakesRefusal remaining mid new
       → TakesRefusal remaining old new
   TakesRefusal-after old mid new lines p q = elim p [
     | inl a ↦ record { text = ended lines ++ q.text; taken = Takes-trans remaining old mid new _ _ a q.taken; well = q.well }
@@ -174,7 +173,7 @@ module _ {R : Type 0} (remaining : R → Option (List ℕ)) where
   ]
 
   -- right lines, and then a stop
-  pub StopsReading-after : (old mid new : Source R) (first middle : MapDue) (lines : List (List ℕ)) (skipped passed : ℕ) (f : MapFault)
+  pub StopsReading-after : (old mid new : Source R ahead) (first middle : MapDue) (lines : List (List ℕ)) (skipped passed : ℕ) (f : MapFault)
       → passed ≡ skipped + length lines → TakesRight remaining old mid first middle lines → StopsReading remaining mid new middle passed f
       → StopsReading remaining old new first skipped f
   StopsReading-after old mid new first middle lines skipped passed (BadHeader at) e p q = TakesFault-after old mid new first middle lines skipped passed _ e p q
@@ -189,7 +188,7 @@ module _ {R : Type 0} (remaining : R → Option (List ℕ)) where
   StopsReading-after old mid new first middle lines skipped passed OutOfMemory e p q = TakesRefusal-after old mid new lines p.taken q
 
   -- a right line
-  pub TakesRight-line : (old new : Source R) (due next : MapDue) (line : List ℕ) → TakesLine remaining old new line → MapFollows due line next → 0 < length line
+  pub TakesRight-line : (old new : Source R ahead) (due next : MapDue) (line : List ℕ) → TakesLine remaining old new line → MapFollows due line next → 0 < length line
       → TakesRight remaining old new due next (line ∷ [])
   TakesRight-line old new due next line p follows some = record {
     are_lines = (p.0, tt);
@@ -202,7 +201,7 @@ module _ {R : Type 0} (remaining : R → Option (List ℕ)) where
   }
 
   -- a line that is judged as a whole
-  pub TakesFault-line : (old new : Source R) (due : MapDue) (skipped : ℕ) (line : List ℕ) (f : MapFault) → TakesLine remaining old new line
+  pub TakesFault-line : (old new : Source R ahead) (due : MapDue) (skipped : ℕ) (line : List ℕ) (f : MapFault) → TakesLine remaining old new line
       → HasMapFault f at_line_feed due (number_after skipped []) line → HasMapFault f at_end due (number_after skipped []) line → TakesFault remaining old new due skipped f
   TakesFault-line old new due skipped [] f p at_feed at_last = elim p.1 [
     | inl a ↦ record {

@@ -1,13 +1,17 @@
 -- The faults of a map text, and where each stands.
-use Rattle.std.specs.Prelude.{◌≡◌, ◌≢◌, ℕ, ◌+◌, ◌*◌, ◌<◌, ◌⊎◌, zero, suc, false, IsTrue, List, [], ◌∷◌, ◌++◌, length, codes, Result, Ok, Err}
+use Rattle.std.specs.Prelude.{◌≡◌, ◌≢◌, ℕ, ◌+◌, ◌*◌, ◌<◌, ◌⊎◌, zero, suc, false, IsTrue, List, [], ◌∷◌, ◌++◌, length, codes, Option, Result, Ok, Err}
 use Rattle.std.specs.List.{list_all}
+use Rattle.text_io.specs.declared.failure.Failure.TheVariants as failure
+use Rattle.text_io.specs.FaultWords.{Words, text_fault, failed}
 use Rattle.grid.specs.declared.map_fault.MapFault.{MapFault}
 use Rattle.grid.specs.declared.map_fault.MapFault.TheVariants.{BadHeader, BadNumber, TooLarge, BadTerrain, ShortRow, LongRow, MissingRows, TextAfter, ReadFailed, OutOfMemory}
-use Rattle.grid.specs.Text.{carriage_return, is_blank}
+use Rattle.text_io.specs.Text.{carriage_return, is_blank}
 use Rattle.grid.specs.Terrain.{is_terrain}
 use Rattle.grid.specs.Map.{Grid, IsSize}
-use Rattle.grid.specs.MapText.{is_tail, IsTypeLine, IsNumberLine, IsMapLine, IsRowOf, is_rest_byte}
-use Rattle.grid.specs.Reading.{by_input, Place, at_byte, at_end, IsOver, FaultAt, Outcome, is_value, is_fault, is_failed, is_refused}
+use Rattle.grid.specs.MapText.{is_tail, IsTypeLine, IsNumberLine, IsMapLine, IsRowOf, is_rest_byte, MapText}
+use Rattle.text_io.specs.Reading.{by_input, Place, at_byte, at_end, IsOver, FaultAt, Outcome, is_value, is_fault, is_failed, is_refused, ReadsText}
+use Rattle.text_io.specs.declared.counted.Counted.{Counted}
+use Rattle.text_io.specs.Counted.{counted_inner, failures_of}
 
 -- The line that is due, by what the lines before it said: one of the header, or a row of a width where so many rows are due. No row
 -- is due in the blank lines after the last.
@@ -56,7 +60,7 @@ pub record IsBeginning (width : ℕ) (characters : List ℕ) : Type 0 where
   pub terrain : IsTrue (list_all is_terrain characters)
 
 -- characters that are terrain, as many as the width
-pub record IsWhole (width : ℕ) (characters : List ℕ) : Type 0 where
+pub record IsWholeRow (width : ℕ) (characters : List ℕ) : Type 0 where
   pub whole : length characters ≡ width
   pub terrain : IsTrue (list_all is_terrain characters)
 
@@ -117,7 +121,7 @@ HasMapFault (ShortRow at) place due number line =
 HasMapFault (LongRow at) place due number line =
     (at ≡ number) × (place ≡ at_byte)
     × (width : ℕ) × IsRowDue due width
-    × (characters : List ℕ) × IsWhole width characters × RunsOver characters line
+    × (characters : List ℕ) × IsWholeRow width characters × RunsOver characters line
 HasMapFault (MissingRows at) place due number line = (at ≡ number) × (place ≡ at_end) × (width : ℕ) × IsRowDue due width × (line ≡ [])
 HasMapFault (TextAfter at) place due number line =
     (at ≡ number) × (place ≡ at_byte)
@@ -143,3 +147,21 @@ map_outcome (Err (MissingRows line)) = is_fault (MissingRows line)
 map_outcome (Err (TextAfter line)) = is_fault (TextAfter line)
 map_outcome (Err ReadFailed) = is_failed
 map_outcome (Err OutOfMemory) = is_refused
+
+-- the map was read as `read_map` reads it, with this answer
+abbrev pub ReadsMap : {R : Type 0} → (R → Option (List ℕ)) → Counted R → Counted R → Result Grid MapFault → Type 0
+ReadsMap remaining old new answer =
+    ReadsText MapText MapFaultAt (remaining (counted_inner old)) (remaining (counted_inner new)) (failures_of old) (failures_of new) (map_outcome answer)
+
+-- the words of a map's fault, as `BadTerrain 5 2`: the line, and the column
+abbrev pub map_fault_words : MapFault → Words
+map_fault_words (BadHeader line) = text_fault (codes "BadHeader") (line ∷ [])
+map_fault_words (BadNumber line) = text_fault (codes "BadNumber") (line ∷ [])
+map_fault_words (TooLarge line) = text_fault (codes "TooLarge") (line ∷ [])
+map_fault_words (BadTerrain line column) = text_fault (codes "BadTerrain") (line ∷ column ∷ [])
+map_fault_words (ShortRow line) = text_fault (codes "ShortRow") (line ∷ [])
+map_fault_words (LongRow line) = text_fault (codes "LongRow") (line ∷ [])
+map_fault_words (MissingRows line) = text_fault (codes "MissingRows") (line ∷ [])
+map_fault_words (TextAfter line) = text_fault (codes "TextAfter") (line ∷ [])
+map_fault_words ReadFailed = failed failure.ReadFailed
+map_fault_words OutOfMemory = failed failure.OutOfMemory

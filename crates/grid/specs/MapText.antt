@@ -2,7 +2,7 @@
 use Rattle.std.specs.Prelude.{◌≡◌, ℕ, ◌⊎◌, Bool, true, false, ◌&&◌, ◌||◌, ◌==◌, IsTrue, List, [], ◌∷◌, ◌++◌, length, map, take, drop, zero, suc, codes, decimal}
 use Rattle.std.specs.List.{list_all, AllByRecursion}
 use Rattle.grid.specs.declared.terrain.Terrain.{Terrain}
-use Rattle.grid.specs.Text.{carriage_return, is_blank, lines_of, ended, IsGap, SpellsNumber}
+use Rattle.text_io.specs.Text.{carriage_return, is_blank, lines_of, ended, IsGap, SpellsNumber}
 use Rattle.grid.specs.Terrain.{character_of}
 use Rattle.grid.specs.Map.{Grid, IsMap}
 

@@ -1,6 +1,6 @@
 //! A line of a map's header, followed a byte at a time: blanks and leading zeros make it as long as they like, so it is not kept.
 ghost use Rattle.std.specs.Prelude.{◌≡◌, ◌≤◌};
-ghost use Rattle.grid.specs.Text.{is_blank};
+ghost use Rattle.text_io.specs.Text.{is_blank};
 ghost use Rattle.grid.specs.Code.HeaderLine.{word_of, broken, tail_step, octile_step, with_digit, size_step, after_gap, after_word, header_step, word_saying, saying_at};
 
 /// The lines of a map's header.

@@ -1,11 +1,12 @@
 //! Why a map could not be read.
 ghost use Rattle.std.specs.Prelude.{◌≡◌, Some};
-ghost use Rattle.grid.specs.FaultWords.{map_fault_words, words_of, words_text};
+ghost use Rattle.text_io.specs.FaultWords.{words_of, words_text};
+ghost use Rattle.grid.specs.MapFault.{map_fault_words};
 ghost use Rattle.grid.specs.declared.map_fault.MapFault.TheVariants.{OutOfMemory as out_of_memory};
 
-use crate::FaultWords;
 use std::alloc::AllocError;
 use std::fmt;
+use text_io::{Failure, FaultWords};
 use thiserror::Error;
 
 /// The first fault of a map text, with its line and column from 1 on, or why the text was not read to that point.
@@ -39,8 +40,8 @@ impl MapFault {
             MapFault::LongRow(line) => FaultWords::new("LongRow", &[line]),
             MapFault::MissingRows(line) => FaultWords::new("MissingRows", &[line]),
             MapFault::TextAfter(line) => FaultWords::new("TextAfter", &[line]),
-            MapFault::ReadFailed => FaultWords::new("ReadFailed", &[]),
-            MapFault::OutOfMemory => FaultWords::new("OutOfMemory", &[]),
+            MapFault::ReadFailed => Failure::ReadFailed.words(),
+            MapFault::OutOfMemory => Failure::OutOfMemory.words(),
         }
     }
 }

@@ -1,21 +1,22 @@
 //! Reading the text of a map.
 ghost use Rattle.std.specs.Prelude.{◌≡◌, ℕ, ◌+◌, ◌*◌, ◌^◌, ◌<◌, ◌≤◌, ◌⊎◌, zero, suc, min, false, List, [], ◌++◌, length, IsTrue, MatchResult};
-ghost use Rattle.grid.specs.Counted.{greatest, counted_inner, failures_of};
+ghost use Rattle.text_io.specs.Counted.{greatest, counted_inner, failures_of};
 ghost use Rattle.std.specs.List.{list_all};
 ghost use Rattle.grid.specs.Terrain.{is_terrain};
-ghost use Rattle.grid.specs.Reading.{ReadsText};
+ghost use Rattle.text_io.specs.Reading.{ReadsText};
 ghost use Rattle.grid.specs.MapText.{MapText, is_rest_byte};
 ghost use Rattle.grid.specs.MapFault.{MapFaultAt, type_due, rows_due, map_outcome};
 ghost use Rattle.grid.specs.Map.{IsSize};
-ghost use Rattle.grid.specs.Source.{Takes, GoesOn, IsAtEnd, has_failed, at_hand, source_reader};
+ghost use Rattle.text_io.specs.Source.{Takes, GoesOn, IsAtEnd, has_failed, at_hand, source_reader};
 ghost use Rattle.grid.specs.Code.HeaderLine.{saying_of};
 ghost use Rattle.grid.specs.Code.Following.{TakesLine, TakesRight, StopsReading, FailsInLine, SaysNoWords, SaysNoSize, HasNoTerrain, EndsRow, StopsRow, TakesRow, TakesRows};
 
 use crate::header_line::{HeaderLine, Progress, Saying};
 use crate::terrain_scan::terrain_run;
-use crate::{Counted, LARGEST_PIECE, Map, MapFault, Source, Stop};
+use crate::{Map, MapFault};
 use std::alloc::Global;
 use std::io::Read;
+use text_io::{Counted, LARGE_PIECE, Source, Stop};
 
 /// The greatest width and height.
 const MOST_SIDE: u32 = 65_535;
@@ -29,12 +30,15 @@ pub fn read_map<R: Read>(alloc: Global, reader: &mut Counted<R>) -> Result<Map, 
     ensures { ReadsText MapText MapFaultAt (R.remaining (counted_inner reader.old)) (R.remaining (counted_inner reader.new))
         (failures_of reader.old) (failures_of reader.new) (map_outcome result) }
 {
-    let mut source = Source::with_pieces_of(LARGEST_PIECE, reader);
+    let mut source = Source::new(reader);
     read_text(alloc, &mut source)
 }
 
 /// Reads the text of a source of which nothing was taken.
-fn read_text<R: Read>(alloc: Global, source: &mut Source<'_, R>) -> Result<Map, MapFault>
+fn read_text<R: Read>(
+    alloc: Global,
+    source: &mut Source<'_, R, LARGE_PIECE>,
+) -> Result<Map, MapFault>
     requires fresh { (at_hand source.old ≡ []) × GoesOn source.old }
     ensures same_reader { source.new.reader.ghost_name ≡ source.old.reader.ghost_name }
     ensures reads { ReadsText MapText MapFaultAt (R.remaining (counted_inner (source_reader source.old))) (R.remaining (counted_inner (source_reader source.new)))
@@ -47,7 +51,7 @@ fn read_text<R: Read>(alloc: Global, source: &mut Source<'_, R>) -> Result<Map, 
 }
 
 /// The width and the height.
-fn read_header<R: Read>(source: &mut Source<'_, R>) -> Result<(u32, u32), MapFault>
+fn read_header<R: Read>(source: &mut Source<'_, R, LARGE_PIECE>) -> Result<(u32, u32), MapFault>
     ensures { MatchResult result
         (λ size. IsSize size.0 size.1 × (lines : List (List ℕ)) × (length lines ≡ 4)
         × TakesRight R.remaining source.old source.new type_due (rows_due size.0 size.1) lines)
@@ -67,7 +71,7 @@ fn read_header<R: Read>(source: &mut Source<'_, R>) -> Result<(u32, u32), MapFau
 
 /// Reads a line of the header that has words alone.
 fn read_words<R: Read>(
-    source: &mut Source<'_, R>,
+    source: &mut Source<'_, R, LARGE_PIECE>,
     line: HeaderLine,
     number: u64,
 ) -> Result<(), MapFault>
@@ -84,7 +88,7 @@ fn read_words<R: Read>(
 
 /// Reads a line of the header that has a size, from 1 up to a greatest one.
 fn read_size<R: Read>(
-    source: &mut Source<'_, R>,
+    source: &mut Source<'_, R, LARGE_PIECE>,
     line: HeaderLine,
     number: u64,
     most: u32,
@@ -104,7 +108,7 @@ fn read_size<R: Read>(
 
 /// Takes a line of the header, and what it says.
 fn read_header_line<R: Read>(
-    source: &mut Source<'_, R>,
+    source: &mut Source<'_, R, LARGE_PIECE>,
     line: HeaderLine,
 ) -> Result<Saying, MapFault>
     ensures { MatchResult result
@@ -125,7 +129,7 @@ fn read_header_line<R: Read>(
 /// The characters of all rows.
 fn read_rows<R: Read>(
     alloc: Global,
-    source: &mut Source<'_, R>,
+    source: &mut Source<'_, R, LARGE_PIECE>,
     width: u32,
     height: u32,
 ) -> Result<Vec<u8>, MapFault>
@@ -144,7 +148,7 @@ fn read_rows<R: Read>(
 
 /// Adds the characters of a row, and takes its line end.
 fn read_row<R: Read>(
-    source: &mut Source<'_, R>,
+    source: &mut Source<'_, R, LARGE_PIECE>,
     width: u32,
     number: u64,
     characters: &mut Vec<u8>,
@@ -173,7 +177,7 @@ fn read_row<R: Read>(
 
 /// Takes the terrain characters at hand, up to so many. None are taken where another byte comes, or none at all.
 fn take_terrain<R: Read>(
-    source: &mut Source<'_, R>,
+    source: &mut Source<'_, R, LARGE_PIECE>,
     most: u32,
     characters: &mut Vec<u8>,
 ) -> Result<u32, MapFault>
@@ -196,7 +200,7 @@ fn take_terrain<R: Read>(
 }
 
 /// Why a row with so few characters has no more of them.
-fn row_fault<R: Read>(source: &mut Source<'_, R>, number: u64, count: u32) -> MapFault
+fn row_fault<R: Read>(source: &mut Source<'_, R, LARGE_PIECE>, number: u64, count: u32) -> MapFault
     requires { count + 1 < 2 ^ 32 }
     ensures { StopsRow R.remaining source.old source.new number count result }
 {
@@ -220,7 +224,7 @@ enum LineEnd {
     Failure,
 }
 
-fn take_line_end<R: Read>(source: &mut Source<'_, R>) -> LineEnd
+fn take_line_end<R: Read>(source: &mut Source<'_, R, LARGE_PIECE>) -> LineEnd
     ensures { EndsRow R.remaining source.old source.new result }
 {
     match source.next_byte() {
@@ -238,7 +242,11 @@ fn take_line_end<R: Read>(source: &mut Source<'_, R>) -> LineEnd
 }
 
 /// Takes the blanks after the last row, from a line on.
-fn read_rest<R: Read>(source: &mut Source<'_, R>, width: u32, first: u64) -> Result<(), MapFault>
+fn read_rest<R: Read>(
+    source: &mut Source<'_, R, LARGE_PIECE>,
+    width: u32,
+    first: u64,
+) -> Result<(), MapFault>
     ensures { MatchResult result
         (λ _. IsAtEnd source.new × (lines : List (List ℕ)) × TakesRight R.remaining source.old source.new (rows_due width zero) (rows_due width zero) lines)
         (λ fault. (skipped : ℕ) → first ≡ min (skipped + 1) greatest

@@ -1,14 +1,15 @@
 //! Writing a map as text.
 ghost use Rattle.std.specs.Prelude.{◌≡◌, ◌*◌, [], ◌∷◌, ◌++◌, length, decimal, OnOk, OnErr, is_ok};
-ghost use Rattle.grid.specs.Counted.{counted_inner, failures_of};
-ghost use Rattle.grid.specs.Text.{line_feed, ended};
-ghost use Rattle.grid.specs.Sink.{held_back, Puts, Breaks};
-ghost use Rattle.grid.specs.Writing.{WritesText};
+ghost use Rattle.text_io.specs.Counted.{counted_inner, failures_of};
+ghost use Rattle.text_io.specs.Text.{line_feed, ended};
+ghost use Rattle.text_io.specs.Sink.{held_back, Puts, Breaks};
+ghost use Rattle.text_io.specs.Writing.{WritesText};
 ghost use Rattle.grid.specs.MapText.{rows_of, header_lines, canonical_map_text};
 
-use crate::{Counted, Map, Sink, WriteFault};
+use crate::Map;
 use itoa::Buffer;
 use std::io::Write;
+use text_io::{Counted, Sink, WriteFault};
 
 /// Writes a map in canonical form: one space between words, no leading zero, an LF after each line, nothing after the last.
 /// The writer is not flushed.

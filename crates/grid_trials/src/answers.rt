@@ -1,8 +1,9 @@
 //! What a map text is answered with, as text: the map in canonical form, or the fault.
-use grid::{Counted, read_map, write_map};
+use grid::{read_map, write_map};
 use std::alloc::Global;
 use std::io::Read;
 use std::test::Fail;
+use text_io::Counted;
 
 /// What a reader of a map text is answered with.
 pub fn answer<R: Read + Drop>(alloc: Global, reader: R) -> Result<String, Fail> {

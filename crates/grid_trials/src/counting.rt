@@ -1,10 +1,10 @@
 //! Counted readers and writers pass calls on and count failures.
 use fakes::{Keeper, Pieces, Trouble};
-use grid::Counted;
 use std::io;
 use std::io::{ErrorKind, Read, Write};
 use std::process::Abort;
 use std::test::Fail;
+use text_io::Counted;
 
 #[test]
 fn counted_reads(rt: HostRuntime) -> Result<(), Fail> {

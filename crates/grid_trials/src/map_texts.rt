@@ -1,8 +1,9 @@
 //! A map text in pieces, and the cells of a map.
 use crate::answers::answer;
 use fakes::{CORNER, CORNER_WRITTEN, Pieces};
-use grid::{Cell, Counted, Terrain, read_map};
+use grid::{Cell, Terrain, read_map};
 use std::test::Fail;
+use text_io::Counted;
 
 #[test]
 fn cuts(rt: HostRuntime) -> Result<(), Fail> {

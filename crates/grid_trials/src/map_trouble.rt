@@ -1,8 +1,9 @@
 //! Maps from readers that fail and to writers that fail, at each of their calls in turn.
 use fakes::{CORNER, CORNER_WRITTEN, Keeper, Pieces, Trouble};
-use grid::{Counted, MapFault, WriteFault, read_map, write_map};
+use grid::{MapFault, read_map, write_map};
 use std::io::ErrorKind;
 use std::test::Fail;
+use text_io::{Counted, WriteFault};
 
 /// The kinds of error that a reader may fail with, which are all alike.
 static KINDS: [ErrorKind; 3] = [

@@ -1,9 +1,10 @@
 //! A map that is read while memory may be refused, as `./test --prove` refuses each allocation of these tests in turn: at the most one in a run.
 use fakes::{CORNER, CORNER_WRITTEN, Keeper};
-use grid::{Counted, MapFault, read_map, write_map};
+use grid::{MapFault, read_map, write_map};
 use std::alloc::Global;
 use std::process::Abort;
 use std::test::Fail;
+use text_io::Counted;
 
 /// Reads a map and writes it; nothing but memory is lacking.
 fn attempt(rt: &impl Abort, alloc: Global) -> Result<(), MapFault> {

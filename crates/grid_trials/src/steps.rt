@@ -1,6 +1,7 @@
 //! Legal steps on small maps.
-use grid::{Cell, Counted, Map, read_map, step4, step8};
+use grid::{Cell, Map, read_map, step4, step8};
 use std::test::Fail;
+use text_io::Counted;
 
 /// All terrains in a row, with ground on both sides of each: which of the straight steps to the east are legal.
 const TERRAINS: &str = "type octile\nheight 1\nwidth 13\nmap\n.G.S.W.@.O.TS\n";

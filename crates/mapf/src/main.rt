@@ -1,13 +1,13 @@
 //! The program `mapf`: gives the words of the command line to `mapf_cmd`, with the files and streams of the system.
 #![tactic(auto)]
 
-use grid::Counted;
 use mapf_cmd::{LineFault, Remembering, Style, refuse, run};
 use std::alloc::Global;
 use std::env::VarError;
 use std::io::{ErrorKind, IsTerminal};
 use std::process::ExitCode;
 use std::{env, io};
+use text_io::Counted;
 
 const NOT_TEXT: &str =
     "error: a word of the command line is not UTF-8\n\nFor more information, try '--help'.\n";

@@ -1,31 +1,26 @@
 -- What the program does with the words of its command line.
 use Rattle.std.specs.Prelude.{◌≡◌, ℕ, ◌⊎◌, Bool, true, false, List, [], ◌∷◌, Option, Some, codes, string_bytes}
-use Rattle.grid.specs.declared.counted.Counted.{Counted}
-use Rattle.grid.specs.Counted.{counted_inner, failures_of}
-use Rattle.grid.specs.Writing.{WritesText}
+use Rattle.text_io.specs.declared.failure.Failure.TheVariants as failure
+use Rattle.text_io.specs.FaultWords.{Words, failed}
+use Rattle.text_io.specs.declared.counted.Counted.{Counted}
+use Rattle.text_io.specs.Counted.{counted_inner, failures_of}
+use Rattle.text_io.specs.Writing.{WritesText}
 use Rattle.clap.specs.Words.{Text}
 use Rattle.command_line.specs.declared.command_line.Line.{Line}
 use Rattle.command_line.specs.declared.command_line.Line.TheVariants.{Map, Scen, Row, Check, Deps, Path, Run, Agent, Tape}
 use Rattle.command_line.specs.declared.command_line.LineFault.{LineFault}
 use Rattle.command_line.specs.declared.command_line.LineFault.TheVariants.{Help, BadCommand, OutOfMemory}
 use Rattle.text_commands.specs.declared.status.Status.TheVariants as status
-use Rattle.mapf_cmd.specs.declared.program_fault.ProgramFault.{ProgramFault}
-use Rattle.mapf_cmd.specs.declared.program_fault.ProgramFault.TheVariants as program_fault
 use Rattle.text_commands.specs.Rewriting.{EndsWriting}
 use Rattle.text_commands.specs.Status.{code_of}
 use Rattle.text_commands.specs.Telling.{Tells}
 use Rattle.command_line.specs.Words.{IsLineOf, IsFaultOf}
-use Rattle.explain.specs.Explaining.{GoesOn}
-use Rattle.mapf_cmd.specs.OnFiles.{AgentOn, CheckOn, DepsOn, MapOn, PathOn, RowOn, RunOn, ScenOn, TapeOn}
-
--- the words of why no command was performed
-abbrev pub program_fault_words : ProgramFault → List (List ℕ)
-program_fault_words program_fault.OpenFailed = codes "OpenFailed" ∷ []
-program_fault_words program_fault.OutOfMemory = codes "OutOfMemory" ∷ []
+use Rattle.explain.specs.Explaining.{AddsMore}
+use Rattle.mapf_cmd.specs.OnFiles.{AgentOnFiles, CheckOn, DepsOn, MapOn, PathOn, RowOn, RunOn, ScenOn, TapeOn}
 
 -- The command ended by what it read of its files. Only an agent reads the input, and a command whose one file is it.
 abbrev pub PerformsOn
-    : {F I W : Type 0} → (F → Option (List ℕ)) → (I → Option (List ℕ)) → (W → Option (List ℕ)) → (Told : Option (List (List ℕ)) → Type 0) → Line
+    : {F I W : Type 0} → (F → Option (List ℕ)) → (I → Option (List ℕ)) → (W → Option (List ℕ)) → (Told : Option Words → Type 0) → Line
     → Counted I → Counted I → Counted W → Counted W → ℕ → Type 0
 PerformsOn remaining input_left contents Told (Map file explain) old_in new_in old new code =
     MapOn remaining input_left contents Told (string_bytes file) old_in new_in old new code
@@ -42,17 +37,17 @@ PerformsOn remaining input_left contents Told (Path map_file plan_file agent exp
 PerformsOn remaining input_left contents Told (Run map_file plan_file events_file complete explain) old_in new_in old new code =
     RunOn remaining contents Told complete old new code × (new_in ≡ old_in)
 PerformsOn remaining input_left contents Told (Agent map_file plan_file id tape_file claim explain) old_in new_in old new code =
-    AgentOn remaining input_left contents Told id claim old_in new_in old new code
+    AgentOnFiles remaining input_left contents Told id claim old_in new_in old new code
 PerformsOn remaining input_left contents Told (Tape map_file plan_file id tape_file explain) old_in new_in old new code =
     TapeOn remaining contents Told id old new code × (new_in ≡ old_in)
 
 -- the command was performed, or a file of it could not be opened, and nothing was read or written but that
 abbrev pub Performs
-    : {F I W : Type 0} → (F → Option (List ℕ)) → (I → Option (List ℕ)) → (W → Option (List ℕ)) → (Told : Option (List (List ℕ)) → Type 0) → Line
+    : {F I W : Type 0} → (F → Option (List ℕ)) → (I → Option (List ℕ)) → (W → Option (List ℕ)) → (Told : Option Words → Type 0) → Line
     → Counted I → Counted I → Counted W → Counted W → ℕ → Type 0
 Performs remaining input_left contents Told line old_in new_in old new code =
     PerformsOn remaining input_left contents Told line old_in new_in old new code
-    ⊎ ((code ≡ code_of status.Failure) × (new_in ≡ old_in) × (new ≡ old) × Told (Some (program_fault_words program_fault.OpenFailed)))
+    ⊎ ((code ≡ code_of status.Failure) × (new_in ≡ old_in) × (new ≡ old) × Told (Some (failed failure.OpenFailed)))
 
 -- How the program ends that has no command: it shows its help on the output; or it writes to the error output what is wrong with its
 -- words, or a beginning of that where the error output failed.
@@ -64,7 +59,7 @@ EndsRefused contents told (BadCommand text) old new old_err new_err code =
     (code ≡ code_of status.BadCommand) × (new ≡ old)
     × ((ok : Bool) × WritesText ok (told (counted_inner old_err)) (told (counted_inner new_err)) (failures_of old_err) (failures_of new_err) (string_bytes text))
 EndsRefused contents told OutOfMemory old new old_err new_err code =
-    (code ≡ code_of status.Failure) × (new ≡ old) × Tells told old_err new_err (Some (program_fault_words program_fault.OutOfMemory))
+    (code ≡ code_of status.Failure) × (new ≡ old) × Tells told old_err new_err (Some (failed failure.OutOfMemory))
 
 -- an explanation is asked for
 abbrev pub is_explained : Line → Bool
@@ -80,7 +75,7 @@ is_explained (Tape map_file plan_file id tape_file explain) = explain
 
 -- what an explanation does, where one is asked for: the error output goes on behind what it has; and else it is left alone
 abbrev pub Explains : {E : Type 0} → (E → Option (List ℕ)) → Bool → Counted E → Counted E → Type 0
-Explains told true old new = GoesOn (told (counted_inner old)) (told (counted_inner new))
+Explains told true old new = AddsMore (told (counted_inner old)) (told (counted_inner new))
 Explains told false old new = new ≡ old
 
 -- The command was performed, which left the error output so, and then explained, where that is asked for. So its status, its input and its

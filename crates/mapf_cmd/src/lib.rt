@@ -4,7 +4,6 @@
 mod fault_line;
 mod on_files;
 mod program;
-mod program_fault;
 mod remembering;
 mod unperformed;
 

@@ -1,10 +1,10 @@
 //! Each command on its files, which are opened in the order of its words. An error is that of a file that can't be opened.
 ghost use Rattle.std.specs.Prelude.{◌≡◌, MatchResult};
 ghost use Rattle.text_commands.specs.Telling.{Tells};
-ghost use Rattle.mapf_cmd.specs.OnFiles.{AgentOn, CheckOn, DepsOn, MapOn, PathOn, RowOn, RunOn, ScenOn, TapeOn};
+ghost use Rattle.mapf_cmd.specs.OnFiles.{AgentOnFiles, CheckOn, DepsOn, MapOn, PathOn, RowOn, RunOn, ScenOn, TapeOn};
 
 use agent_commands::{agent_claim_cmd, no_tape_cmd, tape_cmd};
-use grid::{Cell, Counted};
+use grid::Cell;
 use path_commands::path_cmd;
 use plan_commands::{check_cmd, check_fit_cmd, deps_cell_cmd, deps_cmd};
 use run_commands::run_cmd;
@@ -13,6 +13,7 @@ use std::rt::Files;
 use std::{fs, io};
 use tape_claim::{LockFile, TapeClaim};
 use text_commands::{map_cmd, row_cmd, scen_cmd};
+use text_io::Counted;
 
 /// Performs `map` on its file, or on the input where that is `-`.
 // Compiled by itself, for its room on the stack.
@@ -180,7 +181,7 @@ pub(crate) fn agent_on_files<R: Files + AllocGlobal, I: Read, W: Write, E: Write
 ) -> io::Result<u8>
 where
     R::File: LockFile,
-    ensures { MatchResult result (AgentOn R.File.remaining I.remaining W.contents (Tells E.contents err.old err.new) id claim input.old input.new out.old out.new) (λ _. (input.new ≡ input.old) × (out.new ≡ out.old) × (err.new ≡ err.old)) }
+    ensures { MatchResult result (AgentOnFiles R.File.remaining I.remaining W.contents (Tells E.contents err.old err.new) id claim input.old input.new out.old out.new) (λ _. (input.new ≡ input.old) × (out.new ≡ out.old) × (err.new ≡ err.old)) }
 {
     let mut map = Counted::new(fs::open(rt, map)?);
     let mut plan = Counted::new(fs::open(rt, plan)?);

@@ -1,7 +1,7 @@
 //! The program over its words: chooses the command, and explains its fault.
 ghost use Rattle.std.specs.Prelude.{◌≡◌, MatchResult, map, string_bytes};
-ghost use Rattle.explain.specs.Explaining.{GoesOn};
-ghost use Rattle.grid.specs.Counted.{counted_inner};
+ghost use Rattle.explain.specs.Explaining.{AddsMore};
+ghost use Rattle.text_io.specs.Counted.{counted_inner};
 ghost use Rattle.text_commands.specs.Telling.{Tells};
 ghost use Rattle.mapf_cmd.specs.Program.{AnswersLine, AnswersWords, Performs, PerformsOn, is_explained};
 ghost use Rattle.mapf_cmd.specs.Remembering.{contents_inside};
@@ -12,16 +12,15 @@ use crate::on_files::{
     agent_on_files, check_on_files, deps_on_files, map_on_file, path_on_files, row_on_files,
     run_on_files, scen_on_file, tape_on_files,
 };
-use crate::program_fault::ProgramFault;
 use crate::unperformed::end_unperformed;
 use command_line::{Line, line};
 use explain::{FileKind, NamedFile, Style, explain};
-use grid::Counted;
 use std::io;
 use std::io::{Read, Write};
 use std::rt::Files;
 use tape_claim::LockFile;
-use text_commands::{Status, report};
+use text_commands::give_up;
+use text_io::{Counted, Failure};
 
 /// Answers the words of the command line, the program's name first, over the files of `rt`: what a command writes goes to `out`, and
 /// the line of a fault to `err`, with an explanation behind it in this style, where one is asked for. An agent reads `input`, and so do `map`
@@ -92,7 +91,7 @@ fn explain_fault<R: Files + AllocGlobal, E: Write>(
     style: Style,
     err: &mut Counted<Remembering<E>>,
 )
-    ensures { GoesOn (contents_inside E.contents (counted_inner err.old)) (contents_inside E.contents (counted_inner err.new)) }
+    ensures { AddsMore (contents_inside E.contents (counted_inner err.old)) (contents_inside E.contents (counted_inner err.new)) }
 {
     match line {
         Line::Map { file, .. } => explain(rt, &[map_file(file)], told, style, err),
@@ -188,10 +187,7 @@ where
 {
     match perform_on_files(rt, line, input, out, err) {
         Ok(status) => status,
-        Err(_) => {
-            report(err, ProgramFault::OpenFailed.words());
-            Status::Failure.code()
-        }
+        Err(_) => give_up(Failure::OpenFailed.words(), err),
     }
 }
 

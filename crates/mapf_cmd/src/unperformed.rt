@@ -2,12 +2,11 @@
 ghost use Rattle.std.specs.Prelude.{◌≡◌, IfSome, map, string_bytes};
 ghost use Rattle.mapf_cmd.specs.Program.{AsksForFaultHelp, EndsRefused, EndsUnperformed};
 
-use crate::program_fault::ProgramFault;
 use command_line::LineFault;
 use explain::{FaultHelp, fault_help};
-use grid::Counted;
 use std::io::Write;
-use text_commands::{Status, finish, report, write_text};
+use text_commands::{Status, finish, give_up, write_text};
+use text_io::{Counted, Failure};
 
 /// Shows help on a fault, where the words ask for that, and else what `refuse` does. The answer is the exit status.
 // Compiled by itself, for its room on the stack.
@@ -59,9 +58,6 @@ pub fn refuse<W: Write, E: Write>(
             let _ = write_text(text.as_bytes(), err);
             Status::BadCommand.code()
         }
-        LineFault::OutOfMemory => {
-            report(err, ProgramFault::OutOfMemory.words());
-            Status::Failure.code()
-        }
+        LineFault::OutOfMemory => give_up(Failure::OutOfMemory.words(), err),
     }
 }

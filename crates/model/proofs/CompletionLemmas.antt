@@ -13,12 +13,12 @@ use Rattle.model.specs.History.{History, kept_starts, done, is_moving, messages,
 use Rattle.model.specs.Rules.{IsRun}
 use Rattle.model.specs.Completion.{history_after, AreAccepted, HasArrived, IsCompletion}
 use Rattle.model.specs.Ready.{IsReady, StayReady, rest_events}
-use Rattle.model.proofs.AfterLemmas.{history-more, accepted-more, run-more}
-use Rattle.model.proofs.NeedLemmas.{awaits}
-use Rattle.model.proofs.RoundLemmas.{first_that, turned, round, round-length, round-is}
-use Rattle.model.proofs.RunLemmas.{progress, in_step}
-use Rattle.model.proofs.ReadyLemmas.{others-ready, comes_to_rest, moves_on, message, speaks_up, learns}
-use Rattle.model.proofs.WaitLemmas.{last-within, waited, waited-is, rotation}
+use Rattle.model.specs.Laws.After.{history-more, accepted-more, run-more}
+use Rattle.model.specs.Laws.Needs.{awaits}
+use Rattle.model.specs.Laws.Rounds.{first_that, turned, round, round-length, round-is}
+use Rattle.model.specs.Laws.Runs.{progress, in_step}
+use Rattle.model.specs.Laws.Ready.{others-ready, comes_to_rest, moves_on, message, speaks_up, learns}
+use Rattle.model.specs.Laws.Waits.{last-within, waited, waited-is, rotation}
 
 -- ---- how many moves are left
 

@@ -6,7 +6,7 @@ use Rattle.std.proofs.lemmas.List.{length-take-le}
 use Rattle.grid.specs.declared.cell.Cell.{Cell}
 use Rattle.model.specs.Timetable.{Track, same_cell, cell_after, cell_at, moves_after}
 use Rattle.model.specs.Costs.{cost_after, EndsAtRest}
-use Rattle.model.proofs.TrackLemmas.{same_cell-same, same_cell-true, cell_at-start}
+use Rattle.model.specs.Laws.Tracks.{same_cell-same, same_cell-true, cell_at-start}
 
 -- from this time on the cell stays the same
 abbrev pub Rests : Cell → List Cell → ℕ → Type 0

@@ -7,8 +7,8 @@ use Rattle.grid.specs.declared.cell.Cell.{Cell}
 use Rattle.model.specs.Timetable.{Track, Timetable, same_cell, cell_at, moves_before, path, step_of, track_of, Stands, IsConflictFree}
 use Rattle.model.specs.Dependency.{Need, Stand, need_by, need, IsMet, last_stand, moves_in}
 use Rattle.model.specs.Rules.{path_cell}
-use Rattle.model.proofs.TrackLemmas.{same_cell-same, same_cell-true, moves-leave, moves-rise, cell-visit, visit_time, step-of_move}
-use Rattle.model.proofs.NeedLemmas.{stands-track, stands-from, IsLastBelow, last_stand-is}
+use Rattle.model.specs.Laws.Tracks.{same_cell-same, same_cell-true, moves-leave, moves-rise, cell-visit, visit_time, step-of_move}
+use Rattle.model.specs.Laws.Needs.{stands-track, stands-from, IsLastBelow, last_stand-is}
 
 -- how many moves each agent has begun and finished, where each begun move has its need met
 pub record IsKept (tt : Timetable) (begun finished : ℕ → ℕ) : Type 0 where

@@ -13,8 +13,8 @@ use Rattle.model.specs.Dependency.{Need, need}
 use Rattle.model.specs.History.{Answer, moving, at, between, refused, History, Happening, armed_of, is_store_failed, is_opened, is_begun, is_ended, broken_after, is_broken, starts_of, finishes_of, kept_starts, done, is_moving, known}
 use Rattle.model.specs.Rules.{path_cell, stored, unless_waiting, start_answer, finish_answer, restart_answer, answer, agent_of, IsRun}
 use Rattle.model.specs.Safety.{walk_after, walk, IsBeginningOf}
-use Rattle.model.proofs.TrackLemmas.{first_cell, length-path}
-use Rattle.model.proofs.RunLemmas.{Progress, progress, level, room_left, start-begun, finish-ended, answer-at}
+use Rattle.model.specs.Laws.Tracks.{first_cell, length-path}
+use Rattle.model.specs.Laws.Runs.{Progress, progress, level, room_left, start-begun, finish-ended, answer-at}
 
 -- the walk is a beginning of the path, and has all begun moves unless the agent is broken
 pub record Walked (tab : Timetable) (h : History) (i : ℕ) (track : Track) : Type 0 where

@@ -13,14 +13,14 @@ abbrev pub history_after : Version → Timetable → History → List Event → 
 history_after version tt h [] = h
 history_after version tt h (e ∷ events) = history_after version tt (record { event = e; answer = answer version tt h e } ∷ h) events
 
-abbrev pub IsRefused : Answer → Type 0
-IsRefused r = (why : Why) × (r ≡ refused why)
+abbrev pub IsAnswerRefused : Answer → Type 0
+IsAnswerRefused r = (why : Why) × (r ≡ refused why)
 
 -- none of the events is answered with a refusal
 abbrev pub AreAccepted : Version → Timetable → History → List Event → Type 0
 AreAccepted version tt h [] = Unit {0}
 AreAccepted version tt h (e ∷ events) =
-    (IsRefused (answer version tt h e) → ⊥) × AreAccepted version tt (record { event = e; answer = answer version tt h e } ∷ h) events
+    (IsAnswerRefused (answer version tt h e) → ⊥) × AreAccepted version tt (record { event = e; answer = answer version tt h e } ∷ h) events
 
 -- the agent has finished all its moves, and is not moving
 pub record HasArrived (h : History) (i : ℕ) (track : Track) : Type 0 where

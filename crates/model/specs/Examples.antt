@@ -199,8 +199,8 @@ no_agent = None
 abbrev no_stand : Option Stand
 no_stand = None
 
-abbrev stood : ℕ → ℕ → Option Stand
-stood agent time = Some (record { agent = agent; time = time })
+abbrev stands_there : ℕ → ℕ → Option Stand
+stands_there agent time = Some (record { agent = agent; time = time })
 
 abbrev task : Cell → Cell → Task
 task start goal = record { width = 3; height = 1; start = start; goal = goal }
@@ -236,9 +236,9 @@ Visits = IsVisit row 0 0 0 (cell 1 0) × IsVisit row 1 1 1 (cell 1 0) × IsVisit
 abbrev pub LastStands : Type 0
 LastStands =
     (stander row 0 (cell 1 0) ≡ Some 0) × (stander row 1 (cell 1 0) ≡ Some 1) × (stander row 1 (cell 0 0) ≡ no_agent)
-    × (last_stand row (cell 1 0) 0 ≡ stood 0 0) × (last_stand row (cell 1 0) 3 ≡ stood 1 3) × (last_stand row (cell 0 0) 3 ≡ stood 1 0)
+    × (last_stand row (cell 1 0) 0 ≡ stands_there 0 0) × (last_stand row (cell 1 0) 3 ≡ stands_there 1 3) × (last_stand row (cell 0 0) 3 ≡ stands_there 1 0)
     × (last_stand row (cell 2 0) 0 ≡ no_stand) × (moves_to row 0 1 ≡ 1)
-    × IsLastStand row (cell 1 0) 0 (stood 0 0) × IsLastStand row (cell 2 0) 0 no_stand
+    × IsLastStand row (cell 1 0) 0 (stands_there 0 0) × IsLastStand row (cell 2 0) 0 no_stand
     -- so the follower's move needs the leader's
     × IsNeed row 1 follower 0 (needs 0 1)
     -- whose visit of the middle has ended when the follower's begins

@@ -25,5 +25,9 @@ pub mod Safety
 pub mod Completion
 -- what brings agents on that are ready for it
 pub mod Ready
+-- the words of the faults of plans and of messages
+pub mod FaultWords
 -- small plans and runs, and what has to come out
 pub mod Examples
+-- What follows from these definitions, each with its proof: proofs of other crates cite it, and nothing of it has to be believed.
+pub mod Laws

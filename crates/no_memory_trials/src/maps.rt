@@ -1,11 +1,12 @@
 //! What maps, plans and scenarios answer by calls that take no memory, as `./test --prove` refuses each allocation of these tests in turn: at the
 //! most one in a run.
 use crate::texts::{map_of, plan_behind};
-use grid::{Cell, Counted, Map, Terrain, step4, step8};
+use grid::{Cell, Map, Terrain, step4, step8};
 use plan::{CheckedPlan, FitFault, Plan, fits};
 use scen::{ScenFault, Scenario, read_scen};
 use std::alloc::Global;
 use std::test::Fail;
+use text_io::Counted;
 
 const YARD: &str = "type octile\nheight 2\nwidth 3\nmap\n..@\nG.W\n";
 

@@ -1,8 +1,9 @@
 //! A plan that the tests share; nothing but memory can be lacking for it.
 use depgraph::OutOfMemory;
-use grid::{Counted, Map, read_map};
+use grid::{Map, read_map};
 use plan::{CheckedPlan, Plan, check, read_plan};
 use std::alloc::Global;
+use text_io::Counted;
 
 const ROW: &str = "type octile\nheight 1\nwidth 3\nmap\n...\n";
 

@@ -4,7 +4,7 @@ use Rattle.std.specs.Prelude.{codes, decimal, slice_get}
 use Rattle.std.proofs.lemmas.Grind.{flat_map-append}
 use Rattle.std.proofs.lemmas.List.{take_more}
 use Rattle.grid.specs.declared.cell.Cell.{Cell}
-use Rattle.grid.specs.Text.{spaced_numbers}
+use Rattle.text_io.specs.Text.{spaced_numbers}
 use Rattle.path_commands.specs.PathText.{numbers_of}
 use Rattle.path_commands.specs.Code.Numerals.{AreNumerals}
 use Rattle.path_commands.proofs.NumeralLemmas.{both}

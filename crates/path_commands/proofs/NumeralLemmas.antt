@@ -3,7 +3,7 @@ use Rattle.std.proofs.Common.{◌≡◌, ℕ, zero, suc, ◌+◌, ◌≤◌, Lis
 use Rattle.std.specs.Prelude.{slice_get}
 use Rattle.std.proofs.lemmas.List.{take-append-le}
 use Rattle.std.proofs.Math.Seq.{take-append-add}
-use Rattle.grid.specs.Text.{spaced_numbers}
+use Rattle.text_io.specs.Text.{spaced_numbers}
 use Rattle.path_commands.specs.Code.Numerals.{AreFrom, AreNumerals, spaced}
 
 -- one numeral more

@@ -9,11 +9,11 @@ use Rattle.std.proofs.lemmas.List.Folds.{list_all-append}
 use Rattle.std.proofs.lemmas.List.Splits.{slice_split_at, slice_split_none}
 use Rattle.std.proofs.lemmas.List.Sums.{AllPass-from_list_all}
 use Rattle.grid.specs.declared.cell.Cell.{Cell}
-use Rattle.grid.specs.Text.{space, is_line_byte, lines_of, IsLine, spaced_numbers}
-use Rattle.grid.proofs.LineLemmas.{lines_of-all}
-use Rattle.plan_text.proofs.NumeralLemmas.{decimal-IsNumeral}
-use Rattle.plan_text.proofs.SpellingLemmas.{is_part_byte, decimal-is_part, IsLine-part, IsPart}
-use Rattle.path_commands.specs.PathText.{AreWithinWidths, IsShort, numbers_of, path_line, path_lines, path_text}
+use Rattle.text_io.specs.Text.{space, is_line_byte, lines_of, IsLine, spaced_numbers, is_part_byte, IsPart}
+use Rattle.text_io.specs.Laws.Lines.{lines_of-all}
+use Rattle.text_io.specs.Laws.Numerals.{decimal-IsNumeral}
+use Rattle.text_io.specs.Laws.Parts.{decimal-is_part, IsLine-part}
+use Rattle.path_commands.specs.PathText.{AreWithinWidths, IsCellShort, numbers_of, path_line, path_lines, path_text}
 
 -- ---- one line
 
@@ -52,13 +52,13 @@ same_numbers (m ∷ ms) (n ∷ ns) fits also e =
     let rest : map decimal ms ≡ map decimal ns = cc in
     ap₂ (λ k ks. k ∷ ks) (same_number m n fits.0 also.0 first) (same_numbers ms ns fits.1 also.1 rest)
 
-fitting : (cells : List Cell) → All IsShort cells → AllFit (numbers_of cells)
+fitting : (cells : List Cell) → All IsCellShort cells → AllFit (numbers_of cells)
 fitting [] h = tt
 fitting (c ∷ cells) h =
-    let short = All-head IsShort c cells h in
+    let short = All-head IsCellShort c cells h in
     let column = short.0 in
     let row = short.1 in
-    (omega (arith, column), (omega (arith, row), fitting cells (All-tail IsShort c cells h)))
+    (omega (arith, column), (omega (arith, row), fitting cells (All-tail IsCellShort c cells h)))
 
 same_numbers_of : (cells others : List Cell) → numbers_of cells ≡ numbers_of others → cells ≡ others
 same_numbers_of [] [] e = refl
@@ -71,7 +71,7 @@ same_numbers_of (c ∷ cells) (d ∷ others) e =
     let first : c ≡ d = ap₂ {A = ℕ} {B = ℕ} {C = Cell} (λ x y. record { x = x; y = y }) across down in
     ap₂ (λ k ks. k ∷ ks) first (same_numbers_of cells others rest)
 
-same_cells : (t : ℕ) (cells others : List Cell) → Fits t → All IsShort cells → All IsShort others → path_line t cells ≡ path_line t others → cells ≡ others
+same_cells : (t : ℕ) (cells others : List Cell) → Fits t → All IsCellShort cells → All IsCellShort others → path_line t cells ≡ path_line t others → cells ≡ others
 same_cells t cells others fits h k e =
     let both : decimal t ∷ map decimal (numbers_of cells) ≡ decimal t ∷ map decimal (numbers_of others)
     = sym (parts t (numbers_of cells) fits (fitting cells h)) ∙ (ap (slice_split (λ b. b == space)) e ∙ parts t (numbers_of others) fits (fitting others k)) in
@@ -88,20 +88,20 @@ numbers-is_line : (ns : List ℕ) → AllFit ns → IsLine (spaced_numbers ns)
 numbers-is_line [] all = refl
 numbers-is_line (n ∷ ns) all = IsLine-append (decimal n) (spaced_numbers ns) (number-is_line n all.0) (numbers-is_line ns all.1)
 
-path_line-is_line : (t : ℕ) (cells : List Cell) → Fits t → All IsShort cells → IsLine (path_line t cells)
+path_line-is_line : (t : ℕ) (cells : List Cell) → Fits t → All IsCellShort cells → IsLine (path_line t cells)
 path_line-is_line t cells fits h =
     IsLine-append (decimal t) (spaced_numbers (numbers_of cells)) (number-is_line t fits) (numbers-is_line (numbers_of cells) (fitting cells h))
 
 -- ---- all lines
 
-are_lines : (t : ℕ) (rows : List (List Cell)) → Fits (t + length rows) → All (All IsShort) rows → AllByRecursion IsLine (path_lines t rows)
+are_lines : (t : ℕ) (rows : List (List Cell)) → Fits (t + length rows) → All (All IsCellShort) rows → AllByRecursion IsLine (path_lines t rows)
 are_lines t [] fits h = tt
 are_lines t (cells ∷ rows) fits h = (
-  path_line-is_line t cells (omega (arith, fits)) (All-head (All IsShort) cells rows h),
-  are_lines (t + 1) rows (omega (arith, fits)) (All-tail (All IsShort) cells rows h),
+  path_line-is_line t cells (omega (arith, fits)) (All-head (All IsCellShort) cells rows h),
+  are_lines (t + 1) rows (omega (arith, fits)) (All-tail (All IsCellShort) cells rows h),
 )
 
-same_rows : (t : ℕ) (rows others : List (List Cell)) → Fits (t + length rows) → All (All IsShort) rows → All (All IsShort) others
+same_rows : (t : ℕ) (rows others : List (List Cell)) → Fits (t + length rows) → All (All IsCellShort) rows → All (All IsCellShort) others
     → path_lines t rows ≡ path_lines t others → rows ≡ others
 same_rows t [] [] fits h k e = refl
 same_rows t [] (d ∷ others) fits h k e = cc
@@ -110,8 +110,8 @@ same_rows t (cells ∷ rows) (ds ∷ others) fits h k e =
     let line : path_line t cells ≡ path_line t ds = cc in
     let rest : path_lines (t + 1) rows ≡ path_lines (t + 1) others = cc in
     ap₂ (λ c cs. c ∷ cs)
-    (same_cells t cells ds (omega (arith, fits)) (All-head (All IsShort) cells rows h) (All-head (All IsShort) ds others k) line)
-    (same_rows (t + 1) rows others (omega (arith, fits)) (All-tail (All IsShort) cells rows h) (All-tail (All IsShort) ds others k) rest)
+    (same_cells t cells ds (omega (arith, fits)) (All-head (All IsCellShort) cells rows h) (All-head (All IsCellShort) ds others k) line)
+    (same_rows (t + 1) rows others (omega (arith, fits)) (All-tail (All IsCellShort) cells rows h) (All-tail (All IsCellShort) ds others k) rest)
 
 pub one_reading : (rows others : List (List Cell)) → AreWithinWidths rows → AreWithinWidths others → path_text rows ≡ path_text others → rows ≡ others
 one_reading rows others h k e =

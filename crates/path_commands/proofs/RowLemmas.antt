@@ -6,20 +6,20 @@ use Rattle.std.proofs.lemmas.List.{at_drop_more, get_or_default, length-map, sam
 use Rattle.std.proofs.Math.ListN.{get_or-map}
 use Rattle.std.proofs.lemmas.Option.{slice_get-get_or}
 use Rattle.grid.specs.declared.cell.Cell.{Cell}
-use Rattle.grid.specs.Text.{line_feed, ended, spaced_numbers}
+use Rattle.text_io.specs.Text.{line_feed, ended, spaced_numbers}
 use Rattle.model.specs.declared.act.Act.{Act}
 use Rattle.model.specs.declared.act.Act.TheVariants.{N}
 use Rattle.model.specs.Plan.{Course, longest_of, AreTracksOf}
 use Rattle.model.specs.Timetable.{Track, cell_after, cell_at}
-use Rattle.model.proofs.PlaceLemmas.{same_place}
-use Rattle.model.proofs.TrackLemmas.{cell_at-start}
+use Rattle.model.specs.Laws.Places.{same_place}
+use Rattle.model.specs.Laws.Tracks.{cell_at-start}
 use Rattle.plan_text.specs.Limits.{most_acts}
 use Rattle.plan.specs.Code.Standing.{cell_in}
 use Rattle.plan.specs.Code.Tracks.{cell_by, cells_along, track_along}
 use Rattle.plan.specs.Code.Walking.{start_cells}
-use Rattle.plan.proofs.WalkingLemmas.{no_course}
-use Rattle.path_commands.specs.PathText.{AreCellsAt, AreRows, count_of_times, numbers_of, path_line, path_lines}
-use Rattle.path_commands.specs.Code.Rows.{AllWalked, row_at, rows_from, rows_of}
+use Rattle.plan.specs.Laws.Walking.{no_course}
+use Rattle.path_commands.specs.PathText.{AreCellsAt, AreCellRows, count_of_times, numbers_of, path_line, path_lines}
+use Rattle.path_commands.specs.Code.Rows.{AllWalked, row_at, rows_from, rows_of_courses}
 
 -- ---- one agent
 
@@ -137,7 +137,7 @@ rows_count : (courses : List Course) (first count : ℕ) → length (rows_from c
 rows_count courses first zero = refl
 rows_count courses first (suc count) = ap suc (rows_count courses (first + 1) count)
 
-pub are_rows : (courses : List Course) → AllWalked courses → AreRows courses (rows_of courses)
+pub are_rows : (courses : List Course) → AllWalked courses → AreCellRows courses (rows_of_courses courses)
 are_rows courses h = record {
   count = rows_count courses 0 (count_of_times courses);
   each = λ t cells there. (let at : 0 + t ≡ t = omega arith in
@@ -151,7 +151,7 @@ cells_one [] t cells others h k = h ∙ sym k
 cells_one (course ∷ courses) t cells others h k =
     h.2 ∙ ap₂ (λ c cs. c ∷ cs) (same_place h.0 k.0 (h.3 ∙ sym k.3)) (cells_one courses t h.1 k.1 h.4 k.4) ∙ sym k.2
 
-pub rows_one : (courses : List Course) (rows others : List (List Cell)) → AreRows courses rows → AreRows courses others → rows ≡ others
+pub rows_one : (courses : List Course) (rows others : List (List Cell)) → AreCellRows courses rows → AreCellRows courses others → rows ≡ others
 rows_one courses rows others h k =
     let first = h.count in
     let second = k.count in

@@ -5,13 +5,13 @@ use Rattle.std.proofs.lemmas.Bool.{cases_lt, cond_both, ltb-true, ltb-false}
 use Rattle.grid.specs.Map.{Grid, IsSize}
 use Rattle.model.specs.Plan.{Course, IsBadMove}
 use Rattle.model.specs.Timetable.{cell_after}
-use Rattle.model.proofs.PlaceLemmas.{same_place}
+use Rattle.model.specs.Laws.Places.{same_place}
 use Rattle.plan_text.specs.Limits.{most_acts}
 use Rattle.plan.specs.Moving.{KeepsToGround, KeepToGround}
 use Rattle.plan.specs.Code.Tracks.{cells_along}
 use Rattle.plan.specs.Code.Walking.{HasBadMove, IsFirst}
-use Rattle.plan.proofs.CourseLemmas.{Stays, along-places}
-use Rattle.plan.proofs.WalkingLemmas.{bad_at, course_from}
+use Rattle.plan.specs.Laws.Courses.{Stays, along-places}
+use Rattle.plan.specs.Laws.Walking.{bad_at, course_from}
 use Rattle.path_commands.specs.Code.Straying.{AllHaveFewActs, GoesItsWay, IsFirstMove, IsLeastMove, sooner_of}
 use Rattle.path_commands.specs.declared.straying.BadMove.{BadMove}
 

@@ -12,52 +12,52 @@ use Rattle.model.specs.Timetable.{cell_at}
 use Rattle.plan.specs.Moving.{IsStretch, cell_by}
 use Rattle.plan.specs.Code.Standing.{cell_in}
 use Rattle.plan.specs.Code.Tracks.{track_along}
-use Rattle.plan.proofs.WalkingLemmas.{no_course}
+use Rattle.plan.specs.Laws.Walking.{no_course}
 use Rattle.path_commands.specs.Code.Rows.{AllWalked, row_at}
-use Rattle.path_commands.specs.Code.Walks.{IsInRange, acts_in, act_in, AreStretches, begun}
+use Rattle.path_commands.specs.Code.Walks.{IsCellInRange, acts_of_agent, act_in, AreStretches, begun}
 use Rattle.path_commands.proofs.RowLemmas.{after_act, after_all, is_row, no_cell, row_in}
 
 -- ---- the acts of a block
 
 -- those of the first so many agents are lined up
 abbrev pub AreLinedUp : List Course → ℕ → List (List Act) → ℕ → Type 0
-AreLinedUp courses step stretches n = (i : ℕ) → i < n → IsStretch (acts_in courses i) step (get_or stretches i [])
+AreLinedUp courses step stretches n = (i : ℕ) → i < n → IsStretch (acts_of_agent courses i) step (get_or stretches i [])
 
 abbrev blank : Course
 blank = record { start = record { x = 0; y = 0 }; acts = [] }
 
-acts_of : (courses : List Course) (i : ℕ) → i < length courses → acts_in courses i ≡ (get_or courses i no_course).acts
+acts_of : (courses : List Course) (i : ℕ) → i < length courses → acts_of_agent courses i ≡ (get_or courses i no_course).acts
 acts_of courses i less = ap (λ (k : Course). k.acts) (get_or_default courses i blank no_course less)
 
 -- the acts of the agent that was read
 pub own_stretch : (courses : List Course) (n : ℕ) (course : Course) (acts : List Act) (step : ℕ) (stretch : List Act) → slice_get courses n ≡ Some course
-    → acts ≡ course.acts → IsStretch acts step stretch → IsStretch (acts_in courses n) step stretch
+    → acts ≡ course.acts → IsStretch acts step stretch → IsStretch (acts_of_agent courses n) step stretch
 own_stretch courses n course acts step stretch there same is =
     subst (λ l. IsStretch l step stretch) (same ∙ sym (ap (λ (k : Course). k.acts) (get_or_from_slice_get courses n course blank there))) is
 
 pub lined_push : (courses : List Course) (step n : ℕ) (stretches : List (List Act)) (stretch : List Act) → AreLinedUp courses step stretches n
-    → length stretches ≡ n → IsStretch (acts_in courses n) step stretch → AreLinedUp courses step (stretches ++ stretch ∷ []) (n + 1)
+    → length stretches ≡ n → IsStretch (acts_of_agent courses n) step stretch → AreLinedUp courses step (stretches ++ stretch ∷ []) (n + 1)
 lined_push courses step n stretches stretch h count own i less = elim (cases_lt i n) [
-  | inl before ↦ subst (IsStretch (acts_in courses i) step)
+  | inl before ↦ subst (IsStretch (acts_of_agent courses i) step)
       (sym (get_or_append_left stretches (stretch ∷ []) [] i (omega (arith, before, count)))) (h i before)
   | inr last ↦ (
       let same : n ≡ i = omega (arith, less, last) in
       let none : n - n ≡ 0 = omega arith in
       let at : get_or (stretches ++ stretch ∷ []) n [] ≡ stretch =
       get_or-append_right stretches (stretch ∷ []) n n [] count (omega arith) ∙ ap (λ k. get_or (stretch ∷ []) k []) none in
-      subst (λ k. IsStretch (acts_in courses k) step (get_or (stretches ++ stretch ∷ []) k [])) same (subst (IsStretch (acts_in courses n) step) (sym at) own)
+      subst (λ k. IsStretch (acts_of_agent courses k) step (get_or (stretches ++ stretch ∷ []) k [])) same (subst (IsStretch (acts_of_agent courses n) step) (sym at) own)
       )
 ]
 
 pub lined_set : (courses : List Course) (step n : ℕ) (stretches : List (List Act)) (stretch : List Act) → AreLinedUp courses step stretches n
-    → n < length stretches → IsStretch (acts_in courses n) step stretch → AreLinedUp courses step (set stretches n stretch) (n + 1)
+    → n < length stretches → IsStretch (acts_of_agent courses n) step stretch → AreLinedUp courses step (set stretches n stretch) (n + 1)
 lined_set courses step n stretches stretch h within own i less = elim (cases_lt i n) [
-  | inl before ↦ subst (IsStretch (acts_in courses i) step)
+  | inl before ↦ subst (IsStretch (acts_of_agent courses i) step)
       (sym (get_or-set_other stretches n i stretch [] (λ e. (let same : i ≡ n = e in omega (arith, before, same))))) (h i before)
   | inr last ↦ (
       let same : n ≡ i = omega (arith, less, last) in
-      subst (λ k. IsStretch (acts_in courses k) step (get_or (set stretches n stretch) k [])) same
-      (subst (IsStretch (acts_in courses n) step) (sym (get_or-set_same stretches n stretch [] within)) own)
+      subst (λ k. IsStretch (acts_of_agent courses k) step (get_or (set stretches n stretch) k [])) same
+      (subst (IsStretch (acts_of_agent courses n) step) (sym (get_or-set_same stretches n stretch [] within)) own)
       )
 ]
 
@@ -80,7 +80,7 @@ of_block step = omega arith
 own_act : (courses : List Course) (step : ℕ) (stretches : List (List Act)) (i : ℕ) → AreStretches courses (begun step) stretches → i < length courses
     → act_in stretches i (step % 64) ≡ get_or (get_or courses i no_course).acts step Wait
 own_act courses step stretches i h less =
-    (h.each i less).each (step % 64) (within_block step) ∙ ap (λ n. get_or (acts_in courses i) n Wait) (of_block step)
+    (h.each i less).each (step % 64) (within_block step) ∙ ap (λ n. get_or (acts_of_agent courses i) n Wait) (of_block step)
     ∙ ap (λ l. get_or l step Wait) (acts_of courses i less)
 
 -- where the act in the agent's block leads
@@ -96,13 +96,13 @@ pub row_count : (courses : List Course) (step : ℕ) (cells : List Cell) → cel
 row_count courses step cells at = ap length at ∙ length-map courses (λ (k : Course). cell_at (track_along k) step)
 
 pub in_range : (courses : List Course) (step : ℕ) (cells : List Cell) (stretches : List (List Act)) → AllWalked courses → cells ≡ row_at courses step
-    → AreStretches courses (begun step) stretches → (i : ℕ) → i < length cells → IsInRange (cell_by (act_in stretches i (step % 64)) (cell_in cells i))
+    → AreStretches courses (begun step) stretches → (i : ℕ) → i < length cells → IsCellInRange (cell_by (act_in stretches i (step % 64)) (cell_in cells i))
 in_range courses step cells stretches walked at h i less =
     let count = row_count courses step cells at in
     let within : i < length courses = omega (arith, less, count) in
     let there = walked i (get_or courses i no_course) (slice_get-get_or courses i no_course within) in
     let range = there.in_range (step + 1) in
-    subst IsInRange (sym (leads_on courses step cells stretches i at h within)) (record { column = range.0; row = range.1 })
+    subst IsCellInRange (sym (leads_on courses step cells stretches i at h within)) (record { column = range.0; row = range.1 })
 
 pub next_row : (courses : List Course) (step : ℕ) (cells new : List Cell) (stretches : List (List Act)) → cells ≡ row_at courses step
     → AreStretches courses (begun step) stretches → length new ≡ length cells

@@ -1,7 +1,7 @@
 -- Where the agents are at each time, and what is written of it.
 use Rattle.std.specs.Prelude.{◌≡◌, ℕ, ◌+◌, ◌^◌, ◌<◌, List, [], ◌∷◌, ◌++◌, length, All, Option, None, Some, slice_get, decimal}
 use Rattle.grid.specs.declared.cell.Cell.{Cell}
-use Rattle.grid.specs.Text.{ended, spaced_numbers}
+use Rattle.text_io.specs.Text.{ended, spaced_numbers}
 use Rattle.model.specs.Plan.{Course, Plan, course_of, position_of, position_at, longest_of}
 
 -- the courses that are asked for: all of a plan, or that of one of its agents
@@ -21,7 +21,7 @@ count_of_times [] = 0
 count_of_times (course ∷ courses) = longest_of (course ∷ courses) + 1
 
 -- a row of cells for each time, time 0 first
-pub record AreRows (courses : List Course) (rows : List (List Cell)) : Type 0 where
+pub record AreCellRows (courses : List Course) (rows : List (List Cell)) : Type 0 where
   pub count : length rows ≡ count_of_times courses
   pub each : (t : ℕ) (cells : List Cell) → slice_get rows t ≡ Some cells → AreCellsAt courses t cells
 
@@ -44,9 +44,9 @@ abbrev pub path_text : List (List Cell) → List ℕ
 path_text rows = ended (path_lines 0 rows)
 
 -- the numbers of rows are no wider than those that the code keeps
-abbrev pub IsShort : Cell → Type 0
-IsShort c = (c.x < 2 ^ 16) × (c.y < 2 ^ 16)
+abbrev pub IsCellShort : Cell → Type 0
+IsCellShort c = (c.x < 2 ^ 16) × (c.y < 2 ^ 16)
 
 pub record AreWithinWidths (rows : List (List Cell)) : Type 0 where
   pub count : length rows < 2 ^ 32
-  pub cells : All (All IsShort) rows
+  pub cells : All (All IsCellShort) rows

@@ -1,13 +1,14 @@
 //! The text of cells: the column and the row of each, behind spaces.
 ghost use Rattle.std.specs.Prelude.{◌≡◌, ◌≤◌, ◌∷◌, [], length, take, OnOk, OnErr, MatchOption};
-ghost use Rattle.grid.specs.Sink.{Puts, Breaks};
-ghost use Rattle.grid.specs.Text.{spaced_numbers};
+ghost use Rattle.text_io.specs.Sink.{Puts, Breaks};
+ghost use Rattle.text_io.specs.Text.{spaced_numbers};
 ghost use Rattle.path_commands.specs.PathText.{numbers_of};
 ghost use Rattle.path_commands.specs.Code.Numerals.{AreNumerals};
 
 use crate::numerals::{MOST_BYTES, Numeral};
-use grid::{Cell, Sink, WriteFault};
+use grid::Cell;
 use std::io::Write;
+use text_io::{Sink, WriteFault};
 
 /// The cells of so many agents are put at once.
 const PIECE: usize = 256;

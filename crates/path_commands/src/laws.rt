@@ -3,12 +3,12 @@ ghost use Rattle.std.specs.Prelude.{◌≡◌, ℕ, List, Some, map, slice_get};
 ghost use Rattle.grid.specs.declared.cell.Cell.{Cell};
 ghost use Rattle.model.specs.Plan.{Course, Plan, IsTimetableOf};
 ghost use Rattle.model.specs.Timetable.{Timetable, cell_at};
-ghost use Rattle.path_commands.specs.PathText.{AreRows, AreWithinWidths, path_text};
+ghost use Rattle.path_commands.specs.PathText.{AreCellRows, AreWithinWidths, path_text};
 
 /// Courses have one list of rows, which for those of a plan are the cells of its timetable; and a text is that of one list at most.
 pub fn positions()
-    ensures one_list { (courses : List Course) (rows others : List (List Cell)) → AreRows courses rows → AreRows courses others → rows ≡ others }
-    ensures timetable { (p : Plan) (tt : Timetable) (rows : List (List Cell)) → IsTimetableOf p tt → AreRows p.courses rows
+    ensures one_list { (courses : List Course) (rows others : List (List Cell)) → AreCellRows courses rows → AreCellRows courses others → rows ≡ others }
+    ensures timetable { (p : Plan) (tt : Timetable) (rows : List (List Cell)) → IsTimetableOf p tt → AreCellRows p.courses rows
         → (t : ℕ) (cells : List Cell) → slice_get rows t ≡ Some cells → cells ≡ map (λ track. cell_at track t) tt.tracks }
     ensures one_reading { (rows others : List (List Cell)) → AreWithinWidths rows → AreWithinWidths others → path_text rows ≡ path_text others → rows ≡ others }
 {}

@@ -1,8 +1,6 @@
 //! `mapf path`: writes where the agents of a plan are, time by time.
 ghost use Rattle.std.specs.Prelude.{◌≡◌, IfOk, MatchOption, Some};
-ghost use Rattle.text_commands.specs.Status.{code_of};
 ghost use Rattle.text_commands.specs.Telling.{Tells};
-ghost use Rattle.path_commands.specs.FaultWords.{path_fault_status, path_fault_words};
 ghost use Rattle.path_commands.specs.PathCommand.{AnswersPath, ReadsWalkable};
 ghost use Rattle.path_commands.specs.PathText.{AreAsked};
 ghost use Rattle.plan.specs.Code.Walking.{start_cells};
@@ -15,13 +13,14 @@ use crate::path_fault::PathFault;
 use crate::path_text::write_rows;
 use crate::straying::fault_of_one_agent;
 use crate::walk::{first_stretches, starts};
-use grid::{Cell, Counted, read_map};
+use grid::{Cell, read_map};
 use plan::{Plan, Stretch, read_plan};
 use plan_commands::{CheckFault, Rejection};
 use plan_text::Course;
 use std::alloc::{AllocError, Global};
 use std::io::{Read, Write};
-use text_commands::{Status, finish, report};
+use text_commands::{Status, finish, give_up};
+use text_io::Counted;
 
 /// Reads a map from `map` and a plan from `plan`, and writes where its agents are at each time to `out`, or where one of them is, with
 /// a fault's line on `err`, also one of a start or a move. Agents may meet. The answer is the exit status, which stays where `err` fails.
@@ -37,7 +36,7 @@ pub fn path_cmd<M: Read, P: Read, W: Write, E: Write>(
 {
     match read_walkable(alloc, map, plan) {
         Ok(plan) => show(alloc, &plan, agent, out, err),
-        Err(fault) => give_up(PathFault::Texts(fault), err),
+        Err(fault) => give_up(PathFault::Texts(fault).words(), err),
     }
 }
 
@@ -70,7 +69,7 @@ fn show<W: Write, E: Write>(
     ensures { EndsByRows W.contents (Tells E.contents err.old err.new) plan.now agent out.old out.new result }
 {
     let Some(courses) = asked(plan, agent) else {
-        return give_up(PathFault::NoSuchAgent, err);
+        return give_up(PathFault::NoSuchAgent.words(), err);
     };
     match prepare(alloc, courses) {
         Ok(mut prepared) => {
@@ -83,7 +82,7 @@ fn show<W: Write, E: Write>(
             );
             finish(written, Status::Done, out, err).code()
         }
-        Err(_) => give_up(PathFault::Texts(CheckFault::OutOfMemory), err),
+        Err(_) => give_up(PathFault::Texts(CheckFault::OutOfMemory).words(), err),
     }
 }
 
@@ -122,13 +121,4 @@ fn asked(plan: &Plan, agent: Option<u16>) -> Option<&[Course]>
     } else {
         None
     }
-}
-
-/// Says why no rows are written. The answer is the exit status.
-fn give_up<E: Write>(fault: PathFault, err: &mut Counted<E>) -> u8
-    ensures code { result ≡ code_of (path_fault_status fault) }
-    ensures told { Tells E.contents err.old err.new (Some (path_fault_words fault)) }
-{
-    report(err, fault.words());
-    fault.status().code()
 }

@@ -1,12 +1,11 @@
 //! Why no positions of a plan are written.
 ghost use Rattle.std.specs.Prelude.{◌≡◌, Some};
-ghost use Rattle.grid.specs.FaultWords.{words_of, words_text};
-ghost use Rattle.path_commands.specs.FaultWords.{path_fault_status, path_fault_words};
+ghost use Rattle.text_io.specs.FaultWords.{words_of, words_text};
+ghost use Rattle.path_commands.specs.FaultWords.{path_fault_words};
 
-use grid::FaultWords;
 use plan_commands::CheckFault;
 use std::fmt;
-use text_commands::Status;
+use text_io::FaultWords;
 use thiserror::Error;
 
 /// Why no positions of a plan are written.
@@ -19,16 +18,6 @@ pub(crate) enum PathFault {
 }
 
 impl PathFault {
-    /// The status that it ends with.
-    pub(crate) fn status(self) -> Status
-        ensures { result ≡ path_fault_status self }
-    {
-        match self {
-            PathFault::Texts(fault) => fault.status(),
-            PathFault::NoSuchAgent => Status::Fault,
-        }
-    }
-
     /// The words in which it is told.
     pub(crate) fn words(self) -> FaultWords
         ensures { words_of result ≡ path_fault_words self }

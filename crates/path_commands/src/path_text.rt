@@ -1,23 +1,24 @@
 //! The text of where agents are, time by time.
 ghost use Rattle.std.specs.Prelude.{◌≡◌, [], ◌∷◌, ◌++◌, is_ok, OnOk, OnErr};
-ghost use Rattle.grid.specs.Text.{line_feed};
-ghost use Rattle.grid.specs.Counted.{counted_inner, failures_of};
-ghost use Rattle.grid.specs.Sink.{held_back, Puts, Breaks};
-ghost use Rattle.grid.specs.Writing.{WritesText};
+ghost use Rattle.text_io.specs.Text.{line_feed};
+ghost use Rattle.text_io.specs.Counted.{counted_inner, failures_of};
+ghost use Rattle.text_io.specs.Sink.{held_back, Puts, Breaks};
+ghost use Rattle.text_io.specs.Writing.{WritesText};
 ghost use Rattle.plan.specs.Code.Walking.{start_cells};
 ghost use Rattle.path_commands.specs.PathText.{count_of_times, path_line, path_text};
 ghost use Rattle.path_commands.specs.Code.Numerals.{AreNumerals};
-ghost use Rattle.path_commands.specs.Code.Rows.{AllWalked, rows_of};
+ghost use Rattle.path_commands.specs.Code.Rows.{AllWalked, rows_of_courses};
 ghost use Rattle.path_commands.specs.Code.Walks.{AreStretches};
 
 use crate::cell_text::put_cells;
 use crate::numerals::Numeral;
 use crate::walk::go_on;
-use grid::{Cell, Counted, Sink, WriteFault};
+use grid::Cell;
 use itoa::Buffer;
 use plan::Stretch;
 use plan_text::Course;
 use std::io::Write;
+use text_io::{Counted, Sink, WriteFault};
 
 /// Writes the line of each time, from the starts on, and leaves the agents behind the last of them. The writer is not flushed.
 // Compiled by itself, for its room on the stack.
@@ -33,7 +34,7 @@ pub(crate) fn write_rows<W: Write>(
     requires stretches { AreStretches courses.now 0 stretches.old }
     requires walked { AllWalked courses.now }
     requires numerals { AreNumerals numerals.now }
-    ensures { WritesText (is_ok result) (W.contents (counted_inner writer.old)) (W.contents (counted_inner writer.new)) (failures_of writer.old) (failures_of writer.new) (path_text (rows_of courses.now)) }
+    ensures { WritesText (is_ok result) (W.contents (counted_inner writer.old)) (W.contents (counted_inner writer.new)) (failures_of writer.old) (failures_of writer.new) (path_text (rows_of_courses courses.now)) }
 {
     let mut sink = Sink::new(writer);
     put_rows(&mut sink, courses, cells, stretches, numerals)
@@ -51,9 +52,9 @@ fn put_rows<W: Write>(
     requires stretches { AreStretches courses.now 0 stretches.old }
     requires walked { AllWalked courses.now }
     requires numerals { AreNumerals numerals.now }
-    ensures ok { OnOk result (Puts W.contents sink.old sink.new (path_text (rows_of courses.now))) }
+    ensures ok { OnOk result (Puts W.contents sink.old sink.new (path_text (rows_of_courses courses.now))) }
     ensures none_held { OnOk result (held_back sink.new ≡ []) }
-    ensures err { OnErr result (Breaks W.contents sink.old sink.new (path_text (rows_of courses.now))) }
+    ensures err { OnErr result (Breaks W.contents sink.old sink.new (path_text (rows_of_courses courses.now))) }
 {
     for time in 0..count_of_times(courses) {
         put_row(sink, time, cells, numerals)?;

@@ -4,7 +4,7 @@ ghost use Rattle.plan.specs.Moving.{block_steps, cell_by};
 ghost use Rattle.plan.specs.Code.Standing.{cell_in};
 ghost use Rattle.plan.specs.Code.Walking.{start_cells};
 ghost use Rattle.path_commands.specs.Code.Rows.{AllWalked, row_at};
-ghost use Rattle.path_commands.specs.Code.Walks.{AreStretches, IsInRange, act_in, begun};
+ghost use Rattle.path_commands.specs.Code.Walks.{AreStretches, IsCellInRange, act_in, begun};
 
 use grid::Cell;
 use plan::{BLOCK, Stretch, next_cell};
@@ -69,7 +69,7 @@ fn line_up(courses: &[Course], step: usize, stretches: &mut [Stretch])
 fn walk_on(stretches: &[Stretch], step: usize, cells: &mut [Cell])
     requires step { step < block_steps }
     requires count { length stretches.now ≡ length cells.old }
-    requires range { (i : ℕ) → i < length cells.old → IsInRange (cell_by (act_in stretches.now i step) (cell_in cells.old i)) }
+    requires range { (i : ℕ) → i < length cells.old → IsCellInRange (cell_by (act_in stretches.now i step) (cell_in cells.old i)) }
     ensures count { length cells.new ≡ length cells.old }
     ensures led { (i : ℕ) → i < length cells.old → cell_in cells.new i ≡ cell_by (act_in stretches.now i step) (cell_in cells.old i) }
 {

@@ -9,7 +9,7 @@ use Rattle.grid.specs.Map.{Grid}
 use Rattle.model.specs.Plan.{Course, position_of, position_at, IsBadMove}
 use Rattle.plan.specs.Code.Standing.{cell_in, IsOnGrid, AreOnGrid}
 use Rattle.plan.specs.Code.Walking.{IsAhead, IsFirst, HasBadMove}
-use Rattle.plan.proofs.WalkingLemmas.{course_from, bad_at}
+use Rattle.plan.specs.Laws.Walking.{course_from, bad_at}
 
 -- the course that an index finds
 pub course_there : (courses : List Course) (n : ℕ) (course : Course) → n < length courses → course ≡ get_or courses n course → slice_get courses n ≡ Some course

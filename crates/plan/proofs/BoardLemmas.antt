@@ -11,7 +11,7 @@ use Rattle.model.specs.Plan.{Position, position_of, moved}
 use Rattle.plan.specs.declared.crowd.Turns.{Turns}
 use Rattle.plan.specs.Code.Standing.{IsOnGrid}
 use Rattle.plan.specs.Code.Squares.{wide_of, place_on}
-use Rattle.plan.specs.Code.Crowd.{ahead_of, back_of, turn_by, led_to, AreTurns, IsInside}
+use Rattle.plan.specs.Code.Crowd.{forward_of, back_of, turn_by, led_to, AreActTurns, IsInside}
 
 row_more : (a w : ℕ) → (a + 1) * w ≡ a * w + w
 row_more a w = omega arith
@@ -21,7 +21,7 @@ position_by v p across down =
     ap {A = ℤ} {B = Position} (λ x. record { x = x; y = pos v.y }) across ∙ ap {A = ℤ} {B = Position} (λ y. record { x = p.x; y = y }) down
 
 -- a cell whose square is that to which the act leads is where the act leads
-pub from_place : (m : Grid) (turns : Turns) (act : Act) (c v : Cell) → AreTurns (wide_of m) turns → IsOnGrid m c → IsOnGrid m v
+pub from_place : (m : Grid) (turns : Turns) (act : Act) (c v : Cell) → AreActTurns (wide_of m) turns → IsOnGrid m c → IsOnGrid m v
     → place_on m v ≡ led_to turns act (place_on m c) → position_of v ≡ moved act (position_of c)
 from_place m turns N c v h on there at =
     let turn = h.each N in
@@ -80,7 +80,7 @@ row_same : (a b w : ℕ) → a ≡ b → a * w ≡ b * w
 row_same a b w e = ap (λ n. n * w) e
 
 -- the act leads to the square of the cell to which it leads
-pub to_place : (m : Grid) (turns : Turns) (act : Act) (c v : Cell) → AreTurns (wide_of m) turns → position_of v ≡ moved act (position_of c)
+pub to_place : (m : Grid) (turns : Turns) (act : Act) (c v : Cell) → AreActTurns (wide_of m) turns → position_of v ≡ moved act (position_of c)
     → led_to turns act (place_on m c) ≡ place_on m v
 to_place m turns N c v h at =
     let turn = h.each N in
@@ -151,14 +151,14 @@ within_board m c on =
     omega (arith, rows, column, two)
 
 -- an act changes the place by a row at most
-small_steps : (wide : ℕ) → 0 < wide → (act : Act) → (ahead_of wide act ≤ wide) × (back_of wide act ≤ wide)
+small_steps : (wide : ℕ) → 0 < wide → (act : Act) → (forward_of wide act ≤ wide) × (back_of wide act ≤ wide)
 small_steps wide some N = (omega arith, omega arith)
 small_steps wide some E = (omega (arith, some), omega arith)
 small_steps wide some S = (omega arith, omega arith)
 small_steps wide some W = (omega arith, omega (arith, some))
 small_steps wide some Wait = (omega arith, omega arith)
 
-pub inside : (m : Grid) (turns : Turns) (c : Cell) → IsSize m.width m.height → AreTurns (wide_of m) turns → IsOnGrid m c
+pub inside : (m : Grid) (turns : Turns) (c : Cell) → IsSize m.width m.height → AreActTurns (wide_of m) turns → IsOnGrid m c
     → IsInside turns ((m.height + 2) * wide_of m) (place_on m c)
 inside m turns c size h on =
     let rows = within_rows m c on in

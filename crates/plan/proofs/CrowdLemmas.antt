@@ -8,9 +8,9 @@ use Rattle.plan.specs.declared.board.Square.{Square}
 use Rattle.plan.specs.declared.crowd.Walker.{Walker}
 use Rattle.plan.specs.declared.crowd.Turns.{Turns}
 use Rattle.plan.specs.Code.Squares.{ground_in, mark_in, square_at, IsOfStep}
-use Rattle.plan.specs.Code.Crowd.{number_of, against_of, turn_by, led_to, walker_at, act_at, comes_to, AreMarks, KeepGrounds, IsAllowed, IsRefused, IsMarked, AreLed, AreAllowed, AreMarked, AreSuspect, AreMarksOf, AreApart, AreOldMarks}
+use Rattle.plan.specs.Code.Crowd.{number_of_act, against_of, turn_by, led_to, walker_at, act_at, comes_to, AreMarks, KeepGrounds, IsAllowed, IsActRefused, IsMarked, AreLed, AreAllowed, AreMarked, AreSuspect, AreMarksOf, AreApart, AreOldMarks}
 
-small_number : (act : Act) → number_of act < 5
+small_number : (act : Act) → number_of_act act < 5
 small_number N = omega arith
 small_number E = omega arith
 small_number S = omega arith
@@ -198,7 +198,7 @@ against_kind first Wait = inr refl
 
 -- a walker whose act is not allowed is in the way of one before it, or comes to other ground
 pub suspect-here : (turns : Turns) (acts : List Act) (walkers : List Walker) (old now : List Square) (n : ℕ) → AreMarks turns → 0 < turns.first
-    → KeepGrounds old now → AreMarkedTo turns acts walkers now n → n < length walkers → IsRefused turns (act_at acts n) (walker_at walkers n) now
+    → KeepGrounds old now → AreMarkedTo turns acts walkers now n → n < length walkers → IsActRefused turns (act_at acts n) (walker_at walkers n) now
     → AreSuspect turns acts walkers old
 suspect-here turns acts walkers old now n marks some kept was less (inl ground) =
     inl (n, less, λ same. ground (kept.each (comes_to turns acts walkers n) ∙ same))

@@ -8,13 +8,13 @@ use Rattle.grid.specs.Map.{Grid}
 use Rattle.model.specs.declared.plan_fault.PlanFault.{PlanFault}
 use Rattle.model.specs.declared.plan_fault.PlanFault.TheVariants.{BadStart, BadMove, Vertex, Swap, OutOfMemory}
 use Rattle.model.specs.Plan.{Course, Plan, Position, position_of, position_at, course_of, IsAt, HasPlanFault, IsValid, Key, key_of, IsBefore, IsLeastFault}
-use Rattle.model.proofs.Options.{found}
-use Rattle.model.proofs.PlaceLemmas.{same_place}
+use Rattle.model.specs.Laws.Options.{some-found}
+use Rattle.model.specs.Laws.Places.{same_place}
 use Rattle.plan.specs.declared.meeting.Pair.{Pair}
 use Rattle.plan.specs.Code.Standing.{cell_in, entry_at, AreOnGrid, IsStandingTable, rank_of, AreTogether, AreSwapped, IsLeastPair}
 use Rattle.plan.specs.Code.Walking.{AreAt, IsFirst, IsAdvanced, HasBadMove, HasBadStart, ArePassable}
 use Rattle.plan.specs.Code.Watching.{IsClean}
-use Rattle.plan.proofs.WalkingLemmas.{no_course, position-stays, course_from, bad-has_act}
+use Rattle.plan.specs.Laws.Walking.{no_course, position-stays, course_from, bad-has_act}
 
 -- ---- who is where
 
@@ -22,7 +22,7 @@ use Rattle.plan.proofs.WalkingLemmas.{no_course, position-stays, course_from, ba
 pub is_at : (p : Plan) (t : ℕ) (cells : List Cell) → AreAt p.courses t cells → (i : ℕ) (place : Position) → IsAt p i t place
     → (position_of (cell_in cells i) ≡ place) × (i < length cells)
 is_at p t cells at i place there =
-    let course = found (course_of p i) (λ k. position_at k t ≡ place) there in
+    let course = some-found (course_of p i) (λ k. position_at k t ≡ place) there in
     let count = at.count in
     let is_agent : i < length p.courses = slice_get_within p.courses i course.0 course.1 in
     (at.each i course.0 course.1 ∙ course.2, omega (arith, count, is_agent))
@@ -225,7 +225,7 @@ clean_step m p step now next at at_next clean good none no_swap = clean_more m p
 
 pub good_start : (m : Grid) (p : Plan) → ArePassable m p.courses → HasNoBad m p 0
 good_start m p passable = record {
-  start = λ i zero_time bad. (let course = found (course_of p i) _ bad in course.2 (passable i course.0 course.1));
+  start = λ i zero_time bad. (let course = some-found (course_of p i) _ bad in course.2 (passable i course.0 course.1));
   move = λ i step time bad. absurd (omega (arith, time));
 }
 
@@ -233,7 +233,7 @@ pub good_step : (m : Grid) (p : Plan) (step : ℕ) (next : List Cell) → IsAdva
 good_step m p step next ahead = record {
   start = λ i time bad. absurd (omega (arith, time));
   move = λ i other time bad. (
-      let course = found (course_of p i) _ (subst (λ s. HasBadMove m p.courses s i) (omega (arith, time)) bad) in
+      let course = some-found (course_of p i) _ (subst (λ s. HasBadMove m p.courses s i) (omega (arith, time)) bad) in
       (ahead i course.0 course.1).good course.2
       );
 }
@@ -255,14 +255,14 @@ valid_at_end m p step over clean = valid where
   -- where an agent is later it is already
   already : (i t : ℕ) (place : Position) → step ≤ t → IsAt p i t place → IsAt p i step place
   already i t place later is =
-      let course = found (course_of p i) (λ k. position_at k t ≡ place) is in
+      let course = some-found (course_of p i) (λ k. position_at k t ≡ place) is in
       subst (λ o. MatchOption o ⊥ (λ k. position_at k step ≡ place)) (sym course.1)
       (sym (position-stays (position_of course.0.start) course.0.acts step t (over i course.0 course.1) later) ∙ course.2)
 
   one_place : (i t : ℕ) (u v : Position) → IsAt p i t u → IsAt p i t v → u ≡ v
   one_place i t u v at_u at_v =
-      let a = found (course_of p i) (λ k. position_at k t ≡ u) at_u in
-      let b = found (course_of p i) (λ k. position_at k t ≡ v) at_v in
+      let a = some-found (course_of p i) (λ k. position_at k t ≡ u) at_u in
+      let b = some-found (course_of p i) (λ k. position_at k t ≡ v) at_v in
       let same : a.0 ≡ b.0 = (let e = a.1 in let f = b.1 in cc) in
       sym a.2 ∙ ap (λ k. position_at k t) same ∙ b.2
 

@@ -11,10 +11,10 @@ use Rattle.model.specs.declared.act.Act.TheVariants.{N}
 use Rattle.model.specs.Timetable.{Track, cell_after, cell_at}
 use Rattle.model.specs.Costs.{EndsAtRest, sum_of, greatest_of}
 use Rattle.model.specs.Plan.{Course}
-use Rattle.model.proofs.TrackLemmas.{cell_at-start}
+use Rattle.model.specs.Laws.Tracks.{cell_at-start}
 use Rattle.plan_text.specs.Limits.{most_acts}
 use Rattle.plan.specs.Checking.{Checked, steps_in, IsChecked}
-use Rattle.plan.specs.Code.Tracks.{cell_by, cells_along, track_along, StaysInRange, IsKept, HasCourse}
+use Rattle.plan.specs.Code.Tracks.{cell_by, cells_along, track_along, StaysInRange, IsCourseKept, HasCourse}
 
 -- ---- walks along acts
 
@@ -78,7 +78,7 @@ track-there : (tracks : List Track) (courses : List Course) (i : ℕ) (course : 
 track-there tracks courses i course same there = ap (λ l. slice_get l i) same ∙ slice_get-map track_along courses i ∙ ap (option_map track_along) there
 
 pub kept : (c : Checked) (courses : List Course) → c.timetable.tracks ≡ map track_along courses → IsChecked c → (i : ℕ) (course : Course)
-    → slice_get courses i ≡ Some course → IsKept course
+    → slice_get courses i ≡ Some course → IsCourseKept course
 kept c courses same checked i course there =
     let tracks = c.timetable.tracks in
     let at = track-there tracks courses i course same there in
@@ -125,13 +125,13 @@ along-more courses i course there =
     ap (map track_along) (drop_more courses i course (slice_get_within courses i course there))
     ∙ ap (λ k. track_along k ∷ map track_along (drop (i + 1) courses)) (get_or_from_slice_get courses i course course there)
 
-pub sum-more : (courses : List Course) (i : ℕ) (course : Course) → slice_get courses i ≡ Some course → IsKept course
+pub sum-more : (courses : List Course) (i : ℕ) (course : Course) → slice_get courses i ≡ Some course → IsCourseKept course
     → sum_of (map track_along (drop i courses)) ≡ length course.acts + sum_of (map track_along (drop (i + 1) courses))
 sum-more courses i course there keeps =
     let first = keeps.at_rest in
     ap sum_of (along-more courses i course there) ∙ ap (λ n. n + sum_of (map track_along (drop (i + 1) courses))) (sym first)
 
-pub greatest-more : (courses : List Course) (i : ℕ) (course : Course) → slice_get courses i ≡ Some course → IsKept course
+pub greatest-more : (courses : List Course) (i : ℕ) (course : Course) → slice_get courses i ≡ Some course → IsCourseKept course
     → greatest_of (map track_along (drop i courses)) ≡ max (length course.acts) (greatest_of (map track_along (drop (i + 1) courses)))
 greatest-more courses i course there keeps =
     let first = keeps.at_rest in

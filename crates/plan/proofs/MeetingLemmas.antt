@@ -7,7 +7,7 @@ use Rattle.std.proofs.lemmas.List.{drop_more, drop_all, get_or-set_other, set-ge
 use Rattle.grid.specs.declared.cell.Cell.{Cell}
 use Rattle.grid.specs.Map.{Grid}
 use Rattle.plan.specs.declared.meeting.Pair.{Pair}
-use Rattle.plan.specs.Code.Standing.{cell_in, place_in, entry_at, IsOnGrid, AreOnGrid, rank_of, NoLater, AreTogether, IsSound, IsStandingTable}
+use Rattle.plan.specs.Code.Standing.{cell_in, place_in, entry_at, IsOnGrid, AreOnGrid, rank_of, NoLater, AreTogether, IsEntrySound, IsStandingTable}
 
 -- cells of one place are one cell
 pub same_cell_from_place : (m : Grid) (u v : Cell) → IsOnGrid m u → IsOnGrid m v → place_in m.width u ≡ place_in m.width v → u ≡ v
@@ -36,8 +36,8 @@ abbrev pub IsFree : List Cell → ℕ → ℕ → Type 0
 IsFree cells agent entry = (entry ≡ agent) ⊎ ((entry < length cells) × (cell_in cells entry ≡ cell_in cells agent) → ⊥)
 
 sound_apart : (m : Grid) (cells : List Cell) (table : List ℕ) (best : Option Pair) (agent : ℕ) → AreOnGrid m cells → agent < length cells
-    → IsFree cells agent (entry_at m.width table (cell_in cells agent)) → (i : ℕ) → i < length cells → IsSound m.width cells table best i
-    → IsSound m.width cells (set table (place_in m.width (cell_in cells agent)) agent) best i
+    → IsFree cells agent (entry_at m.width table (cell_in cells agent)) → (i : ℕ) → i < length cells → IsEntrySound m.width cells table best i
+    → IsEntrySound m.width cells (set table (place_in m.width (cell_in cells agent)) agent) best i
 sound_apart m cells table best agent on there free i is was =
     let own = cell_in cells agent in
     let here = cell_in cells i in
@@ -54,17 +54,17 @@ sound_apart m cells table best agent on there free i is was =
             | inr nobody ↦ absurd (nobody (omega (arith, entries, order, is), ap (cell_in cells) (sym entries) ∙ was.same ∙ one_cell))
             | inl self ↦
                 let same : set table (place_in w own) agent ≡ table = ap (set table (place_in w own)) (sym self) ∙ set-get_or table (place_in w own) 0 in
-                subst (λ t. IsSound w cells t best i) (sym same) was
+                subst (λ t. IsEntrySound w cells t best i) (sym same) was
           ]
     ]
 
 -- the same, where the agent and the place have other names
 pub sound_beside : (m : Grid) (cells : List Cell) (table : List ℕ) (best : Option Pair) (agent index place : ℕ) → AreOnGrid m cells → agent < length cells
     → index ≡ agent → place ≡ place_in m.width (cell_in cells index) → IsFree cells index (get_or table place 0) → (i : ℕ) → i < length cells
-    → IsSound m.width cells table best i → IsSound m.width cells (set table place agent) best i
+    → IsEntrySound m.width cells table best i → IsEntrySound m.width cells (set table place agent) best i
 sound_beside m cells table best agent index place on there same at free i is was =
     let here : place ≡ place_in m.width (cell_in cells agent) = at ∙ ap (λ k. place_in m.width (cell_in cells k)) same in
-    subst (λ p. IsSound m.width cells (set table p agent) best i) (sym here)
+    subst (λ p. IsEntrySound m.width cells (set table p agent) best i) (sym here)
     (sound_apart m cells table best agent on there (subst (λ p. IsFree cells agent (get_or table p 0)) here (subst (λ k. IsFree cells k (get_or table place 0)) same free)) i is was)
 
 -- ---- the least pair, where all agents are sound
@@ -73,7 +73,7 @@ NoLater-weaker : (best : Option Pair) (i j k l : ℕ) → rank_of i j ≤ rank_o
 NoLater-weaker None i j k l less h = h
 NoLater-weaker (Some p) i j k l less h = omega (arith, less, h)
 
-pub least_together : (width : ℕ) (cells : List Cell) (table : List ℕ) (best : Option Pair) → ((i : ℕ) → i < length cells → IsSound width cells table best i)
+pub least_together : (width : ℕ) (cells : List Cell) (table : List ℕ) (best : Option Pair) → ((i : ℕ) → i < length cells → IsEntrySound width cells table best i)
     → (i j : ℕ) → AreTogether cells i j → NoLater best i j
 least_together width cells table best sound i j pair =
     let order = pair.order in
@@ -87,7 +87,7 @@ least_together width cells table best sound i j pair =
       | inr found ↦ NoLater-weaker best (entry_at width table (cell_in cells j)) j i j (omega (arith, entries, low)) found
     ]
 
-pub table_of_sound : (width : ℕ) (cells : List Cell) (table : List ℕ) (best : Option Pair) → ((i : ℕ) → i < length cells → IsSound width cells table best i)
+pub table_of_sound : (width : ℕ) (cells : List Cell) (table : List ℕ) (best : Option Pair) → ((i : ℕ) → i < length cells → IsEntrySound width cells table best i)
     → IfNone best (IsStandingTable width cells table)
 table_of_sound width cells table None sound = λ i is. elim (sound i is).found [ inl own ↦ own | inr found ↦ absurd found ]
 table_of_sound width cells table (Some p) sound = tt

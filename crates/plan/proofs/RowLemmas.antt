@@ -16,7 +16,7 @@ use Rattle.plan.specs.declared.crowd.Walker.{Walker}
 use Rattle.plan.specs.Code.Walking.{has_act}
 use Rattle.plan.specs.Code.Squares.{ground_in, mark_in, square_at, IsOfStep}
 use Rattle.plan.specs.Code.Crowd.{walker_at, act_at, AreMarksOf}
-use Rattle.plan.specs.Code.Blocks.{block_steps, group_size, row_at, AreGroupActs, IsStretch, IsHeldSquare, IsOver, IsHeld, IsLinedUp}
+use Rattle.plan.specs.Code.Blocks.{block_steps, group_size, row_of_step, AreGroupActs, IsStretch, IsHeldSquare, HasNoAct, HoldsSquares, IsLinedUp}
 
 -- ---- held squares
 
@@ -24,7 +24,7 @@ use Rattle.plan.specs.Code.Blocks.{block_steps, group_size, row_at, AreGroupActs
 pub record IsHeldTo (courses : List Course) (step : ℕ) (walkers : List Walker) (old now : List Square) (n : ℕ) : Type 0 where
   pub count : length now ≡ length old
   pub held : (k : ℕ) → k < n → has_act courses step (walker_at walkers k).agent ≡ false → IsHeldSquare (square_at now (walker_at walkers k).place)
-  pub others : (place : ℕ) → ((k : ℕ) × (k < n) × IsOver courses step walkers k place) ⊎ (square_at now place ≡ square_at old place)
+  pub others : (place : ℕ) → ((k : ℕ) × (k < n) × HasNoAct courses step walkers k place) ⊎ (square_at now place ≡ square_at old place)
 
 pub held-none : (courses : List Course) (step : ℕ) (walkers : List Walker) (squares : List Square) → IsHeldTo courses step walkers squares squares 0
 held-none courses step walkers squares = record { count = refl; held = λ k less. absurd (omega (arith, less)); others = λ place. inr refl }
@@ -72,7 +72,7 @@ held-more courses step walkers old now n square h within over is =
 
 -- ---- what a square is after the walkers without an act hold theirs
 
-pub held_or_kept : (courses : List Course) (step : ℕ) (walkers : List Walker) (old new : List Square) → IsHeld courses step walkers old new
+pub held_or_kept : (courses : List Course) (step : ℕ) (walkers : List Walker) (old new : List Square) → HoldsSquares courses step walkers old new
     → (place : ℕ) → (ground_in (square_at new place) ≡ 3) ⊎ (ground_in (square_at new place) ≡ ground_in (square_at old place))
 held_or_kept courses step walkers old new h place = elim (h.others place) [
   | inl (k, less, (over, at)) ↦ inl (ap (λ p. ground_in (square_at new p)) (sym at) ∙ (h.held k less over).ground)
@@ -80,7 +80,7 @@ held_or_kept courses step walkers old new h place = elim (h.others place) [
 ]
 
 -- the marks that are left are those of walkers that go on
-pub marks-lined : (courses : List Course) (step first : ℕ) (old new : List Walker) (squares after : List Square) → IsHeld courses step old squares after
+pub marks-lined : (courses : List Course) (step first : ℕ) (old new : List Walker) (squares after : List Square) → HoldsSquares courses step old squares after
     → IsLinedUp courses step old new → AreMarksOf first old squares → AreMarksOf first new after
 marks-lined courses step first old new squares after held lined marks place = elim (held.others place) [
   | inl (k, less, (over, at)) ↦ inl (ap (λ p. mark_in (square_at after p)) (sym at) ∙ (held.held k less over).unmarked)
@@ -227,9 +227,9 @@ fetched-more courses step group stretches n own stretch h within is there k cour
 -- the rows after the first so many steps
 pub record ArePutTo (stretches : List (List Act)) (count first : ℕ) (old now : List (List Act)) (n : ℕ) : Type 0 where
   pub steps : length now ≡ length old
-  pub sizes : (s : ℕ) → length (row_at now s) ≡ length (row_at old s)
-  pub before : (s k : ℕ) → k < first → act_at (row_at now s) k ≡ act_at (row_at old s) k
-  pub own : (s k : ℕ) → s < n → k < count → act_at (row_at now s) (first + k) ≡ act_at (get_or stretches k []) s
+  pub sizes : (s : ℕ) → length (row_of_step now s) ≡ length (row_of_step old s)
+  pub before : (s k : ℕ) → k < first → act_at (row_of_step now s) k ≡ act_at (row_of_step old s) k
+  pub own : (s k : ℕ) → s < n → k < count → act_at (row_of_step now s) (first + k) ≡ act_at (get_or stretches k []) s
 
 pub put-none : (stretches : List (List Act)) (count first : ℕ) (rows : List (List Act)) → ArePutTo stretches count first rows rows 0
 put-none stretches count first rows = record {
@@ -240,27 +240,27 @@ put-none stretches count first rows = record {
 }
 
 pub put-more : (stretches : List (List Act)) (count first : ℕ) (old now : List (List Act)) (n : ℕ) (row : List Act) → ArePutTo stretches count first old now n
-    → n < length old → length row ≡ length (row_at now n) → ((k : ℕ) → k < first → act_at row k ≡ act_at (row_at now n) k)
+    → n < length old → length row ≡ length (row_of_step now n) → ((k : ℕ) → k < first → act_at row k ≡ act_at (row_of_step now n) k)
     → ((k : ℕ) → k < count → act_at row (first + k) ≡ act_at (get_or stretches k []) n) → ArePutTo stretches count first old (set now n row) (n + 1)
 put-more stretches count first old now n row h within size kept puts =
     let steps = h.steps in
-    let here : row_at (set now n row) n ≡ row = get_or-set_same now n row [] (omega (arith, within, steps)) in
-    let there : (s : ℕ) → s ≢ n → row_at (set now n row) s ≡ row_at now s = λ s apart. get_or-set_other now n s row [] apart in
+    let here : row_of_step (set now n row) n ≡ row = get_or-set_same now n row [] (omega (arith, within, steps)) in
+    let there : (s : ℕ) → s ≢ n → row_of_step (set now n row) s ≡ row_of_step now s = λ s apart. get_or-set_other now n s row [] apart in
     record {
       steps = length-set now n row ∙ steps;
       sizes = λ s. elim (cases_eq s n) [
-        | inl one ↦ subst (λ i. length (row_at (set now n row) i) ≡ length (row_at old i)) (sym one) (ap length here ∙ size ∙ h.sizes n)
+        | inl one ↦ subst (λ i. length (row_of_step (set now n row) i) ≡ length (row_of_step old i)) (sym one) (ap length here ∙ size ∙ h.sizes n)
         | inr apart ↦ ap length (there s apart) ∙ h.sizes s
       ];
       before = λ s k less. elim (cases_eq s n) [
-        | inl one ↦ subst (λ i. act_at (row_at (set now n row) i) k ≡ act_at (row_at old i) k) (sym one)
+        | inl one ↦ subst (λ i. act_at (row_of_step (set now n row) i) k ≡ act_at (row_of_step old i) k) (sym one)
             (ap (λ r. act_at r k) here ∙ kept k less ∙ h.before n k less)
         | inr apart ↦ ap (λ r. act_at r k) (there s apart) ∙ h.before s k less
       ];
       own = λ s k less among. elim (cases_lt s n) [
         | inl earlier ↦ ap (λ r. act_at r (first + k)) (there s (λ e. omega (arith, earlier, e))) ∙ h.own s k earlier among
         | inr later ↦ (let one : s ≡ n = omega (arith, less, later) in
-            subst (λ i. act_at (row_at (set now n row) i) (first + k) ≡ act_at (get_or stretches k []) i) (sym one)
+            subst (λ i. act_at (row_of_step (set now n row) i) (first + k) ≡ act_at (get_or stretches k []) i) (sym one)
             (ap (λ r. act_at r (first + k)) here ∙ puts k among))
       ];
     }
@@ -278,7 +278,7 @@ group-turned courses step group stretches first old now are few fetched put s k 
 abbrev pub AreTurnedTo : List Course → ℕ → List Walker → List (List Act) → ℕ → Type 0
 AreTurnedTo courses step walkers rows n =
     (s k : ℕ) (course : Course) → s < block_steps → k < n → slice_get courses (walker_at walkers k).agent ≡ Some course
-    → act_at (row_at rows s) k ≡ get_or course.acts (step + s) Wait
+    → act_at (row_of_step rows s) k ≡ get_or course.acts (step + s) Wait
 
 -- a walker of a group, which is a part of the walkers
 pub in_group : (walkers : List Walker) (first end k : ℕ) → first + k < end → walker_at (take (end - first) (drop first walkers)) k ≡ walker_at walkers (first + k)
@@ -287,7 +287,7 @@ in_group walkers first end k less =
     ∙ get_or-drop first walkers k (record { place = 0; ground = 0; agent = 0 })
 
 pub turned-more : (courses : List Course) (step : ℕ) (walkers group : List Walker) (old new : List (List Act)) (first end : ℕ)
-    → AreTurnedTo courses step walkers old first → ((s k : ℕ) → s < block_steps → k < first → act_at (row_at new s) k ≡ act_at (row_at old s) k)
+    → AreTurnedTo courses step walkers old first → ((s k : ℕ) → s < block_steps → k < first → act_at (row_of_step new s) k ≡ act_at (row_of_step old s) k)
     → AreGroupActs courses step group first new → length group ≡ end - first → ((k : ℕ) → first + k < end → walker_at group k ≡ walker_at walkers (first + k))
     → AreTurnedTo courses step walkers new end
 turned-more courses step walkers group old new first end h kept own size same s k course less within there = elim (cases_lt k first) [
@@ -295,7 +295,7 @@ turned-more courses step walkers group old new first end h kept own size same s 
   | inr later ↦ (
       let split : first + (k - first) ≡ k = omega (arith, later) in
       let one : walker_at group (k - first) ≡ walker_at walkers k = same (k - first) (omega (arith, later, within)) ∙ ap (walker_at walkers) split in
-      subst (λ i. act_at (row_at new s) i ≡ get_or course.acts (step + s) Wait) split
+      subst (λ i. act_at (row_of_step new s) i ≡ get_or course.acts (step + s) Wait) split
       (own s (k - first) course less (omega (arith, later, within, size)) (ap (λ w. slice_get courses w.agent) one ∙ there))
       )
 ]

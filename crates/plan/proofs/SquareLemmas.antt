@@ -10,7 +10,7 @@ use Rattle.grid.specs.Map.{Grid, IsMap}
 use Rattle.plan.specs.declared.board.Square.{Square}
 use Rattle.plan.specs.Code.Standing.{IsOnGrid, place_in}
 use Rattle.plan.specs.Code.Squares.{ground_in, mark_in, square_at, ground_by, wide_of, place_on, IsOpen, HasGround, IsSquareOf, IsBoard, IsLaid}
-use Rattle.plan.proofs.WalkingLemmas.{terrain_on}
+use Rattle.plan.specs.Laws.Walking.{terrain_on}
 
 -- a cell has one ground
 pub one_ground : (m : Grid) (u : Cell) (g h : ℕ) → HasGround m u g → HasGround m u h → g ≡ h

@@ -6,7 +6,7 @@ use Rattle.grid.specs.Map.{Grid}
 use Rattle.model.specs.Plan.{Course, position_of}
 use Rattle.plan.specs.Code.Standing.{cell_in, AreOnGrid}
 use Rattle.plan.specs.Code.Walking.{AreAt, ArePassable, start_cells}
-use Rattle.plan.proofs.WalkingLemmas.{no_course, on_map_from_terrain, position_at-start}
+use Rattle.plan.specs.Laws.Walking.{no_course, on_map_from_terrain, position_at-start}
 
 start-cell : (courses : List Course) (i : ℕ) → i < length courses → cell_in (start_cells courses) i ≡ (get_or courses i no_course).start
 start-cell courses i is = get_or-map (λ course. course.start) courses i no_course (record { x = 0; y = 0 }) is

@@ -10,51 +10,12 @@ use Rattle.plan.specs.declared.board.Square.{Square}
 use Rattle.plan.specs.declared.crowd.Turns.{Turns}
 use Rattle.plan.specs.Moving.{IsOnGrid, KeepsToGround}
 use Rattle.plan.specs.Code.Squares.{ground_in, square_at, wide_of, place_on, IsOpen, HasGround, IsSquareOf, IsBoard}
-use Rattle.plan.specs.Code.Crowd.{led_to, AreTurns, IsInside}
+use Rattle.plan.specs.Code.Crowd.{led_to, AreActTurns, IsInside}
 use Rattle.plan.specs.Code.UnderWay.{IsWalker}
 use Rattle.plan.proofs.BoardLemmas.{from_place, inside}
-use Rattle.plan.proofs.WalkingLemmas.{bad-has_act, moved-place, position_at-start, position-stays}
+use Rattle.plan.specs.Laws.Keeping.{HasKept, kept_next}
+use Rattle.plan.specs.Laws.Walking.{bad-has_act, moved-place, position_at-start, position-stays}
 use Rattle.plan.proofs.UnderWayLemmas.{may_start, no_bad_move, starts_as}
-
--- ---- up to a time
-
--- up to the time the agent was in cells of the map, and no move was bad
-pub record HasKept (m : Grid) (course : Course) (t : ℕ) : Type 0 where
-  pub cells : (s : ℕ) → s ≤ t → (c : Cell) × (position_of c ≡ position_at course s) × IsOnGrid m c
-  pub good : (s : ℕ) → s < t → IsBadMove m course s → ⊥
-
-pub kept_none : (m : Grid) (course : Course) → IsOnGrid m course.start → HasKept m course 0
-kept_none m course on = record {
-  cells = λ s most. (let first : s ≡ 0 = omega (arith, most) in
-      (course.start, sym (position_at-start (position_of course.start) course.acts) ∙ ap (position_at course) (sym first), on));
-  good = λ s less. absurd (omega (arith, less));
-}
-
-pub kept_next : (m : Grid) (course : Course) (t : ℕ) (c : Cell) → HasKept m course t → position_of c ≡ position_at course (t + 1) → IsOnGrid m c
-    → (IsBadMove m course t → ⊥) → HasKept m course (t + 1)
-kept_next m course t c kept at on good = record {
-  cells = λ s most. elim (cases_lt s (t + 1)) [
-    | inl less ↦ kept.cells s (omega (arith, less))
-    | inr past ↦ (let same : s ≡ t + 1 = omega (arith, most, past) in (c, at ∙ ap (position_at course) (sym same), on))
-  ];
-  good = λ s less. elim (cases_lt s t) [
-    | inl before ↦ kept.good s before
-    | inr last ↦ (let same : t ≡ s = omega (arith, less, last) in subst (λ n. IsBadMove m course n → ⊥) same good)
-  ];
-}
-
--- past its acts the agent stays
-pub kept_always : (m : Grid) (course : Course) (t : ℕ) → length course.acts ≤ t → HasKept m course t → KeepsToGround m course
-kept_always m course t over kept = record {
-  cells = λ s. elim (cases_lt s t) [
-    | inl less ↦ kept.cells s (omega (arith, less))
-    | inr past ↦ (
-        let last = kept.cells t (omega arith) in
-        (last.0, last.1 ∙ sym (position-stays (position_of course.start) course.acts t s over past), last.2)
-        )
-  ];
-  good = λ s bad. (let within = bad-has_act m course s bad in kept.good s (omega (arith, within, over)) bad);
-}
 
 -- ---- on a board
 
@@ -68,7 +29,7 @@ alone_at_start m course place ground passable at has =
     starts_as m (course ∷ []) course (record { place = place; ground = ground; agent = 0 }) refl at has (may_start m course.start ground passable has)
 
 pub alone_inside : (m : Grid) (course : Course) (t : ℕ) (turns : Turns) (squares : List Square) (place ground : ℕ) → IsSize m.width m.height
-    → AreTurns (wide_of m) turns → IsBoard m squares → IsAlone m course t place ground → IsInside turns (length squares) place
+    → AreActTurns (wide_of m) turns → IsBoard m squares → IsAlone m course t place ground → IsInside turns (length squares) place
 alone_inside m course t turns squares place ground size h board here =
     subst (λ n. IsInside turns n place) (sym board.size)
     (subst (IsInside turns ((m.height + 2) * wide_of m)) (sym here.place) (inside m turns here.cell size h here.ground.on_map))
@@ -79,7 +40,7 @@ at_cell m course t place ground here =
     here.at ∙ ap (λ k. position_at k t) same
 
 -- an act that leads to the same ground
-pub alone_next : (m : Grid) (course : Course) (step : ℕ) (turns : Turns) (squares : List Square) (act : Act) (place to ground : ℕ) → AreTurns (wide_of m) turns
+pub alone_next : (m : Grid) (course : Course) (step : ℕ) (turns : Turns) (squares : List Square) (act : Act) (place to ground : ℕ) → AreActTurns (wide_of m) turns
     → IsBoard m squares → slice_get course.acts step ≡ Some act → IsAlone m course step place ground → to ≡ led_to turns act place
     → ground_in (square_at squares to) ≡ ground → IsAlone m course (step + 1) to ground
 alone_next m course step turns squares act place to ground h board acts here leads same =

@@ -11,7 +11,7 @@ use Rattle.plan_text.specs.Limits.{most_acts, acts_in, IsCourse, IsPlan}
 use Rattle.plan.specs.Checking.{Checked, steps_in, IsChecked, IsCheckOf}
 use Rattle.plan.specs.Code.Tracks.{track_along}
 use Rattle.plan.specs.Code.Resting.{rested}
-use Rattle.plan.proofs.CourseLemmas.{are_tracks, all_stay, on_map_at}
+use Rattle.plan.specs.Laws.Courses.{are_tracks, all_stay, on_map_at}
 
 -- a track is no longer than the acts
 abbrev NoLonger : Type 0

@@ -16,20 +16,20 @@ use Rattle.model.specs.declared.act.Act.TheVariants.{N, E, S, W, Wait}
 use Rattle.model.specs.declared.plan_fault.PlanFault.{PlanFault}
 use Rattle.model.specs.declared.plan_fault.PlanFault.TheVariants.{BadStart, BadMove, Vertex, Swap, OutOfMemory}
 use Rattle.model.specs.Plan.{Course, Plan, Position, position_of, moved, position_at, course_of, IsAt, IsPassable, IsLegal, IsBadMove, HasPlanFault, IsValid, key_of}
-use Rattle.model.proofs.Options.{found}
-use Rattle.model.proofs.PlaceLemmas.{same_place}
+use Rattle.model.specs.Laws.Options.{some-found}
+use Rattle.model.specs.Laws.Places.{same_place}
 use Rattle.plan.specs.declared.board.Square.{Square}
 use Rattle.plan.specs.declared.crowd.Walker.{Walker}
 use Rattle.plan.specs.declared.crowd.Turns.{Turns}
 use Rattle.plan.specs.Code.Standing.{IsOnGrid, AreOnGrid, cell_in, place_in}
 use Rattle.plan.specs.Code.Walking.{AreAt, ArePassable, has_act}
 use Rattle.plan_text.specs.Limits.{IsPlan}
-use Rattle.plan.specs.Code.Blocks.{block_steps, IsHeld, IsLinedUp}
+use Rattle.plan.specs.Code.Blocks.{block_steps, HoldsSquares, IsLinedUp}
 use Rattle.plan.specs.Code.Squares.{ground_in, square_at, ground_by, wide_of, place_on, IsOpen, HasGround, IsSquareOf, IsBoard}
-use Rattle.plan.specs.Code.Crowd.{number_of, against_of, led_to, walker_at, act_at, comes_to, AreTurns, KeepGrounds, IsInside, AreInside, AreLed, AreAllowed, first_mark, AreMarksOf}
+use Rattle.plan.specs.Code.Crowd.{number_of_act, against_of, led_to, walker_at, act_at, comes_to, AreActTurns, KeepGrounds, IsInside, AreInside, AreLed, AreAllowed, first_mark, AreMarksOf}
 use Rattle.plan.specs.Code.UnderWay.{IsWalker, AreWalkers, IsAtRest, AreUnderWay, AreActs, AreAllAgents}
-use Rattle.plan.specs.Code.Watching.{IsClean, IsPast, IsSeen, AreSameAgents}
-use Rattle.plan.proofs.WalkingLemmas.{bad-has_act, has_act-over, step_limit, beside_by, step_from_legal, legal_from_step, terrain_on, position_at-start, position-moved, position-stays}
+use Rattle.plan.specs.Code.Watching.{IsClean, IsCleanUpTo, IsSeen, AreSameAgents}
+use Rattle.plan.specs.Laws.Walking.{bad-has_act, has_act-over, step_limit, beside_by, step_from_legal, legal_from_step, terrain_on, position_at-start, position-moved, position-stays}
 use Rattle.plan.proofs.FaultLemmas.{clean_more, good_start, valid_at_end}
 use Rattle.plan.proofs.BoardLemmas.{from_place, to_place, inside}
 use Rattle.plan.proofs.RowLemmas.{held_or_kept}
@@ -137,7 +137,7 @@ leads_back course step act u v is at to =
 
 -- by what the squares tell
 pub come_allowed : (m : Grid) (courses : List Course) (step : ℕ) (turns : Turns) (acts : List Act) (walkers : List Walker) (squares : List Square)
-    → AreTurns (wide_of m) turns → AreUnderWay m courses step walkers squares → AreActs courses step walkers acts
+    → AreActTurns (wide_of m) turns → AreUnderWay m courses step walkers squares → AreActs courses step walkers acts
     → AreAllowed turns acts walkers squares (length walkers) → AllCome m courses step turns acts walkers
 come_allowed m courses step turns acts walkers squares h now are allowed k less =
     let w = now.walkers_are k less in
@@ -166,7 +166,7 @@ no_bad_move m courses step from to w v agent ground course is bad =
     let two : v.course ≡ course = (let a = v.is_agent in cc) in
     let at_u : position_of w.cell ≡ position_at course step = w.at ∙ ap (λ k. position_at k step) one in
     let at_v : position_of v.cell ≡ position_at course (step + 1) = v.at ∙ ap (λ k. position_at k (step + 1)) two in
-    let some = found (slice_get course.acts step) (λ act. (act ≢ Wait) × (IsLegal m (position_at course step) (position_at course (step + 1)) → ⊥)) bad in
+    let some = some-found (slice_get course.acts step) (λ act. (act ≢ Wait) × (IsLegal m (position_at course step) (position_at course (step + 1)) → ⊥)) bad in
     let act = some.0 in
     let moves : position_of v.cell ≡ moved act (position_of w.cell) =
     at_v ∙ after_act course step act some.1 ∙ sym (ap (moved act) at_u) in
@@ -181,7 +181,7 @@ no_bad_move m courses step from to w v agent ground course is bad =
 -- ---- exchanges
 
 -- acts that lead to and fro are opposite
-opposite : (first : ℕ) (a b : Act) (u v : Position) → u ≢ v → v ≡ moved a u → u ≡ moved b v → first + number_of a ≡ against_of first b
+opposite : (first : ℕ) (a b : Act) (u v : Position) → u ≢ v → v ≡ moved a u → u ≡ moved b v → first + number_of_act a ≡ against_of first b
 opposite first N N u v apart to back =
     let one : v.y ≡ u.y -ℤ pos 1 = ap (λ p. p.y) to in
     let two : u.y ≡ v.y -ℤ pos 1 = ap (λ p. p.y) back in
@@ -248,7 +248,7 @@ opposite first Wait Wait u v apart to back = absurd (apart (sym to))
 at_of : (m : Grid) (p : Plan) (t : ℕ) (walker : Walker) (w : IsWalker m p.courses t walker) (i : ℕ) (place : Position) → walker.agent ≡ i → IsAt p i t place
     → position_of w.cell ≡ place
 at_of m p t walker w i place is at =
-    let some = found (course_of p i) (λ k. position_at k t ≡ place) at in
+    let some = some-found (course_of p i) (λ k. position_at k t ≡ place) at in
     let same : w.course ≡ some.0 = (let a = w.is_agent in let b = some.1 in cc) in
     w.at ∙ ap (λ k. position_at k t) same ∙ some.2
 
@@ -257,7 +257,7 @@ one_place m u v e = ap (place_on m) (same_place u v e)
 
 -- ---- a step in which nothing is wrong
 
-pub clean_after : (m : Grid) (p : Plan) (step : ℕ) (turns : Turns) (acts : List Act) (walkers : List Walker) (squares : List Square) → AreTurns (wide_of m) turns
+pub clean_after : (m : Grid) (p : Plan) (step : ℕ) (turns : Turns) (acts : List Act) (walkers : List Walker) (squares : List Square) → AreActTurns (wide_of m) turns
     → AreUnderWay m p.courses step walkers squares → AreActs p.courses step walkers acts → AreAllowed turns acts walkers squares (length walkers)
     → AllCome m p.courses step turns acts walkers → IsClean m p (step + 1) → IsClean m p (step + 1 + 1)
 clean_after m p step turns acts walkers squares h now are allowed come clean = clean_more m p (step + 1) clean no_fault where
@@ -282,7 +282,7 @@ clean_after m p step turns acts walkers squares h now are allowed come clean = c
   not_held k less i place is at j course there rest at_j =
       let v = come k less in
       let w = now.walkers_are k less in
-      let some = found (course_of p j) (λ c. position_at c (step + 1) ≡ place) at_j in
+      let some = some-found (course_of p j) (λ c. position_at c (step + 1) ≡ place) at_j in
       let same : some.0 ≡ course = (let a = some.1 in cc) in
       let stays : position_of rest.cell ≡ place =
       rest.at ∙ sym (position-stays (position_of course.start) course.acts step (step + 1) rest.over (omega arith)) ∙ sym (ap (λ c. position_at c (step + 1)) same) ∙ some.2 in
@@ -294,15 +294,15 @@ clean_after m p step turns acts walkers squares h now are allowed come clean = c
   -- who is at rest was there already
   already : (i : ℕ) (course : Course) (place : Position) → course_of p i ≡ Some course → length course.acts ≤ step → IsAt p i (step + 1) place → IsAt p i step place
   already i course place there over at =
-      let some = found (course_of p i) (λ c. position_at c (step + 1) ≡ place) at in
+      let some = some-found (course_of p i) (λ c. position_at c (step + 1) ≡ place) at in
       let same : some.0 ≡ course = (let a = some.1 in cc) in
       subst (λ o. MatchOption o ⊥ (λ c. position_at c step ≡ place)) (sym there)
       (sym (position-stays (position_of course.start) course.acts step (step + 1) over (omega arith)) ∙ sym (ap (λ c. position_at c (step + 1)) same) ∙ some.2)
 
   vertex : (i j : ℕ) (cell : Cell) → i < j → IsAt p i (step + 1) (position_of cell) → IsAt p j (step + 1) (position_of cell) → ⊥
   vertex i j cell order at_i at_j =
-      let one = found (course_of p i) (λ c. position_at c (step + 1) ≡ position_of cell) at_i in
-      let two = found (course_of p j) (λ c. position_at c (step + 1) ≡ position_of cell) at_j in
+      let one = some-found (course_of p i) (λ c. position_at c (step + 1) ≡ position_of cell) at_i in
+      let two = some-found (course_of p j) (λ c. position_at c (step + 1) ≡ position_of cell) at_j in
       elim (now.agents i one.0 one.1) [
         | inl (k, less_k, is_k) ↦ elim (now.agents j two.0 two.1) [
           | inl (l, less_l, is_l) ↦
@@ -350,15 +350,15 @@ clean_after m p step turns acts walkers squares h now are allowed come clean = c
 
   stands : (i : ℕ) (course : Course) (u v : Position) → course_of p i ≡ Some course → length course.acts ≤ step → IsAt p i step u → IsAt p i (step + 1) v → u ≡ v
   stands i course u v there over from to =
-      let one = found (course_of p i) (λ c. position_at c step ≡ u) from in
-      let two = found (course_of p i) (λ c. position_at c step ≡ v) (already i course v there over to) in
+      let one = some-found (course_of p i) (λ c. position_at c step ≡ u) from in
+      let two = some-found (course_of p i) (λ c. position_at c step ≡ v) (already i course v there over to) in
       let same : one.0 ≡ two.0 = (let e = one.1 in let f = two.1 in cc) in
       sym one.2 ∙ ap (λ c. position_at c step) same ∙ two.2
 
   swap : (i j : ℕ) (u v : Position) → i < j → u ≢ v → IsAt p i step u → IsAt p i (step + 1) v → IsAt p j step v → IsAt p j (step + 1) u → ⊥
   swap i j u v order other i_from i_to j_from j_to =
-      let one = found (course_of p i) (λ c. position_at c step ≡ u) i_from in
-      let two = found (course_of p j) (λ c. position_at c step ≡ v) j_from in
+      let one = some-found (course_of p i) (λ c. position_at c step ≡ u) i_from in
+      let two = some-found (course_of p j) (λ c. position_at c step ≡ v) j_from in
       elim (now.agents i one.0 one.1) [
         | inl (k, less_k, is_k) ↦ elim (now.agents j two.0 two.1) [
           | inl (l, less_l, is_l) ↦ elim (cases_order k l) [
@@ -374,7 +374,7 @@ clean_after m p step turns acts walkers squares h now are allowed come clean = c
   no_fault : (fault : PlanFault) → HasPlanFault m p fault → (key_of fault).time ≡ step + 1 → ⊥
   no_fault (BadStart i) has time = omega (arith, time)
   no_fault (BadMove i other) has time =
-      let some = found (course_of p i) (λ course. IsBadMove m course other) has in
+      let some = some-found (course_of p i) (λ course. IsBadMove m course other) has in
       bad_move i some.0 some.1 (subst (IsBadMove m some.0) (omega (arith, time)) some.2)
   no_fault (Vertex i j time cell) (order, at_i, at_j) same =
       vertex i j cell order (subst (λ t. IsAt p i t (position_of cell)) same at_i) (subst (λ t. IsAt p j t (position_of cell)) same at_j)
@@ -439,7 +439,7 @@ wait_from acts step (inr waits) = get_or_from_slice_get acts step Wait Wait wait
 
 -- by what is known of the agents' cells, where the step is known to have no fault
 pub come_clean : (m : Grid) (p : Plan) (step : ℕ) (turns : Turns) (acts : List Act) (walkers : List Walker) (squares : List Square) (next : List Cell) → IsMap m
-    → AreTurns (wide_of m) turns → AreUnderWay m p.courses step walkers squares → AreActs p.courses step walkers acts → AreAt p.courses (step + 1) next
+    → AreActTurns (wide_of m) turns → AreUnderWay m p.courses step walkers squares → AreActs p.courses step walkers acts → AreAt p.courses (step + 1) next
     → AreOnGrid m next → IsClean m p (step + 1 + 1) → AllCome m p.courses step turns acts walkers
 come_clean m p step turns acts walkers squares next is_map h now are at on clean k less =
     let w = now.walkers_are k less in
@@ -490,7 +490,7 @@ open_class blocked h = absurd (h refl)
 
 pub may_start : (m : Grid) (start : Cell) (ground : ℕ) → IsPassable m start → HasGround m start ground → IsOpen ground
 may_start m start ground passable has =
-    let some = found (terrain_at m start) (λ terrain. class_of terrain ≢ blocked) passable in
+    let some = some-found (terrain_at m start) (λ terrain. class_of terrain ≢ blocked) passable in
     let same : some.0 ≡ has.terrain = (let a = some.1 in let b = has.has in cc) in
     subst IsOpen (sym (ground-character has.terrain) ∙ sym has.ground) (open_class (class_of has.terrain) (subst (λ t. class_of t ≢ blocked) same some.2))
 
@@ -545,7 +545,7 @@ first-none m courses walkers none =
 
 -- those without an act hold their squares, and the others are lined up
 pub block-begun : (m : Grid) (courses : List Course) (step : ℕ) (old new : List Walker) (squares after : List Square) → AreUnderWay m courses step old squares
-    → IsHeld courses step old squares after → IsLinedUp courses step old new → AreUnderWay m courses step new after
+    → HoldsSquares courses step old squares after → IsLinedUp courses step old new → AreUnderWay m courses step new after
 block-begun m courses step old new squares after now held lined = record {
   board = record {
     size = held.count ∙ now.board.size;
@@ -594,7 +594,7 @@ all_start m courses walkers squares board are all = record {
 }
 
 -- a wait leads nowhere
-pub wait_stays : (m : Grid) (turns : Turns) (acts : List Act) (walkers : List Walker) (k : ℕ) → AreTurns (wide_of m) turns → act_at acts k ≡ Wait
+pub wait_stays : (m : Grid) (turns : Turns) (acts : List Act) (walkers : List Walker) (k : ℕ) → AreActTurns (wide_of m) turns → act_at acts k ≡ Wait
     → comes_to turns acts walkers k ≡ (walker_at walkers k).place
 wait_stays m turns acts walkers k h waits =
     let turn = h.each Wait in
@@ -603,7 +603,7 @@ wait_stays m turns acts walkers k h waits =
     ap (λ a. led_to turns a (walker_at walkers k).place) waits ∙ omega (arith, ahead, back)
 
 pub starts_wait : (m : Grid) (courses : List Course) (turns : Turns) (acts : List Act) (old new : List Walker) (squares after : List Square)
-    → AreTurns (wide_of m) turns → ((k : ℕ) → k < length old → act_at acts k ≡ Wait) → AreUnderWay m courses 0 old squares → AreLed turns acts old new
+    → AreActTurns (wide_of m) turns → ((k : ℕ) → k < length old → act_at acts k ≡ Wait) → AreUnderWay m courses 0 old squares → AreLed turns acts old new
     → KeepGrounds squares after → AreUnderWay m courses 0 new after
 starts_wait m courses turns acts old new squares after h waits now led kept =
     let count = led.count in
@@ -618,7 +618,7 @@ starts_wait m courses turns acts old new squares after h waits now led kept =
       ];
     }
 
-pub clean_at_start : (m : Grid) (p : Plan) (turns : Turns) (acts : List Act) (walkers : List Walker) (squares : List Square) → AreTurns (wide_of m) turns
+pub clean_at_start : (m : Grid) (p : Plan) (turns : Turns) (acts : List Act) (walkers : List Walker) (squares : List Square) → AreActTurns (wide_of m) turns
     → ArePassable m p.courses → ((k : ℕ) → k < length walkers → act_at acts k ≡ Wait) → AreWalkers m p.courses 0 walkers → AreAllAgents (length p.courses) walkers
     → AreAllowed turns acts walkers squares (length walkers) → IsClean m p 1
 clean_at_start m p turns acts walkers squares h passable waits are all allowed = clean_more m p 0 (λ fault has less. absurd (omega (arith, less))) no_fault where
@@ -628,7 +628,7 @@ clean_at_start m p turns acts walkers squares h passable waits are all allowed =
 
   vertex : (i j : ℕ) (cell : Cell) → i < j → IsAt p i 0 (position_of cell) → IsAt p j 0 (position_of cell) → ⊥
   vertex i j cell order at_i at_j =
-      let two = found (course_of p j) (λ c. position_at c 0 ≡ position_of cell) at_j in
+      let two = some-found (course_of p j) (λ c. position_at c 0 ≡ position_of cell) at_j in
       let is_agent = slice_get_within p.courses j two.0 two.1 in
       let count = all.all in
       let less_j : j < length walkers = omega (arith, is_agent, count) in
@@ -661,7 +661,7 @@ none_under_way m p step squares now clean = valid_at_end m p step
 
 -- all walkers are inside the board
 pub all_inside : (m : Grid) (courses : List Course) (step : ℕ) (turns : Turns) (walkers : List Walker) (squares : List Square) → IsSize m.width m.height
-    → AreTurns (wide_of m) turns → AreUnderWay m courses step walkers squares → AreInside turns (length squares) walkers
+    → AreActTurns (wide_of m) turns → AreUnderWay m courses step walkers squares → AreInside turns (length squares) walkers
 all_inside m courses step turns walkers squares size h now k less =
     let w = now.walkers_are k less in
     subst (λ n. IsInside turns n (walker_at walkers k).place) (sym now.board.size)
@@ -675,8 +675,8 @@ if_past (Ok (Some x)) A B P f h = h
 if_past (Err e) A B P f h = h
 
 pub seen-past : (m : Grid) (p : Plan) (step : ℕ) (turns : Turns) (acts : List Act) (old new : List Walker) (squares after : List Square) → IsMap m
-    → AreTurns (wide_of m) turns → AreUnderWay m p.courses step old squares → AreActs p.courses step old acts → AreLed turns acts old new
-    → KeepGrounds squares after → AreMarksOf (first_mark (step + 1 + 1)) new after → IsPast m p (step + 1) → IsSeen m p (step + 1) new after
+    → AreActTurns (wide_of m) turns → AreUnderWay m p.courses step old squares → AreActs p.courses step old acts → AreLed turns acts old new
+    → KeepGrounds squares after → AreMarksOf (first_mark (step + 1 + 1)) new after → IsCleanUpTo m p (step + 1) → IsSeen m p (step + 1) new after
 seen-past m p step turns acts old new squares after is_map h now are led kept marks past = record {
   under_way = go_on m p.courses step turns acts old new squares after now
       (come_clean m p step turns acts old squares past.cells is_map h now are past.at past.on_map past.clean) led kept;
@@ -685,7 +685,7 @@ seen-past m p step turns acts old new squares after is_map h now are led kept ma
 }
 
 pub seen-allowed : (m : Grid) (p : Plan) (step : ℕ) (turns : Turns) (acts : List Act) (old new : List Walker) (squares after : List Square)
-    → AreTurns (wide_of m) turns → IsSeen m p step old squares → AreActs p.courses step old acts → AreLed turns acts old new
+    → AreActTurns (wide_of m) turns → IsSeen m p step old squares → AreActs p.courses step old acts → AreLed turns acts old new
     → KeepGrounds squares after → AreMarksOf (first_mark (step + 1 + 1)) new after → AreAllowed turns acts old squares (length old) → IsSeen m p (step + 1) new after
 seen-allowed m p step turns acts old new squares after h seen are led kept marks allowed =
     let come = come_allowed m p.courses step turns acts old squares h seen.under_way are allowed in

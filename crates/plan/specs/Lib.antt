@@ -5,7 +5,11 @@
 pub mod Checking
 -- when a plan solves the first rows of a scenario, and why not
 pub mod Fitting
+-- the words of why not
+pub mod FaultWords
 -- where agents may start, and where an act leads
 pub mod Moving
 -- The code's own words, of which no promise speaks.
 pub mod Code
+-- What follows from these definitions, each with its proof: proofs of other crates cite it, and nothing of it has to be believed.
+pub mod Laws

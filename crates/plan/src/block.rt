@@ -4,7 +4,7 @@ ghost use Rattle.model.specs.declared.act.Act.TheVariants.{Wait as wait};
 ghost use Rattle.plan.specs.Code.Walking.{has_act};
 ghost use Rattle.plan.specs.Code.Squares.{ground_in, square_at};
 ghost use Rattle.plan.specs.Code.Crowd.{act_at, walker_at};
-ghost use Rattle.plan.specs.Code.Blocks.{block_steps, group_size, row_at, AreRows, AreGroupActs, AreBlockActs, IsHeld, IsLinedUp};
+ghost use Rattle.plan.specs.Code.Blocks.{block_steps, group_size, row_of_step, AreActRows, AreGroupActs, AreBlockActs, HoldsSquares, IsLinedUp};
 
 use crate::act_row::ActRow;
 use crate::board::{HELD, NOBODY, Square};
@@ -19,8 +19,8 @@ const GROUP: usize = 32;
 
 /// A row of waits for each step of a block, with room for so many agents.
 pub(crate) fn rows(alloc: Global, count: usize) -> Result<Vec<ActRow>, AllocError>
-    ensures rows { IfOk result (λ rows. AreRows count rows.items) }
-    ensures waits { IfOk result (λ rows. (s k : ℕ) → s < block_steps → k < count → act_at (row_at rows.items s) k ≡ wait) }
+    ensures rows { IfOk result (λ rows. AreActRows count rows.items) }
+    ensures waits { IfOk result (λ rows. (s k : ℕ) → s < block_steps → k < count → act_at (row_of_step rows.items s) k ≡ wait) }
 {
     let mut rows = Vec::with_capacity(alloc, BLOCK)?;
     for _step in 0..BLOCK {
@@ -32,7 +32,7 @@ pub(crate) fn rows(alloc: Global, count: usize) -> Result<Vec<ActRow>, AllocErro
 /// Lets the walkers without an act in the step hold their squares.
 pub(crate) fn hold(courses: &[Course], step: u32, walkers: &[Walker], squares: &mut [Square])
     requires { (k : ℕ) → k < length walkers.now → (walker_at walkers.now k).place < length squares.old }
-    ensures { IsHeld courses.now step walkers.now squares.old squares.new }
+    ensures { HoldsSquares courses.now step walkers.now squares.old squares.new }
 {
     for walker in walkers {
         if !has_act(courses, walker.agent, step) {
@@ -53,9 +53,9 @@ pub(crate) fn line_up(courses: &[Course], step: u32, walkers: &mut Vec<Walker>)
 /// Turns the acts of the walkers in the block into a row for each step.
 pub(crate) fn turn(courses: &[Course], step: u32, walkers: &[Walker], rows: &mut [ActRow])
     requires agents { (k : ℕ) → k < length walkers.now → (walker_at walkers.now k).agent < length courses.now }
-    requires rows { AreRows (length courses.now) rows.old }
+    requires rows { AreActRows (length courses.now) rows.old }
     requires room { length walkers.now ≤ length courses.now }
-    ensures rows { AreRows (length courses.now) rows.new }
+    ensures rows { AreActRows (length courses.now) rows.new }
     ensures acts { AreBlockActs courses.now step walkers.now rows.new }
 {
     let mut first = 0;
@@ -73,10 +73,10 @@ pub(crate) fn turn(courses: &[Course], step: u32, walkers: &[Walker], rows: &mut
 fn turn_group(courses: &[Course], step: u32, group: &[Walker], first: usize, rows: &mut [ActRow])
     requires agents { (k : ℕ) → k < length group.now → (walker_at group.now k).agent < length courses.now }
     requires size { length group.now ≤ group_size }
-    requires rows { AreRows (length courses.now) rows.old }
+    requires rows { AreActRows (length courses.now) rows.old }
     requires room { first + length group.now ≤ length courses.now }
-    ensures rows { AreRows (length courses.now) rows.new }
-    ensures before { (s k : ℕ) → s < block_steps → k < first → act_at (row_at rows.new s) k ≡ act_at (row_at rows.old s) k }
+    ensures rows { AreActRows (length courses.now) rows.new }
+    ensures before { (s k : ℕ) → s < block_steps → k < first → act_at (row_of_step rows.new s) k ≡ act_at (row_of_step rows.old s) k }
     ensures own { AreGroupActs courses.now step group.now first rows.new }
 {
     let mut stretches = [[Act::Wait; BLOCK]; GROUP];

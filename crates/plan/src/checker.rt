@@ -6,7 +6,7 @@ ghost use Rattle.plan.specs.Code.Walking.{ArePassable};
 ghost use Rattle.plan.specs.Code.Squares.{AreUnmarked, IsBoard};
 ghost use Rattle.plan.specs.Code.Crowd.{act_at, first_mark};
 ghost use Rattle.plan.specs.Code.UnderWay.{AreWalkers, AreAllAgents, AreActs};
-ghost use Rattle.plan.specs.Code.Blocks.{block_steps, row_at, AreRows, AreBlockActs};
+ghost use Rattle.plan.specs.Code.Blocks.{block_steps, row_of_step, AreActRows, AreBlockActs};
 ghost use Rattle.plan.specs.Code.Watching.{IsVerdict, IsSeen, IsSeenAt, AreSameAgents};
 
 use crate::act_row::ActRow;
@@ -74,8 +74,8 @@ fn look_through(
     requires unmarked { AreUnmarked squares.old }
     requires walkers { AreWalkers map.now plan.now.courses 0 walkers.old.items }
     requires agents { AreAllAgents (length plan.now.courses) walkers.old.items }
-    requires rows { AreRows (length plan.now.courses) rows.old }
-    requires waits { (k : ℕ) → k < length plan.now.courses → act_at (row_at rows.old 0) k ≡ wait }
+    requires rows { AreActRows (length plan.now.courses) rows.old }
+    requires waits { (k : ℕ) → k < length plan.now.courses → act_at (row_of_step rows.old 0) k ≡ wait }
     ensures { IfOk result (IsVerdict map.now plan.now) }
 {
     let fault = take_starts(alloc, map, plan, rows[0].acts(), walkers, squares)?;
@@ -96,7 +96,7 @@ fn watch(
 ) -> Result<Option<PlanFault>, AllocError>
     requires starts { ArePassable map.now plan.now.courses }
     requires seen { IsSeen map.now plan.now 0 walkers.old.items squares.old }
-    requires rows { AreRows (length plan.now.courses) rows.old }
+    requires rows { AreActRows (length plan.now.courses) rows.old }
     requires room { length walkers.old.items ≤ length plan.now.courses }
     ensures { IfOk result (IsVerdict map.now plan.now) }
 {
@@ -128,7 +128,7 @@ fn take_block(
     requires step { step < 2 ^ 31 }
     requires starts { ArePassable map.now plan.now.courses }
     requires seen { IsSeen map.now plan.now step walkers.old squares.old }
-    requires rows { AreRows (length plan.now.courses) rows.now }
+    requires rows { AreActRows (length plan.now.courses) rows.now }
     requires room { length walkers.old ≤ length plan.now.courses }
     requires acts { AreBlockActs plan.now.courses step walkers.old rows.now }
     ensures seen { IfOk result (IsSeenAt map.now plan.now (step + block_steps) walkers.new squares.new) }

@@ -1,6 +1,6 @@
 //! Agents under way, and how a step takes them on.
 ghost use Rattle.std.specs.Prelude.{◌≡◌, ◌<◌, ◌≤◌, length, true, false};
-ghost use Rattle.plan.specs.Code.Crowd.{turn_by, led_to, AreMarks, AreTurns, AreMarksOf, AreOldMarks, IsInside, AreInside, KeepGrounds, IsAllowed, IsRefused, IsMarked, AreLed, AreAllowed, AreSuspect};
+ghost use Rattle.plan.specs.Code.Crowd.{turn_by, led_to, AreMarks, AreActTurns, AreMarksOf, AreOldMarks, IsInside, AreInside, KeepGrounds, IsAllowed, IsActRefused, IsMarked, AreLed, AreAllowed, AreSuspect};
 
 use crate::board::{NOBODY, Square};
 use model::Act;
@@ -39,7 +39,7 @@ impl Turns {
     pub(crate) fn new(wide: u32, first: u8) -> Turns
         requires { first < 50 }
         ensures first { result.first ≡ first }
-        ensures turns { AreTurns wide result }
+        ensures turns { AreActTurns wide result }
     {
         let stay = Turn {
             ahead: 0,
@@ -123,7 +123,7 @@ fn lead(turns: &Turns, act: Act, walker: &mut Walker, squares: &mut [Square]) ->
     ensures grounds { KeepGrounds squares.old squares.new }
     ensures marks { IsMarked turns.now act walker.old.place squares.old squares.new }
     ensures allowed { result ≡ false → IsAllowed turns.now act walker.old squares.old }
-    ensures refused { result ≡ true → IsRefused turns.now act walker.old squares.old }
+    ensures refused { result ≡ true → IsActRefused turns.now act walker.old squares.old }
 {
     let turn = turns.of(act);
     let from = walker.place as usize;

@@ -4,7 +4,7 @@ ghost use Rattle.plan_text.specs.Limits.{IsPlan};
 ghost use Rattle.model.specs.Plan.{IsLeastFault};
 ghost use Rattle.plan.specs.Code.Standing.{cell_in};
 ghost use Rattle.plan.specs.Code.Walking.{ArePassable, IsAdvanced, start_cells};
-ghost use Rattle.plan.specs.Code.Watching.{IsClean, IsPast, IsWatched, IsWatchedAt};
+ghost use Rattle.plan.specs.Code.Watching.{IsClean, IsCleanUpTo, IsWatched, IsWatchedAt};
 
 use crate::meeting::{Pair, enter, find_swap};
 use crate::walking::{advance, cells_at};
@@ -42,7 +42,7 @@ pub(crate) fn fault_in_step(
     requires step { step + 1 < 2 ^ 32 }
     requires starts { ArePassable map.now plan.now.courses }
     requires clean { IsClean map.now plan.now (step + 1) }
-    ensures { IfOk result (λ fault. MatchOption fault (IsPast map.now plan.now (step + 1)) (IsLeastFault map.now plan.now)) }
+    ensures { IfOk result (λ fault. MatchOption fault (IsCleanUpTo map.now plan.now (step + 1)) (IsLeastFault map.now plan.now)) }
 {
     let courses = plan.courses();
     let now = cells_at(alloc, map, courses, step)?;

@@ -1,7 +1,7 @@
 //! Whether a plan solves the first rows of a scenario.
 ghost use Rattle.std.specs.Prelude.{◌≡◌, ◌<◌, ◌↔◌, IsTrue, Some, length};
 ghost use Rattle.plan.specs.Fitting.{AnswersFit, HasSize};
-ghost use Rattle.plan.specs.Code.Rows.{AnswersAgent};
+ghost use Rattle.plan.specs.Code.Rows.{JudgesAgent};
 
 use crate::checked_plan::CheckedPlan;
 use crate::fit_fault::FitFault;
@@ -29,7 +29,7 @@ pub fn fits(plan: &CheckedPlan, scenario: &Scenario, count: u32) -> Result<(), F
 /// Whether the agent of this number solves the row.
 fn fits_row(plan: &CheckedPlan, agent: u32, row: &Row) -> Result<(), FitFault>
     requires { agent < length plan.now.timetable.tracks }
-    ensures { AnswersAgent plan.now row.now agent result }
+    ensures { JudgesAgent plan.now row.now agent result }
 {
     if !has_size(plan, row) {
         return Err(FitFault::SizeDiffers(agent));

@@ -1,6 +1,6 @@
 //! Agents that meet: two in one cell, or two that exchange cells.
 ghost use Rattle.std.specs.Prelude.{◌≡◌, ◌≢◌, ◌+◌, ◌*◌, ◌<◌, ◌⊎◌, ◌↔◌, ℕ, min, max, length, All, Contains, IsTrue, IfNone, IfSome, Some};
-ghost use Rattle.plan.specs.Code.Standing.{cell_in, place_in, entry_at, IsOnGrid, AreOnGrid, NoLater, AreTogether, AreSwapped, IsSound, IsStandingTable, IsLeastPair};
+ghost use Rattle.plan.specs.Code.Standing.{cell_in, place_in, entry_at, IsOnGrid, AreOnGrid, NoLater, AreTogether, AreSwapped, IsEntrySound, IsStandingTable, IsLeastPair};
 
 use grid::{Cell, Map};
 
@@ -33,8 +33,8 @@ fn put(map: &Map, cells: &[Cell], agent: u16, table: &mut [u16], best: Option<Pa
     requires cells { AreOnGrid map.now cells.now }
     requires table { length table.old ≡ map.now.width * map.now.height }
     requires agent { agent < length cells.now }
-    ensures others { (i : ℕ) → i < length cells.now → IsSound map.now.width cells.now table.old best i → IsSound map.now.width cells.now table.new result i }
-    ensures own { IsSound map.now.width cells.now table.new result agent }
+    ensures others { (i : ℕ) → i < length cells.now → IsEntrySound map.now.width cells.now table.old best i → IsEntrySound map.now.width cells.now table.new result i }
+    ensures own { IsEntrySound map.now.width cells.now table.new result agent }
     ensures are_together { IfSome best (λ p. AreTogether cells.now p.first p.second) → IfSome result (λ p. AreTogether cells.now p.first p.second) }
 {
     let cell = cells[usize::from(agent)];

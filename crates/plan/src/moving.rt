@@ -4,7 +4,7 @@ ghost use Rattle.grid.specs.Map.{terrain_at, AreJoined};
 ghost use Rattle.model.specs.Plan.{IsPassable};
 ghost use Rattle.plan_text.specs.Limits.{most_agents};
 ghost use Rattle.plan.specs.Moving.{IsOnGrid, IsFirst, ArePassable, HasBadStart, IsMoved, cell_by};
-ghost use Rattle.plan.specs.Code.Walking.{LeadsBeside, is_land, joins_by};
+ghost use Rattle.plan.specs.Code.Walking.{LeadsBeside, is_land_character, joins_by};
 
 use crate::meeting::place_of;
 use grid::{Cell, Map, Terrain};
@@ -98,7 +98,7 @@ fn joins(from: u8, to: u8) -> bool
 }
 
 fn is_land(character: u8) -> bool
-    ensures { result ≡ is_land character }
+    ensures { result ≡ is_land_character character }
 {
     matches!(character, b'.' | b'G' | b'S')
 }

@@ -6,7 +6,7 @@ use Rattle.std.proofs.lemmas.List.{at_drop_more, length-append}
 use Rattle.std.proofs.lemmas.List.FromFn.{length-map-range_with_len}
 use Rattle.std.proofs.lemmas.List.Sums.{count_by-le-length, sum_by-cons, sum_by-drop_more, sum_by_more}
 use Rattle.std.proofs.lemmas.Option.{slice_get-get_or}
-use Rattle.grid.specs.Text.{line_feed, ended}
+use Rattle.text_io.specs.Text.{line_feed, ended}
 use Rattle.grid.specs.declared.cell.Cell.{Cell}
 use Rattle.model.specs.Timetable.{Track, Timetable, moves, moves_after, same_cell}
 use Rattle.model.specs.Dependency.{Need, need}

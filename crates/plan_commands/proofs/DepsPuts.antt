@@ -1,17 +1,17 @@
 -- How far the calls that put the text of a plan's dependencies have come with it.
 use Rattle.std.proofs.Common.{◌≡◌, ◌∙◌, ℕ, List, [], ◌∷◌, ◌++◌, length, map, Result, OnOk, OnErr, refl, sym, ap, append_assoc, append-nil}
 use Rattle.std.specs.Prelude.{Option, codes, decimal, sum_by}
-use Rattle.grid.specs.declared.sink.Sink.{Sink}
-use Rattle.grid.specs.Sink.{Puts, Breaks}
-use Rattle.grid.specs.Text.{space, line_feed, ended, spaced_numbers, separated}
+use Rattle.text_io.specs.declared.sink.Sink.{Sink}
+use Rattle.text_io.specs.Sink.{Puts, Breaks, Leaves}
+use Rattle.text_io.specs.Text.{space, line_feed, ended, spaced_numbers, separated}
 use Rattle.model.specs.declared.visit.Visit.{Visit}
 use Rattle.model.specs.Timetable.{Timetable, moves}
 use Rattle.depgraph.specs.Rotations.{Turn}
 use Rattle.model.specs.Dependency.{Need}
-use Rattle.scen.proofs.PutLemmas.{Leaves, Leaves-all, Leaves-less, Leaves-broken, Puts-last, Breaks-last}
+use Rattle.text_io.specs.Laws.Putting.{Leaves-all, Leaves-less, Leaves-broken, Puts-last, Breaks-last}
 use Rattle.plan_commands.specs.CellVisitsText.{visit_line}
 use Rattle.plan_commands.specs.DepsText.{all_need_lines, counts_line, deps_text, need_line, rotation_line}
-use Rattle.grid.proofs.WordLemmas.{joined}
+use Rattle.text_io.specs.Laws.Words.{joined}
 use Rattle.plan_commands.proofs.DepsLemmas.{ended-append}
 
 -- four parts and an LF

@@ -4,11 +4,11 @@ use Rattle.std.specs.Prelude.{codes, decimal, if◌then◌else◌}
 use Rattle.std.specs.declared.alloc.Global.{Global}
 use Rattle.std.specs.Fmt.{digits, digits_onto, digit_glyph}
 use Rattle.std.specs.Char.{is_ascii_alphanumeric, is_ascii_digit, is_ascii_lowercase, is_ascii_uppercase}
-use Rattle.std.specs.List.{AllByRecursion, list_all}
+use Rattle.std.specs.List.{AllByRecursion, join_with_byte, list_all}
 use Rattle.std.proofs.lemmas.Bool.{and_from, and_parts, cond-true, lt-ltb, le-leb, or_left}
 use Rattle.std.proofs.lemmas.Bool.Decides.{nat_tests}
 use Rattle.std.proofs.lemmas.List.Folds.{list_all-append}
-use Rattle.grid.specs.Text.{space}
+use Rattle.text_io.specs.Text.{space}
 use Rattle.json.specs.Print.{escape, escape_byte}
 use Rattle.json.proofs.Printed.Strings.{escape_byte_plain}
 use Rattle.serde_json.specs.Data.{Data}
@@ -19,8 +19,9 @@ use Rattle.plan.specs.declared.fit_fault.FitFault.{FitFault}
 use Rattle.plan.specs.declared.fit_fault.FitFault.TheVariants.{TooFewRows, AgentCount, StartDiffers, GoalDiffers, SizeDiffers}
 use Rattle.plan_commands.specs.declared.rejection.Rejection.{Rejection}
 use Rattle.plan_commands.specs.declared.rejection.Rejection.TheVariants.{Invalid, Unfit}
-use Rattle.grid.specs.FaultWords.{words_text}
-use Rattle.plan_commands.specs.FaultWords.{plan_fault_words, fit_fault_words, rejection_text}
+use Rattle.model.specs.FaultWords.{plan_fault_words}
+use Rattle.plan.specs.FaultWords.{fit_fault_words}
+use Rattle.plan_commands.specs.FaultWords.{rejection_text}
 use Rattle.plan_commands.specs.Code.Verdicts.{rejected_data}
 use Rattle.plan_commands.specs.VerdictText.{is_plain_byte, IsPlainText, rejected_json}
 
@@ -57,12 +58,12 @@ plain_then : (word rest : List ℕ) → IsPlainText word → IsPlainText rest �
 plain_then word rest first others =
     list_all-append is_plain_byte word (space ∷ rest) ∙ and_from (list_all is_plain_byte word) (list_all is_plain_byte rest) first others
 
-words_are_plain : (words : List (List ℕ)) → AllByRecursion IsPlainText words → IsPlainText (words_text words)
-words_are_plain [] all = refl
-words_are_plain (word ∷ []) all = all.0
-words_are_plain (word ∷ next ∷ words) all = plain_then word (words_text (next ∷ words)) all.0 (words_are_plain (next ∷ words) all.1)
+parts_are_plain : (parts : List (List ℕ)) → AllByRecursion IsPlainText parts → IsPlainText (join_with_byte space parts)
+parts_are_plain [] all = refl
+parts_are_plain (word ∷ []) all = all.0
+parts_are_plain (word ∷ next ∷ parts) all = plain_then word (join_with_byte space (next ∷ parts)) all.0 (parts_are_plain (next ∷ parts) all.1)
 
-plan_words_are_plain : (fault : PlanFault) → AllByRecursion IsPlainText (plan_fault_words fault)
+plan_words_are_plain : (fault : PlanFault) → AllByRecursion IsPlainText (plan_fault_words fault).parts
 plan_words_are_plain (BadStart agent) = (refl, (decimal_is_plain agent, tt))
 plan_words_are_plain (BadMove agent step) = (refl, (decimal_is_plain agent, (decimal_is_plain step, tt)))
 plan_words_are_plain (Vertex first second time cell) = (
@@ -72,7 +73,7 @@ plan_words_are_plain (Vertex first second time cell) = (
 plan_words_are_plain (Swap first second step) = (refl, (decimal_is_plain first, (decimal_is_plain second, (decimal_is_plain step, tt))))
 plan_words_are_plain OutOfMemory = (refl, tt)
 
-fit_words_are_plain : (fault : FitFault) → AllByRecursion IsPlainText (fit_fault_words fault)
+fit_words_are_plain : (fault : FitFault) → AllByRecursion IsPlainText (fit_fault_words fault).parts
 fit_words_are_plain TooFewRows = (refl, tt)
 fit_words_are_plain AgentCount = (refl, tt)
 fit_words_are_plain (StartDiffers agent) = (refl, (decimal_is_plain agent, tt))
@@ -81,8 +82,8 @@ fit_words_are_plain (SizeDiffers row) = (refl, (decimal_is_plain row, tt))
 
 -- why a plan is rejected is told in letters, digits and spaces
 pub rejection_is_plain : (rejection : Rejection) → IsPlainText (rejection_text rejection)
-rejection_is_plain (Invalid fault) = words_are_plain (plan_fault_words fault) (plan_words_are_plain fault)
-rejection_is_plain (Unfit fault) = words_are_plain (fit_fault_words fault) (fit_words_are_plain fault)
+rejection_is_plain (Invalid fault) = parts_are_plain (plan_fault_words fault).parts (plan_words_are_plain fault)
+rejection_is_plain (Unfit fault) = parts_are_plain (fit_fault_words fault).parts (fit_words_are_plain fault)
 
 -- ---- JSON
 

@@ -8,12 +8,12 @@ use Rattle.std.proofs.lemmas.List.Elements.{All-head, All-tail, All-weaker}
 use Rattle.std.proofs.lemmas.List.Folds.{list_all-append}
 use Rattle.std.proofs.lemmas.List.Splits.{slice_split_at, slice_split_none}
 use Rattle.std.proofs.lemmas.List.Sums.{AllPass-from_list_all}
-use Rattle.grid.specs.Text.{space, is_line_byte, lines_of, IsLine}
-use Rattle.grid.proofs.LineLemmas.{lines_of-all}
+use Rattle.text_io.specs.Text.{space, is_line_byte, lines_of, IsLine, is_part_byte, IsPart}
+use Rattle.text_io.specs.Laws.Lines.{lines_of-all}
 use Rattle.model.specs.declared.visit.Visit.{Visit}
-use Rattle.plan_text.proofs.NumeralLemmas.{decimal-IsNumeral}
-use Rattle.plan_text.proofs.SpellingLemmas.{is_part_byte, decimal-is_part, IsLine-part, IsPart}
-use Rattle.plan_commands.specs.CellVisitsText.{IsWithinWidths, visit_line, visits_text}
+use Rattle.text_io.specs.Laws.Numerals.{decimal-IsNumeral}
+use Rattle.text_io.specs.Laws.Parts.{decimal-is_part, IsLine-part}
+use Rattle.plan_commands.specs.CellVisitsText.{IsVisitWithinWidths, visit_line, visits_text}
 
 -- ---- one line
 
@@ -32,7 +32,7 @@ record AreFitting (v : Visit) : Type 0 where
   index : Fits v.index
   time : Fits v.time
 
-fitting : (v : Visit) → IsWithinWidths v → AreFitting v
+fitting : (v : Visit) → IsVisitWithinWidths v → AreFitting v
 fitting v h =
     let agent = h.agent in
     let index = h.index in
@@ -76,21 +76,21 @@ visit_line-is_line v h =
 
 -- ---- all lines
 
-are_lines : (visits : List Visit) → All IsWithinWidths visits → AllByRecursion IsLine (map visit_line visits)
+are_lines : (visits : List Visit) → All IsVisitWithinWidths visits → AllByRecursion IsLine (map visit_line visits)
 are_lines [] h = tt
-are_lines (v ∷ visits) h = (visit_line-is_line v (fitting v (All-head IsWithinWidths v visits h)), are_lines visits (All-tail IsWithinWidths v visits h))
+are_lines (v ∷ visits) h = (visit_line-is_line v (fitting v (All-head IsVisitWithinWidths v visits h)), are_lines visits (All-tail IsVisitWithinWidths v visits h))
 
-same_visits : (visits others : List Visit) → All IsWithinWidths visits → All IsWithinWidths others → map visit_line visits ≡ map visit_line others → visits ≡ others
+same_visits : (visits others : List Visit) → All IsVisitWithinWidths visits → All IsVisitWithinWidths others → map visit_line visits ≡ map visit_line others → visits ≡ others
 same_visits [] [] h k e = refl
 same_visits [] (w ∷ others) h k e = cc
 same_visits (v ∷ visits) [] h k e = cc
 same_visits (v ∷ visits) (w ∷ others) h k e =
     let line : visit_line v ≡ visit_line w = cc in
     let rest : map visit_line visits ≡ map visit_line others = cc in
-    let first = same_visit v w (fitting v (All-head IsWithinWidths v visits h)) (fitting w (All-head IsWithinWidths w others k)) line in
-    ap (λ x. x ∷ visits) first ∙ ap (λ xs. w ∷ xs) (same_visits visits others (All-tail IsWithinWidths v visits h) (All-tail IsWithinWidths w others k) rest)
+    let first = same_visit v w (fitting v (All-head IsVisitWithinWidths v visits h)) (fitting w (All-head IsVisitWithinWidths w others k)) line in
+    ap (λ x. x ∷ visits) first ∙ ap (λ xs. w ∷ xs) (same_visits visits others (All-tail IsVisitWithinWidths v visits h) (All-tail IsVisitWithinWidths w others k) rest)
 
-pub one_reading : (visits others : List Visit) → All IsWithinWidths visits → All IsWithinWidths others → visits_text visits ≡ visits_text others → visits ≡ others
+pub one_reading : (visits others : List Visit) → All IsVisitWithinWidths visits → All IsVisitWithinWidths others → visits_text visits ≡ visits_text others → visits ≡ others
 one_reading visits others h k e =
     same_visits visits others h k
     (sym (lines_of-all (map visit_line visits) (are_lines visits h)) ∙ (ap lines_of e ∙ lines_of-all (map visit_line others) (are_lines others k)))

@@ -2,7 +2,7 @@
 use Rattle.std.specs.Prelude.{ℕ, ◌^◌, ◌<◌, List, [], ◌∷◌, map, codes, decimal}
 use Rattle.std.specs.List.{join_with_byte}
 use Rattle.grid.specs.declared.cell.Cell.{Cell}
-use Rattle.grid.specs.Text.{space, ended}
+use Rattle.text_io.specs.Text.{space, ended}
 use Rattle.model.specs.declared.visit.Visit.{Visit}
 use Rattle.model.specs.Timetable.{Timetable}
 use Rattle.depgraph.specs.Visits.{IsVisitTo, AreVisitsTo}
@@ -21,7 +21,7 @@ abbrev pub visits_text : List Visit → List ℕ
 visits_text visits = ended (map visit_line visits)
 
 -- the numbers of a visit are no wider than those that the code keeps
-pub record IsWithinWidths (v : Visit) : Type 0 where
+pub record IsVisitWithinWidths (v : Visit) : Type 0 where
   pub agent : v.agent < 2 ^ 16
   pub index : v.index < 2 ^ 32
   pub time : v.time < 2 ^ 32

@@ -1,38 +1,27 @@
 -- What `mapf check` does and answers.
 use Rattle.std.specs.Prelude.{◌≡◌, ℕ, ◌⊎◌, Bool, List, length, Option, None, Some, unwrap_or, Result, Ok, Err}
-use Rattle.grid.specs.declared.counted.Counted.{Counted}
+use Rattle.text_io.specs.FaultWords.{Words}
+use Rattle.text_io.specs.declared.counted.Counted.{Counted}
 use Rattle.grid.specs.Map.{Grid}
+use Rattle.grid.specs.MapFault.{ReadsMap}
 use Rattle.model.specs.Costs.{sum_of_costs, makespan}
 use Rattle.model.specs.Plan.{Plan, IsLeastFault}
-use Rattle.plan_text.specs.PlanText.{PlanText}
-use Rattle.plan_text.specs.PlanTextFault.{PlanTextFaultAt, plan_outcome}
-use Rattle.plan_text.specs.declared.plan_text_fault.PlanTextFault.{PlanTextFault}
+use Rattle.plan_text.specs.PlanTextFault.{ReadsPlan, ReadsMapAndPlan}
 use Rattle.plan.specs.Checking.{Checked, IsCheckOf}
 use Rattle.plan.specs.Fitting.{AnswersFit}
 use Rattle.plan.specs.declared.fit_fault.FitFault.{FitFault}
 use Rattle.plan.specs.declared.fit_fault.FitFault.TheVariants.{AgentCount}
 use Rattle.scen.specs.Query.{Query}
+use Rattle.scen.specs.ScenFault.{ReadsScen}
 use Rattle.plan_commands.specs.declared.check_fault.CheckFault.{CheckFault}
 use Rattle.plan_commands.specs.declared.check_fault.CheckFault.TheVariants as check_fault
 use Rattle.plan_commands.specs.declared.rejection.Rejection.TheVariants.{Invalid, Unfit}
 use Rattle.text_commands.specs.declared.status.Status.{Status}
 use Rattle.text_commands.specs.declared.status.Status.TheVariants as status
 use Rattle.plan_commands.specs.FaultWords.{check_fault_words, rejection_text}
-use Rattle.text_commands.specs.Rewriting.{Reads, EndsWriting}
-use Rattle.text_commands.specs.RowCommand.{ReadsMap, ReadsScen}
-use Rattle.text_commands.specs.Status.{code_of}
-use Rattle.plan_commands.specs.CheckStatus.{check_fault_status}
+use Rattle.text_commands.specs.Rewriting.{EndsWriting}
+use Rattle.text_commands.specs.Status.{code_of, status_of}
 use Rattle.plan_commands.specs.VerdictText.{accepted_line, rejected_line}
-
--- the plan's text was read as `read_plan` reads it, with this answer
-abbrev pub ReadsPlan : {P : Type 0} → (P → Option (List ℕ)) → Counted P → Counted P → Result Plan PlanTextFault → Type 0
-ReadsPlan remaining old new answer = Reads PlanText PlanTextFaultAt remaining old new (plan_outcome answer)
-
--- a map and a plan were read, in this order
-abbrev pub ReadsMapAndPlan
-    : {M P : Type 0} → (M → Option (List ℕ)) → (P → Option (List ℕ)) → Counted M → Counted M → Counted P → Counted P → Grid → Plan → Type 0
-ReadsMapAndPlan map_left plan_left old_map new_map old_plan new_plan m p =
-    ReadsMap map_left old_map new_map (Ok m) × ReadsPlan plan_left old_plan new_plan (Ok p)
 
 -- The map was read, and then the plan, and then the plan was checked on the map: it is valid, and this is its check, or it is
 -- rejected for its least fault. A text that could not be read is answered, and what comes after it isn't touched.
@@ -92,7 +81,7 @@ ReadsChecksAndFits map_left plan_left scen_left old_map new_map old_plan new_pla
 
 -- the line of a verdict was written as every text is; or its text was refused memory, and nothing was written but that
 abbrev pub EndsByLine
-    : {W : Type 0} → (W → Option (List ℕ)) → (Told : Option (List (List ℕ)) → Type 0) → Counted W → Counted W → ℕ → Status → List ℕ → Type 0
+    : {W : Type 0} → (W → Option (List ℕ)) → (Told : Option Words → Type 0) → Counted W → Counted W → ℕ → Status → List ℕ → Type 0
 EndsByLine contents Told old new code success line =
     EndsWriting contents Told old new code success line
     ⊎ ((code ≡ code_of status.Failure) × (new ≡ old) × Told (Some (check_fault_words check_fault.OutOfMemory)))
@@ -100,7 +89,7 @@ EndsByLine contents Told old new code success line =
 -- The exit status, what the output got and which fault was told: the line of the verdict, which for an accepted plan has its number of
 -- agents, its sum of costs and its makespan; nothing where there is no verdict.
 abbrev pub EndsByCheck
-    : {W : Type 0} → (W → Option (List ℕ)) → (Told : Option (List (List ℕ)) → Type 0) → Bool → Counted W → Counted W → ℕ
+    : {W : Type 0} → (W → Option (List ℕ)) → (Told : Option Words → Type 0) → Bool → Counted W → Counted W → ℕ
     → Result Checked CheckFault → Type 0
 EndsByCheck contents Told json old new code (Ok c) =
     EndsByLine contents Told old new code status.Done
@@ -108,12 +97,12 @@ EndsByCheck contents Told json old new code (Ok c) =
 EndsByCheck contents Told json old new code (Err (check_fault.Rejected rejection)) =
     EndsByLine contents Told old new code status.Fault (rejected_line json (rejection_text rejection))
 EndsByCheck contents Told json old new code (Err fault) =
-    (code ≡ code_of (check_fault_status fault)) × (new ≡ old) × Told (Some (check_fault_words fault))
+    (code ≡ code_of (status_of (check_fault_words fault))) × (new ≡ old) × Told (Some (check_fault_words fault))
 
 -- the texts were read, the plan was checked and its agents were counted, and the command ended by that
 pub record AnswersCheck
     {M P W : Type 0} (map_left : M → Option (List ℕ)) (plan_left : P → Option (List ℕ)) (contents : W → Option (List ℕ))
-    (Told : Option (List (List ℕ)) → Type 0) (old_map new_map : Counted M) (old_plan new_plan : Counted P) (due : Option ℕ) (json : Bool) (old_out new_out : Counted W) (code : ℕ) : Type 0 where
+    (Told : Option Words → Type 0) (old_map new_map : Counted M) (old_plan new_plan : Counted P) (due : Option ℕ) (json : Bool) (old_out new_out : Counted W) (code : ℕ) : Type 0 where
   pub answer : Result Checked CheckFault
   pub reads : ReadsChecksAndCounts map_left plan_left old_map new_map old_plan new_plan due answer
   pub ends : EndsByCheck contents Told json old_out new_out code answer
@@ -121,7 +110,7 @@ pub record AnswersCheck
 -- the same with a scenario
 pub record AnswersCheckFit
     {M P S W : Type 0} (map_left : M → Option (List ℕ)) (plan_left : P → Option (List ℕ)) (scen_left : S → Option (List ℕ))
-    (contents : W → Option (List ℕ)) (Told : Option (List (List ℕ)) → Type 0) (old_map new_map : Counted M) (old_plan new_plan : Counted P)
+    (contents : W → Option (List ℕ)) (Told : Option Words → Type 0) (old_map new_map : Counted M) (old_plan new_plan : Counted P)
     (old_scen new_scen : Counted S)
     (due : Option ℕ) (json : Bool) (old_out new_out : Counted W) (code : ℕ) : Type 0 where
   pub answer : Result Checked CheckFault

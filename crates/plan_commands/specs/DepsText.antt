@@ -1,7 +1,7 @@
 -- What is written of a timetable's dependencies.
 use Rattle.std.specs.Prelude.{ℕ, ◌+◌, List, [], ◌∷◌, ◌++◌, Option, None, Some, length, map, sum_by, codes, decimal}
 use Rattle.std.specs.List.{join_with_byte, range_with_len}
-use Rattle.grid.specs.Text.{space, ended}
+use Rattle.text_io.specs.Text.{space, ended}
 use Rattle.model.specs.Timetable.{Track, Timetable, moves}
 use Rattle.model.specs.Dependency.{Need, need}
 use Rattle.depgraph.specs.Rotations.{Turn}

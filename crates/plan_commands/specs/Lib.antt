@@ -1,8 +1,6 @@
 -- What has to be believed, in the order in which to read it: each promise of the crate is made in these words, and in those of
 -- `text_commands`.
 
--- which exit status a fault ends with
-pub mod CheckStatus
 -- the words of a plan's fault
 pub mod FaultWords
 -- what is written for a plan that was checked

@@ -2,7 +2,7 @@
 use Rattle.std.specs.Prelude.{ℕ, Bool, ◌||◌, ◌==◌, if◌then◌else◌, IsTrue, List, [], ◌∷◌, ◌++◌, codes, decimal, ⊤}
 use Rattle.std.specs.Char.{is_ascii_alphanumeric}
 use Rattle.std.specs.List.{list_all}
-use Rattle.grid.specs.Text.{space, line_feed}
+use Rattle.text_io.specs.Text.{space, line_feed}
 use Rattle.plan_commands.specs.declared.verdict.Verdict.{Verdict}
 use Rattle.plan_commands.specs.declared.verdict.Verdict.TheVariants.{Accepted, Rejected}
 

@@ -1,21 +1,19 @@
 //! `mapf check`: checks a plan on a map, and whether it solves the first rows of a scenario.
-ghost use Rattle.std.specs.Prelude.{◌≡◌, Some, Err};
+ghost use Rattle.std.specs.Prelude.{◌≡◌, Err};
 ghost use Rattle.plan_commands.specs.CheckCommand.{ReadsAndChecks, ReadsChecksAndCounts, ReadsChecksAndFits, EndsByCheck, EndsByLine, AnswersCheck, AnswersCheckFit};
 ghost use Rattle.plan_commands.specs.Code.Verdicts.{verdict_line, verdict_status};
-ghost use Rattle.text_commands.specs.Status.{code_of};
 ghost use Rattle.text_commands.specs.Telling.{Tells};
-ghost use Rattle.plan_commands.specs.CheckStatus.{check_fault_status};
-ghost use Rattle.plan_commands.specs.FaultWords.{check_fault_words};
 ghost use Rattle.plan_commands.specs.VerdictText.{IsPlain};
 
 use crate::check_fault::CheckFault;
 use crate::verdict::{Verdict, verdict_line};
-use grid::{Counted, read_map};
+use grid::read_map;
 use plan::{CheckedPlan, FitFault, check, fits, read_plan};
 use scen::read_scen;
 use std::alloc::Global;
 use std::io::{Read, Write};
-use text_commands::{finish, report, write_text};
+use text_commands::{finish, give_up, write_text};
+use text_io::Counted;
 
 /// Reads a map from `map` and a plan from `plan`, and writes the verdict on the plan to `out`, in words or as JSON, with a fault's
 /// line on `err`: the plan is accepted only where it has as many agents as are due, where that is said. The answer is the exit status,
@@ -136,9 +134,9 @@ fn refuse<W: Write, E: Write>(
     match fault {
         CheckFault::Rejected(rejection) => match rejection.text(alloc) {
             Ok(text) => tell(alloc, &Verdict::Rejected(&text), json, out, err),
-            Err(_) => give_up(CheckFault::OutOfMemory, err),
+            Err(_) => give_up(CheckFault::OutOfMemory.words(), err),
         },
-        _ => give_up(fault, err),
+        _ => give_up(fault.words(), err),
     }
 }
 
@@ -158,15 +156,6 @@ fn tell<W: Write, E: Write>(
             let written = write_text(line.as_bytes(), out);
             finish(written, verdict.status(), out, err).code()
         }
-        Err(_) => give_up(CheckFault::OutOfMemory, err),
+        Err(_) => give_up(CheckFault::OutOfMemory.words(), err),
     }
-}
-
-/// Says why there is no verdict. The answer is the exit status.
-pub(crate) fn give_up<E: Write>(fault: CheckFault, err: &mut Counted<E>) -> u8
-    ensures code { result ≡ code_of (check_fault_status fault) }
-    ensures told { Tells E.contents err.old err.new (Some (check_fault_words fault)) }
-{
-    report(err, fault.words());
-    fault.status().code()
 }

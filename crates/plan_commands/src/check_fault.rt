@@ -1,19 +1,17 @@
 //! Why a plan is not accepted.
 ghost use Rattle.std.specs.Prelude.{◌≡◌, Some};
-ghost use Rattle.grid.specs.FaultWords.{words_of, words_text};
-ghost use Rattle.plan_commands.specs.CheckStatus.{check_fault_status, plan_text_fault_status};
+ghost use Rattle.text_io.specs.FaultWords.{words_of, words_text};
 ghost use Rattle.plan_commands.specs.FaultWords.{check_fault_words};
 ghost use Rattle.plan_commands.specs.Code.Verdicts.{check_fault_of};
 ghost use Rattle.plan_commands.specs.declared.check_fault.CheckFault.TheVariants as check_fault;
 ghost use Rattle.plan_commands.specs.declared.rejection.Rejection.TheVariants as rejection;
 
 use crate::rejection::Rejection;
-use depgraph::OutOfMemory;
-use grid::{FaultWords, MapFault};
+use grid::MapFault;
 use plan::{FitFault, PlanFault, PlanTextFault};
 use scen::ScenFault;
 use std::fmt;
-use text_commands::{Status, map_fault_status, scen_fault_status};
+use text_io::{Failure, FaultWords, OutOfMemory};
 use thiserror::Error;
 
 /// Why a plan is not accepted.
@@ -32,19 +30,6 @@ pub enum CheckFault {
 }
 
 impl CheckFault {
-    /// The status that it ends with.
-    pub fn status(self) -> Status
-        ensures { result ≡ check_fault_status self }
-    {
-        match self {
-            CheckFault::Map(fault) => map_fault_status(fault),
-            CheckFault::Plan(fault) => plan_text_fault_status(fault),
-            CheckFault::Scen(fault) => scen_fault_status(fault),
-            CheckFault::OutOfMemory => Status::Failure,
-            CheckFault::Rejected(_) => Status::Fault,
-        }
-    }
-
     /// The words in which it is told.
     pub fn words(self) -> FaultWords
         ensures { words_of result ≡ check_fault_words self }
@@ -53,7 +38,7 @@ impl CheckFault {
             CheckFault::Map(fault) => fault.words(),
             CheckFault::Plan(fault) => fault.words(),
             CheckFault::Scen(fault) => fault.words(),
-            CheckFault::OutOfMemory => FaultWords::new("OutOfMemory", &[]),
+            CheckFault::OutOfMemory => Failure::OutOfMemory.words(),
             CheckFault::Rejected(rejection) => rejection.words(),
         }
     }
@@ -64,16 +49,6 @@ impl fmt::Display for CheckFault {
 
     fn fmt<W: fmt::Write>(&self, f: &mut fmt::Formatter<W>) -> fmt::Result {
         self.words().fmt(f)
-    }
-}
-
-/// The status that a fault of a plan's text ends with.
-pub fn plan_text_fault_status(fault: PlanTextFault) -> Status
-    ensures { result ≡ plan_text_fault_status fault }
-{
-    match fault {
-        PlanTextFault::ReadFailed | PlanTextFault::OutOfMemory => Status::Failure,
-        _ => Status::Fault,
     }
 }
 

@@ -5,14 +5,15 @@ ghost use Rattle.plan_commands.specs.CellVisitsText.{AreCellVisits};
 ghost use Rattle.plan_commands.specs.DepsCommand.{ReadsTimetable};
 ghost use Rattle.plan_commands.specs.DepsCellCommand.{EndsByVisits, AnswersDepsCell};
 
-use crate::check_command::{give_up, read_and_check};
+use crate::check_command::read_and_check;
 use crate::check_fault::CheckFault;
 use crate::visits_text::write_visits;
 use depgraph::{Graph, Visit};
-use grid::{Cell, Counted};
+use grid::Cell;
 use std::alloc::Global;
 use std::io::{Read, Write};
-use text_commands::{Status, finish};
+use text_commands::{Status, finish, give_up};
+use text_io::Counted;
 
 /// Reads a map from `map` and a plan from `plan`, checks the plan on the map, and writes the visits of a cell to `out`, nothing where
 /// nobody comes into it, with a fault's line on `err`, also one of the plan. The answer is the exit status, which stays where `err` fails.
@@ -56,7 +57,7 @@ fn conclude<W: Write, E: Write>(
             let written = write_visits(visits_to(&graph, cell), out);
             finish(written, Status::Done, out, err).code()
         }
-        Err(fault) => give_up(fault, err),
+        Err(fault) => give_up(fault.words(), err),
     }
 }
 

@@ -3,14 +3,14 @@ ghost use Rattle.std.specs.Prelude.{◌≡◌};
 ghost use Rattle.text_commands.specs.Telling.{Tells};
 ghost use Rattle.plan_commands.specs.DepsCommand.{ReadsTimetable, EndsByDeps, AnswersDeps};
 
-use crate::check_command::{give_up, read_and_check};
+use crate::check_command::read_and_check;
 use crate::check_fault::CheckFault;
 use crate::deps_text::write_deps;
 use depgraph::Dependencies;
-use grid::Counted;
 use std::alloc::Global;
 use std::io::{Read, Write};
-use text_commands::{Status, finish};
+use text_commands::{Status, finish, give_up};
+use text_io::Counted;
 
 /// Reads a map from `map` and a plan from `plan`, checks the plan on the map, and writes what its moves wait for and its rotations
 /// to `out`, with a fault's line on `err`, also one of the plan. The answer is the exit status, which stays where `err` fails.
@@ -52,6 +52,6 @@ fn conclude<W: Write, E: Write>(
             let written = write_deps(&dependencies, out);
             finish(written, Status::Done, out, err).code()
         }
-        Err(fault) => give_up(fault, err),
+        Err(fault) => give_up(fault.words(), err),
     }
 }

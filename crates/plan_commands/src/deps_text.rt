@@ -1,17 +1,17 @@
 //! The text of a plan's dependencies.
 ghost use Rattle.std.specs.Prelude.{◌≡◌, ◌<◌, [], ◌∷◌, ◌++◌, codes, decimal, List, Some, length, map, sum_by, count_by, is_some, is_ok, OnOk, OnErr};
-ghost use Rattle.grid.specs.Text.{line_feed, ended, spaced_numbers};
-ghost use Rattle.grid.specs.Counted.{counted_inner, failures_of};
-ghost use Rattle.grid.specs.Sink.{held_back, Puts, Breaks};
-ghost use Rattle.grid.specs.Writing.{WritesText};
+ghost use Rattle.text_io.specs.Text.{line_feed, ended, spaced_numbers};
+ghost use Rattle.text_io.specs.Counted.{counted_inner, failures_of};
+ghost use Rattle.text_io.specs.Sink.{held_back, Puts, Breaks};
+ghost use Rattle.text_io.specs.Writing.{WritesText};
 ghost use Rattle.model.specs.Timetable.{Track, moves, track_of};
 ghost use Rattle.depgraph.specs.Rotations.{Turn, AreRotations, turns_of};
 ghost use Rattle.plan_commands.specs.DepsText.{need_lines, all_need_lines, rotation_line, counts_line, deps_text};
 ghost use Rattle.plan_commands.specs.Code.Dependencies.{HasNeedsOf, need_text};
 
 use depgraph::{Dependencies, Part, Rotation};
-use grid::{Counted, Sink, WriteFault};
 use std::io::Write;
+use text_io::{Counted, Sink, WriteFault};
 
 /// Writes what the moves of a plan wait for, and its rotations. The writer is not flushed.
 pub(crate) fn write_deps<W: Write>(

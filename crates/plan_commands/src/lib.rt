@@ -12,7 +12,7 @@ mod verdict;
 mod visits_text;
 
 pub use check_command::{check_cmd, check_fit_cmd};
-pub use check_fault::{CheckFault, plan_text_fault_status};
+pub use check_fault::CheckFault;
 pub use deps_cell_command::deps_cell_cmd;
 pub use deps_command::{deps_cmd, read_dependencies};
 pub use deps_text::put_number;

@@ -1,13 +1,13 @@
 //! Why a plan is rejected.
 ghost use Rattle.std.specs.Prelude.{◌≡◌, Some, string_bytes, IfOk};
-ghost use Rattle.grid.specs.FaultWords.{words_of};
-ghost use Rattle.plan_commands.specs.FaultWords.{plan_fault_words, fit_fault_words, rejection_words, rejection_text};
+ghost use Rattle.text_io.specs.FaultWords.{words_of};
+ghost use Rattle.plan_commands.specs.FaultWords.{rejection_words, rejection_text};
 ghost use Rattle.plan_commands.specs.VerdictText.{IsPlainText};
 
-use grid::FaultWords;
 use plan::{FitFault, PlanFault};
 use std::alloc::{AllocError, Global};
 use std::fmt;
+use text_io::FaultWords;
 
 /// Why a plan is rejected. It is shown by its fault's name and numbers.
 #[derive(Clone, Copy, Debug, PartialEq, Eq)]
@@ -24,8 +24,8 @@ impl Rejection {
         ensures { words_of result ≡ rejection_words self }
     {
         match self {
-            Rejection::Invalid(fault) => plan_fault_words(fault),
-            Rejection::Unfit(fault) => fit_fault_words(fault),
+            Rejection::Invalid(fault) => fault.words(),
+            Rejection::Unfit(fault) => fault.words(),
         }
     }
 
@@ -43,42 +43,5 @@ impl fmt::Display for Rejection {
 
     fn fmt<W: fmt::Write>(&self, f: &mut fmt::Formatter<W>) -> fmt::Result {
         self.words().fmt(f)
-    }
-}
-
-fn plan_fault_words(fault: PlanFault) -> FaultWords
-    ensures { words_of result ≡ plan_fault_words fault }
-{
-    match fault {
-        PlanFault::BadStart(agent) => FaultWords::new("BadStart", &[u64::from(agent)]),
-        PlanFault::BadMove(agent, step) => {
-            FaultWords::new("BadMove", &[u64::from(agent), u64::from(step)])
-        }
-        PlanFault::Vertex(first, second, time, cell) => {
-            let (first, second, time) = (u64::from(first), u64::from(second), u64::from(time));
-            FaultWords::new(
-                "Vertex",
-                &[first, second, time, u64::from(cell.x), u64::from(cell.y)],
-            )
-        }
-        PlanFault::Swap(first, second, step) => {
-            FaultWords::new(
-                "Swap",
-                &[u64::from(first), u64::from(second), u64::from(step)],
-            )
-        }
-        PlanFault::OutOfMemory => FaultWords::new("OutOfMemory", &[]),
-    }
-}
-
-fn fit_fault_words(fault: FitFault) -> FaultWords
-    ensures { words_of result ≡ fit_fault_words fault }
-{
-    match fault {
-        FitFault::TooFewRows => FaultWords::new("TooFewRows", &[]),
-        FitFault::AgentCount => FaultWords::new("AgentCount", &[]),
-        FitFault::StartDiffers(agent) => FaultWords::new("StartDiffers", &[u64::from(agent)]),
-        FitFault::GoalDiffers(agent) => FaultWords::new("GoalDiffers", &[u64::from(agent)]),
-        FitFault::SizeDiffers(row) => FaultWords::new("SizeDiffers", &[u64::from(row)]),
     }
 }

@@ -1,14 +1,14 @@
 //! The text of a cell's visits.
 ghost use Rattle.std.specs.Prelude.{◌≡◌, [], ◌∷◌, ◌++◌, map, is_ok, OnOk, OnErr};
-ghost use Rattle.grid.specs.Text.{line_feed, ended};
-ghost use Rattle.grid.specs.Counted.{counted_inner, failures_of};
-ghost use Rattle.grid.specs.Sink.{held_back, Puts, Breaks};
-ghost use Rattle.grid.specs.Writing.{WritesText};
+ghost use Rattle.text_io.specs.Text.{line_feed, ended};
+ghost use Rattle.text_io.specs.Counted.{counted_inner, failures_of};
+ghost use Rattle.text_io.specs.Sink.{held_back, Puts, Breaks};
+ghost use Rattle.text_io.specs.Writing.{WritesText};
 ghost use Rattle.plan_commands.specs.CellVisitsText.{visit_line, visits_text};
 
 use depgraph::Visit;
-use grid::{Counted, Sink, WriteFault};
 use std::io::Write;
+use text_io::{Counted, Sink, WriteFault};
 
 /// Writes a line for each visit. The writer is not flushed.
 // Compiled by itself, for its room on the stack.

@@ -10,7 +10,7 @@ use Rattle.plan_text.specs.declared.plan_text_fault.PlanTextFault.TheVariants.{T
 use Rattle.plan_text.specs.Limits.{most_agents, most_acts, most_acts_in_all, acts_in}
 use Rattle.plan_text.specs.PlanText.{act_character, acts_text, SpellsCourse}
 use Rattle.plan_text.specs.PlanTextFault.{agent_due, IsLineDue, longest_plan_line, HasParts, HasStart}
-use Rattle.plan_text.specs.Code.PlanLines.{due_seen, PlanAdds, PlanRefuses, HasRead}
+use Rattle.plan_text.specs.Code.PlanLines.{due_seen, PlanAdds, PlanRefuses, HasReadPlan}
 use Rattle.plan_text.proofs.LimitLemmas.{acts_in-push}
 use Rattle.plan_text.proofs.SpellingLemmas.{HasParts-course, acts-pass}
 
@@ -45,7 +45,7 @@ module _ (p : Plan) (lines : List (List ℕ)) (line : List ℕ) (course : Course
       counts same (inl h) = inl (omega arith)
       counts same (inr h) = inr (omega arith)
 
-  refused : (number left : ℕ) → length line ≤ longest_plan_line → HasRead (agent_due left (acts_in p.courses)) p lines
+  refused : (number left : ℕ) → length line ≤ longest_plan_line → HasReadPlan (agent_due left (acts_in p.courses)) p lines
       → IsLineDue (agent_due left (acts_in p.courses)) → PassesLimit p course.acts
       → PlanRefuses (agent_due left (acts_in p.courses)) number line (TooMany number)
   refused number zero short read due limit = absurd due
@@ -53,11 +53,11 @@ module _ (p : Plan) (lines : List (List ℕ)) (line : List ℕ) (course : Course
   refused number (suc left) short read due (inr many) = many_acts number left short read.within.acts_limit course.acts refl many
 
   -- one that the plan has no room for is refused
-  pub agent_refused : (due : Due) (number left : ℕ) → due ≡ Agent left → length line ≤ longest_plan_line → HasRead (due_seen due p) p lines
+  pub agent_refused : (due : Due) (number left : ℕ) → due ≡ Agent left → length line ≤ longest_plan_line → HasReadPlan (due_seen due p) p lines
       → IsLineDue (due_seen due p) → PassesLimit p course.acts → PlanRefuses (due_seen due p) number line (TooMany number)
   agent_refused due number left is short read is_due limit =
       subst (λ d. PlanRefuses (due_seen d p) number line (TooMany number)) (sym is)
-      (refused number left short (subst (λ d. HasRead (due_seen d p) p lines) is read) (subst (λ d. IsLineDue (due_seen d p)) is is_due) limit)
+      (refused number left short (subst (λ d. HasReadPlan (due_seen d p) p lines) is read) (subst (λ d. IsLineDue (due_seen d p)) is is_due) limit)
 
   added : (left : ℕ) (q : Plan) → IsLineDue (agent_due left (acts_in p.courses)) → (PassesLimit p course.acts → ⊥)
       → q ≡ record p { courses = p.courses ++ course ∷ [] }

@@ -1,12 +1,12 @@
 -- How far the calls that put an agent's line, and those that put a plan, have come with their text.
 use Rattle.std.proofs.Common.{◌≡◌, ℕ, List, [], ◌∷◌, ◌++◌, length, map, refl, sym, ap, ◌∙◌, append_assoc, append-nil, codes}
 use Rattle.std.specs.Prelude.{Option, decimal}
-use Rattle.grid.specs.declared.sink.Sink.{Sink}
-use Rattle.grid.specs.Sink.{Puts}
-use Rattle.grid.specs.Text.{space, line_feed, ended}
+use Rattle.text_io.specs.declared.sink.Sink.{Sink}
+use Rattle.text_io.specs.Sink.{Puts, Leaves}
+use Rattle.text_io.specs.Text.{space, line_feed, ended}
 use Rattle.model.specs.declared.act.Act.{Act}
 use Rattle.model.specs.Plan.{Course, Plan}
-use Rattle.scen.proofs.PutLemmas.{Leaves, Leaves-all, Leaves-less}
+use Rattle.text_io.specs.Laws.Putting.{Leaves-all, Leaves-less}
 use Rattle.plan_text.specs.PlanText.{acts_text, course_line, canonical_plan_text}
 
 -- a number between a word and what follows it

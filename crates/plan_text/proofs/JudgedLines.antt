@@ -4,17 +4,19 @@ use Rattle.std.specs.Prelude.{nat_lt, ◌&&◌}
 use Rattle.std.specs.List.{list_all, prefix_len}
 use Rattle.std.proofs.lemmas.Bool.{cond-true, cond-false, lt-ltb, le-ltb, both_ways, cases_Bool, and_parts, and_from, and_left, and_right}
 use Rattle.std.proofs.lemmas.List.{length-append, length-map}
-use Rattle.grid.specs.Reading.{at_line_feed}
+use Rattle.text_io.specs.Reading.{at_line_feed}
 use Rattle.model.specs.declared.act.Act.{Act}
 use Rattle.plan_text.specs.declared.plan_text_fault.PlanTextFault.{PlanTextFault}
 use Rattle.plan_text.specs.declared.plan_text_fault.PlanTextFault.TheVariants.{BadHeader, BadNumber, TooMany, BadAgent, BadAct, Unfinished, TextAfter, ReadFailed, OutOfMemory}
 use Rattle.plan_text.specs.Limits.{most_agents, most_acts, most_acts_in_all}
 use Rattle.plan_text.specs.PlanText.{act_character, no_act, acts_text, header}
-use Rattle.plan_text.specs.PlanTextFault.{PlanDue, header_due, number_due, agents_due, agent_due, PlanFollows, IsLineDue, longest_plan_line, BeginsWith, IsCoordinate, is_act, HasPlanTextFault}
-use Rattle.plan_text.specs.Code.Numerals.{is_numeral, numeral_value}
-use Rattle.plan_text.proofs.NumeralLemmas.{IsNumeral-from_test, test-from_IsNumeral}
+use Rattle.plan_text.specs.PlanTextFault.{PlanDue, header_due, number_due, agents_due, agent_due, PlanFollows, IsLineDue, longest_plan_line, IsCoordinate, is_act, HasPlanTextFault}
+use Rattle.text_io.specs.Text.{BeginsWith}
+use Rattle.text_io.specs.Numerals.{is_numeral, numeral_value, is_below}
+use Rattle.text_io.specs.Laws.Numerals.{IsNumeral-from_test, test-from_IsNumeral, below-from_IsNumeral, IsNumeral-from_below}
 use Rattle.plan_text.proofs.SpellingLemmas.{SaysNumber-short, HasParts-course, SpellsCourse-line, course_line-short, some_acts-text, acts-pass}
-use Rattle.plan_text.proofs.LineDecisions.{same_or_not, begins_or_not, PartsOrNone, parts_or_none, begins_known, not_begins_known, same_known, other_known, parts_known, no_parts_known, is_below, below-from_IsNumeral, IsNumeral-from_below, coordinate-test, not_coordinate-test}
+use Rattle.text_io.specs.Laws.Parts.{same_or_not, begins_or_not}
+use Rattle.plan_text.proofs.LineDecisions.{PartsOrNone, parts_or_none, begins_known, not_begins_known, same_known, other_known, parts_known, no_parts_known, coordinate-test, not_coordinate-test}
 
 -- ---- the fault of a line
 

@@ -1,6 +1,5 @@
 -- Lemmas that several proofs share.
 pub mod LimitLemmas
-pub mod NumeralLemmas
 pub mod SpellingLemmas
 pub mod WrittenLemmas
 pub mod LineDecisions

@@ -4,37 +4,14 @@ use Rattle.std.specs.Prelude.{nat_lt, ◌&&◌, ◌==◌}
 use Rattle.std.specs.List.{slice_split}
 use Rattle.std.proofs.lemmas.Bool.{lt-ltb, ltb-true, cases_Bool, cases_eq, cases_lt, and_parts, and_from}
 use Rattle.std.proofs.lemmas.List.{append_cancel_left}
-use Rattle.grid.specs.Text.{space}
-use Rattle.plan_text.specs.PlanText.{IsNumeral}
-use Rattle.plan_text.specs.PlanTextFault.{BeginsWith, HasParts, IsCoordinate}
-use Rattle.plan_text.specs.Code.Numerals.{is_numeral, numeral_value}
-use Rattle.plan_text.proofs.NumeralLemmas.{IsNumeral-from_test, test-from_IsNumeral}
+use Rattle.text_io.specs.Text.{space, BeginsWith}
+use Rattle.text_io.specs.Numerals.{IsNumeral, is_numeral, numeral_value, is_below}
+use Rattle.plan_text.specs.PlanTextFault.{HasParts, IsCoordinate}
+use Rattle.text_io.specs.Laws.Numerals.{IsNumeral-from_test, test-from_IsNumeral, below-from_IsNumeral, IsNumeral-from_below}
+use Rattle.text_io.specs.Laws.Parts.{same_or_not, begins_or_not}
 use Rattle.plan_text.proofs.SpellingLemmas.{HasParts-same}
 
 -- ---- decisions
-
--- a list of bytes is another, or not
-pub same_or_not : (xs ys : List ℕ) → (xs ≡ ys) ⊎ (xs ≢ ys)
-same_or_not [] [] = inl refl
-same_or_not [] (y ∷ ys) = inr (λ e. cc)
-same_or_not (x ∷ xs) [] = inr (λ e. cc)
-same_or_not (x ∷ xs) (y ∷ ys) = go (cases_eq x y) (same_or_not xs ys)
-  where
-    go : (x ≡ y) ⊎ (x ≡ y → ⊥) → (xs ≡ ys) ⊎ (xs ≢ ys) → (x ∷ xs ≡ y ∷ ys) ⊎ (x ∷ xs ≢ y ∷ ys)
-    go (inl e) (inl k) = inl (cc)
-    go (inl e) (inr k) = inr (λ h. k (cc))
-    go (inr e) rest = inr (λ h. e (cc))
-
-pub begins_or_not : (word line : List ℕ) → BeginsWith word line ⊎ (BeginsWith word line → ⊥)
-begins_or_not [] line = inl (line, refl)
-begins_or_not (w ∷ word) [] = inr (λ h. let e = h.1 in cc)
-begins_or_not (w ∷ word) (b ∷ line) = go (cases_eq b w) (begins_or_not word line)
-  where
-    go : (b ≡ w) ⊎ (b ≡ w → ⊥) → BeginsWith word line ⊎ (BeginsWith word line → ⊥)
-        → BeginsWith (w ∷ word) (b ∷ line) ⊎ (BeginsWith (w ∷ word) (b ∷ line) → ⊥)
-    go (inl e) (inl k) = inl (k.0, let rest = k.1 in cc)
-    go (inl e) (inr k) = inr (λ h. k (h.0, let whole = h.1 in cc))
-    go (inr e) rest = inr (λ h. e (let whole = h.1 in cc))
 
 -- four parts, or another number of them
 four_or_not : (parts : List (List ℕ))
@@ -130,20 +107,6 @@ no_parts_known line none {X} F a h = go (parts_or_none line)
     go (inl (x, y, acts, has)) = absurd (none x y acts has)
 
 -- ---- numbers
-
--- a number, below a limit
-abbrev pub is_below : ℕ → List ℕ → Bool
-is_below limit digits = is_numeral digits && nat_lt (numeral_value digits) limit
-
-pub below-from_IsNumeral : (limit n : ℕ) (digits : List ℕ) → IsNumeral n digits → n < limit → is_below limit digits ≡ true
-below-from_IsNumeral limit n digits h small =
-    and_from (is_numeral digits) _ (test-from_IsNumeral n digits h)
-    (lt-ltb (numeral_value digits) limit (subst (λ k. k < limit) (sym h.spells.2) small))
-
-pub IsNumeral-from_below : (limit : ℕ) (digits : List ℕ) → is_below limit digits ≡ true → IsNumeral (numeral_value digits) digits × (numeral_value digits < limit)
-IsNumeral-from_below limit digits h =
-    let parts = and_parts (is_numeral digits) _ h in
-    (IsNumeral-from_test digits parts.0, ltb-true (numeral_value digits) limit parts.1)
 
 pub coordinate-test : (digits : List ℕ) → IsCoordinate digits → is_below 65536 digits ≡ true
 coordinate-test digits h = below-from_IsNumeral 65536 h.0 digits h.1 h.2

@@ -5,18 +5,19 @@ use Rattle.std.specs.List.{list_all, prefix_len, join_with_byte}
 use Rattle.std.proofs.lemmas.Bool.{cond-true, cond-false, both_ways, cases_Bool, cases_eq, cases_lt, and_parts, and_from, or_from, ne_eqb}
 use Rattle.std.proofs.lemmas.List.{append_cancel_left, length-append, length-map}
 use Rattle.std.proofs.lemmas.List.Splits.{join_with_byte-slice_split}
-use Rattle.grid.specs.Text.{space}
-use Rattle.grid.specs.Reading.{at_line_feed}
+use Rattle.text_io.specs.Text.{space, BeginsWith}
+use Rattle.text_io.specs.Reading.{at_line_feed}
 use Rattle.model.specs.Plan.{Course, Plan}
 use Rattle.plan_text.specs.declared.plan_text_fault.PlanTextFault.{PlanTextFault}
 use Rattle.plan_text.specs.declared.plan_text_fault.PlanTextFault.TheVariants.{BadHeader, BadNumber, TooMany, BadAgent, BadAct}
 use Rattle.plan_text.specs.Limits.{most_agents, most_acts, most_acts_in_all, acts_in, IsCourse}
-use Rattle.plan_text.specs.PlanText.{act_character, no_act, acts_text, IsNumeral, SaysNumber, SpellsCourse, header}
-use Rattle.plan_text.specs.PlanTextFault.{PlanDue, header_due, number_due, agents_due, agent_due, IsLineDue, longest_plan_line, IsWholeLine, BeginsWith, HasParts, IsCoordinate, is_act, HasStart, HasOtherAct, HasPlanTextFault}
-use Rattle.plan_text.specs.Code.Numerals.{is_numeral, numeral_value}
-use Rattle.plan_text.specs.Code.PlanLines.{act_by, PlanAdds, HasRead}
-use Rattle.plan_text.proofs.NumeralLemmas.{IsNumeral-from_test, test-from_IsNumeral}
-use Rattle.plan_text.proofs.LineDecisions.{same_or_not, begins_or_not, PartsOrNone, parts_or_none, is_below, below-from_IsNumeral, IsNumeral-from_below, coordinate-test, coordinate-from_test}
+use Rattle.plan_text.specs.PlanText.{act_character, no_act, acts_text, SaysNumber, SpellsCourse, header}
+use Rattle.text_io.specs.Numerals.{IsNumeral, is_numeral, numeral_value, is_below}
+use Rattle.plan_text.specs.PlanTextFault.{PlanDue, header_due, number_due, agents_due, agent_due, IsLineDue, longest_plan_line, IsWholeLine, HasParts, IsCoordinate, is_act, HasStart, HasOtherAct, HasPlanTextFault}
+use Rattle.plan_text.specs.Code.PlanLines.{act_by, PlanAdds, HasReadPlan}
+use Rattle.text_io.specs.Laws.Numerals.{IsNumeral-from_test, test-from_IsNumeral, below-from_IsNumeral, IsNumeral-from_below}
+use Rattle.text_io.specs.Laws.Parts.{same_or_not, begins_or_not}
+use Rattle.plan_text.proofs.LineDecisions.{PartsOrNone, parts_or_none, coordinate-test, coordinate-from_test}
 
 -- ---- acts
 
@@ -245,7 +246,7 @@ module _ (p : Plan) (number : ℕ) (line : List ℕ) (whole : IsWholeLine at_lin
             says_fault (BadNumber number) (refl, whole, (x, y, acts, has, inr (λ k. both_ways (is_below 65536 y) none (coordinate-test y k))))
 
 -- what a line says that is due
-pub line_says : (due : PlanDue) (p : Plan) (lines : List (List ℕ)) (number : ℕ) (line : List ℕ) → HasRead due p lines → IsLineDue due
+pub line_says : (due : PlanDue) (p : Plan) (lines : List (List ℕ)) (number : ℕ) (line : List ℕ) → HasReadPlan due p lines → IsLineDue due
     → length line ≤ longest_plan_line → LineSays due p number line
 line_says header_due p lines number line h is short =
     header_says p number line (record { ended = refl; short = short }) (same_or_not line header)

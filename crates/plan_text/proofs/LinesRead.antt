@@ -2,21 +2,21 @@
 use Rattle.std.proofs.Common.{◌≡◌, ℕ, ◌⊎◌, inl, inr, List, [], ◌∷◌, ◌++◌, length, take, refl, sym, ap, ◌∙◌, subst, arith, append-nil, Result, Ok, Err}
 use Rattle.std.specs.Prelude.{Option}
 use Rattle.std.proofs.lemmas.List.{length-take, nil_from_length}
-use Rattle.grid.specs.declared.counted.Counted.{Counted}
-use Rattle.grid.specs.declared.source.Source.{Source}
-use Rattle.grid.specs.declared.lines.TakenLine.{TakenLine}
-use Rattle.grid.specs.declared.lines.TakenLine.TheVariants.{WithLineFeed, TooLong}
-use Rattle.grid.specs.Counted.{counted_inner, failures_of}
-use Rattle.grid.specs.Source.{source_reader}
-use Rattle.grid.specs.Text.{ended}
-use Rattle.grid.specs.Lines.{HasCome, LineEnded, InputEnded, LineTooLong as LongLineTaken, ReaderFailed, LineTaken}
-use Rattle.grid.specs.Reading.{by_line_feed, Place, at_line_feed, at_byte, at_end, StopsIn, ReadsText, is_fault, line_number, IsByte}
+use Rattle.text_io.specs.declared.counted.Counted.{Counted}
+use Rattle.text_io.specs.declared.source.Source.{Source}
+use Rattle.text_io.specs.declared.lines.TakenLine.{TakenLine}
+use Rattle.text_io.specs.declared.lines.TakenLine.TheVariants.{WithLineFeed, TooLong}
+use Rattle.text_io.specs.Counted.{counted_inner, failures_of}
+use Rattle.text_io.specs.Source.{source_reader}
+use Rattle.text_io.specs.Text.{ended}
+use Rattle.text_io.specs.Lines.{HasCome, LineEnded, InputEnded, LineTooLong as LongLineTaken, ReaderFailed, LineTaken}
+use Rattle.text_io.specs.Reading.{by_line_feed, Place, at_line_feed, at_byte, at_end, StopsIn, ReadsText, is_fault, line_number, IsByte}
 use Rattle.model.specs.Plan.{Plan}
 use Rattle.plan_text.specs.declared.plan_text_fault.PlanTextFault.{PlanTextFault}
 use Rattle.plan_text.specs.declared.plan_text_fault.PlanTextFault.TheVariants.{BadHeader, BadNumber, TooMany, BadAgent, BadAct, Unfinished, TextAfter, ReadFailed, OutOfMemory}
 use Rattle.plan_text.specs.PlanText.{PlanText}
 use Rattle.plan_text.specs.PlanTextFault.{PlanDue, IsLineDue, longest_plan_line, HasPlanTextFault, PlanTextFaultAt, plan_outcome}
-use Rattle.plan_text.specs.Code.PlanLines.{PlanRefuses, HasRead}
+use Rattle.plan_text.specs.Code.PlanLines.{PlanRefuses, HasReadPlan}
 use Rattle.plan_text.proofs.TextScanned.{Stands, Last, WrittenEnd, none_decided, none_decided-over}
 use Rattle.plan_text.proofs.TextRead.{PlanText-from_read}
 
@@ -33,7 +33,7 @@ outcome-from_fault (TextAfter at) place due number line h = refl
 outcome-from_fault ReadFailed place due number line h = absurd h
 outcome-from_fault OutOfMemory place due number line h = absurd h
 
-module _ {R : Type 0} (remaining : R → Option (List ℕ)) (first : Counted R) (now : Source R) where
+module _ {R : Type 0} {ahead : ℕ} (remaining : R → Option (List ℕ)) (first : Counted R) (now : Source R ahead) where
   -- the reader answers so
   abbrev pub Reads : Result Plan PlanTextFault → Type 0
   Reads result =
@@ -43,7 +43,7 @@ module _ {R : Type 0} (remaining : R → Option (List ℕ)) (first : Counted R) 
   -- a fault stands at a byte that came
   fault_found : (place : Place) (before : List (List ℕ)) (line : List ℕ) (due : PlanDue) (p : Plan) (fault : PlanTextFault)
       → (come : HasCome remaining first now place before line) → failures_of (source_reader now) ≡ failures_of first → IsByte place
-      → HasRead due p before → HasPlanTextFault fault place due (line_number before) line → Reads (Err fault)
+      → HasReadPlan due p before → HasPlanTextFault fault place due (line_number before) line → Reads (Err fault)
   fault_found place before line due p fault come none byte read faulty =
       subst (ReadsText PlanText PlanTextFaultAt (remaining (counted_inner first)) (remaining (counted_inner (source_reader now))) (failures_of first)
       (failures_of (source_reader now)))
@@ -64,7 +64,7 @@ module _ {R : Type 0} (remaining : R → Option (List ℕ)) (first : Counted R) 
 
   -- a line was refused at its LF
   pub refused_line : (before : List (List ℕ)) (room : List ℕ) (count : ℕ) (due : PlanDue) (p : Plan) (number : ℕ) (fault : PlanTextFault)
-      → number ≡ line_number before → LineEnded remaining first now before room count → HasRead due p before
+      → number ≡ line_number before → LineEnded remaining first now before room count → HasReadPlan due p before
       → PlanRefuses due number (take count room) fault → Reads (Err fault)
   refused_line before room count due p number fault is t read (inl none) =
       subst (λ f. Reads (Err f)) (sym none)
@@ -82,7 +82,7 @@ module _ {R : Type 0} (remaining : R → Option (List ℕ)) (first : Counted R) 
 
   -- the input ended before a line's LF
   pub unfinished : (before : List (List ℕ)) (room : List ℕ) (count : ℕ) (due : PlanDue) (p : Plan) (number : ℕ) → number ≡ line_number before
-      → length room ≡ longest_plan_line → InputEnded remaining first now before room count → HasRead due p before → IsLineDue due
+      → length room ≡ longest_plan_line → InputEnded remaining first now before room count → HasReadPlan due p before → IsLineDue due
       → Reads (Err (Unfinished number))
   unfinished before room count due p number is size t read is_due = record {
     delivered = t.come.delivered;
@@ -103,14 +103,14 @@ module _ {R : Type 0} (remaining : R → Option (List ℕ)) (first : Counted R) 
 
   -- a line is too long
   pub long_line : (before : List (List ℕ)) (room : List ℕ) (due : PlanDue) (p : Plan) (number : ℕ) → number ≡ line_number before
-      → length room ≡ longest_plan_line → LongLineTaken remaining first now before room → HasRead due p before → IsLineDue due
+      → length room ≡ longest_plan_line → LongLineTaken remaining first now before room → HasReadPlan due p before → IsLineDue due
       → Reads (Err (TooMany number))
   long_line before room due p number is size t read is_due =
       fault_found at_byte before t.line due p (TooMany number) t.come t.failures tt read (is, inl (refl, is_due, omega (arith, t.length_is, size)))
 
   -- the reader failed within a line that is due
   pub failed : Stands → Last → WrittenEnd → (before : List (List ℕ)) (room : List ℕ) (due : PlanDue) (p : Plan) → length room ≡ longest_plan_line
-      → ReaderFailed remaining first now before room → HasRead due p before → IsLineDue due → Reads (Err ReadFailed)
+      → ReaderFailed remaining first now before room → HasReadPlan due p before → IsLineDue due → Reads (Err ReadFailed)
   failed stands last end before room due p size t read is_due = record {
     delivered = t.come.delivered;
     consumed = t.come.consumed;
@@ -122,7 +122,7 @@ module _ {R : Type 0} (remaining : R → Option (List ℕ)) (first : Counted R) 
 
   -- nothing followed the last line
   pub ended_plan : (before : List (List ℕ)) (room : List ℕ) (count : ℕ) (due : PlanDue) (p : Plan) → length room ≡ 0
-      → InputEnded remaining first now before room count → HasRead due p before → (IsLineDue due → ⊥) → Reads (Ok p)
+      → InputEnded remaining first now before room count → HasReadPlan due p before → (IsLineDue due → ⊥) → Reads (Ok p)
   ended_plan before room count due p size t read none =
       let empty : take count room ≡ [] = nil_from_length (take count room) (omega (arith, size, length-take count room)) in
       let whole = stops before (take count room) t.come in
@@ -136,7 +136,7 @@ module _ {R : Type 0} (remaining : R → Option (List ℕ)) (first : Counted R) 
 
   -- the reader failed behind the last line
   pub failed_after : Stands → Last → WrittenEnd → (before : List (List ℕ)) (room : List ℕ) (due : PlanDue) (p : Plan) → length room ≡ 0
-      → ReaderFailed remaining first now before room → HasRead due p before → (IsLineDue due → ⊥) → Reads (Err ReadFailed)
+      → ReaderFailed remaining first now before room → HasReadPlan due p before → (IsLineDue due → ⊥) → Reads (Err ReadFailed)
   failed_after stands last end before room due p size t read none = record {
     delivered = t.come.delivered;
     consumed = t.come.consumed;
@@ -148,7 +148,7 @@ module _ {R : Type 0} (remaining : R → Option (List ℕ)) (first : Counted R) 
 
   -- an LF followed it
   line_after : (before : List (List ℕ)) (room : List ℕ) (count : ℕ) (due : PlanDue) (p : Plan) (number : ℕ) → number ≡ line_number before
-      → length room ≡ 0 → LineEnded remaining first now before room count → HasRead due p before → (IsLineDue due → ⊥)
+      → length room ≡ 0 → LineEnded remaining first now before room count → HasReadPlan due p before → (IsLineDue due → ⊥)
       → Reads (Err (TextAfter number))
   line_after before room count due p number is size t read none =
       let empty : take count room ≡ [] = nil_from_length (take count room) (omega (arith, size, length-take count room)) in
@@ -156,7 +156,7 @@ module _ {R : Type 0} (remaining : R → Option (List ℕ)) (first : Counted R) 
 
   -- another byte followed it
   byte_after : (before : List (List ℕ)) (room : List ℕ) (due : PlanDue) (p : Plan) (number : ℕ) → number ≡ line_number before
-      → length room ≡ 0 → LongLineTaken remaining first now before room → HasRead due p before → (IsLineDue due → ⊥)
+      → length room ≡ 0 → LongLineTaken remaining first now before room → HasReadPlan due p before → (IsLineDue due → ⊥)
       → Reads (Err (TextAfter number))
   byte_after before room due p number is size t read none =
       let one = one_byte t.line (omega (arith, t.length_is, size)) in
@@ -170,7 +170,7 @@ module _ {R : Type 0} (remaining : R → Option (List ℕ)) (first : Counted R) 
   -- text followed it
   pub text_after : (before : List (List ℕ)) (room : List ℕ) (result : TakenLine) (due : PlanDue) (p : Plan) (number : ℕ)
       → ((count : ℕ) × (result ≡ WithLineFeed count)) ⊎ (result ≡ TooLong) → number ≡ line_number before → length room ≡ 0
-      → LineTaken remaining first now before room result → HasRead due p before → (IsLineDue due → ⊥) → Reads (Err (TextAfter number))
+      → LineTaken remaining first now before room result → HasReadPlan due p before → (IsLineDue due → ⊥) → Reads (Err (TextAfter number))
   text_after before room result due p number (inl (count, e)) is size t read none =
       line_after before room count due p number is size (subst (LineTaken remaining first now before room) e t) read none
   text_after before room result due p number (inr e) is size t read none =

@@ -9,7 +9,8 @@ use Rattle.std.proofs.lemmas.List.{take-append-drop, drop_more, nil_from_length,
 use Rattle.std.proofs.lemmas.List.Elements.{All-from_get_or}
 use Rattle.std.proofs.lemmas.List.Splits.{slice_split_none, slice_split_at, length-slice_split}
 use Rattle.memchr.specs.Find.{Nowhere, NoneBefore, Passes, is_byte}
-use Rattle.grid.specs.Text.{space}
+use Rattle.text_io.specs.Text.{space}
+use Rattle.text_io.specs.Laws.Parts.{about}
 use Rattle.plan_text.specs.PlanTextFault.{HasParts}
 
 abbrev pub split : List ℕ → List (List ℕ)
@@ -20,10 +21,6 @@ pub split-none : (bytes : List ℕ) → Nowhere (Passes (is_byte space) bytes) 0
 split-none bytes none =
     slice_split_none (λ b. b == space) bytes
     (All-from_get_or (λ b. (b == space) ≡ false) bytes 0 (λ i below. false_from_ne_true (get_or bytes i 0 == space) (none i (omega arith) below)))
-
--- bytes, about one of them
-pub about : (bytes : List ℕ) (i : ℕ) → i < length bytes → bytes ≡ take i bytes ++ get_or bytes i 0 ∷ drop (i + 1) bytes
-about bytes i below = sym (take-append-drop i bytes) ∙ ap (λ xs. take i bytes ++ xs) (drop_more bytes i 0 below)
 
 -- the first space was found
 pub split-some : (bytes : List ℕ) (i : ℕ) → NoneBefore (Passes (is_byte space) bytes) 0 (length bytes) i → Passes (is_byte space) bytes i
@@ -76,9 +73,3 @@ module _ (line word x y acts : List ℕ) (cut : split line ≡ word ∷ x ∷ y 
       let behind : split acts ≡ others ∷ [] = cc in
       let whole = sym e ∙ behind in
       split-some_part rest (let none : split rest ≡ [] = cc in none)
-
--- what stands behind a word with which a line begins
-pub prefixed : (word line rest : List ℕ) → bytes_eq (take (length word) line) word ≡ true → rest ≡ drop (length word) line → line ≡ word ++ rest
-prefixed word line rest begins is =
-    sym (take-append-drop (length word) line)
-    ∙ (ap (λ xs. xs ++ drop (length word) line) (same_text (take (length word) line) word (sym begins)) ∙ ap (λ xs. word ++ xs) (sym is))

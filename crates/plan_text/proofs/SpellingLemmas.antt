@@ -11,54 +11,21 @@ use Rattle.std.proofs.lemmas.List.Elements.{All-weaker}
 use Rattle.std.proofs.lemmas.List.Folds.{list_all-append}
 use Rattle.std.proofs.lemmas.List.Splits.{slice_split_none, slice_split_at}
 use Rattle.std.proofs.lemmas.List.Sums.{AllPass-from_list_all}
-use Rattle.grid.specs.Text.{space, line_feed, is_line_byte, IsLine}
+use Rattle.text_io.specs.Text.{space, line_feed, is_line_byte, IsLine, IsPart, is_part_byte}
 use Rattle.model.specs.declared.act.Act.{Act}
 use Rattle.model.specs.declared.act.Act.TheVariants.{N, E, S, W, Wait}
 use Rattle.model.specs.Plan.{Course}
-use Rattle.scen.proofs.DigitLemmas.{digits-decimal}
+use Rattle.text_io.specs.Laws.Numerals.{digits-decimal, decimal-from_IsNumeral, decimal-IsNumeral}
 use Rattle.plan_text.specs.Limits.{most_acts, IsCourse}
-use Rattle.plan_text.specs.PlanText.{act_character, no_act, acts_text, IsNumeral, SaysNumber, SpellsCourse, course_line}
+use Rattle.plan_text.specs.PlanText.{act_character, no_act, acts_text, SaysNumber, SpellsCourse, course_line}
+use Rattle.text_io.specs.Numerals.{IsNumeral}
+use Rattle.text_io.specs.Laws.Parts.{IsLine-part, IsPart-digits, list_all-weaker, decimal-is_part, part_byte-from}
 use Rattle.plan_text.specs.PlanTextFault.{longest_plan_line, HasParts, is_act}
-use Rattle.plan_text.proofs.NumeralLemmas.{decimal-from_IsNumeral, decimal-IsNumeral}
 
 -- ---- bytes of a part
 
--- a byte that passes a test is none that does not
-differs : (test : ℕ → Bool) (k b : ℕ) → test k ≡ false → test b ≡ true → (b == k) ≡ false
-differs test k b none h = go (b == k) refl
-  where
-    go : (t : Bool) → (b == k) ≡ t → t ≡ false
-    go true e = absurd (both_ways (test b) (ap test (eqb-true b k e) ∙ none) h)
-    go false e = refl
-
--- a test that follows from another passes where that does
-list_all-weaker : (strong weak : ℕ → Bool) → ((b : ℕ) → strong b ≡ true → weak b ≡ true) → (bytes : List ℕ)
-    → IsTrue (list_all strong bytes) → IsTrue (list_all weak bytes)
-list_all-weaker strong weak each [] h = refl
-list_all-weaker strong weak each (b ∷ bytes) h =
-    let parts = and_parts (strong b) (list_all strong bytes) h in
-    and_from (weak b) (list_all weak bytes) (each b parts.0) (list_all-weaker strong weak each bytes parts.1)
-
--- a byte of a line that is no space
-abbrev pub is_part_byte : ℕ → Bool
-is_part_byte b = not (b == space) && is_line_byte b
-
-abbrev pub IsPart : List ℕ → Type 0
-IsPart bytes = IsTrue (list_all is_part_byte bytes)
-
-part_byte-from : (test : ℕ → Bool) → test space ≡ false → test line_feed ≡ false → (b : ℕ) → test b ≡ true → is_part_byte b ≡ true
-part_byte-from test no_space no_feed b h =
-    and_from (not (b == space)) (is_line_byte b) (not_from_false (b == space) (differs test space b no_space h))
-    (cond-false (b == line_feed) false true (differs test line_feed b no_feed h))
-
-pub IsPart-digits : (digits : List ℕ) → IsTrue (list_all is_ascii_digit digits) → IsPart digits
-IsPart-digits digits h = list_all-weaker is_ascii_digit is_part_byte (part_byte-from is_ascii_digit refl refl) digits h
-
 pub IsPart-acts : (bytes : List ℕ) → IsTrue (list_all is_act bytes) → IsPart bytes
 IsPart-acts bytes h = list_all-weaker is_act is_part_byte (part_byte-from is_act refl refl) bytes h
-
-pub IsLine-part : (bytes : List ℕ) → IsPart bytes → IsLine bytes
-IsLine-part bytes h = list_all-weaker is_part_byte is_line_byte (λ b k. (and_parts (not (b == space)) (is_line_byte b) k).1) bytes h
 
 no_space : (bytes : List ℕ) → IsPart bytes → All (λ b. (b == space) ≡ false) bytes
 no_space bytes h =
@@ -70,9 +37,6 @@ IsLine-append : (xs ys : List ℕ) → IsLine xs → IsLine ys → IsLine (xs ++
 IsLine-append xs ys h k = list_all-append is_line_byte xs ys ∙ and_from (list_all is_line_byte xs) _ h k
 
 -- ---- a word and a number
-
-pub decimal-is_part : (n : ℕ) → n < 2 ^ 64 → IsPart (decimal n)
-decimal-is_part n fits = IsPart-digits (decimal n) (digits-decimal n fits)
 
 pub SaysNumber-line : (word : List ℕ) (n : ℕ) (line : List ℕ) → SaysNumber word n line → n < 2 ^ 64 → line ≡ word ++ decimal n
 SaysNumber-line word n line h fits = h.1 ∙ ap (λ xs. word ++ xs) (decimal-from_IsNumeral n h.0 h.2 fits)

@@ -2,15 +2,15 @@
 use Rattle.std.proofs.Common.{◌≡◌, ℕ, zero, suc, ◌+◌, ◌<◌, ◌≤◌, ◌⊎◌, inl, inr, true, List, [], ◌∷◌, ◌++◌, length, take, drop, refl, sym, ap, ◌∙◌, subst, arith, append_assoc, append-nil, length-append, length-take, codes}
 use Rattle.std.proofs.lemmas.Bool.{cases_lt}
 use Rattle.std.proofs.lemmas.List.{take-append-drop, nil_from_length}
-use Rattle.grid.specs.Text.{lines_of, ended, ends_in_line_feed}
-use Rattle.grid.specs.Reading.{by_line_feed, Place, at_line_feed, at_byte, JudgedAt, StandsIn, StopsIn, IsByte, IsFirstFault, line_number}
+use Rattle.text_io.specs.Text.{lines_of, ended, ends_in_line_feed}
+use Rattle.text_io.specs.Reading.{by_line_feed, Place, at_line_feed, at_byte, JudgedAt, StandsIn, StopsIn, IsByte, IsFirstFault, line_number}
 use Rattle.model.specs.Plan.{Course, Plan}
 use Rattle.plan_text.specs.declared.plan_text_fault.PlanTextFault.{PlanTextFault}
 use Rattle.plan_text.specs.declared.plan_text_fault.PlanTextFault.TheVariants.{TooMany, Unfinished, TextAfter}
 use Rattle.plan_text.specs.Limits.{acts_in, IsPlan}
 use Rattle.plan_text.specs.PlanText.{SpellsCourse, AreCourses, SaysNumber, PlanText}
 use Rattle.plan_text.specs.PlanTextFault.{PlanDue, header_due, number_due, agents_due, agent_due, PlanFollows, IsLineDue, longest_plan_line, HasPlanTextFault, PlanTextFaultAt}
-use Rattle.plan_text.specs.Code.PlanLines.{PlanAdds, PlanSaid, HasRead, PlanLeads}
+use Rattle.plan_text.specs.Code.PlanLines.{PlanAdds, PlanSaid, HasReadPlan, PlanLeads}
 use Rattle.plan_text.proofs.LimitLemmas.{acts_in-push, IsPlan-push}
 use Rattle.plan_text.proofs.LineSays.{says_more, says_fault, line_says}
 use Rattle.plan_text.proofs.TextScanned.{Last, WrittenEnd, due_or_not}
@@ -90,8 +90,8 @@ within_push (agent_due (suc left) acts) p lines line next q said is h =
     (IsPlan-push p.number p.courses h.0 is (omega (arith, said.6)) h.2 (omega (arith, said.8, h.3)))
 
 -- a right line, and what it adds
-pub HasRead-push : (due : PlanDue) (p : Plan) (lines : List (List ℕ)) (line : List ℕ) (next : PlanDue) (q : Plan) → HasRead due p lines
-    → PlanAdds due p line next q → HasRead next q (lines ++ line ∷ [])
+pub HasRead-push : (due : PlanDue) (p : Plan) (lines : List (List ℕ)) (line : List ℕ) (next : PlanDue) (q : Plan) → HasReadPlan due p lines
+    → PlanAdds due p line next q → HasReadPlan next q (lines ++ line ∷ [])
 HasRead-push due p lines line next q h added = record {
   right = leads_push header_due lines due line next h.right (Follows-from_Adds due p line next q added);
   said = said_push due p lines line next q h.said added;
@@ -99,11 +99,11 @@ HasRead-push due p lines line next q h added = record {
 }
 
 -- no line was read
-pub HasRead-none : (p : Plan) → IsPlan p → HasRead header_due p []
+pub HasRead-none : (p : Plan) → IsPlan p → HasReadPlan header_due p []
 HasRead-none p is = record { right = refl; said = refl; within = is }
 
 -- all the lines that are due were read
-pub PlanText-from_read : (due : PlanDue) (p : Plan) (lines : List (List ℕ)) (text : List ℕ) → HasRead due p lines → (IsLineDue due → ⊥)
+pub PlanText-from_read : (due : PlanDue) (p : Plan) (lines : List (List ℕ)) (text : List ℕ) → HasReadPlan due p lines → (IsLineDue due → ⊥)
     → text ≡ ended lines → PlanText p text
 PlanText-from_read header_due p lines text h none is = absurd (none tt)
 PlanText-from_read number_due p lines text h none is = absurd (none tt)
@@ -199,7 +199,7 @@ module _ (found : Found) (last : Last) (end : WrittenEnd) (text tail : List ℕ)
   one_byte (b ∷ line) some = (b, refl)
 
   -- behind all lines that have an LF
-  at_tail : (due : PlanDue) (p : Plan) → HasRead due p all → Reading text
+  at_tail : (due : PlanDue) (p : Plan) → HasReadPlan due p all → Reading text
   at_tail due p h = go (due_or_not due) (cases_lt longest_plan_line (length tail)) (cases_lt 0 (length tail))
     where
       go : IsLineDue due ⊎ (IsLineDue due → ⊥) → (longest_plan_line < length tail) ⊎ (length tail ≤ longest_plan_line)
@@ -220,15 +220,15 @@ module _ (found : Found) (last : Last) (end : WrittenEnd) (text tail : List ℕ)
           spelled p (PlanText-from_read due p all text h none (stops.0 ∙ (ap (λ t. ended all ++ t) nothing ∙ append-nil (ended all))))
 
   -- behind right lines
-  read_on : (before : List (List ℕ)) (rest : List (List ℕ)) → all ≡ before ++ rest → (due : PlanDue) (p : Plan) → HasRead due p before → Reading text
-  read_on before [] parts due p h = at_tail due p (subst (HasRead due p) (sym (parts ∙ append-nil before)) h)
+  read_on : (before : List (List ℕ)) (rest : List (List ℕ)) → all ≡ before ++ rest → (due : PlanDue) (p : Plan) → HasReadPlan due p before → Reading text
+  read_on before [] parts due p h = at_tail due p (subst (HasReadPlan due p) (sym (parts ∙ append-nil before)) h)
   read_on before (line ∷ rest) parts due p h =
       go (due_or_not due) (cases_lt longest_plan_line (length line)) (cases_lt 0 (length line))
       (λ next q k. read_on (before ++ line ∷ []) rest (parts ∙ sym (append_assoc before (line ∷ []) rest)) next q k)
     where
       go : IsLineDue due ⊎ (IsLineDue due → ⊥) → (longest_plan_line < length line) ⊎ (length line ≤ longest_plan_line)
           → (0 < length line) ⊎ (length line ≤ 0)
-          → ((next : PlanDue) (q : Plan) → HasRead next q (before ++ line ∷ []) → Reading text) → Reading text
+          → ((next : PlanDue) (q : Plan) → HasReadPlan next q (before ++ line ∷ []) → Reading text) → Reading text
       go (inr none) long (inl some) later =
           let first = one_byte line some in
           decided (TextAfter (line_number before)) at_byte before (take 1 line) due tt

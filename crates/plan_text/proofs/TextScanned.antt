@@ -3,9 +3,9 @@ use Rattle.std.proofs.Common.{◌≡◌, ℕ, zero, suc, ◌+◌, ◌<◌, ◌�
 use Rattle.std.specs.Prelude.{nat_lt, ◌==◌}
 use Rattle.std.specs.List.{AllByRecursion}
 use Rattle.std.proofs.lemmas.Bool.{cond-true, cond-false, lt-ltb, le-ltb, both_ways, and_parts}
-use Rattle.grid.specs.Counted.{greatest}
-use Rattle.grid.specs.Text.{IsLine, lines_of, ended, ends_in_line_feed, line_feed, is_line_byte}
-use Rattle.grid.specs.Reading.{by_line_feed, Place, at_line_feed, at_byte, at_end, JudgedAt, StandsIn, StopsIn, IsByte, Decides, IsFirstFault, line_number}
+use Rattle.text_io.specs.Counted.{greatest}
+use Rattle.text_io.specs.Text.{IsLine, lines_of, ended, ends_in_line_feed, line_feed, is_line_byte}
+use Rattle.text_io.specs.Reading.{by_line_feed, Place, at_line_feed, at_byte, at_end, JudgedAt, StandsIn, StopsIn, IsByte, Decides, IsFirstFault, line_number}
 use Rattle.model.specs.Plan.{Course, Plan}
 use Rattle.plan_text.specs.declared.plan_text_fault.PlanTextFault.{PlanTextFault}
 use Rattle.plan_text.specs.declared.plan_text_fault.PlanTextFault.TheVariants.{BadHeader, BadNumber, TooMany, BadAgent, BadAct, Unfinished, TextAfter, ReadFailed, OutOfMemory}

@@ -4,7 +4,7 @@ use Rattle.std.specs.Prelude.{decimal}
 use Rattle.std.specs.List.{AllByRecursion}
 use Rattle.std.proofs.lemmas.List.{append_cancel_left}
 use Rattle.std.proofs.lemmas.Fmt.{decimal_injective}
-use Rattle.grid.specs.Text.{IsLine, lines_of, ended}
+use Rattle.text_io.specs.Text.{IsLine, lines_of, ended}
 use Rattle.model.specs.Plan.{Course, Plan}
 use Rattle.plan_text.specs.Limits.{IsCourse, IsPlan}
 use Rattle.plan_text.specs.PlanText.{AreCourses, header, PlanText, course_line, canonical_plan_text}

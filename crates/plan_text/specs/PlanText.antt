@@ -1,7 +1,8 @@
 -- The text of a plan: which texts spell a plan. A plan has one spelling.
-use Rattle.std.specs.Prelude.{◌≡◌, ◌≢◌, ℕ, List, [], ◌∷◌, ◌++◌, length, map, codes, decimal, ⊤}
+use Rattle.std.specs.Prelude.{◌≡◌, ℕ, List, [], ◌∷◌, ◌++◌, length, map, codes, decimal}
 use Rattle.std.specs.List.{join_with_byte}
-use Rattle.grid.specs.Text.{space, ended, SpellsNumber}
+use Rattle.text_io.specs.Numerals.{IsNumeral}
+use Rattle.text_io.specs.Text.{space, ended}
 use Rattle.model.specs.declared.act.Act.{Act}
 use Rattle.model.specs.declared.act.Act.TheVariants.{N, E, S, W, Wait}
 use Rattle.model.specs.Plan.{Course, Plan}
@@ -23,17 +24,6 @@ no_act = 61
 abbrev pub acts_text : List Act → List ℕ
 acts_text [] = no_act ∷ []
 acts_text (act ∷ acts) = map act_character (act ∷ acts)
-
--- a zero stands first only where it is the only digit
-abbrev pub HasNoLeadingZero : List ℕ → Type 0
-HasNoLeadingZero [] = ⊤
-HasNoLeadingZero (d ∷ []) = ⊤
-HasNoLeadingZero (d ∷ e ∷ digits) = d ≢ 48
-
--- digits without a leading zero that spell the number
-pub record IsNumeral (n : ℕ) (digits : List ℕ) : Type 0 where
-  pub spells : SpellsNumber n digits
-  pub shortest : HasNoLeadingZero digits
 
 -- a word and a number, as `agents 2`
 abbrev pub SaysNumber : List ℕ → ℕ → List ℕ → Type 0

@@ -1,13 +1,18 @@
 -- The faults of a plan's text, and where each stands.
-use Rattle.std.specs.Prelude.{◌≡◌, ◌≢◌, ℕ, ◌+◌, ◌^◌, ◌<◌, ◌≤◌, ◌==◌, ◌⊎◌, zero, suc, Bool, ◌||◌, false, IsTrue, List, [], ◌∷◌, ◌++◌, length, codes, Result, Ok, Err, ⊤}
+use Rattle.std.specs.Prelude.{◌≡◌, ◌≢◌, ℕ, ◌+◌, ◌^◌, ◌<◌, ◌≤◌, ◌==◌, ◌⊎◌, zero, suc, Bool, ◌||◌, false, IsTrue, List, [], ◌∷◌, ◌++◌, length, codes, Option, Result, Ok, Err, ⊤}
 use Rattle.std.specs.List.{list_all, slice_split}
-use Rattle.grid.specs.Text.{space}
-use Rattle.grid.specs.Reading.{by_line_feed, Place, at_line_feed, at_byte, at_end, FaultAt, Outcome, is_value, is_fault, is_failed, is_refused}
+use Rattle.text_io.specs.Text.{space, BeginsWith}
+use Rattle.text_io.specs.Reading.{by_line_feed, Place, at_line_feed, at_byte, at_end, FaultAt, Outcome, is_value, is_fault, is_failed, is_refused, ReadsText}
+use Rattle.grid.specs.Map.{Grid}
+use Rattle.grid.specs.MapFault.{ReadsMap}
 use Rattle.model.specs.Plan.{Course, Plan}
 use Rattle.plan_text.specs.declared.plan_text_fault.PlanTextFault.{PlanTextFault}
 use Rattle.plan_text.specs.declared.plan_text_fault.PlanTextFault.TheVariants.{BadHeader, BadNumber, TooMany, BadAgent, BadAct, Unfinished, TextAfter, ReadFailed, OutOfMemory}
 use Rattle.plan_text.specs.Limits.{most_agents, most_acts, most_acts_in_all, IsCourse}
-use Rattle.plan_text.specs.PlanText.{no_act, IsNumeral, SaysNumber, SpellsCourse, header}
+use Rattle.text_io.specs.Numerals.{IsNumeral}
+use Rattle.text_io.specs.declared.counted.Counted.{Counted}
+use Rattle.text_io.specs.Counted.{counted_inner, failures_of}
+use Rattle.plan_text.specs.PlanText.{no_act, SaysNumber, SpellsCourse, header, PlanText}
 
 -- The line that is due, by what the lines before it said: the header, the plan's number, the number of agents, or an agent, where so
 -- many agents are due and those before have so many acts. Where no agent is due any more, no line is.
@@ -41,9 +46,6 @@ longest_plan_line = 65553
 pub record IsWholeLine (place : Place) (line : List ℕ) : Type 0 where
   pub ended : place ≡ at_line_feed
   pub short : length line ≤ longest_plan_line
-
-abbrev pub BeginsWith : List ℕ → List ℕ → Type 0
-BeginsWith word line = (rest : List ℕ) × (line ≡ word ++ rest)
 
 -- cut at every space, the line is `agent` and three parts more, none of them empty
 pub record HasParts (x y acts line : List ℕ) : Type 0 where
@@ -145,3 +147,14 @@ plan_outcome (Err (Unfinished line)) = is_fault (Unfinished line)
 plan_outcome (Err (TextAfter line)) = is_fault (TextAfter line)
 plan_outcome (Err ReadFailed) = is_failed
 plan_outcome (Err OutOfMemory) = is_refused
+
+-- the plan's text was read as `read_plan` reads it, with this answer
+abbrev pub ReadsPlan : {R : Type 0} → (R → Option (List ℕ)) → Counted R → Counted R → Result Plan PlanTextFault → Type 0
+ReadsPlan remaining old new answer =
+    ReadsText PlanText PlanTextFaultAt (remaining (counted_inner old)) (remaining (counted_inner new)) (failures_of old) (failures_of new) (plan_outcome answer)
+
+-- a map and a plan were read, in this order
+abbrev pub ReadsMapAndPlan
+    : {M P : Type 0} → (M → Option (List ℕ)) → (P → Option (List ℕ)) → Counted M → Counted M → Counted P → Counted P → Grid → Plan → Type 0
+ReadsMapAndPlan map_left plan_left old_map new_map old_plan new_plan m p =
+    ReadsMap map_left old_map new_map (Ok m) × ReadsPlan plan_left old_plan new_plan (Ok p)

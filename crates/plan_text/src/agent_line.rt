@@ -1,19 +1,20 @@
 //! The line of an agent.
 ghost use Rattle.std.specs.Prelude.{◌≡◌, ℕ, ◌<◌, ◌≤◌, ◌⊎◌, ◌==◌, suc, true, false, IsTrue, List, [], ◌∷◌, length, map, IfOk, MatchOption, MatchResult};
 ghost use Rattle.std.specs.List.{list_all, prefix_len, slice_split};
-ghost use Rattle.grid.specs.Text.{space};
-ghost use Rattle.grid.specs.Reading.{at_line_feed};
-ghost use Rattle.plan_text.specs.PlanText.{IsNumeral, SpellsCourse};
+ghost use Rattle.text_io.specs.Text.{space};
+ghost use Rattle.text_io.specs.Reading.{at_line_feed};
+ghost use Rattle.text_io.specs.Numerals.{IsNumeral};
+ghost use Rattle.plan_text.specs.PlanText.{SpellsCourse};
 ghost use Rattle.plan_text.specs.PlanTextFault.{agent_due, longest_plan_line, HasParts, IsCoordinate, is_act, HasPlanTextFault};
 ghost use Rattle.plan_text.specs.Code.PlanLines.{act_by};
 ghost use Rattle.plan_text.specs.declared.plan_text_fault.PlanTextFault.TheVariants.{OutOfMemory as out_of_memory};
 
 use crate::PlanTextFault;
-use crate::numerals::numeral;
 use grid::Cell;
 use memchr::memchr;
 use model::Act;
 use std::alloc::{AllocError, Global};
+use text_io::saturated_numeral;
 
 /// An agent's start and acts, from its line.
 pub(crate) fn read_agent(
@@ -92,7 +93,7 @@ fn cut(bytes: &[u8]) -> Option<(&[u8], &[u8])>
 fn coordinate(digits: &[u8]) -> Option<u16>
     ensures { MatchOption result (IsCoordinate digits.now → ⊥) (λ n. IsNumeral n digits.now) }
 {
-    match numeral(digits) {
+    match saturated_numeral(digits) {
         Some(value) if value <= 65_535 => Some(value as u16),
         _ => None,
     }

@@ -1,13 +1,13 @@
 //! The lines before those of the agents.
 ghost use Rattle.std.specs.Prelude.{◌≡◌, ◌≤◌, codes, length, MatchResult};
-ghost use Rattle.grid.specs.Reading.{at_line_feed};
+ghost use Rattle.text_io.specs.Reading.{at_line_feed};
 ghost use Rattle.plan_text.specs.Limits.{most_agents};
 ghost use Rattle.plan_text.specs.PlanText.{SaysNumber, header};
 ghost use Rattle.plan_text.specs.PlanTextFault.{header_due, number_due, agents_due, longest_plan_line, HasPlanTextFault};
 
 use crate::PlanTextFault;
-use crate::numerals::numeral;
 use crate::plan::MOST_AGENTS;
+use text_io::saturated_numeral;
 
 /// Refuses a line that is not the header.
 pub(crate) fn read_header(line: &[u8], number: u64) -> Result<(), PlanTextFault>
@@ -28,7 +28,7 @@ pub(crate) fn read_number(line: &[u8], number: u64) -> Result<u32, PlanTextFault
     let Some(digits) = line.strip_prefix(b"number ") else {
         return Err(PlanTextFault::BadHeader(number));
     };
-    match numeral(digits) {
+    match saturated_numeral(digits) {
         Some(value) if value <= 4_294_967_295 => Ok(value as u32),
         _ => Err(PlanTextFault::BadNumber(number)),
     }
@@ -43,7 +43,7 @@ pub(crate) fn read_agents(line: &[u8], number: u64) -> Result<u32, PlanTextFault
     let Some(digits) = line.strip_prefix(b"agents ") else {
         return Err(PlanTextFault::BadHeader(number));
     };
-    let Some(agents) = numeral(digits) else {
+    let Some(agents) = saturated_numeral(digits) else {
         return Err(PlanTextFault::BadNumber(number));
     };
     if agents > MOST_AGENTS as u64 {

@@ -1,6 +1,6 @@
 //! What the definitions of a plan's text mean: laws, which hold of all values and need no code.
 ghost use Rattle.std.specs.Prelude.{◌≡◌, ℕ, ◌⊎◌, List};
-ghost use Rattle.grid.specs.Reading.{IsFirstFault};
+ghost use Rattle.text_io.specs.Reading.{IsFirstFault};
 ghost use Rattle.model.specs.Plan.{Plan};
 ghost use Rattle.plan_text.specs.declared.plan_text_fault.PlanTextFault.{PlanTextFault};
 ghost use Rattle.plan_text.specs.Limits.{IsPlan};
@@ -14,7 +14,7 @@ pub fn one_reading()
     ensures one_fault { (text : List ℕ) (f g : PlanTextFault) → IsFirstFault PlanTextFaultAt f text → IsFirstFault PlanTextFaultAt g text → f ≡ g }
     ensures never_both { (text : List ℕ) (p : Plan) (f : PlanTextFault) → PlanText p text → IsFirstFault PlanTextFaultAt f text → ⊥ }
 {
-    grid::laws::places();
+    text_io::laws::places();
 }
 
 /// The text that is written for a plan within its limits spells that plan and no other, and no other text spells it.
@@ -23,5 +23,5 @@ pub fn written_text()
     ensures only { (p q : Plan) → IsPlan p → PlanText q (canonical_plan_text p) → q ≡ p }
     ensures one_text { (p : Plan) (text : List ℕ) → PlanText p text → text ≡ canonical_plan_text p }
 {
-    grid::laws::places();
+    text_io::laws::places();
 }

@@ -4,7 +4,6 @@
 mod agent_line;
 mod header_lines;
 pub mod laws;
-mod numerals;
 mod plan;
 mod plan_reader;
 mod plan_text_fault;

@@ -1,11 +1,15 @@
 //! Plans: a number, and for each agent a start and its acts.
-ghost use Rattle.std.specs.Prelude.{◌≡◌, ◌+◌, ◌<◌, ◌⊎◌, ◌↔◌, [], ◌∷◌, ◌++◌, length, take, Err, OnOk, OnErr};
+ghost use Rattle.std.specs.Prelude.{◌≡◌, ◌+◌, ◌<◌, ◌⊎◌, ◌↔◌, [], ◌∷◌, ◌++◌, length, take, Err, OnOk, OnErr, Some};
 ghost use Rattle.plan_text.specs.declared.plan.PushFault.TheVariants.{OutOfMemory as out_of_memory};
+ghost use Rattle.text_io.specs.FaultWords.{words_of, words_text};
+ghost use Rattle.plan_text.specs.FaultWords.{push_fault_words};
 
 use grid::Cell;
 use model::Act;
 use std::alloc::{AllocFailed, Global};
+use std::fmt;
 use std::marker::Model;
+use text_io::{Failure, FaultWords};
 use thiserror::Error;
 
 /// A plan has no more agents.
@@ -21,10 +25,28 @@ const MOST_ACTS_IN_ALL: usize = 16_777_216;
 #[derive(Clone, Copy, Debug, PartialEq, Eq, Error)]
 pub enum PushFault {
     /// The plan would pass its limits: 10,000 agents, 65,535 acts of an agent, 16,777,216 acts in all.
-    #[error("TooMany")]
     TooMany,
-    #[error("OutOfMemory")]
     OutOfMemory,
+}
+
+impl PushFault {
+    /// The words in which it is told.
+    pub fn words(self) -> FaultWords
+        ensures { words_of result ≡ push_fault_words self }
+    {
+        match self {
+            PushFault::TooMany => FaultWords::new("TooMany", &[]),
+            PushFault::OutOfMemory => Failure::OutOfMemory.words(),
+        }
+    }
+}
+
+impl fmt::Display for PushFault {
+    ghost output = { λ fault. Some (words_text (push_fault_words fault)) };
+
+    fn fmt<W: fmt::Write>(&self, f: &mut fmt::Formatter<W>) -> fmt::Result {
+        self.words().fmt(f)
+    }
 }
 
 impl<T: Drop> From<AllocFailed<T>> for PushFault {

@@ -1,20 +1,20 @@
 //! Reading the text of a plan.
 ghost use Rattle.std.specs.Prelude.{◌≡◌, ℕ, ◌≤◌, List, [], length, MatchResult, Decides};
-ghost use Rattle.grid.specs.Counted.{counted_inner, failures_of};
-ghost use Rattle.grid.specs.Source.{source_reader};
-ghost use Rattle.grid.specs.Lines.{HasTaken};
-ghost use Rattle.grid.specs.Reading.{ReadsText};
+ghost use Rattle.text_io.specs.Counted.{counted_inner, failures_of};
+ghost use Rattle.text_io.specs.Source.{source_reader};
+ghost use Rattle.text_io.specs.Lines.{HasTaken};
+ghost use Rattle.text_io.specs.Reading.{ReadsText};
 ghost use Rattle.plan_text.specs.Limits.{IsPlan};
 ghost use Rattle.plan_text.specs.PlanText.{PlanText};
 ghost use Rattle.plan_text.specs.PlanTextFault.{IsLineDue, longest_plan_line, PlanTextFaultAt, plan_outcome};
-ghost use Rattle.plan_text.specs.Code.PlanLines.{due_seen, PlanAdds, PlanRefuses, HasRead};
+ghost use Rattle.plan_text.specs.Code.PlanLines.{due_seen, PlanAdds, PlanRefuses, HasReadPlan};
 
 use crate::agent_line::read_agent;
 use crate::header_lines::{read_agents, read_header, read_number};
 use crate::{Plan, PlanTextFault, PushFault};
-use grid::{Counted, LARGEST_PIECE, Source, TakenLine};
 use std::alloc::Global;
 use std::io::Read;
+use text_io::{Counted, LARGE_PIECE, Source, TakenLine};
 
 /// A line of a plan has no more bytes before its LF.
 const LONGEST_LINE: usize = 65_553;
@@ -25,18 +25,21 @@ pub fn read_plan<R: Read>(alloc: Global, reader: &mut Counted<R>) -> Result<Plan
     ensures { ReadsText PlanText PlanTextFaultAt (R.remaining (counted_inner reader.old)) (R.remaining (counted_inner reader.new))
         (failures_of reader.old) (failures_of reader.new) (plan_outcome result) }
 {
-    let mut source = Source::with_pieces_of(LARGEST_PIECE, reader);
+    let mut source = Source::new(reader);
     read_lines(alloc, &mut source)
 }
 
 /// Reads the lines of a source of which nothing was taken.
-fn read_lines<R: Read>(alloc: Global, source: &mut Source<'_, R>) -> Result<Plan, PlanTextFault>
+fn read_lines<R: Read>(
+    alloc: Global,
+    source: &mut Source<'_, R, LARGE_PIECE>,
+) -> Result<Plan, PlanTextFault>
     requires { HasTaken R.remaining (source_reader source.old) source.old [] }
     ensures same_reader { source.new.reader.ghost_name ≡ source.old.reader.ghost_name }
     ensures reads { ReadsText PlanText PlanTextFaultAt (R.remaining (counted_inner (source_reader source.old))) (R.remaining (counted_inner (source_reader source.new)))
         (failures_of (source_reader source.old)) (failures_of (source_reader source.new)) (plan_outcome result) }
 {
-    grid::laws::places();
+    text_io::laws::places();
     let mut room = [0; LONGEST_LINE];
     let mut progress = Progress::new(alloc);
     let mut number = 1u64;
@@ -77,7 +80,7 @@ struct Progress {
 
 impl Progress {
     fn new(alloc: Global) -> Progress
-        ensures read { HasRead (due_seen result.due result.plan) result.plan [] }
+        ensures read { HasReadPlan (due_seen result.due result.plan) result.plan [] }
     {
         Progress {
             due: Due::Header,
@@ -95,7 +98,7 @@ impl Progress {
     fn add_line(&mut self, alloc: Global, line: &[u8], number: u64) -> Result<(), PlanTextFault>
         requires due { IsLineDue (due_seen self.old.due self.old.plan) }
         requires short { length line.now ≤ longest_plan_line }
-        ensures { (lines : List (List ℕ)) → HasRead (due_seen self.old.due self.old.plan) self.old.plan lines → MatchResult result
+        ensures { (lines : List (List ℕ)) → HasReadPlan (due_seen self.old.due self.old.plan) self.old.plan lines → MatchResult result
             (λ _. PlanAdds (due_seen self.old.due self.old.plan) self.old.plan line.now (due_seen self.new.due self.new.plan) self.new.plan)
             (PlanRefuses (due_seen self.old.due self.old.plan) number line.now) }
     {

@@ -1,12 +1,12 @@
 //! Why a plan's text could not be read.
 ghost use Rattle.std.specs.Prelude.{◌≡◌, Some};
-ghost use Rattle.grid.specs.FaultWords.{words_of, words_text};
+ghost use Rattle.text_io.specs.FaultWords.{words_of, words_text};
 ghost use Rattle.plan_text.specs.FaultWords.{plan_text_fault_words};
 ghost use Rattle.plan_text.specs.declared.plan_text_fault.PlanTextFault.TheVariants.{OutOfMemory as out_of_memory};
 
-use grid::FaultWords;
 use std::alloc::AllocError;
 use std::fmt;
+use text_io::{Failure, FaultWords};
 use thiserror::Error;
 
 /// The first fault of a plan's text, with its line and column from 1 on, or why the text was not read to that point.
@@ -38,8 +38,8 @@ impl PlanTextFault {
             }
             PlanTextFault::Unfinished(line) => FaultWords::new("Unfinished", &[line]),
             PlanTextFault::TextAfter(line) => FaultWords::new("TextAfter", &[line]),
-            PlanTextFault::ReadFailed => FaultWords::new("ReadFailed", &[]),
-            PlanTextFault::OutOfMemory => FaultWords::new("OutOfMemory", &[]),
+            PlanTextFault::ReadFailed => Failure::ReadFailed.words(),
+            PlanTextFault::OutOfMemory => Failure::OutOfMemory.words(),
         }
     }
 }

@@ -1,17 +1,17 @@
 //! Writing a plan as text.
 ghost use Rattle.std.specs.Prelude.{◌≡◌, ◌≤◌, [], ◌∷◌, ◌++◌, length, map, decimal, OnOk, OnErr, is_ok};
-ghost use Rattle.grid.specs.Counted.{counted_inner, failures_of};
-ghost use Rattle.grid.specs.Text.{space, line_feed, ended};
-ghost use Rattle.grid.specs.Sink.{held_back, Puts, Breaks};
-ghost use Rattle.grid.specs.Writing.{WritesText};
+ghost use Rattle.text_io.specs.Counted.{counted_inner, failures_of};
+ghost use Rattle.text_io.specs.Text.{space, line_feed, ended};
+ghost use Rattle.text_io.specs.Sink.{held_back, Puts, Breaks};
+ghost use Rattle.text_io.specs.Writing.{WritesText};
 ghost use Rattle.plan_text.specs.PlanText.{act_character, acts_text, course_line, canonical_plan_text};
 
 use crate::Plan;
 use crate::plan::Course;
-use grid::{Counted, Sink, WriteFault};
 use itoa::Buffer;
 use model::Act;
 use std::io::Write;
+use text_io::{Counted, Sink, WriteFault};
 
 /// So many acts are put at a time.
 const PIECE: usize = 4096;

@@ -1,10 +1,11 @@
 //! What a checked plan tells, and which rows of a scenario it solves.
 use crate::texts::{FOLLOWING, ROW, map_of, plan_of};
-use grid::{Cell, Counted, Map};
+use grid::{Cell, Map};
 use plan::{CheckedPlan, FitFault, PlanFault, check, fits};
 use scen::{Scenario, read_scen};
 use std::alloc::Global;
 use std::test::Fail;
+use text_io::Counted;
 
 /// The plan of a text, checked on the row.
 fn checked(alloc: Global, text: &str) -> Result<CheckedPlan, PlanFault> {

@@ -1,10 +1,10 @@
 //! Plans' texts: what is read and written.
 use crate::texts::FOLLOWING;
 use fakes::{Keeper, Pieces};
-use grid::Counted;
 use plan::{PlanTextFault, read_plan, write_plan};
 use std::alloc::Global;
 use std::test::Fail;
+use text_io::Counted;
 
 static TEXTS: [&str; 4] = [
     FOLLOWING,

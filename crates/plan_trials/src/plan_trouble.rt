@@ -1,11 +1,11 @@
 //! Readers and writers of plans' texts that fail.
 use crate::texts::{FOLLOWING, plan_of};
 use fakes::{Keeper, Pieces, Trouble};
-use grid::{Counted, WriteFault};
 use plan::{Plan, PlanTextFault, read_plan, write_plan};
 use std::alloc::Global;
 use std::io::ErrorKind;
 use std::test::Fail;
+use text_io::{Counted, WriteFault};
 
 /// What is wrong with a plan that is read, and how often its reader has failed.
 fn fault_of(alloc: Global, reader: Pieces<'_>) -> (Option<PlanTextFault>, u64) {

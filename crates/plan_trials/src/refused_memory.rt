@@ -1,11 +1,12 @@
 //! Plans that are read, put together and checked while memory may be refused, as `./test --prove` refuses each allocation of these tests in turn: at the most one in a run.
 use crate::texts::{FOLLOWING, ROW, map_of, plan_of};
 use fakes::Keeper;
-use grid::{Cell, Counted, MapFault};
+use grid::{Cell, MapFault};
 use plan::{Act, Plan, PlanFault, PlanTextFault, PushFault, check, write_plan};
 use std::alloc::Global;
 use std::process::Abort;
 use std::test::Fail;
+use text_io::Counted;
 
 const EMPTY: &str = "mapf-plan 1\nnumber 7\nagents 0\n";
 

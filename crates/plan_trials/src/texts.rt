@@ -1,7 +1,8 @@
 //! Maps and plans that the tests share.
-use grid::{Counted, Map, MapFault, read_map};
+use grid::{Map, MapFault, read_map};
 use plan::{Plan, PlanTextFault, read_plan};
 use std::alloc::Global;
+use text_io::Counted;
 
 /// A row of three passable cells.
 pub const ROW: &str = "type octile\nheight 1\nwidth 3\nmap\n...\n";

@@ -5,11 +5,11 @@ use crate::texts::{
     PATHS, REJECTED, REPLIES, SWAP, TASKS, VISITS,
 };
 use fakes::{CORNER, CORNER_WRITTEN, DiskFiles, FakeDisk, Keeper, ROW, ROW_WRITTEN};
-use grid::Counted;
 use mapf_cmd::{Remembering, Style, run};
 use std::alloc::{AllocError, Global};
 use std::process::Abort;
 use std::test::Fail;
+use text_io::Counted;
 
 /// Command lines with their status and what they write.
 static LINES: [(&str, u8, &str); 15] = [

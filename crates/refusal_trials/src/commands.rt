@@ -5,13 +5,14 @@ use crate::texts::{
     PATH, PATHS, REJECTED, REJECTED_JSON, REPLIES, SWAP, TASKS, VISITS,
 };
 use fakes::{CORNER, CORNER_WRITTEN, DiskFiles, FakeDisk, Keeper, ROW, ROW_WRITTEN};
-use grid::{Cell, Counted};
+use grid::Cell;
 use mapf_cmd::{
     agent_cmd, check_cmd, check_fit_cmd, deps_cell_cmd, deps_cmd, map_cmd, path_cmd, row_cmd,
     run_cmd, scen_cmd, tape_cmd,
 };
 use std::alloc::Global;
 use std::test::Fail;
+use text_io::Counted;
 
 /// A command over the texts of this crate.
 #[derive(Clone, Copy, Debug)]

@@ -5,13 +5,14 @@ use agent::Tape;
 use depgraph::{Dependencies, Graph, OutOfMemory, OwnPart};
 use event_text::write_replies;
 use fakes::Keeper;
-use grid::{Counted, read_map};
+use grid::read_map;
 use mapf_cmd::{Line, LineFault, Verdict, line, verdict_json};
 use plan::{CheckedPlan, check, read_plan};
 use runner::{Event, Reply, SimTape, Version, run, run_with};
 use scen::{Length, LengthTable};
 use std::alloc::Global;
 use std::test::Fail;
+use text_io::Counted;
 
 /// The events of the text that the commands answer.
 const EVENTS: [Event; 5] = [

@@ -2,11 +2,11 @@
 use Rattle.std.proofs.Common.{◌≡◌, ℕ, ◌≤◌, List, [], ◌∷◌, ◌++◌, length, map, drop, get_or, Option, None, Some, refl, sym, ap, subst, ◌∙◌, arith}
 use Rattle.std.specs.Prelude.{reverse, slice_get}
 use Rattle.std.proofs.lemmas.List.{append_assoc, length-append, map-append, reverse-append}
-use Rattle.grid.specs.Text.{line_feed, ended}
-use Rattle.grid.specs.declared.sink.Sink.{Sink}
-use Rattle.grid.specs.Sink.{Puts, Breaks}
-use Rattle.grid.proofs.LineLemmas.{ended_push}
-use Rattle.grid.proofs.SinkLemmas.{Puts-trans, Breaks-after}
+use Rattle.text_io.specs.Text.{line_feed, ended}
+use Rattle.text_io.specs.declared.sink.Sink.{Sink}
+use Rattle.text_io.specs.Sink.{Puts, Breaks}
+use Rattle.text_io.specs.Laws.Lines.{ended_push}
+use Rattle.text_io.specs.Laws.Putting.{Puts-trans, Breaks-after}
 use Rattle.model.specs.declared.event.Event.{Event}
 use Rattle.model.specs.declared.version.Version.{Version}
 use Rattle.model.specs.Dependency.{IsRotation}
@@ -18,9 +18,9 @@ use Rattle.event_text.specs.declared.header.Headers.{Headers}
 use Rattle.event_text.specs.EventText.{event_header, AreEvents}
 use Rattle.event_text.specs.FirstEvents.{BeginsWithEvents}
 use Rattle.event_text.specs.ReplyText.{reply_line, replies_text}
-use Rattle.runner.specs.SafeRuns.{IsSafeRun, IsSafeRunAt}
-use Rattle.runner.specs.Standing.{RunnerState, StandsAt, GoesOn}
-use Rattle.runner.proofs.SafeLemmas.{safe-run-at}
+use Rattle.runner.specs.SafeRuns.{IsSafeRun}
+use Rattle.runner.specs.Standing.{RunnerState, StandsAt, GoesOnWith}
+use Rattle.runner.specs.Laws.Safe.{safe-run}
 use Rattle.replay.specs.Replaying.{Answered}
 use Rattle.replay.specs.Code.Standing.{AnsweredBy}
 
@@ -102,7 +102,7 @@ module _
         history = so_far.history;
         same_events = so_far.same_events;
         same_answers = so_far.same_answers;
-        safe = subst (λ table. IsSafeRunAt r.version table so_far.history) so_far.same_graph (safe-run-at every never r so_far.history so_far.stands);
+        safe = subst (λ table. IsSafeRun r.version table so_far.history) so_far.same_graph (safe-run every never r so_far.history so_far.stands);
       };
       came = so_far.came;
     }
@@ -121,15 +121,16 @@ module _
         }
 
 -- no event is answered yet
-pub none-answered : (version : Version) (table : Timetable) (CameOf : List ℕ → Type 0) → IsSafeRun table [] → CameOf [] → Answered version table [] CameOf
-none-answered version table CameOf safe came = record {
+pub none-answered : (version made : Version) (table : Timetable) (CameOf : List ℕ → Type 0) → IsSafeRun made table [] → CameOf []
+    → Answered version table [] CameOf
+none-answered version made table CameOf safe came = record {
   answers = [];
   answered = record {
     history = [];
     same_events = refl;
     same_answers = refl;
     -- a run of nothing is one of either version
-    safe = record { run = tt; safe = safe.1.safe; rotations = safe.1.rotations };
+    safe = record { run = tt; safe = safe.safe; rotations = safe.rotations };
   };
   came = came;
 }
@@ -147,7 +148,7 @@ none-so-far tt r CameOf same stands came = record {
 
 -- one event more is answered
 pub so-far-more : (tt : Timetable) (r s : RunnerState) (events : List Event) (e : Event) (a : Answer) (CameOf Came : List ℕ → Type 0)
-    → SoFar tt r events CameOf → GoesOn r s e a → s.timetable ≡ r.timetable
+    → SoFar tt r events CameOf → GoesOnWith r s e a → s.timetable ≡ r.timetable
     → ((text : List ℕ) → CameOf text → Came (text ++ (reply_line a ++ line_feed ∷ []))) → SoFar tt s (events ++ e ∷ []) Came
 so-far-more tt r s events e a CameOf Came so_far goes same more =
     let on = goes so_far.history so_far.stands in record {
@@ -163,7 +164,7 @@ so-far-more tt r s events e a CameOf Came so_far goes same more =
 -- its reply is put, or could not be
 module _
     {W : Type 0} (contents : W → Option (List ℕ)) (first mid last : Sink W) (tt : Timetable) (r s : RunnerState) (events : List Event) (e : Event) (a : Answer)
-    (so_far : SoFar tt r events (Puts contents first mid)) (goes : GoesOn r s e a) (same : s.timetable ≡ r.timetable)
+    (so_far : SoFar tt r events (Puts contents first mid)) (goes : GoesOnWith r s e a) (same : s.timetable ≡ r.timetable)
   where
     pub put-more : Puts contents mid last (reply_line a ++ line_feed ∷ []) → SoFar tt s (events ++ e ∷ []) (Puts contents first last)
     put-more put = so-far-more tt r s events e a _ _ so_far goes same (λ text before. Puts-trans contents first mid last text _ before put)

@@ -1,10 +1,10 @@
 -- What the events of a text and the ending come to.
 use Rattle.std.proofs.Common.{◌≡◌, ℕ, true, false, List, [], ◌++◌, Option, Some, Result, Ok, Err, inl, inr, subst, append-nil}
-use Rattle.grid.specs.declared.counted.Counted.{Counted}
-use Rattle.grid.specs.declared.sink.Sink.{Sink}
-use Rattle.grid.specs.Reading.{is_value}
-use Rattle.grid.specs.Sink.{Puts, Breaks}
-use Rattle.grid.proofs.SinkLemmas.{Puts-trans, Breaks-after}
+use Rattle.text_io.specs.declared.counted.Counted.{Counted}
+use Rattle.text_io.specs.declared.sink.Sink.{Sink}
+use Rattle.text_io.specs.Reading.{is_value}
+use Rattle.text_io.specs.Sink.{Puts, Breaks}
+use Rattle.text_io.specs.Laws.Putting.{Puts-trans, Breaks-after}
 use Rattle.model.specs.History.{History}
 use Rattle.model.specs.Timetable.{Timetable}
 use Rattle.event_text.specs.ReplyText.{replies_text}

@@ -1,8 +1,8 @@
 -- What was put is written once it is handed on.
 use Rattle.std.proofs.Common.{◌≡◌, ℕ, Bool, true, false, List, [], inl, inr, Option, Result, Err, refl, sym, subst, append-nil}
-use Rattle.grid.specs.declared.sink.Sink.{Sink}
-use Rattle.grid.specs.Sink.{held_back, Puts, Breaks}
-use Rattle.grid.proofs.SinkLemmas.{Puts-trans, Breaks-after}
+use Rattle.text_io.specs.declared.sink.Sink.{Sink}
+use Rattle.text_io.specs.Sink.{held_back, Puts, Breaks}
+use Rattle.text_io.specs.Laws.Putting.{Puts-trans, Breaks-after}
 use Rattle.replay.specs.Replaying.{was_written}
 use Rattle.replay.specs.declared.run_fault.RunFault.{RunFault}
 use Rattle.replay.specs.declared.run_fault.RunFault.TheVariants.{WriteFailed}

@@ -1,12 +1,12 @@
 -- What came of the text of the replies, from one point to the next.
 use Rattle.std.proofs.Common.{◌≡◌, ◌∙◌, ℕ, Bool, true, false, List, [], ◌++◌, Option, None, Some, Result, Ok, Err, sym, ap, subst, append-nil}
 use Rattle.std.specs.Io.KnownBytes.{Appends}
-use Rattle.grid.specs.declared.counted.Counted.{Counted}
-use Rattle.grid.specs.declared.sink.Sink.{Sink}
-use Rattle.grid.specs.Counted.{counted_inner, failures_of}
-use Rattle.grid.specs.Sink.{held_back, sink_writer, Puts, Breaks}
-use Rattle.grid.specs.Writing.{WritesText}
-use Rattle.grid.specs.Reading.{Outcome}
+use Rattle.text_io.specs.declared.counted.Counted.{Counted}
+use Rattle.text_io.specs.declared.sink.Sink.{Sink}
+use Rattle.text_io.specs.Counted.{counted_inner, failures_of}
+use Rattle.text_io.specs.Sink.{held_back, sink_writer, Puts, Breaks}
+use Rattle.text_io.specs.Writing.{WritesText}
+use Rattle.text_io.specs.Reading.{Outcome}
 use Rattle.model.specs.declared.event.Event.{Event}
 use Rattle.model.specs.declared.version.Version.{Version}
 use Rattle.model.specs.Timetable.{Timetable}

@@ -1,11 +1,11 @@
 -- What the texts of a map, a plan and events come to where it is also said how the run ends: the text of the replies, and behind it
 -- that of the ending.
 use Rattle.std.specs.Prelude.{◌≡◌, ℕ, ◌⊎◌, List, ◌∷◌, [], ◌++◌, length, map, codes, decimal, true, false, Option, Some, Result, Ok, Err, MatchResult}
-use Rattle.grid.specs.declared.counted.Counted.{Counted}
-use Rattle.grid.specs.Counted.{counted_inner, failures_of}
-use Rattle.grid.specs.Reading.{is_value}
-use Rattle.grid.specs.Text.{space, line_feed, ended}
-use Rattle.grid.specs.Writing.{WritesText}
+use Rattle.text_io.specs.declared.counted.Counted.{Counted}
+use Rattle.text_io.specs.Counted.{counted_inner, failures_of}
+use Rattle.text_io.specs.Reading.{is_value}
+use Rattle.text_io.specs.Text.{space, line_feed, ended}
+use Rattle.text_io.specs.Writing.{WritesText}
 use Rattle.model.specs.declared.event.Event.{Event}
 use Rattle.model.specs.declared.version.Version.{Version}
 use Rattle.model.specs.History.{Answer, History}
@@ -20,7 +20,7 @@ use Rattle.replay.specs.declared.completion.Completion.{Completion}
 use Rattle.replay.specs.declared.completion.Completion.TheVariants.{Ends, Blocked}
 use Rattle.replay.specs.declared.run_fault.RunFault.{RunFault}
 use Rattle.replay.specs.declared.run_fault.RunFault.TheVariants as run_fault
-use Rattle.replay.specs.Replaying.{ReadsTimetable, AnswersEvents}
+use Rattle.replay.specs.Replaying.{ReadsRunTimetable, AnswersEvents}
 
 -- a word and a number, with a space between them
 abbrev pub numbered_line : List ℕ → ℕ → List ℕ
@@ -86,6 +86,6 @@ pub record CompletesText
     (contents : W → Option (List ℕ)) (old_map new_map : Counted M) (old_plan new_plan : Counted P) (old_events new_events : Counted E)
     (old_out new_out : Counted W) (result : Result Completion RunFault) : Type 0 where
   pub answer : Result Timetable RunFault
-  pub reads : ReadsTimetable map_left plan_left old_map new_map old_plan new_plan answer
+  pub reads : ReadsRunTimetable map_left plan_left old_map new_map old_plan new_plan answer
   pub ends : MatchResult answer (λ tt. Completes events_left contents tt old_events new_events old_out new_out result)
       (λ fault. (result ≡ Err fault) × (new_events ≡ old_events) × (new_out ≡ old_out))

@@ -4,5 +4,7 @@
 pub mod Replaying
 -- and how the run ends
 pub mod Completing
+-- the words of why a run is not replayed to its end
+pub mod FaultWords
 -- The code's own words, of which no promise speaks.
 pub mod Code

@@ -1,22 +1,18 @@
 -- What the texts of a map, a plan and events come to: the text of the replies.
 use Rattle.std.specs.Prelude.{◌≡◌, ℕ, Bool, true, false, List, [], Option, None, Some, Result, Ok, Err, MatchResult}
 use Rattle.std.specs.Io.KnownBytes.{Consumes}
-use Rattle.grid.specs.declared.counted.Counted.{Counted}
-use Rattle.grid.specs.declared.map_fault.MapFault.{MapFault}
-use Rattle.grid.specs.Counted.{counted_inner, failures_of}
+use Rattle.text_io.specs.declared.counted.Counted.{Counted}
+use Rattle.text_io.specs.Counted.{counted_inner, failures_of}
 use Rattle.grid.specs.Map.{Grid}
-use Rattle.grid.specs.MapFault.{MapFaultAt, map_outcome}
-use Rattle.grid.specs.MapText.{MapText}
-use Rattle.grid.specs.Reading.{Outcome, is_value, ReadsText}
-use Rattle.grid.specs.Writing.{WritesText}
+use Rattle.grid.specs.MapFault.{ReadsMap}
+use Rattle.text_io.specs.Reading.{Outcome, is_value}
+use Rattle.text_io.specs.Writing.{WritesText}
 use Rattle.model.specs.declared.event.Event.{Event}
 use Rattle.model.specs.declared.version.Version.{Version}
 use Rattle.model.specs.History.{Answer}
 use Rattle.model.specs.Plan.{Plan, IsValid, IsTimetableOf}
 use Rattle.model.specs.Timetable.{Timetable}
-use Rattle.plan_text.specs.declared.plan_text_fault.PlanTextFault.{PlanTextFault}
-use Rattle.plan_text.specs.PlanText.{PlanText}
-use Rattle.plan_text.specs.PlanTextFault.{PlanTextFaultAt, plan_outcome}
+use Rattle.plan_text.specs.PlanTextFault.{ReadsPlan, ReadsMapAndPlan}
 use Rattle.plan.specs.Checking.{IsRefusedFor}
 use Rattle.event_text.specs.declared.event_fault.EventFault.{EventFault}
 use Rattle.event_text.specs.declared.header.Headers.TheVariants.{Either}
@@ -28,39 +24,23 @@ use Rattle.runner.specs.SafeRuns.{AreAnsweredAt}
 use Rattle.replay.specs.declared.run_fault.RunFault.{RunFault}
 use Rattle.replay.specs.declared.run_fault.RunFault.TheVariants as run_fault
 
--- the map's text was read as `read_map` reads it, with this answer
-abbrev pub ReadsMap : {M : Type 0} → (M → Option (List ℕ)) → Counted M → Counted M → Result Grid MapFault → Type 0
-ReadsMap remaining old new answer =
-    ReadsText MapText MapFaultAt (remaining (counted_inner old)) (remaining (counted_inner new)) (failures_of old) (failures_of new) (map_outcome answer)
-
--- the plan's text was read as `read_plan` reads it, with this answer
-abbrev pub ReadsPlan : {P : Type 0} → (P → Option (List ℕ)) → Counted P → Counted P → Result Plan PlanTextFault → Type 0
-ReadsPlan remaining old new answer =
-    ReadsText PlanText PlanTextFaultAt (remaining (counted_inner old)) (remaining (counted_inner new)) (failures_of old) (failures_of new) (plan_outcome answer)
-
--- a map and a plan were read, in this order
-abbrev pub ReadsMapAndPlan
-    : {M P : Type 0} → (M → Option (List ℕ)) → (P → Option (List ℕ)) → Counted M → Counted M → Counted P → Counted P → Grid → Plan → Type 0
-ReadsMapAndPlan map_left plan_left old_map new_map old_plan new_plan m p =
-    ReadsMap map_left old_map new_map (Ok m) × ReadsPlan plan_left old_plan new_plan (Ok p)
-
 -- The map was read and then the plan, the plan is valid on the map, and this is its timetable. Else the first fault is answered, the
 -- least of a plan that is not valid, or that memory was refused for the graph of a valid one.
-abbrev pub ReadsTimetable
+abbrev pub ReadsRunTimetable
     : {M P : Type 0} → (M → Option (List ℕ)) → (P → Option (List ℕ)) → Counted M → Counted M → Counted P → Counted P
     → Result Timetable RunFault → Type 0
-ReadsTimetable map_left plan_left old_map new_map old_plan new_plan (Ok tt) =
+ReadsRunTimetable map_left plan_left old_map new_map old_plan new_plan (Ok tt) =
     (m : Grid) × (p : Plan) × ReadsMapAndPlan map_left plan_left old_map new_map old_plan new_plan m p × IsValid m p × IsTimetableOf p tt
-ReadsTimetable map_left plan_left old_map new_map old_plan new_plan (Err (run_fault.Map fault)) =
+ReadsRunTimetable map_left plan_left old_map new_map old_plan new_plan (Err (run_fault.Map fault)) =
     ReadsMap map_left old_map new_map (Err fault) × (new_plan ≡ old_plan)
-ReadsTimetable map_left plan_left old_map new_map old_plan new_plan (Err (run_fault.PlanText fault)) =
+ReadsRunTimetable map_left plan_left old_map new_map old_plan new_plan (Err (run_fault.PlanText fault)) =
     (m : Grid) × ReadsMap map_left old_map new_map (Ok m) × ReadsPlan plan_left old_plan new_plan (Err fault)
-ReadsTimetable map_left plan_left old_map new_map old_plan new_plan (Err (run_fault.Plan fault)) =
+ReadsRunTimetable map_left plan_left old_map new_map old_plan new_plan (Err (run_fault.Plan fault)) =
     (m : Grid) × (p : Plan) × ReadsMapAndPlan map_left plan_left old_map new_map old_plan new_plan m p × IsRefusedFor m p fault
-ReadsTimetable map_left plan_left old_map new_map old_plan new_plan (Err run_fault.OutOfMemory) =
+ReadsRunTimetable map_left plan_left old_map new_map old_plan new_plan (Err run_fault.OutOfMemory) =
     (m : Grid) × (p : Plan) × ReadsMapAndPlan map_left plan_left old_map new_map old_plan new_plan m p × IsValid m p
-ReadsTimetable map_left plan_left old_map new_map old_plan new_plan (Err (run_fault.Events fault)) = ⊥
-ReadsTimetable map_left plan_left old_map new_map old_plan new_plan (Err run_fault.WriteFailed) = ⊥
+ReadsRunTimetable map_left plan_left old_map new_map old_plan new_plan (Err (run_fault.Events fault)) = ⊥
+ReadsRunTimetable map_left plan_left old_map new_map old_plan new_plan (Err run_fault.WriteFailed) = ⊥
 
 -- Events are answered in a safe run of the version, and this is what came of the text of their replies.
 pub record Answered (version : Version) (tt : Timetable) (events : List Event) (CameOf : List ℕ → Type 0) : Type 0 where
@@ -126,6 +106,6 @@ pub record RunsText
     (contents : W → Option (List ℕ)) (old_map new_map : Counted M) (old_plan new_plan : Counted P) (old_events new_events : Counted E)
     (old_out new_out : Counted W) (result : Result Unit RunFault) : Type 0 where
   pub answer : Result Timetable RunFault
-  pub reads : ReadsTimetable map_left plan_left old_map new_map old_plan new_plan answer
+  pub reads : ReadsRunTimetable map_left plan_left old_map new_map old_plan new_plan answer
   pub ends : MatchResult answer (λ tt. Replays events_left contents tt old_events new_events old_out new_out result)
       (λ fault. (result ≡ Err fault) × (new_events ≡ old_events) × (new_out ≡ old_out))

@@ -1,9 +1,9 @@
 //! Replaying runs that are given as texts, and saying how they end.
 ghost use Rattle.std.specs.Prelude.{◌≡◌, [], ◌∷◌, ◌++◌, OnOk, OnErr};
-ghost use Rattle.grid.specs.Lines.{HasTaken};
-ghost use Rattle.grid.specs.Sink.{held_back, sink_writer, Puts, Breaks};
-ghost use Rattle.grid.specs.Source.{source_reader};
-ghost use Rattle.grid.specs.Text.{line_feed};
+ghost use Rattle.text_io.specs.Lines.{HasTaken};
+ghost use Rattle.text_io.specs.Sink.{held_back, sink_writer, Puts, Breaks};
+ghost use Rattle.text_io.specs.Source.{source_reader};
+ghost use Rattle.text_io.specs.Text.{line_feed};
 ghost use Rattle.model.specs.History.{History};
 ghost use Rattle.runner.specs.Standing.{StandsAt};
 ghost use Rattle.replay.specs.Completing.{numbered_line, completion_text, blocked_text, CompletesEvents, Completes, CompletesText};
@@ -13,11 +13,11 @@ use crate::replaying::{hand_on, read_dependencies, run_events};
 use crate::{Completion, RunFault};
 use depgraph::Dependencies;
 use event_text::put_event;
-use grid::{Counted, Sink, Source, WriteFault};
 use model::Event;
 use runner::{CompleteFault, Runner};
 use std::alloc::Global;
 use std::io::{Read, Write};
+use text_io::{Counted, PIECE, Sink, Source, WriteFault};
 
 /// Does what `run_text` does, and where that comes to the end of the events then says how their run ends: it puts into the output how many
 /// events bring every agent to its end and the line of each, or the number of the rotation that keeps agents from their ends. At a fault
@@ -55,7 +55,7 @@ fn complete<E: Read, W: Write>(
 fn complete_all<E: Read, W: Write>(
     alloc: Global,
     graph: &Dependencies,
-    source: &mut Source<'_, E>,
+    source: &mut Source<'_, E, PIECE>,
     sink: &mut Sink<'_, W>,
 ) -> Result<Completion, RunFault>
     requires none_taken { HasTaken E.remaining (source_reader source.old) source.old [] }
@@ -72,7 +72,7 @@ fn complete_all<E: Read, W: Write>(
 fn complete_events<E: Read, W: Write>(
     alloc: Global,
     graph: &Dependencies,
-    source: &mut Source<'_, E>,
+    source: &mut Source<'_, E, PIECE>,
     sink: &mut Sink<'_, W>,
 ) -> Result<Completion, RunFault>
     requires { HasTaken E.remaining (source_reader source.old) source.old [] }

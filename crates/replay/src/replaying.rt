@@ -1,20 +1,21 @@
 //! Replaying runs that are given as texts.
 ghost use Rattle.std.specs.Prelude.{◌≡◌, []};
-ghost use Rattle.grid.specs.Lines.{HasTaken};
-ghost use Rattle.grid.specs.Sink.{held_back, sink_writer, Puts, Breaks};
-ghost use Rattle.grid.specs.Source.{source_reader};
-ghost use Rattle.replay.specs.Replaying.{ReadsTimetable, AnswersEvents, Replays, RunsText, was_written};
+ghost use Rattle.text_io.specs.Lines.{HasTaken};
+ghost use Rattle.text_io.specs.Sink.{held_back, sink_writer, Puts, Breaks};
+ghost use Rattle.text_io.specs.Source.{source_reader};
+ghost use Rattle.replay.specs.Replaying.{ReadsRunTimetable, AnswersEvents, Replays, RunsText, was_written};
 ghost use Rattle.replay.specs.Code.HandingOn.{IsHandedOn};
 ghost use Rattle.replay.specs.Code.Standing.{AnswersBy};
 
 use crate::RunFault;
 use depgraph::Dependencies;
 use event_text::{EventReader, put_reply};
-use grid::{Counted, Sink, Source, read_map};
+use grid::read_map;
 use plan::{check, read_plan};
 use runner::Runner;
 use std::alloc::Global;
 use std::io::{Read, Write};
+use text_io::{Counted, PIECE, Sink, Source};
 
 /// Reads a map and then a plan, checks the plan on the map, and then answers one event after another, by the version of the events'
 /// header: the reply to each is put into the output before the next line of the events is looked at. All replies so far are in the
@@ -38,7 +39,7 @@ pub(crate) fn read_dependencies<M: Read, P: Read>(
     map: &mut Counted<M>,
     plan: &mut Counted<P>,
 ) -> Result<Dependencies, RunFault>
-    ensures { ReadsTimetable M.remaining P.remaining map.old map.new plan.old plan.new result }
+    ensures { ReadsRunTimetable M.remaining P.remaining map.old map.new plan.old plan.new result }
 {
     let map = read_map(alloc, map)?;
     let plan = read_plan(alloc, plan)?;
@@ -68,7 +69,7 @@ fn replay<E: Read, W: Write>(
 fn answer_all<E: Read, W: Write>(
     alloc: Global,
     graph: &Dependencies,
-    source: &mut Source<'_, E>,
+    source: &mut Source<'_, E, PIECE>,
     sink: &mut Sink<'_, W>,
 ) -> Result<(), RunFault>
     requires none_taken { HasTaken E.remaining (source_reader source.old) source.old [] }
@@ -106,7 +107,7 @@ pub fn was_written<T>(answer: &Result<T, RunFault>) -> bool
 fn answer_events<E: Read, W: Write>(
     alloc: Global,
     graph: &Dependencies,
-    source: &mut Source<'_, E>,
+    source: &mut Source<'_, E, PIECE>,
     sink: &mut Sink<'_, W>,
 ) -> Result<(), RunFault>
     requires { HasTaken E.remaining (source_reader source.old) source.old [] }
@@ -123,7 +124,7 @@ fn answer_events<E: Read, W: Write>(
 pub(crate) fn run_events<'g, E: Read, W: Write>(
     alloc: Global,
     graph: &'g Dependencies,
-    source: &mut Source<'_, E>,
+    source: &mut Source<'_, E, PIECE>,
     sink: &mut Sink<'_, W>,
 ) -> Result<Runner<'g>, RunFault>
     requires { HasTaken E.remaining (source_reader source.old) source.old [] }
@@ -134,7 +135,7 @@ pub(crate) fn run_events<'g, E: Read, W: Write>(
 {
     model::laws::every_run_is_safe();
     model::laws::rotations_never_begin();
-    event_text::laws::none_read::<E>();
+    event_text::laws::none_read::<E, PIECE>();
     let mut reader = EventReader::any();
     let version = reader.version(source)?;
     let mut runner = Runner::over(alloc, graph, version)?;

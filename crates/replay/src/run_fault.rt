@@ -1,14 +1,18 @@
 //! Why a run is not replayed to its end.
-ghost use Rattle.std.specs.Prelude.{◌≡◌};
+ghost use Rattle.std.specs.Prelude.{◌≡◌, Some};
+ghost use Rattle.text_io.specs.FaultWords.{words_of, words_text};
+ghost use Rattle.replay.specs.FaultWords.{run_fault_words};
 ghost use Rattle.replay.specs.declared.run_fault.RunFault.TheVariants as run_fault;
 
-use depgraph::OutOfMemory;
 use event_text::EventFault;
-use grid::{MapFault, WriteFault};
+use grid::MapFault;
 use plan::{PlanFault, PlanTextFault};
+use std::fmt;
+use text_io::{Failure, FaultWords, OutOfMemory, WriteFault};
+use thiserror::Error;
 
 /// Why a run is not replayed to its end.
-#[derive(Clone, Copy, Debug, PartialEq, Eq)]
+#[derive(Clone, Copy, Debug, PartialEq, Eq, Error)]
 pub enum RunFault {
     /// The map could not be read.
     Map(MapFault),
@@ -21,6 +25,30 @@ pub enum RunFault {
     WriteFailed,
     /// The graph was refused memory, or an agent was.
     OutOfMemory,
+}
+
+impl RunFault {
+    /// The words in which it is told: those of the innermost fault.
+    pub fn words(self) -> FaultWords
+        ensures { words_of result ≡ run_fault_words self }
+    {
+        match self {
+            RunFault::Map(fault) => fault.words(),
+            RunFault::PlanText(fault) => fault.words(),
+            RunFault::Plan(fault) => fault.words(),
+            RunFault::Events(fault) => fault.words(),
+            RunFault::WriteFailed => Failure::WriteFailed.words(),
+            RunFault::OutOfMemory => Failure::OutOfMemory.words(),
+        }
+    }
+}
+
+impl fmt::Display for RunFault {
+    ghost output = { λ fault. Some (words_text (run_fault_words fault)) };
+
+    fn fmt<W: fmt::Write>(&self, f: &mut fmt::Formatter<W>) -> fmt::Result {
+        self.words().fmt(f)
+    }
 }
 
 impl From<MapFault> for RunFault {

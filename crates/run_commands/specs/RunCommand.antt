@@ -1,6 +1,7 @@
 -- What `mapf run` does and answers.
 use Rattle.std.specs.Prelude.{◌≡◌, ℕ, Bool, true, false, List, MatchBool, Option, Some, Result, Ok, Err}
-use Rattle.grid.specs.declared.counted.Counted.{Counted}
+use Rattle.text_io.specs.FaultWords.{Words}
+use Rattle.text_io.specs.declared.counted.Counted.{Counted}
 use Rattle.replay.specs.declared.completion.Completion.{Completion}
 use Rattle.replay.specs.declared.completion.Completion.TheVariants.{Ends, Blocked}
 use Rattle.replay.specs.declared.run_fault.RunFault.{RunFault}
@@ -8,9 +9,10 @@ use Rattle.replay.specs.declared.run_fault.RunFault.TheVariants.{Map, PlanText, 
 use Rattle.replay.specs.Completing.{CompletesText}
 use Rattle.replay.specs.Replaying.{RunsText}
 use Rattle.text_commands.specs.declared.status.Status.{Status}
-use Rattle.text_commands.specs.Finishing.{Finishes}
+use Rattle.text_commands.specs.Finishing.{FinishesWriting}
 use Rattle.text_commands.specs.Status.{code_of}
-use Rattle.run_commands.specs.FaultWords.{run_fault_words, told_of_run}
+use Rattle.replay.specs.FaultWords.{run_fault_words}
+use Rattle.run_commands.specs.FaultWords.{told_of_run}
 use Rattle.run_commands.specs.RunStatus.{run_status}
 
 -- The texts were read and the events were answered; where it was asked for, and there alone, it was also said how their run ends.
@@ -38,13 +40,13 @@ needs_flush _ = true
 -- failed, `Failed` is.
 abbrev pub EndsRun : {W : Type 0} → (W → Option (List ℕ)) → (Passed Failed : Type 0) → Result Completion RunFault → Counted W → Counted W → Status → Type 0
 EndsRun contents Passed Failed answer old new status =
-    MatchBool (needs_flush answer) (Finishes contents Passed Failed true (run_status answer) old new status)
+    MatchBool (needs_flush answer) (FinishesWriting contents Passed Failed true (run_status answer) old new status)
     ((status ≡ run_status answer) × (new ≡ old) × Passed)
 
 -- The texts were read, the events were answered, and the ending was said where it was asked for, and the run ended by what they came to.
 pub record AnswersRun
     {M P V W : Type 0} (map_left : M → Option (List ℕ)) (plan_left : P → Option (List ℕ)) (events_left : V → Option (List ℕ))
-    (contents : W → Option (List ℕ)) (Told : Option (List (List ℕ)) → Type 0) (old_map new_map : Counted M) (old_plan new_plan : Counted P)
+    (contents : W → Option (List ℕ)) (Told : Option Words → Type 0) (old_map new_map : Counted M) (old_plan new_plan : Counted P)
     (old_events new_events : Counted V) (complete : Bool) (old_out new_out : Counted W) (code : ℕ) : Type 0 where
   pub answer : Result Completion RunFault
   pub written : Counted W

@@ -2,6 +2,5 @@
 #![tactic(auto)]
 
 mod run_command;
-mod run_status;
 
 pub use run_command::run_cmd;

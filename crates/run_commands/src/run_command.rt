@@ -1,19 +1,16 @@
 //! `mapf run`: answers the events of a run, one after another, and says how it ends.
 ghost use Rattle.std.specs.Prelude.{◌≡◌};
-ghost use Rattle.grid.specs.FaultWords.{words_of};
-ghost use Rattle.run_commands.specs.FaultWords.{run_fault_words, told_of_run};
+ghost use Rattle.run_commands.specs.FaultWords.{told_of_run};
 ghost use Rattle.run_commands.specs.RunCommand.{RunsOrCompletes, needs_flush, AnswersRun};
 ghost use Rattle.run_commands.specs.RunStatus.{run_status};
 ghost use Rattle.run_commands.specs.Code.Concluding.{IsFlushed};
 ghost use Rattle.text_commands.specs.Telling.{Tells};
 
-use crate::run_status::run_fault_status;
-use grid::{Counted, FaultWords, WriteFault};
-use plan_commands::Rejection;
 use replay::{Completion, RunFault, complete_text, run_text};
 use std::alloc::Global;
 use std::io::{Read, Write};
 use text_commands::{Status, report};
+use text_io::Counted;
 
 /// Reads a map from `map` and a plan from `plan`, checks the plan on the map, and answers one event of `events` after another on
 /// `out`; where `complete` is set it then says there how the run ends. A fault's line goes to `err` after all that was written before
@@ -85,22 +82,9 @@ fn conclude<E: Write>(answer: Result<Completion, RunFault>, err: &mut Counted<E>
         Ok(Completion::Ends) => Status::Done,
         Ok(Completion::Blocked(_)) => Status::Fault,
         Err(fault) => {
-            report(err, run_fault_words(fault));
-            run_fault_status(fault)
+            let words = fault.words();
+            report(err, words);
+            Status::of_fault(&words)
         }
-    }
-}
-
-/// The words of a fault: those of the innermost one.
-fn run_fault_words(fault: RunFault) -> FaultWords
-    ensures { words_of result ≡ run_fault_words fault }
-{
-    match fault {
-        RunFault::Map(fault) => fault.words(),
-        RunFault::PlanText(fault) => fault.words(),
-        RunFault::Plan(fault) => Rejection::Invalid(fault).words(),
-        RunFault::Events(fault) => fault.words(),
-        RunFault::WriteFailed => WriteFault::WriteFailed.words(),
-        RunFault::OutOfMemory => FaultWords::new("OutOfMemory", &[]),
     }
 }

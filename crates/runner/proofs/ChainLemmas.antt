@@ -7,8 +7,8 @@ use Rattle.std.proofs.lemmas.List.{length-append, length-take-le}
 use Rattle.std.proofs.lemmas.Option.{same_Some, none-some, slice_get_within}
 use Rattle.model.specs.Dependency.{WaitsFor, need}
 use Rattle.model.specs.Timetable.{Track, moves, track_of, IsConflictFree, IsSwapFree}
-use Rattle.model.proofs.NeedLemmas.{awaits}
-use Rattle.model.proofs.WaitLemmas.{last-within, twice, rotation}
+use Rattle.model.specs.Laws.Needs.{awaits}
+use Rattle.model.specs.Laws.Waits.{last-within, twice, rotation}
 use Rattle.runner.specs.Code.Leading.{EndingState, finished_in, LeadsOn, IsOf, HasLeft, HasMoved}
 use Rattle.runner.specs.Code.Waiting.{HasNoRotation, IsWaiting, last_of, HaveRisen, moves_left, way_left, GoesNearer}
 use Rattle.runner.proofs.LeadLemmas.{get-front, get-last}

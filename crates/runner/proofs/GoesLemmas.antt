@@ -17,7 +17,7 @@ use Rattle.model.specs.Messages.{Message}
 use Rattle.model.specs.Rules.{agent_of, path_cell, answer_by, answer}
 use Rattle.model.specs.Safety.{held}
 use Rattle.model.specs.Timetable.{Track, Timetable, track_of}
-use Rattle.agent.specs.Agents.{AgentOn, Moves, Starts, Finishes, Holds, state_of}
+use Rattle.agent.specs.Agents.{AgentOn, Moves, Starts, Finishes, IsHolding, state_of}
 use Rattle.agent.specs.States as states
 use Rattle.agent.specs.States.{State, start_refusal}
 use Rattle.agent.specs.Tape.{whole_records}
@@ -162,7 +162,7 @@ tear-on r h stands i n a b there most same state arms whose =
 
 -- ---- restarts
 
-held-same : (track : Track) (s t : State) → s.records ≡ t.records → states.held track s ≡ states.held track t
+held-same : (track : Track) (s t : State) → s.records ≡ t.records → states.held_by_tape track s ≡ states.held_by_tape track t
 held-same track s t same =
     ap (λ n. if n % 2 == 1 then Between (path_cell track (n / 2)) (path_cell track (n / 2 + 1)) else At (path_cell track (n / 2))) same
 
@@ -171,7 +171,7 @@ opened-stood (At u) k = refl
 opened-stood (Between u v) k = refl
 
 pub restart-on : (r : RunnerState) (h : History) (stands : StandsAt r h) (i : ℕ) (a b : AgentOn CountedTape) (what : Held) (k : ℕ) → slice_get r.agents i ≡ Some a → Reopens a b
-    → ((tt : Timetable) → IsPartOf tt b.part → Holds counted_state tt b what) → k ≡ states.done (state_of counted_state b)
+    → ((tt : Timetable) → IsPartOf tt b.part → IsHolding counted_state tt b what) → k ≡ states.finished_moves (state_of counted_state b)
     → (stood what k ≡ answer r.version r.timetable h (Restart i)) × StandsAt (record r { agents = set r.agents i b }) (record { event = Restart i; answer = stood what k } ∷ h)
 restart-on r h stands i a b what k there reopens holds-by done =
     let is = stands.members i a there in
@@ -181,7 +181,7 @@ restart-on r h stands i a b what k there reopens holds-by done =
     let same : (state_of counted_state b).records ≡ (state_of counted_state a).records = ap (λ c. whole_records (record { contents = c; room = 0; failures = 0 })) reopens.contents in
     let known : track_of r.timetable i ≡ Some track = sym (ap (track_of r.timetable) (ap (λ p. p.agent) reopens.part ∙ is.id)) ∙ holds.1 in
     let stays = held-same track (state_of counted_state b) (state_of counted_state a) same in
-    let rule = ap (λ w. stood w k) (holds.2 ∙ stays) ∙ ap (stood (states.held track (state_of counted_state a))) (done ∙ ap (λ n. n / 2) same)
+    let rule = ap (λ w. stood w k) (holds.2 ∙ stays) ∙ ap (stood (states.held_by_tape track (state_of counted_state a))) (done ∙ ap (λ n. n / 2) same)
     ∙ sym (restart-rule r.version r.timetable h stands.run i track a is) ∙ sym (ap (answer_by r.version r.timetable h (Restart i)) known) in (
       rule,
       one-agent r h (Restart i) i b (stood what k) stands refl within rule
@@ -190,7 +190,7 @@ restart-on r h stands i a b what k there reopens holds-by done =
 
 -- ---- what is held
 
-pub held-on : (r : RunnerState) (h : History) (stands : StandsAt r h) (i : ℕ) (a : AgentOn CountedTape) (what : Held) → slice_get r.agents i ≡ Some a → ((tt : Timetable) → IsPartOf tt a.part → Holds counted_state tt a what)
+pub held-on : (r : RunnerState) (h : History) (stands : StandsAt r h) (i : ℕ) (a : AgentOn CountedTape) (what : Held) → slice_get r.agents i ≡ Some a → ((tt : Timetable) → IsPartOf tt a.part → IsHolding counted_state tt a what)
     → Some what ≡ option_map (λ track. held track h i) (track_of r.timetable i)
 held-on r h stands i a what there holds-by =
     let is = stands.members i a there in

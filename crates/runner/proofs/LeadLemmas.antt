@@ -21,11 +21,11 @@ use Rattle.runner.specs.declared.ending.Standing.{Standing}
 use Rattle.agent.specs.declared.counted_tape.CountedTape.{CountedTape}
 use Rattle.agent.specs.CountedTape.{counted_state, counted_armed}
 use Rattle.runner.specs.Standing.{IsMember}
-use Rattle.runner.specs.Code.Leading.{EndingState, finished_in, told_in, is_opened_anew, Begins, HasTold, StandsThere, IsUntouched, LeadsTo, Leads, LeadsOn, IsOf, HasStayed, Teaches, TeachesNeed, LeadsOnceKnown, HasLeft, NeedsNext, Awaits, HasMoved, AreUnheard, HasSameStandings}
-use Rattle.model.proofs.AfterLemmas.{history-more, accepted-more, run-more}
-use Rattle.model.proofs.NeedLemmas.{awaits}
-use Rattle.model.proofs.ReadyLemmas.{others-ready, comes_to_rest, moves_on, message, speaks_up, learns}
-use Rattle.model.proofs.RunLemmas.{in_step, progress}
+use Rattle.runner.specs.Code.Leading.{EndingState, finished_in, told_in, is_opened_anew, Begins, HasTold, StandsThere, IsUntouched, LeadsThroughTo, LeadsThrough, LeadsOn, IsOf, HasStayed, Teaches, TeachesNeed, LeadsOnceKnown, HasLeft, NeedsNext, Awaits, HasMoved, AreUnheard, HasSameStandings}
+use Rattle.model.specs.Laws.After.{history-more, accepted-more, run-more}
+use Rattle.model.specs.Laws.Needs.{awaits}
+use Rattle.model.specs.Laws.Ready.{others-ready, comes_to_rest, moves_on, message, speaks_up, learns}
+use Rattle.model.specs.Laws.Runs.{in_step, progress}
 use Rattle.runner.proofs.CrewLemmas.{each-pushed}
 use Rattle.runner.proofs.GoesLemmas.{set-at, set-other}
 use Rattle.runner.proofs.RuleLemmas.{done-is, moving-is}
@@ -44,11 +44,11 @@ get-last (x ∷ xs) y = get-last xs y
 -- ---- events behind those so far
 
 -- where all the rest is so after them
-pub leads-more : (v : Version) (old new : EndingState) (h : History) (more : List Event) → new.events ≡ old.events ++ more → new.timetable ≡ old.timetable → Leads v old h
+pub leads-more : (v : Version) (old new : EndingState) (h : History) (more : List Event) → new.events ≡ old.events ++ more → new.timetable ≡ old.timetable → LeadsThrough v old h
     → AreAccepted v old.timetable (history_after v old.timetable h old.events) more
     → ((end : History) → end ≡ history_after v old.timetable (history_after v old.timetable h old.events) more → AreAccepted v new.timetable h new.events
-    → end ≡ history_after v new.timetable h new.events → LeadsTo v new h end)
-    → Leads v new h
+    → end ≡ history_after v new.timetable h new.events → LeadsThroughTo v new h end)
+    → LeadsThrough v new h
 leads-more v old new h more events table was goes rest =
     let mid = history_after v old.timetable h old.events in
     let whole = history-more v old.timetable h old.events more in
@@ -56,7 +56,7 @@ leads-more v old new h more events table was goes rest =
     = ap (λ t. history_after v t h new.events) table ∙ ap (history_after v old.timetable h) events ∙ whole in
     let accepted = subst (λ t. AreAccepted v t h new.events) (sym table) (subst (AreAccepted v old.timetable h) (sym events)
     (accepted-more v old.timetable h old.events more was.accepted goes)) in
-    subst (LeadsTo v new h) (sym after) (rest (history_after v old.timetable mid more) refl accepted (sym after))
+    subst (LeadsThroughTo v new h) (sym after) (rest (history_after v old.timetable mid more) refl accepted (sym after))
 
 -- ---- coming to rest
 
@@ -93,11 +93,11 @@ module _ (v : Version) (tab : Timetable) where
 pub rest-on : (v : Version) (h : History) (old new : EndingState) (i : ℕ) (a : AgentOn CountedTape) (track : Track) (x : Standing)
     → i ≡ length old.standings → slice_get old.agents i ≡ Some a → track_of old.timetable i ≡ Some track
     → new.timetable ≡ old.timetable → new.agents ≡ old.agents → new.messages ≡ old.messages → AreUnheard new.heard
-    → new.events ≡ old.events ++ rest_events (is_opened_anew a) (states.is_moving (state_of counted_state a)) i
-    → new.standings ≡ old.standings ++ x ∷ [] → x.done ≡ states.done (state_of counted_state a) + one_if (states.is_moving (state_of counted_state a)) → x.told ≡ 0
-    → Begins v old.timetable old.agents h → Leads v old h → Leads v new h
+    → new.events ≡ old.events ++ rest_events (is_opened_anew a) (states.is_on_the_way (state_of counted_state a)) i
+    → new.standings ≡ old.standings ++ x ∷ [] → x.done ≡ states.finished_moves (state_of counted_state a) + one_if (states.is_on_the_way (state_of counted_state a)) → x.told ≡ 0
+    → Begins v old.timetable old.agents h → LeadsThrough v old h → LeadsThrough v new h
 rest-on v h old new i a track x at there its table crew same_messages none_heard events standings moved untold begins was =
-    leads-more v old new h (rest_events (is_opened_anew a) (states.is_moving (state_of counted_state a)) i) events table was rest.0 after
+    leads-more v old new h (rest_events (is_opened_anew a) (states.is_on_the_way (state_of counted_state a)) i) events table was rest.0 after
   where
     is : IsMember v old.timetable h i a
     is = begins.members i a there
@@ -111,7 +111,7 @@ rest-on v h old new i a track x at there its table crew same_messages none_heard
     bounds : (done h i ≤ kept_starts h i) × (kept_starts h i ≤ done h i + 1)
     bounds = in_step v old.timetable h i begins.run
 
-    goes_now : is_moving (history_after v old.timetable h old.events) i ≡ states.is_moving (state_of counted_state a)
+    goes_now : is_moving (history_after v old.timetable h old.events) i ≡ states.is_on_the_way (state_of counted_state a)
     goes_now =
         ap (λ n. n == done (history_after v old.timetable h old.events) i + 1) untouched.begun ∙ ap (λ n. kept_starts h i == n + 1) untouched.finished
         ∙ sym (moving-is v old.timetable h begins.run i track a is)
@@ -121,19 +121,19 @@ rest-on v h old new i a track x at there its table crew same_messages none_heard
         let parts = or-parts a.broken (is_some (counted_armed a.tape)) none in
         (untouched.broken ∙ sym is.broken ∙ parts.0, untouched.armed ∙ sym is.armed ∙ is_some-none (counted_armed a.tape) parts.1)
 
-    rest : AreAccepted v old.timetable (history_after v old.timetable h old.events) (rest_events (is_opened_anew a) (states.is_moving (state_of counted_state a)) i)
+    rest : AreAccepted v old.timetable (history_after v old.timetable h old.events) (rest_events (is_opened_anew a) (states.is_on_the_way (state_of counted_state a)) i)
         × ComesToRest v old.timetable (is_opened_anew a) i (history_after v old.timetable h old.events)
-        (history_after v old.timetable (history_after v old.timetable h old.events) (rest_events (is_opened_anew a) (states.is_moving (state_of counted_state a)) i))
+        (history_after v old.timetable (history_after v old.timetable h old.events) (rest_events (is_opened_anew a) (states.is_on_the_way (state_of counted_state a)) i))
     rest =
         let begun = untouched.begun in
         let ended = untouched.finished in
         comes_to_rest v old.timetable (history_after v old.timetable h old.events) i track its
         (let low = bounds.0 in omega (arith, low, begun, ended)) (let high = bounds.1 in omega (arith, high, begun, ended))
-        (is_opened_anew a) (states.is_moving (state_of counted_state a)) goes_now sound
+        (is_opened_anew a) (states.is_on_the_way (state_of counted_state a)) goes_now sound
 
     -- so many moves are finished then
-    moved-is : done h i + one_if (states.is_moving (state_of counted_state a)) ≡ kept_starts h i
-    moved-is = by_moving (states.is_moving (state_of counted_state a)) (sym (moving-is v old.timetable h begins.run i track a is)) where
+    moved-is : done h i + one_if (states.is_on_the_way (state_of counted_state a)) ≡ kept_starts h i
+    moved-is = by_moving (states.is_on_the_way (state_of counted_state a)) (sym (moving-is v old.timetable h begins.run i track a is)) where
       by_moving : (b : Bool) → is_moving h i ≡ b → done h i + one_if b ≡ kept_starts h i
       by_moving true e = sym (eqb-true (kept_starts h i) (done h i + 1) e)
       by_moving false e = (
@@ -145,8 +145,8 @@ rest-on v h old new i a track x at there its table crew same_messages none_heard
             | inr most ↦ omega (arith, most, low)
           ])
 
-    after : (end : History) → end ≡ history_after v old.timetable (history_after v old.timetable h old.events) (rest_events (is_opened_anew a) (states.is_moving (state_of counted_state a)) i)
-        → AreAccepted v new.timetable h new.events → end ≡ history_after v new.timetable h new.events → LeadsTo v new h end
+    after : (end : History) → end ≡ history_after v old.timetable (history_after v old.timetable h old.events) (rest_events (is_opened_anew a) (states.is_on_the_way (state_of counted_state a)) i)
+        → AreAccepted v new.timetable h new.events → end ≡ history_after v new.timetable h new.events → LeadsThroughTo v new h end
     after end end_is accepted whole = record {
       accepted = accepted;
       said = ap (λ t. length (messages v t end)) table ∙ ap length comes.messages ∙ was.said ∙ sym same_messages;
@@ -179,7 +179,7 @@ rest-on v h old new i a track x at there its table crew same_messages none_heard
       own : StandsThere v old.timetable end i x
       own = record {
         ready = comes.ready;
-        finished = comes.finished ∙ untouched.begun ∙ sym moved-is ∙ ap (λ n. n + one_if (states.is_moving (state_of counted_state a))) (sym (done-is v old.timetable h begins.run i track a is)) ∙ sym moved;
+        finished = comes.finished ∙ untouched.begun ∙ sym moved-is ∙ ap (λ n. n + one_if (states.is_on_the_way (state_of counted_state a))) (sym (done-is v old.timetable h begins.run i track a is)) ∙ sym moved;
         told = inl untold;
       }
 
@@ -323,7 +323,7 @@ module _ (v : Version) (h : History) (old new : EndingState) (i : ℕ) (x y : St
     (at : slice_get old.standings i ≡ Some x) (its : track_of old.timetable i ≡ Some track) (all : length old.standings ≡ length old.agents)
     (same : IsOf old new) (heard : new.heard ≡ old.heard) (counts : new.messages ≡ old.messages + 1) (events : new.events ≡ old.events ++ Say i ∷ [])
     (standings : new.standings ≡ set old.standings i y) (done_same : y.done ≡ x.done) (number : y.message ≡ old.messages) (tells : y.told ≡ x.done)
-    (was : Leads v old h) where
+    (was : LeadsThrough v old h) where
   abbrev mid : History
   mid = history_after v old.timetable h old.events
 
@@ -356,7 +356,7 @@ module _ (v : Version) (h : History) (old new : EndingState) (i : ℕ) (x y : St
         );
       }))
 
-  pub say-on : Leads v new h
+  pub say-on : LeadsThrough v new h
   say-on = leads-more v old new h (Say i ∷ []) events same.timetable was says.0 (λ end end_is accepted whole. record {
     accepted = accepted;
     said = (
@@ -390,7 +390,7 @@ module _ (v : Version) (h : History) (old new : EndingState) (i j : ℕ) (x y : 
     (all : length old.standings ≡ length old.agents) (same : IsOf old new) (standings : new.standings ≡ old.standings) (counts : new.messages ≡ old.messages)
     (events : new.events ≡ old.events ++ Deliver i y.message ∷ []) (some : 0 < y.told)
     (heard : (n : ℕ) (z : Heard) → slice_get new.heard n ≡ Some z → (slice_get old.heard n ≡ Some z) ⊎ ((z.agent ≡ i) × (z.of ≡ j) × (z.number ≡ y.told)))
-    (was : Leads v old h) where
+    (was : LeadsThrough v old h) where
   abbrev before : History
   before = history_after v old.timetable h old.events
 
@@ -409,7 +409,7 @@ module _ (v : Version) (h : History) (old new : EndingState) (i j : ℕ) (x y : 
   learns-it : y.told ≤ known v old.timetable heard_then i j
   learns-it = (let least = has.2 in let now = hears.1.learns j in omega (arith, least, now))
 
-  pub deliver-on : Leads v new h
+  pub deliver-on : LeadsThrough v new h
   deliver-on = leads-more v old new h (Deliver i y.message ∷ []) events same.timetable was hears.0 (λ end end_is accepted whole. record {
     accepted = accepted;
     said = ap (λ t. length (messages v t end)) same.timetable ∙ ap (λ e. length (messages v old.timetable e)) end_is ∙ ap length hears.1.messages ∙ was.said ∙ sym counts;
@@ -457,7 +457,7 @@ module _ (v : Version) (h : History) (old new : EndingState) (i : ℕ) (x y : St
     (less : x.done < moves track) (met : IsMet (known v old.timetable (history_after v old.timetable h old.events) i) (need old.timetable i track x.done))
     (same : IsOf old new) (heard : new.heard ≡ old.heard) (counts : new.messages ≡ old.messages) (events : new.events ≡ old.events ++ Start i ∷ Finish i ∷ [])
     (standings : new.standings ≡ set old.standings i y) (goes_on : y.done ≡ x.done + 1) (number : y.message ≡ x.message) (tells : y.told ≡ x.told)
-    (was : Leads v old h) where
+    (was : LeadsThrough v old h) where
   abbrev first : History
   first = history_after v old.timetable h old.events
 
@@ -470,7 +470,7 @@ module _ (v : Version) (h : History) (old new : EndingState) (i : ℕ) (x y : St
       moves_on v old.timetable first i track its (was.stand i x at).ready (omega (arith, less, so_far))
       (subst (λ k. IsMet (known v old.timetable first i) (need old.timetable i track k)) (sym so_far) met)
 
-  pub move-on : Leads v new h
+  pub move-on : LeadsThrough v new h
   move-on = leads-more v old new h (Start i ∷ Finish i ∷ []) events same.timetable was goes.0 (λ end end_is accepted whole. record {
     accepted = accepted;
     said = ap (λ t. length (messages v t end)) same.timetable ∙ ap (λ e. length (messages v old.timetable e)) end_is ∙ ap length goes.1.messages ∙ was.said ∙ sym counts;
@@ -534,9 +534,9 @@ known-then old mid new i stayed first teaches left onward v h begins was =
 
 -- no event leads anywhere else
 pub leads-nowhere : (v : Version) (h : History) (s : EndingState) → s.events ≡ [] → s.standings ≡ [] → s.heard ≡ [] → Begins v s.timetable s.agents h
-    → length (messages v s.timetable h) ≡ s.messages → Leads v s h
+    → length (messages v s.timetable h) ≡ s.messages → LeadsThrough v s h
 leads-nowhere v h s no_events nobody nothing begins said =
-    subst (LeadsTo v s h) (sym (ap (history_after v s.timetable h) no_events)) (record {
+    subst (LeadsThroughTo v s h) (sym (ap (history_after v s.timetable h) no_events)) (record {
       accepted = subst (AreAccepted v s.timetable h) (sym no_events) tt;
       said = said;
       stand = λ i x there. absurd (none-some x (sym (ap (λ l. slice_get l i) nobody) ∙ there));
@@ -546,12 +546,12 @@ leads-nowhere v h s no_events nobody nothing begins said =
     })
 
 -- other places change nothing of where the events lead
-pub leads-same : (v : Version) (h : History) (old new : EndingState) → HasSameStandings old new → AreUnheard new.heard → Leads v old h → Leads v new h
+pub leads-same : (v : Version) (h : History) (old new : EndingState) → HasSameStandings old new → AreUnheard new.heard → LeadsThrough v old h → LeadsThrough v new h
 leads-same v h old new same none_heard was =
     let table = same.same.timetable in
     let after : history_after v new.timetable h new.events ≡ history_after v old.timetable h old.events
     = ap (λ t. history_after v t h new.events) table ∙ ap (history_after v old.timetable h) same.events in
-    subst (LeadsTo v new h) (sym after) (record {
+    subst (LeadsThroughTo v new h) (sym after) (record {
       accepted = subst (λ t. AreAccepted v t h new.events) (sym table) (subst (AreAccepted v old.timetable h) (sym same.events) was.accepted);
       said = ap (λ t. length (messages v t (history_after v old.timetable h old.events))) table ∙ was.said ∙ sym same.messages;
       stand = λ i x there. subst (λ t. StandsThere v t (history_after v old.timetable h old.events) i x) (sym table) (was.stand i x (ap (λ l. slice_get l i) (sym same.standings) ∙ there));
@@ -566,7 +566,7 @@ leads-same v h old new same none_heard was =
 -- where everybody has made all its moves, the events complete the run
 pub completes-on : (v : Version) (h : History) (s : EndingState) → Begins v s.timetable s.agents h → length s.standings ≡ length s.timetable.tracks
     → ((i : ℕ) → i < length s.standings → (track : Track) → track_of s.timetable i ≡ Some track → moves track ≤ finished_in s.standings i)
-    → Leads v s h → IsCompletion v s.timetable h s.events
+    → LeadsThrough v s h → IsCompletion v s.timetable h s.events
 completes-on v h s begins count all was = record {
   accepted = was.accepted;
   arrived = λ i track there.

@@ -8,7 +8,6 @@ pub mod MessageLemmas
 pub mod GoesLemmas
 pub mod SayLemmas
 pub mod DeliverLemmas
-pub mod SafeLemmas
 pub mod CrewLemmas
 pub mod SaidLemmas
 pub mod BlockLemmas

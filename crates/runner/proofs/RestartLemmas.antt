@@ -56,10 +56,10 @@ tear-refused v table h i n a is = record {
 -- ---- what an agent holds
 
 pub held-is : (v : Version) (table : Timetable) (h : History) (run : IsRun v table h) (i : ℕ) (track : Track) (a : AgentOn CountedTape) → IsMember v table h i a
-    → states.held track (state_of counted_state a) ≡ held track h i
+    → states.held_by_tape track (state_of counted_state a) ≡ held track h i
 held-is v table h run i track a is = sym (
     ap (λ m. held_by m (history.done h i)) (sym (moving-is v table h run i track a is))
-    ∙ ap (held_by (states.is_moving (state_of counted_state a))) (sym (done-is v table h run i track a is)))
+    ∙ ap (held_by (states.is_on_the_way (state_of counted_state a))) (sym (done-is v table h run i track a is)))
   where
     held_by : Bool → ℕ → Held
     held_by m k = if m then Between (path_cell track k) (path_cell track (k + 1)) else At (path_cell track k)
@@ -67,11 +67,11 @@ held-is v table h run i track a is = sym (
 -- ---- restarts
 
 pub restart-rule : (v : Version) (table : Timetable) (h : History) (run : IsRun v table h) (i : ℕ) (track : Track) (a : AgentOn CountedTape) → IsMember v table h i a
-    → restart_answer h i track ≡ stood (states.held track (state_of counted_state a)) (states.done (state_of counted_state a))
+    → restart_answer h i track ≡ stood (states.held_by_tape track (state_of counted_state a)) (states.finished_moves (state_of counted_state a))
 restart-rule v table h run i track a is =
     ap (λ m. restart_by m (history.done h i)) (sym (moving-is v table h run i track a is))
-    ∙ ap (restart_by (states.is_moving s)) (sym (done-is v table h run i track a is))
-    ∙ by_moving (states.is_moving s)
+    ∙ ap (restart_by (states.is_on_the_way s)) (sym (done-is v table h run i track a is))
+    ∙ by_moving (states.is_on_the_way s)
   where
     s : states.State
     s = state_of counted_state a
@@ -79,7 +79,7 @@ restart-rule v table h run i track a is =
     restart_by : Bool → ℕ → Answer
     restart_by m k = if m then history.between (path_cell track k) (path_cell track (k + 1)) k else history.at (path_cell track k) k
 
-    by_moving : (m : Bool) → restart_by m (states.done s) ≡ stood (if m then Between (path_cell track (states.done s)) (path_cell track (states.done s + 1)) else At (path_cell track (states.done s))) (states.done s)
+    by_moving : (m : Bool) → restart_by m (states.finished_moves s) ≡ stood (if m then Between (path_cell track (states.finished_moves s)) (path_cell track (states.finished_moves s + 1)) else At (path_cell track (states.finished_moves s))) (states.finished_moves s)
     by_moving true = refl
     by_moving false = refl
 

@@ -9,7 +9,7 @@ use Rattle.model.specs.Dependency.{Need, need}
 use Rattle.model.specs.History.{Answer, History, refused, moving, arrived, armed_of, kept_starts, done, is_moving, known}
 use Rattle.model.specs.Rules.{path_cell, stored, unless_waiting, start_answer, finish_answer, IsRun}
 use Rattle.model.specs.Timetable.{Track, Timetable, moves}
-use Rattle.model.proofs.RunLemmas.{in_step}
+use Rattle.model.specs.Laws.Runs.{in_step}
 use Rattle.agent.specs.Agents.{AgentOn, state_of}
 use Rattle.agent.specs.Counters.{known_in}
 use Rattle.agent.specs.States as states
@@ -72,10 +72,10 @@ module _ (v : Version) (table : Timetable) (h : History) (run : IsRun v table h)
   step : (done h i ≤ kept_starts h i) × (kept_starts h i ≤ done h i + 1)
   step = in_step v table h i run
 
-  pub done-is : states.done s ≡ done h i
+  pub done-is : states.finished_moves s ≡ done h i
   done-is = ap (λ n. n / 2) is.records ∙ half (kept_starts h i) (done h i) step.0 step.1
 
-  pub moving-is : states.is_moving s ≡ is_moving h i
+  pub moving-is : states.is_on_the_way s ≡ is_moving h i
   moving-is = ap (λ n. n % 2 == 1) is.records ∙ odd-is (kept_starts h i) (done h i) step.0 step.1
 
   waits-is : (o : Option Need) (r : Answer) → unless_waiting (known v table h i) o r ≡ unless (waits_for a.heard o) r
@@ -89,13 +89,13 @@ module _ (v : Version) (table : Timetable) (h : History) (run : IsRun v table h)
   start-rule =
       ap (λ b. start_by v table h i track b (is_moving h i) (done h i)) (sym is.broken)
       ∙ ap (λ m. start_by v table h i track a.broken m (done h i)) (sym moving-is)
-      ∙ ap (λ k. start_by v table h i track a.broken (states.is_moving s) k) (sym done-is)
-      ∙ by_test a.broken Broken _ _ _ (by_test (states.is_moving s) AlreadyMoving _ _ _ (by_test (states.done s == moves track) AtEnd _ _ _ (waits-is (need table i track (states.done s)) _)))
+      ∙ ap (λ k. start_by v table h i track a.broken (states.is_on_the_way s) k) (sym done-is)
+      ∙ by_test a.broken Broken _ _ _ (by_test (states.is_on_the_way s) AlreadyMoving _ _ _ (by_test (states.finished_moves s == moves track) AtEnd _ _ _ (waits-is (need table i track (states.finished_moves s)) _)))
 
   -- what they answer to a finish
   pub finish-rule : finish_answer h i track ≡ unless (finish_refusal s) (stored (armed_of h i) (arrived (next_cell track s)))
   finish-rule =
       ap (λ b. finish_by h i track b (is_moving h i) (done h i)) (sym is.broken)
       ∙ ap (λ m. finish_by h i track a.broken m (done h i)) (sym moving-is)
-      ∙ ap (λ k. finish_by h i track a.broken (states.is_moving s) k) (sym done-is)
-      ∙ by_test a.broken Broken _ _ _ (unless_test (states.is_moving s) NotMoving _)
+      ∙ ap (λ k. finish_by h i track a.broken (states.is_on_the_way s) k) (sym done-is)
+      ∙ by_test a.broken Broken _ _ _ (unless_test (states.is_on_the_way s) NotMoving _)

@@ -8,7 +8,7 @@ use Rattle.model.specs.declared.version.Version.TheVariants.{Two}
 use Rattle.model.specs.Messages.{Message}
 use Rattle.runner.specs.declared.said.Note.{Note}
 use Rattle.runner.specs.SaidMessages.{message_in, messages_in}
-use Rattle.runner.specs.Code.Notes.{AreKept}
+use Rattle.runner.specs.Code.Notes.{AreNoted}
 
 -- a message stays where entries come behind it
 stays : (entries more : List Entry) (note : Note) → note.first + note.count ≤ length entries → message_in (entries ++ more) note ≡ message_in entries note
@@ -17,22 +17,22 @@ stays entries more note within =
     ap {A = List Entry} {B = Message} (λ l. record { sender = note.sender; entries = l })
     (ap (take note.count) (drop-append-le note.first entries more (omega (arith, within))) ∙ take-append-le note.count (drop note.first entries) more (omega (arith, within, count)))
 
-all_stay : (entries more : List Entry) (notes : List Note) → AreKept entries notes → map (message_in (entries ++ more)) notes ≡ map (message_in entries) notes
+all_stay : (entries more : List Entry) (notes : List Note) → AreNoted entries notes → map (message_in (entries ++ more)) notes ≡ map (message_in entries) notes
 all_stay entries more [] kept = refl
 all_stay entries more (note ∷ notes) kept =
     ap (λ m. m ∷ map (message_in (entries ++ more)) notes) (stays entries more note kept.0)
     ∙ ap (λ l. message_in entries note ∷ l) (all_stay entries more notes kept.1)
 
-pub kept-more : (entries more : List Entry) (notes : List Note) → AreKept entries notes → AreKept (entries ++ more) notes
+pub kept-more : (entries more : List Entry) (notes : List Note) → AreNoted entries notes → AreNoted (entries ++ more) notes
 kept-more entries more [] kept = tt
 kept-more entries more (note ∷ notes) kept = ((let count = length-append entries more in let within = kept.0 in omega (arith, count, within)), kept-more entries more notes kept.1)
 
-pub kept-append : (entries : List Entry) (notes : List Note) (note : Note) → AreKept entries notes → note.first + note.count ≤ length entries → AreKept entries (notes ++ note ∷ [])
+pub kept-append : (entries : List Entry) (notes : List Note) (note : Note) → AreNoted entries notes → note.first + note.count ≤ length entries → AreNoted entries (notes ++ note ∷ [])
 kept-append entries [] note kept within = (within, tt)
 kept-append entries (first ∷ notes) note kept within = (kept.0, kept-append entries notes note kept.1 within)
 
 -- the message of the entries that came
-pub told-more : (version : Version) (entries more : List Entry) (notes : List Note) (note : Note) (sender : ℕ) → version ≡ Two → AreKept entries notes → note.first ≡ length entries
+pub told-more : (version : Version) (entries more : List Entry) (notes : List Note) (note : Note) (sender : ℕ) → version ≡ Two → AreNoted entries notes → note.first ≡ length entries
     → note.count ≡ length more → note.sender ≡ sender
     → messages_in version (entries ++ more) (notes ++ note ∷ []) ≡ messages_in version entries notes ++ record { sender = sender; entries = more } ∷ []
 told-more version entries more notes note sender two kept first count own =

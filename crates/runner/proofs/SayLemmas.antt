@@ -22,7 +22,7 @@ use Rattle.runner.specs.Code.Telling.{message_told}
 use Rattle.runner.proofs.GoesLemmas.{no_track}
 use Rattle.runner.proofs.MessageLemmas.{say-goes}
 use Rattle.runner.proofs.RuleLemmas.{done-is}
-use Rattle.depgraph.proofs.AgentPartLemmas.{count-agents}
+use Rattle.depgraph.specs.Laws.AgentParts.{count-agents}
 
 -- ---- what is told hangs on the numbers alone
 
@@ -91,11 +91,11 @@ module _ (r : RunnerState) (h : History) (stands : StandsAt r h) (i : ℕ) (a : 
         },
       )
 
-  done_is : states.done (state_of counted_state a) ≡ history.done h i
+  done_is : states.finished_moves (state_of counted_state a) ≡ history.done h i
   done_is = done-is r.version r.timetable h stands.run i is_there.0 a is
 
   -- at version 1 how many moves it has finished
-  pub own-on : (sender done : ℕ) → r.version ≡ One → a.broken ≡ false → sender ≡ i → done ≡ states.done (state_of counted_state a)
+  pub own-on : (sender done : ℕ) → r.version ≡ One → a.broken ≡ false → sender ≡ i → done ≡ states.finished_moves (state_of counted_state a)
       → (said (length r.messages) (message_bytes r.timetable.number a.part.agent done) ≡ answer r.version r.timetable h (Say i))
       × StandsAt (record r { messages = r.messages ++ own_message sender done ∷ [] }) (record { event = Say i; answer = said (length r.messages) (message_bytes r.timetable.number a.part.agent done) } ∷ h)
   own-on sender done version whole own is_done =
@@ -108,14 +108,14 @@ module _ (r : RunnerState) (h : History) (stands : StandsAt r h) (i : ℕ) (a : 
 
   -- the message of version 2, by the agents of the timetable
   abbrev pub message_by : Message
-  message_by = whole_message (length r.timetable.tracks) a.part.agent (states.done (state_of counted_state a)) (known_in a.heard)
+  message_by = whole_message (length r.timetable.tracks) a.part.agent (states.finished_moves (state_of counted_state a)) (known_in a.heard)
 
   told_is : message_told a ≡ message_by
-  told_is = ap (λ n. whole_message n a.part.agent (states.done (state_of counted_state a)) (known_in a.heard)) (count-agents r.timetable a.part is.part)
+  told_is = ap (λ n. whole_message n a.part.agent (states.finished_moves (state_of counted_state a)) (known_in a.heard)) (count-agents r.timetable a.part is.part)
 
   whole_is : message_by ≡ whole_message (length r.timetable.tracks) i (history.done h i) (known r.version r.timetable h i)
   whole_is =
-      ap (λ k. whole_message (length r.timetable.tracks) k (states.done (state_of counted_state a)) (known_in a.heard)) is.id
+      ap (λ k. whole_message (length r.timetable.tracks) k (states.finished_moves (state_of counted_state a)) (known_in a.heard)) is.id
       ∙ ap (λ d. whole_message (length r.timetable.tracks) i d (known_in a.heard)) done_is
       ∙ same-message (length r.timetable.tracks) i (history.done h i) (known_in a.heard) (known r.version r.timetable h i) is.heard
 

@@ -86,13 +86,13 @@ quiet-waits heard (Some n) why is = quiet_if (nat_lt (known_in heard n.agent) n.
 pub quiet-start : (table : Timetable) (i : ℕ) (track : Track) (s : State) (why : Refusal) → start_refusal table i track s ≡ Some why → IsQuiet why
 quiet-start table i track s why is =
     quiet_if s.broken Broken _ (λ tear. (refl, refl), refl)
-    (quiet_if (states.is_moving s) AlreadyMoving _ (λ tear. (refl, refl), refl)
-    (quiet_if (states.done s == moves track) AtEnd _ (λ tear. (refl, refl), refl) (quiet-waits s.heard (need table i track (states.done s)))))
+    (quiet_if (states.is_on_the_way s) AlreadyMoving _ (λ tear. (refl, refl), refl)
+    (quiet_if (states.finished_moves s == moves track) AtEnd _ (λ tear. (refl, refl), refl) (quiet-waits s.heard (need table i track (states.finished_moves s)))))
     why is
 
 pub quiet-finish : (s : State) (why : Refusal) → finish_refusal s ≡ Some why → IsQuiet why
 quiet-finish s why is =
-    quiet_if s.broken Broken _ (λ tear. (refl, refl), refl) (standing (states.is_moving s)) why is
+    quiet_if s.broken Broken _ (λ tear. (refl, refl), refl) (standing (states.is_on_the_way s)) why is
   where
     standing : (m : Bool) (why : Refusal) → (if m then None else Some NotMoving) ≡ Some why → IsQuiet why
     standing true why is = absurd (none-some why is)

@@ -12,5 +12,9 @@ pub mod Standing
 pub mod SafeRuns
 -- how a run ends, or what blocks it
 pub mod Endings
+-- the words of why a run is not completed
+pub mod FaultWords
 -- the code's own words
 pub mod Code
+-- What follows from these definitions, each with its proof: proofs of other crates cite it, and nothing of it has to be believed.
+pub mod Laws

@@ -44,8 +44,8 @@ pub record StandsAt (r : RunnerState) (h : History) : Type 0 where
   pub messages : r.messages ≡ messages r.version r.timetable h
 
 -- An event is answered as the rules say after every run at which the runner stands, and then it stands at that run with the event and the answer.
-abbrev pub GoesOn : RunnerState → RunnerState → Event → Answer → Type 0
-GoesOn old new event r = (h : History) → StandsAt old h → (r ≡ answer old.version old.timetable h event) × StandsAt new (record { event = event; answer = r } ∷ h)
+abbrev pub GoesOnWith : RunnerState → RunnerState → Event → Answer → Type 0
+GoesOnWith old new event r = (h : History) → StandsAt old h → (r ≡ answer old.version old.timetable h event) × StandsAt new (record { event = event; answer = r } ∷ h)
 
 -- Which events take memory after a history: an agent says a message, or it is delivered one with an entry of an agent of whom it has not
 -- heard since it was opened. A broken agent does neither.

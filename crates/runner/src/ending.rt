@@ -64,7 +64,7 @@ impl<'r, 'g> Model for Ending<'r, 'g> {
 impl<'r, 'g> Ending<'r, 'g> {
     ghost use Rattle.model.specs.Dependency.{IsRotation};
     ghost use Rattle.model.specs.Timetable.{Track, moves, track_of};
-    ghost use Rattle.runner.specs.Code.Waiting.{HasNoRotation, IsWaiting, last_of, HaveRisen, IsDone, way_left, GoesNearer};
+    ghost use Rattle.runner.specs.Code.Waiting.{HasNoRotation, IsWaiting, last_of, HaveRisen, HasEndedMoves, way_left, GoesNearer};
     ghost use Rattle.runner.specs.Code.Leading.{finished_in, told_in, LeadsOn, IsOf, HasStayed, Knows, Teaches, TeachesNeed, LeadsOnceKnown, NeedsNext, HasLeft, Awaits, HasMoved, AreUnheard, HasSameStandings};
 
     /// Opens an agent anew that is broken or whose next write would fail, and finishes the move that it makes.
@@ -341,7 +341,7 @@ impl<'r, 'g> Ending<'r, 'g> {
         ensures count { OnOk result (length self.new.standings ≡ length self.old.standings) }
         ensures leads { OnOk result (LeadsOn self.old self.new) }
         ensures risen { OnOk result (HaveRisen self.old self.new) }
-        ensures done { OnOk result (IsDone self.new agent) }
+        ensures done { OnOk result (HasEndedMoves self.new agent) }
         ensures none { OnOk result (waiting.new.items ≡ []) }
     {
         'moves: while let Some(now) = self.up_next(agent, waiting) {
@@ -382,7 +382,7 @@ impl<'r, 'g> Ending<'r, 'g> {
         requires all { length self.now.standings ≡ length self.now.agents }
         requires chain { IsWaiting self.now agent waiting.now }
         ensures next { IfSome result (λ now. (now ≡ last_of agent waiting.now) × HasLeft self.now now) }
-        ensures none { IfNone result ((waiting.now ≡ []) × IsDone self.now agent) }
+        ensures none { IfNone result ((waiting.now ≡ []) × HasEndedMoves self.now agent) }
     {
         if let Some(last) = waiting.last() {
             return Some(*last);

@@ -15,11 +15,12 @@ use crate::replies::{reply_to_delivery, reply_to_finish, reply_to_start};
 use crate::said::Said;
 use agent::replies::{reply_to_restart, why_of};
 use agent::{Agent, CountedTape, Finished, TellFault};
-use depgraph::{Dependencies, Graph, OutOfMemory};
+use depgraph::{Dependencies, Graph};
 use model::{Entry, Event, Held, Reply, Version, Why};
 use std::alloc::{AllocError, Global};
 use std::marker::Model;
 use std::mem;
+use text_io::OutOfMemory;
 
 /// All agents of a graph, each over a tape that counts its records and tears where it is told to, and every message that was said.
 #[derive(Drop)]
@@ -48,14 +49,14 @@ impl<'g> Runner<'g> {
     ghost use Rattle.model.specs.Safety.{held};
     ghost use Rattle.runner.specs.Endings.{IsEnding};
     ghost use Rattle.runner.specs.SafeRuns.{IsSafeRun};
-    ghost use Rattle.runner.specs.Standing.{RunnerState, StandsAt, GoesOn, WantsMemory};
+    ghost use Rattle.runner.specs.Standing.{RunnerState, StandsAt, GoesOnWith, WantsMemory};
 
     /// All agents of a graph, none of which has begun a move, that say messages of version 1.
     pub fn new(alloc: Global, graph: &'g Graph) -> Result<Runner<'g>, OutOfMemory>
         ensures timetable { IfOk result (λ r. r.timetable ≡ graph.now) }
         ensures version { IfOk result (λ r. r.version ≡ One) }
         ensures stands { IfOk result (λ r. StandsAt r []) }
-        ensures safe { IsSafeRun graph.now [] }
+        ensures safe { IsSafeRun One graph.now [] }
     {
         Runner::with_version(alloc, graph, Version::One)
     }
@@ -69,7 +70,7 @@ impl<'g> Runner<'g> {
         ensures timetable { IfOk result (λ r. r.timetable ≡ graph.now) }
         ensures version { IfOk result (λ r. r.version ≡ version) }
         ensures stands { IfOk result (λ r. StandsAt r []) }
-        ensures safe { IsSafeRun graph.now [] }
+        ensures safe { IsSafeRun version graph.now [] }
     {
         Runner::over(alloc, graph.dependencies(), version)
     }
@@ -83,7 +84,7 @@ impl<'g> Runner<'g> {
         ensures timetable { IfOk result (λ r. r.timetable ≡ graph.now) }
         ensures version { IfOk result (λ r. r.version ≡ version) }
         ensures stands { IfOk result (λ r. StandsAt r []) }
-        ensures safe { IsSafeRun graph.now [] }
+        ensures safe { IsSafeRun version graph.now [] }
     {
         model::laws::every_run_is_safe();
         model::laws::rotations_never_begin();
@@ -108,12 +109,12 @@ impl<'g> Runner<'g> {
     /// not heard of since the last restart.
     #[inline(always)]
     pub fn step(&mut self, event: Event) -> Result<Reply, OutOfMemory>
-        ensures answered { IfOk result (λ reply. GoesOn self.old self.new event (answer_of reply)) }
+        ensures answered { IfOk result (λ reply. GoesOnWith self.old self.new event (answer_of reply)) }
         ensures refused { OnErr result (self.new ≡ self.old) }
         ensures memory { OnErr result (WantsMemory self.old event) }
         ensures same_graph { self.new.timetable ≡ self.old.timetable }
         ensures same_version { self.new.version ≡ self.old.version }
-        ensures safe { (h : History) → StandsAt self.new h → IsSafeRun self.new.timetable h }
+        ensures safe { (h : History) → StandsAt self.new h → IsSafeRun self.new.version self.new.timetable h }
     {
         model::laws::every_run_is_safe();
         model::laws::rotations_never_begin();
@@ -130,7 +131,7 @@ impl<'g> Runner<'g> {
     /// The cells that an agent holds; `None` where there is no such agent.
     pub fn held(&self, agent: u32) -> Option<Held>
         ensures held { (h : History) → StandsAt self.now h → result ≡ option_map (λ track. held track h agent) (track_of self.now.timetable agent) }
-        ensures safe { (h : History) → StandsAt self.now h → IsSafeRun self.now.timetable h }
+        ensures safe { (h : History) → StandsAt self.now h → IsSafeRun self.now.version self.now.timetable h }
     {
         model::laws::every_run_is_safe();
         model::laws::rotations_never_begin();
@@ -161,7 +162,7 @@ impl<'g> Runner<'g> {
 
     #[inline(always)]
     fn start(&mut self, agent: u32) -> Reply
-        ensures goes { GoesOn self.old self.new (event.Start agent) (answer_of result) }
+        ensures goes { GoesOnWith self.old self.new (event.Start agent) (answer_of result) }
         ensures same_graph { self.new.timetable ≡ self.old.timetable }
         ensures same_version { self.new.version ≡ self.old.version }
     {
@@ -174,7 +175,7 @@ impl<'g> Runner<'g> {
 
     #[inline(always)]
     fn finish(&mut self, agent: u32) -> Reply
-        ensures goes { GoesOn self.old self.new (event.Finish agent) (answer_of result) }
+        ensures goes { GoesOnWith self.old self.new (event.Finish agent) (answer_of result) }
         ensures same_graph { self.new.timetable ≡ self.old.timetable }
         ensures same_version { self.new.version ≡ self.old.version }
     {
@@ -187,7 +188,7 @@ impl<'g> Runner<'g> {
 
     #[inline(always)]
     fn say(&mut self, agent: u32) -> Result<Reply, AllocError>
-        ensures said { IfOk result (λ reply. GoesOn self.old self.new (event.Say agent) (answer_of reply)) }
+        ensures said { IfOk result (λ reply. GoesOnWith self.old self.new (event.Say agent) (answer_of reply)) }
         ensures same_graph { self.new.timetable ≡ self.old.timetable }
         ensures same_version { self.new.version ≡ self.old.version }
         ensures err { OnErr result (self.new ≡ self.old) }
@@ -207,7 +208,7 @@ impl<'g> Runner<'g> {
     fn say_own(&mut self, agent: u32) -> Result<Reply, AllocError>
         requires there { agent < length self.old.agents }
         requires version { self.old.version ≡ One }
-        ensures said { IfOk result (λ reply. GoesOn self.old self.new (event.Say agent) (answer_of reply)) }
+        ensures said { IfOk result (λ reply. GoesOnWith self.old self.new (event.Say agent) (answer_of reply)) }
         ensures same_graph { self.new.timetable ≡ self.old.timetable }
         ensures same_version { self.new.version ≡ self.old.version }
         ensures err { OnErr result (self.new ≡ self.old) }
@@ -233,7 +234,7 @@ impl<'g> Runner<'g> {
     fn tell(&mut self, agent: u32) -> Result<Reply, AllocError>
         requires there { agent < length self.old.agents }
         requires version { self.old.version ≡ Two }
-        ensures said { IfOk result (λ reply. GoesOn self.old self.new (event.Say agent) (answer_of reply)) }
+        ensures said { IfOk result (λ reply. GoesOnWith self.old self.new (event.Say agent) (answer_of reply)) }
         ensures same_graph { self.new.timetable ≡ self.old.timetable }
         ensures same_version { self.new.version ≡ self.old.version }
         ensures err { OnErr result (self.new ≡ self.old) }
@@ -252,7 +253,7 @@ impl<'g> Runner<'g> {
 
     #[inline(always)]
     fn deliver(&mut self, agent: u32, message: u64) -> Result<Reply, AllocError>
-        ensures heard { IfOk result (λ reply. GoesOn self.old self.new (event.Deliver agent message) (answer_of reply)) }
+        ensures heard { IfOk result (λ reply. GoesOnWith self.old self.new (event.Deliver agent message) (answer_of reply)) }
         ensures same_graph { self.new.timetable ≡ self.old.timetable }
         ensures same_version { self.new.version ≡ self.old.version }
         ensures err { OnErr result (self.new ≡ self.old) }
@@ -276,7 +277,7 @@ impl<'g> Runner<'g> {
         requires there { agent < length self.old.agents }
         requires said { message < length self.old.messages }
         requires version { self.old.version ≡ One }
-        ensures heard { IfOk result (λ reply. GoesOn self.old self.new (event.Deliver agent message) (answer_of reply)) }
+        ensures heard { IfOk result (λ reply. GoesOnWith self.old self.new (event.Deliver agent message) (answer_of reply)) }
         ensures same_graph { self.new.timetable ≡ self.old.timetable }
         ensures same_version { self.new.version ≡ self.old.version }
         ensures err { OnErr result (self.new ≡ self.old) }
@@ -298,7 +299,7 @@ impl<'g> Runner<'g> {
         requires there { agent < length self.old.agents }
         requires said { message < length self.old.messages }
         requires version { self.old.version ≡ Two }
-        ensures heard { IfOk result (λ reply. GoesOn self.old self.new (event.Deliver agent message) (answer_of reply)) }
+        ensures heard { IfOk result (λ reply. GoesOnWith self.old self.new (event.Deliver agent message) (answer_of reply)) }
         ensures same_graph { self.new.timetable ≡ self.old.timetable }
         ensures same_version { self.new.version ≡ self.old.version }
         ensures err { OnErr result (self.new ≡ self.old) }
@@ -313,7 +314,7 @@ impl<'g> Runner<'g> {
 
     #[inline(never)]
     fn tear(&mut self, agent: u32, stored: u32) -> Reply
-        ensures goes { GoesOn self.old self.new (event.Tear agent stored) (answer_of result) }
+        ensures goes { GoesOnWith self.old self.new (event.Tear agent stored) (answer_of result) }
         ensures same_graph { self.new.timetable ≡ self.old.timetable }
         ensures same_version { self.new.version ≡ self.old.version }
     {
@@ -330,7 +331,7 @@ impl<'g> Runner<'g> {
 
     #[inline(never)]
     fn restart(&mut self, agent: u32) -> Reply
-        ensures goes { GoesOn self.old self.new (event.Restart agent) (answer_of result) }
+        ensures goes { GoesOnWith self.old self.new (event.Restart agent) (answer_of result) }
         ensures same_graph { self.new.timetable ≡ self.old.timetable }
         ensures same_version { self.new.version ≡ self.old.version }
     {

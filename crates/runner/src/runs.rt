@@ -4,9 +4,10 @@ ghost use Rattle.model.specs.Replies.{answer_of};
 ghost use Rattle.runner.specs.SafeRuns.{AreAnswered, AreAnsweredAt};
 
 use crate::Runner;
-use depgraph::{Graph, OutOfMemory};
+use depgraph::Graph;
 use model::{Event, Reply, Version};
 use std::alloc::Global;
+use text_io::OutOfMemory;
 
 /// The replies to events, one for each, when all agents of a graph begin at their starts and say messages of version 1.
 pub fn run(alloc: Global, graph: &Graph, events: &[Event]) -> Result<Vec<Reply>, OutOfMemory>

@@ -28,14 +28,14 @@ pub struct Said {
 }
 
 impl Model for Said {
-    ghost use Rattle.runner.specs.Code.Notes.{AreKept};
+    ghost use Rattle.runner.specs.Code.Notes.{AreNoted};
     ghost use Rattle.runner.specs.SaidMessages.{SaidMessages, messages_in};
 
     ghost Value = { SaidMessages };
 
     ghost view = { λ s. record { version = s.version; messages = messages_in s.version s.entries.items s.notes.items } };
 
-    ghost invariant = { λ s. AreKept s.entries.items s.notes.items };
+    ghost invariant = { λ s. AreNoted s.entries.items s.notes.items };
 }
 
 impl Said {

@@ -3,8 +3,8 @@ ghost use Rattle.std.specs.Prelude.{◌≡◌, ◌≤◌, [], None, IfOk};
 ghost use Rattle.std.specs.Option.{ForSome};
 
 use agent::{MemTape, Scripted, Tape, TapeError};
-use depgraph::OutOfMemory;
 use std::alloc::Global;
+use text_io::OutOfMemory;
 
 /// A tape in memory, of which the next write fails where it was armed. It takes no memory after it was made.
 #[derive(Debug, Drop)]

@@ -2,12 +2,13 @@
 use crate::texts::{ONE_BEHIND, ROW};
 use event_text::EventFault;
 use fakes::Keeper;
-use grid::{Counted, MapFault};
+use grid::MapFault;
 use plan::{PlanFault, PlanTextFault};
 use replay::{Completion, RunFault, complete_text, run_text};
 use std::alloc::Global;
 use std::process::Abort;
 use std::test::Fail;
+use text_io::Counted;
 
 /// A text of events, that of their replies, and what is said of how their run ends.
 #[derive(Clone, Copy)]

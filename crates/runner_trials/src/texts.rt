@@ -2,10 +2,11 @@
 use depgraph::{Graph, OutOfMemory};
 use event_text::write_replies;
 use fakes::Keeper;
-use grid::{Counted, Map, read_map};
+use grid::{Map, read_map};
 use plan::{Plan, check, read_plan};
 use runner::Reply;
 use std::alloc::Global;
+use text_io::Counted;
 
 /// A row of three passable cells.
 pub const ROW: &str = "type octile\nheight 1\nwidth 3\nmap\n...\n";

@@ -7,15 +7,14 @@ use Rattle.std.proofs.lemmas.Bool.{and_from, eqb-true, false_from_ne_true}
 use Rattle.std.proofs.lemmas.List.{take-append-drop, take_more, drop_more}
 use Rattle.std.proofs.lemmas.List.Folds.{list_all_more}
 use Rattle.memchr.specs.Find.{NoneBefore, Passes, is_byte}
-use Rattle.grid.specs.declared.counted.Counted.{Counted}
-use Rattle.grid.specs.declared.source.Source.{Source}
-use Rattle.grid.specs.Lines.{HasTaken, HasCome}
-use Rattle.grid.specs.Reading.{at_line_feed}
-use Rattle.grid.specs.Source.{at_hand, has_failed, GoesOn, Takes}
-use Rattle.grid.specs.Text.{line_feed, is_line_byte, IsLine, ended}
-use Rattle.grid.proofs.FollowLemmas.{has_failed-goes_on}
-use Rattle.grid.proofs.LineLemmas.{is_line_byte-from, lines_of-whole, ends_in_line_feed-whole, ended_push, AllByRecursion_push}
-use Rattle.grid.proofs.SourceLemmas.{same_failures}
+use Rattle.text_io.specs.declared.counted.Counted.{Counted}
+use Rattle.text_io.specs.declared.source.Source.{Source}
+use Rattle.text_io.specs.Lines.{HasTaken, HasCome}
+use Rattle.text_io.specs.Reading.{at_line_feed}
+use Rattle.text_io.specs.Source.{at_hand, has_failed, GoesOn, Takes}
+use Rattle.text_io.specs.Text.{line_feed, is_line_byte, IsLine, ended}
+use Rattle.text_io.specs.Laws.Taking.{has_failed-goes_on, same_failures}
+use Rattle.text_io.specs.Laws.Lines.{is_line_byte-from, lines_of-whole, ends_in_line_feed-whole, ended_push, AllByRecursion_push}
 use Rattle.scen.specs.Code.AtHand.{BeginsWithLine}
 
 -- ---- the first LF of some bytes
@@ -45,23 +44,8 @@ line_and_feed bytes i within found =
 
 -- ---- a source
 
--- one more line was taken, and its LF
-pub HasTaken-more : {R : Type 0} (remaining : R → Option (List ℕ)) (first : Counted R) (old new : Source R) (before : List (List ℕ)) (line : List ℕ)
-    → HasTaken remaining first old before → Takes remaining old new (line ++ line_feed ∷ []) → GoesOn new → IsLine line
-    → HasTaken remaining first new (before ++ line ∷ [])
-HasTaken-more remaining first old new before line h p goes_on is = record {
-  delivered = h.delivered ++ p.read;
-  consumed = Consumes-trans _ _ _ h.delivered p.read h.consumed p.delivered;
-  in_order = ap (λ l. l ++ p.read) h.in_order ∙ append_assoc (ended before) (at_hand old) p.read ∙ ap (λ l. ended before ++ l) p.in_order
-      ∙ sym (append_assoc (ended before) (line ++ line_feed ∷ []) (at_hand new)) ∙ ap (λ l. l ++ at_hand new) (sym (ended_push before line));
-  are_lines = AllByRecursion_push IsLine before line h.are_lines is;
-  failures = same_failures (has_failed old) (has_failed new) _ _ (has_failed-goes_on remaining old h.goes_on) (has_failed-goes_on remaining new goes_on) p.fails
-      ∙ h.failures;
-  goes_on = goes_on;
-}
-
 -- a line at hand is judged at its LF, before it is taken
-pub come_at_hand : {R : Type 0} (remaining : R → Option (List ℕ)) (first : Counted R) (now : Source R) (before : List (List ℕ)) (line : List ℕ)
+pub come_at_hand : {R : Type 0} {ahead : ℕ} (remaining : R → Option (List ℕ)) (first : Counted R) (now : Source R ahead) (before : List (List ℕ)) (line : List ℕ)
     → HasTaken remaining first now before → BeginsWithLine line (at_hand now) → HasCome remaining first now at_line_feed before line
 come_at_hand remaining first now before line h (rest, is, is_line) = record {
   delivered = h.delivered;

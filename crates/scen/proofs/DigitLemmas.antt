@@ -12,6 +12,7 @@ use Rattle.std.proofs.lemmas.List.Folds.{list_all-append}
 use Rattle.std.proofs.lemmas.Nat.{div-add-mod'}
 use Rattle.std.proofs.lemmas.Str.{digit_value_digit}
 use Rattle.std.proofs.Math.Nat.{pow-succ', div-div-eq-div-mul}
+use Rattle.text_io.specs.Laws.Numerals.{digits-more}
 use Rattle.scen.specs.Query.{point, last_digits, listed_text}
 use Rattle.scen.proofs.ListedLemmas.{ten_pow-mono}
 
@@ -98,26 +99,9 @@ listed_text-some n (suc count) some = refl
 
 -- ---- what the digits spell
 
--- the code of a digit
-code_is_digit : (d : ℕ) → d < 10 → is_ascii_digit (48 + d) ≡ true
-code_is_digit d h = and_from _ _ (le-leb 48 (48 + d) (omega arith)) (le-leb (48 + d) 57 (omega arith))
-
--- one more digit
-digits-more : (digits : List ℕ) (n : ℕ) → IsTrue (list_all is_ascii_digit digits)
-    → IsTrue (list_all is_ascii_digit (digits ++ (48 + n % 10) ∷ []))
-digits-more digits n h =
-    list_all-append is_ascii_digit digits ((48 + n % 10) ∷ [])
-    ∙ and_from (list_all is_ascii_digit digits) _ h (and_from (is_ascii_digit (48 + n % 10)) true (code_is_digit (n % 10) (omega arith)) refl)
-
 pub digits-last_digits : (count n : ℕ) → IsTrue (list_all is_ascii_digit (last_digits count n))
 digits-last_digits zero n = refl
 digits-last_digits (suc count) n = digits-more (last_digits count (n / 10)) n (digits-last_digits count (n / 10))
-
--- a number is written in digits
-pub digits-decimal : (n : ℕ) → n < 2 ^ 64 → IsTrue (list_all is_ascii_digit (decimal n))
-digits-decimal n h =
-    decimal_by_steps (λ _ ds. IsTrue (list_all is_ascii_digit ds))
-    (λ k small. and_from (is_ascii_digit (48 + k)) true (code_is_digit k small) refl) (λ k ds large rest. digits-more ds k rest) n h
 
 -- what a number's front and its last digits spell
 pub value-last_digits : (count n : ℕ) → n < 2 ^ 64 → digits_value 10 (decimal (n / 10 ^ count) ++ last_digits count n) ≡ n

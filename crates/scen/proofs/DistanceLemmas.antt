@@ -5,7 +5,7 @@ use Rattle.std.specs.Int.{abs_diff}
 use Rattle.grid.specs.declared.cell.Cell.{Cell}
 use Rattle.scen.specs.declared.beyond.Beyond.{Beyond}
 use Rattle.scen.specs.Code.Distances.{octile, distance, number_toward, beyond_number}
-use Rattle.scen.specs.Code.Tightness.{AreWithin}
+use Rattle.scen.specs.Code.Tightness.{AreWithinStep}
 
 -- a straight or a diagonal step may lead from one cell to the other
 abbrev pub AreBeside : (step x y i j : ℕ) → Type 0
@@ -30,7 +30,7 @@ apart_step g x i = omega arith
 apart_back : (g x i : ℕ) → abs_diff g i ≤ abs_diff g x + abs_diff x i
 apart_back g x i = omega arith
 
-toward_near : (goal : Option Cell) (n step x y i j : ℕ) → AreBeside step x y i j → AreWithin step (number_toward goal n x y) (number_toward goal n i j)
+toward_near : (goal : Option Cell) (n step x y i j : ℕ) → AreBeside step x y i j → AreWithinStep step (number_toward goal n x y) (number_toward goal n i j)
 toward_near None n step x y i j beside = (omega arith, omega arith)
 toward_near (Some goal) n step x y i j beside =
     let most = step_of step x y i j beside in
@@ -39,10 +39,10 @@ toward_near (Some goal) n step x y i j beside =
     let back = octile_step (abs_diff goal.x i) (abs_diff goal.y j) (abs_diff goal.x x) (abs_diff goal.y y) (abs_diff x i) (abs_diff y j) step
     (apart_back goal.x x i) (apart_back goal.y y j) most.0 most.1 in
     near_from n step (distance goal x y) (distance goal i j) there back where
-      near_from : (n step d e : ℕ) → d ≤ e + step → e ≤ d + step → AreWithin step (max (n - d) 6625109) (max (n - e) 6625109)
+      near_from : (n step d e : ℕ) → d ≤ e + step → e ≤ d + step → AreWithinStep step (max (n - d) 6625109) (max (n - e) 6625109)
       near_from n step d e h k = (omega (arith, h, k), omega (arith, h, k))
 
 -- what stands for the keys that were not found is tight by itself
-pub beyond_near : (b : Option Beyond) (step x y i j : ℕ) → AreBeside step x y i j → AreWithin step (beyond_number b x y) (beyond_number b i j)
+pub beyond_near : (b : Option Beyond) (step x y i j : ℕ) → AreBeside step x y i j → AreWithinStep step (beyond_number b x y) (beyond_number b i j)
 beyond_near None step x y i j beside = (omega arith, omega arith)
 beyond_near (Some b) step x y i j beside = toward_near b.goal b.number step x y i j beside

@@ -4,7 +4,7 @@ use Rattle.std.specs.Prelude.{◌==◌, not}
 use Rattle.std.specs.List.{AllByRecursion, filter, list_all, slice_split, onto_first, position_or_len}
 use Rattle.std.proofs.lemmas.Bool.{cond-true, cond-false, cond_both, and_parts, and_from, eqb-true, ne_eqb, lt-ltb, ltb-true, both_ways}
 use Rattle.std.proofs.lemmas.List.Splits.{slice_split-cons_yes, slice_split-cons_no, length-slice_split}
-use Rattle.grid.specs.Text.{is_blank}
+use Rattle.text_io.specs.Text.{is_blank}
 use Rattle.scen.proofs.TrimLemmas.{length-without_leading, length-without_trailing, all-without_leading, all-without_trailing, trimmed-stays}
 use Rattle.scen.specs.Fields.{without_leading, before_trailing, without_trailing, trimmed, has_bytes, fields_between}
 

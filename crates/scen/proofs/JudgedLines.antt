@@ -1,8 +1,8 @@
 -- What a whole line says where it is due, by one function of its bytes.
 use Rattle.std.proofs.Common.{◌≡◌, ◌≢◌, ℕ, ◌⊎◌, inl, inr, Bool, true, false, cond, List, [], ◌∷◌, length, Option, Some, None, refl, sym, ap, ◌∙◌, subst, arith}
 use Rattle.std.proofs.lemmas.Bool.{cond-true, cond-false, lt-ltb, both_ways}
-use Rattle.grid.specs.Text.{IsLine}
-use Rattle.grid.specs.Reading.{Place, at_end, IsOver}
+use Rattle.text_io.specs.Text.{IsLine}
+use Rattle.text_io.specs.Reading.{Place, at_end, IsOver}
 use Rattle.scen.specs.declared.scen_fault.ScenFault.{ScenFault}
 use Rattle.scen.specs.declared.scen_fault.ScenFault.TheVariants.{NoVersion, FieldCount, BadNumber, OutOfGrid, BadLength, ReadFailed, OutOfMemory, LineTooLong}
 use Rattle.scen.specs.Fields.{content_of, fields_in_content, fields_of, has_bytes}

@@ -8,7 +8,7 @@ use Rattle.scen.specs.Length.{IsLess, IsAtMost}
 use Rattle.scen.specs.Code.OrderLaws.{total}
 use Rattle.scen.specs.Certificate.{Bounds}
 use Rattle.scen.specs.Code.KeyParts.{number_of_entry}
-use Rattle.scen.specs.Code.Tightness.{AreWithin}
+use Rattle.scen.specs.Code.Tightness.{AreWithinStep}
 
 -- x is less than y times the root of two
 below_diagonal : (x y : ℕ) → x * x < 2 * (y * y) → y < 6625109 → x * 6625109 < y * 9369319
@@ -60,7 +60,7 @@ BoundEachOther straight diagonal p q = Bounds straight diagonal p q × Bounds st
 abbrev key_of_step : (straight diagonal : ℕ) → ℕ
 key_of_step straight diagonal = straight * 6625109 + diagonal * 9369319
 
-pub within_from : (s d : ℕ) (p q : Option Length) → d ≤ 1 → BoundEachOther s d p q → AreWithin (key_of_step s d) (number_of_entry p) (number_of_entry q)
+pub within_from : (s d : ℕ) (p q : Option Length) → d ≤ 1 → BoundEachOther s d p q → AreWithinStep (key_of_step s d) (number_of_entry p) (number_of_entry q)
 within_from s d None None small h = (omega arith, omega arith)
 within_from s d None (Some n) small h = absurd h.1
 within_from s d (Some l) None small h = absurd h.0
@@ -74,7 +74,7 @@ within_from s d (Some l) (Some n) small h =
 far : (s d : ℕ) (l : Length) → s ≤ 1 → d ≤ 1 → 2 ^ 62 ≤ (l.straight + 1) * 6625109 + l.diagonal * 9369319 + key_of_step s d → ⊥
 far s d l one small h = let across = l.straight_limit in let aslant = l.diagonal_limit in omega (arith, across, aslant, h)
 
-pub from_within : (s d : ℕ) (p q : Option Length) → s ≤ 1 → d ≤ 1 → AreWithin (key_of_step s d) (number_of_entry p) (number_of_entry q) → BoundEachOther s d p q
+pub from_within : (s d : ℕ) (p q : Option Length) → s ≤ 1 → d ≤ 1 → AreWithinStep (key_of_step s d) (number_of_entry p) (number_of_entry q) → BoundEachOther s d p q
 from_within s d None None one small h = (tt, tt)
 from_within s d None (Some n) one small h = absurd (far s d n one small h.0)
 from_within s d (Some l) None one small h = absurd (far s d l one small h.1)

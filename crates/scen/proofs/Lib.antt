@@ -13,7 +13,6 @@ pub mod TextScanned
 pub mod TextFaults
 pub mod AtHandLemmas
 pub mod LinesRead
-pub mod PutLemmas
 pub mod DigitLemmas
 pub mod LinePuts
 pub mod WrittenLemmas

@@ -2,12 +2,12 @@
 use Rattle.std.proofs.Common.{◌≡◌, ℕ, ◌^◌, ◌/◌, ◌<◌, List, [], ◌∷◌, ◌++◌, refl, ap, ◌∙◌, append_assoc}
 use Rattle.std.specs.Prelude.{Option, decimal}
 use Rattle.std.specs.List.{flat_map}
-use Rattle.grid.specs.declared.sink.Sink.{Sink}
-use Rattle.grid.specs.Sink.{Puts}
-use Rattle.grid.specs.Text.{tab, line_feed}
+use Rattle.text_io.specs.declared.sink.Sink.{Sink}
+use Rattle.text_io.specs.Sink.{Puts, Leaves}
+use Rattle.text_io.specs.Text.{tab, line_feed}
 use Rattle.scen.specs.Query.{Query, point, last_digits, listed_text, row_line}
 use Rattle.scen.proofs.DigitLemmas.{listed_text-some}
-use Rattle.scen.proofs.PutLemmas.{Leaves, Leaves-all, Leaves-less}
+use Rattle.text_io.specs.Laws.Putting.{Leaves-all, Leaves-less}
 
 -- numbers as fields, each behind a tab
 abbrev pub number_fields : List ℕ → List ℕ

@@ -2,13 +2,13 @@
 use Rattle.std.proofs.Common.{◌≡◌, ℕ, ◌+◌, ◌<◌, ◌⊎◌, inl, inr, Bool, true, false, List, [], ◌∷◌, ◌++◌, length, take, None, Err, Ok, refl, sym, ap, ◌∙◌, subst, arith, append-nil, length-append}
 use Rattle.std.specs.Prelude.{Option, Result, MatchResult, min}
 use Rattle.std.specs.List.{AllByRecursion}
-use Rattle.grid.specs.declared.counted.Counted.{Counted}
-use Rattle.grid.specs.declared.source.Source.{Source}
-use Rattle.grid.specs.Counted.{counted_inner, failures_of, greatest}
-use Rattle.grid.specs.Source.{source_reader}
-use Rattle.grid.specs.Text.{IsLine, lines_of}
-use Rattle.grid.specs.Lines.{HasTaken, HasCome, InputEnded, LineTooLong as LongLineTaken, ReaderFailed}
-use Rattle.grid.specs.Reading.{by_input, Place, at_line_feed, at_byte, at_end, JudgedAt, line_number, ReadsText, is_fault}
+use Rattle.text_io.specs.declared.counted.Counted.{Counted}
+use Rattle.text_io.specs.declared.source.Source.{Source}
+use Rattle.text_io.specs.Counted.{counted_inner, failures_of, greatest}
+use Rattle.text_io.specs.Source.{source_reader}
+use Rattle.text_io.specs.Text.{IsLine, lines_of}
+use Rattle.text_io.specs.Lines.{HasTaken, HasCome, InputEnded, LineTooLong as LongLineTaken, ReaderFailed}
+use Rattle.text_io.specs.Reading.{by_input, Place, at_line_feed, at_byte, at_end, JudgedAt, line_number, ReadsText, is_fault}
 use Rattle.scen.specs.declared.scen_fault.ScenFault.{ScenFault}
 use Rattle.scen.specs.declared.scen_reader.Progress.{Progress}
 use Rattle.scen.specs.declared.scen_fault.ScenFault.TheVariants.{NoVersion, FieldCount, BadNumber, OutOfGrid, BadLength, ReadFailed, OutOfMemory, LineTooLong}
@@ -16,8 +16,8 @@ use Rattle.scen.specs.Query.{Query, IsQuery, longest_line}
 use Rattle.scen.specs.ScenText.{AreQueries, ScenText}
 use Rattle.scen.specs.ScenFault.{ScenDue, version_due, row_due, ScenFollows, HasScenFault, ScenFaultAt, scen_outcome}
 use Rattle.scen.specs.Code.AtHand.{AddsAtHand}
-use Rattle.scen.specs.Code.Parsing.{due_after, Adds, Refuses, ScenLeads}
-use Rattle.scen.proofs.AtHandLemmas.{HasTaken-more}
+use Rattle.scen.specs.Code.Parsing.{due_after, Adds, RefusesLine, ScenLeads}
+use Rattle.text_io.specs.Laws.Taking.{HasTaken-more}
 use Rattle.scen.proofs.JudgedLines.{line_next, line_rows, right-from_Follows, row_right, skipped_rows}
 use Rattle.scen.proofs.TextScanned.{rows_in, first_fault, first_fault-leads, Leads_push, rows_in_push, ScenText-from_none}
 use Rattle.scen.proofs.TextFaults.{Stands, none_decided}
@@ -36,7 +36,7 @@ abbrev pub ReadsUpTo : List (List ℕ) → Bool → List Query → Type 0
 ReadsUpTo lines has rows = ScenLeads version_due lines (due_after has) × (rows ≡ rows_in version_due lines)
 
 -- Lines of a source were taken, are right, and have the rows of the progress; the next one has this number.
-abbrev pub HasReadLines : {R : Type 0} → (R → Option (List ℕ)) → Source R → Source R → Progress → ℕ → Type 0
+abbrev pub HasReadLines : {R : Type 0} {ahead : ℕ} → (R → Option (List ℕ)) → Source R ahead → Source R ahead → Progress → ℕ → Type 0
 HasReadLines remaining start now progress number =
     (before : List (List ℕ)) × HasTaken remaining (source_reader start) now before
     × ScenLeads version_due before (due_after progress.has_version) × (progress.rows.items ≡ rows_in version_due before)
@@ -62,7 +62,7 @@ reads_push before line has now old new h added =
     )
 
 -- a line that was at hand is one more
-pub one_at_hand : {R : Type 0} (remaining : R → Option (List ℕ)) (start old new : Source R) (before now : Progress) (number next : ℕ) (there : Bool)
+pub one_at_hand : {R : Type 0} {ahead : ℕ} (remaining : R → Option (List ℕ)) (start old new : Source R ahead) (before now : Progress) (number next : ℕ) (there : Bool)
     → AddsAtHand remaining old new before now number (Ok there) → there ≡ true → next ≡ min (number + 1) greatest
     → HasReadLines remaining start old before number → HasReadLines remaining start new now next
 one_at_hand remaining start old new before now number next there added is next_is h =
@@ -73,7 +73,7 @@ one_at_hand remaining start old new before now number next there added is next_i
     (h.0 ++ line.0 ∷ [], taken, more.0, more.1, many, line.1.same_reader ∙ h.5)
 
 -- where none was at hand, all is as before
-pub none_at_hand : {R : Type 0} (remaining : R → Option (List ℕ)) (start old new : Source R) (before now : Progress) (number : ℕ) (there : Bool)
+pub none_at_hand : {R : Type 0} {ahead : ℕ} (remaining : R → Option (List ℕ)) (start old new : Source R ahead) (before now : Progress) (number : ℕ) (there : Bool)
     → AddsAtHand remaining old new before now number (Ok there) → there ≡ false
     → HasReadLines remaining start old before number → HasReadLines remaining start new now number
 none_at_hand remaining start old new before now number there added is h =
@@ -152,11 +152,11 @@ outcome-from_fault (LineTooLong at) place due number line h = refl
 outcome-from_fault ReadFailed place due number line h = absurd h
 outcome-from_fault OutOfMemory place due number line h = absurd h
 
-module _ {R : Type 0} (remaining : R → Option (List ℕ)) (first : Counted R) (now : Source R) where
+module _ {R : Type 0} {ahead : ℕ} (remaining : R → Option (List ℕ)) (first : Counted R) (now : Source R ahead) where
   -- a line was refused at its LF
   pub refused_line : (before : List (List ℕ)) (line : List ℕ) (has : Bool) (rows : List Query) (fault : ScenFault)
       → HasCome remaining first now at_line_feed before line → failures_of (source_reader now) ≡ failures_of first → ReadsUpTo before has rows
-      → Refuses (due_after has) (line_number before) line fault
+      → RefusesLine (due_after has) (line_number before) line fault
       → ReadsText ScenText ScenFaultAt (remaining (counted_inner first)) (remaining (counted_inner (source_reader now))) (failures_of first)
       (failures_of (source_reader now)) (scen_outcome (Err fault))
   refused_line before line has rows fault come failures h (inl none) =
@@ -195,7 +195,7 @@ module _ {R : Type 0} (remaining : R → Option (List ℕ)) (first : Counted R) 
   -- the last line was refused where the input ended
   pub refused_end : (before : List (List ℕ)) (room : List ℕ) (count : ℕ) (has : Bool) (rows : List Query) (fault : ScenFault)
       → InputEnded remaining first now before room count → ReadsUpTo before has rows
-      → Refuses (due_after has) (line_number before) (take count room) fault
+      → RefusesLine (due_after has) (line_number before) (take count room) fault
       → ReadsText ScenText ScenFaultAt (remaining (counted_inner first)) (remaining (counted_inner (source_reader now))) (failures_of first)
       (failures_of (source_reader now)) (scen_outcome (Err fault))
   refused_end before room count has rows fault t h (inl none) =

@@ -2,14 +2,14 @@
 use Rattle.std.proofs.Common.{◌≡◌, ◌≢◌, ℕ, ◌≤◌, inl, inr, min, Bool, true, false, List, [], length, None, Some, refl, sym, ap, ◌∙◌, arith}
 use Rattle.std.specs.Prelude.{nat_lt, ◌&&◌, ◌==◌}
 use Rattle.std.proofs.lemmas.Bool.{both_ways, eqb-false, lt-ltb, le-ltb, cases_lt}
-use Rattle.grid.specs.Text.{IsLine}
+use Rattle.text_io.specs.Text.{IsLine}
 use Rattle.scen.specs.declared.numbers.Numbers.{Numbers}
 use Rattle.scen.specs.declared.scen_fault.ScenFault.TheVariants.{BadNumber, OutOfGrid, BadLength}
 use Rattle.scen.specs.Fields.{content_of, fields_in_content}
 use Rattle.scen.specs.Query.{Query}
 use Rattle.scen.specs.ScenText.{IsShort}
 use Rattle.scen.specs.ScenFault.{row_due, Fields, HasFields, all_fields, value_of, wrong_number, is_in_grid}
-use Rattle.scen.specs.Code.Parsing.{most_told, HasNumbers, are_in_grid, is_listed, listed_value, after_of, query_of, Refuses}
+use Rattle.scen.specs.Code.Parsing.{most_told, HasNumbers, are_in_grid, is_listed, listed_value, after_of, query_of, RefusesLine}
 use Rattle.scen.proofs.RowLemmas.{AreNumbers-from_none, LiesInGrid-from_test, size_parts, AreRight, same_query}
 use Rattle.scen.proofs.ListedLemmas.{test-from_spells}
 
@@ -90,15 +90,15 @@ row_line-from_content line content none f is_line short is empty some fields = r
 }
 
 pub faults-number : (number : ℕ) (line : List ℕ) (f : Fields) (field : ℕ) → IsRowLine line f → wrong_number f ≡ Some field
-    → Refuses row_due number line (BadNumber number field)
+    → RefusesLine row_due number line (BadNumber number field)
 faults-number number line f field h wrong = inr (λ place over. (refl, (over, refl, h.short, h.some), f, h.has, wrong))
 
 pub faults-grid : (number : ℕ) (line : List ℕ) (f : Fields) → IsRowLine line f → wrong_number f ≡ None → is_in_grid f ≡ false
-    → Refuses row_due number line (OutOfGrid number)
+    → RefusesLine row_due number line (OutOfGrid number)
 faults-grid number line f h right outside = inr (λ place over. (refl, (over, refl, h.short, h.some), f, h.has, right, outside))
 
 pub faults-length : (number : ℕ) (line : List ℕ) (f : Fields) → IsRowLine line f → wrong_number f ≡ None → is_in_grid f ≡ true
-    → is_listed f.listed ≡ false → Refuses row_due number line (BadLength number)
+    → is_listed f.listed ≡ false → RefusesLine row_due number line (BadLength number)
 faults-length number line f h right inside unlisted =
     inr (λ place over. (
       refl,

@@ -8,9 +8,7 @@ use Rattle.std.proofs.lemmas.List.{length-append}
 use Rattle.std.proofs.lemmas.Fmt.{length-decimal-le}
 use Rattle.std.proofs.lemmas.Nat.{pow-add}
 use Rattle.std.proofs.Math.Nat.{div-lt_iff_lt-mul}
-use Rattle.grid.specs.Text.{tab, line_feed, space, is_line_byte}
-use Rattle.grid.specs.Text.{IsLine}
-use Rattle.grid.specs.Text.{SpellsNumber}
+use Rattle.text_io.specs.Text.{tab, line_feed, space, is_line_byte, IsLine, SpellsNumber}
 use Rattle.scen.specs.Fields.{without_return, without_leading, content_of, separator_of, fields_between, fields_in_content}
 use Rattle.scen.specs.Query.{Query, IsQuery, IsName, is_name_byte, point, decimals_text, listed_text, row_line, longest_line}
 use Rattle.scen.specs.ScenText.{IsShort, SpellsListed, SpellsRow}

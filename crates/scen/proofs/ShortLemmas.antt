@@ -9,7 +9,7 @@ use Rattle.std.proofs.lemmas.Bool.{and_parts, and_from, cond-true, cond-false, l
 use Rattle.std.proofs.lemmas.List.{take_more, take-append-drop, length-take-le}
 use Rattle.std.proofs.lemmas.List.Folds.{list_all_more}
 use Rattle.std.proofs.lemmas.Str.{digit_value_digit}
-use Rattle.grid.specs.Text.{tab, space, is_blank}
+use Rattle.text_io.specs.Text.{tab, space, is_blank}
 use Rattle.scen.specs.Fields.{without_leading, without_trailing, before_trailing, fields_between, separator_of}
 use Rattle.scen.specs.ScenFault.{Fields, is_number, is_size, value_of, wrong_number}
 use Rattle.scen.specs.Code.Parsing.{IsShortNumber}

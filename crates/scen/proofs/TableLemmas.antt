@@ -15,7 +15,7 @@ use Rattle.scen.specs.Certificate.{IsTight}
 use Rattle.scen.specs.Code.KeyParts.{number_of_entry, number_within, length_of_number, length_of_parts, straight_in, diagonal_in}
 use Rattle.scen.specs.Code.TileKeys.{number_at, place_entry, length_from}
 use Rattle.scen.specs.Code.TableEntries.{table_entries, entry_number, number_on, number_as}
-use Rattle.scen.specs.Code.Tightness.{AreWithin, KeepsBlockAt}
+use Rattle.scen.specs.Code.Tightness.{AreWithinStep, KeepsBlockAt}
 use Rattle.std.proofs.lemmas.Simd.{map-map}
 use Rattle.scen.proofs.KeyNumbers.{length_back, number_back}
 use Rattle.scen.proofs.TileLemmas.{cells_tell}
@@ -98,8 +98,8 @@ told_at t m x y same cells column row =
 
 -- ---- the numbers of cells, and those of their entries
 
-tell_both : (step a b p q : ℕ) → a ≡ p → b ≡ q → AreWithin step p q → AreWithin step a b
-tell_both step a b p q e f h = subst (λ k. AreWithin step k b) (sym e) (subst (AreWithin step p) (sym f) h)
+tell_both : (step a b p q : ℕ) → a ≡ p → b ≡ q → AreWithinStep step p q → AreWithinStep step a b
+tell_both step a b p q e f h = subst (λ k. AreWithinStep step k b) (sym e) (subst (AreWithinStep step p) (sym f) h)
 
 forth_by : (m : Grid) (t : Tiles) (b : Bool) → nat_eq t.width m.width ≡ b → length (table_entries (Found t)) ≡ m.width * m.height
     → Carries m (entry_number (table_entries (Found t)) m.width) (number_as b t (table_entries (Found t)) m.width)

@@ -4,8 +4,8 @@ use Rattle.std.specs.Prelude.{nat_lt}
 use Rattle.std.specs.List.{AllByRecursion}
 use Rattle.std.proofs.lemmas.Bool.{cond-true, cond-false, ltb-true, ltb-false, lt-ltb, le-ltb, both_ways}
 use Rattle.std.proofs.lemmas.List.{take-append-drop}
-use Rattle.grid.specs.Text.{IsLine, lines_of, ends_in_line_feed}
-use Rattle.grid.specs.Reading.{by_input, Place, at_line_feed, at_byte, at_end, JudgedAt, StandsIn, IsByte, IsOver, Decides, IsFirstFault, line_number}
+use Rattle.text_io.specs.Text.{IsLine, lines_of, ends_in_line_feed}
+use Rattle.text_io.specs.Reading.{by_input, Place, at_line_feed, at_byte, at_end, JudgedAt, StandsIn, IsByte, IsOver, Decides, IsFirstFault, line_number}
 use Rattle.scen.specs.declared.scen_fault.ScenFault.{ScenFault}
 use Rattle.scen.specs.declared.scen_fault.ScenFault.TheVariants.{NoVersion, FieldCount, BadNumber, OutOfGrid, BadLength, ReadFailed, OutOfMemory, LineTooLong}
 use Rattle.scen.specs.Fields.{content_of}

@@ -3,8 +3,8 @@ use Rattle.std.proofs.Common.{◌≡◌, ℕ, suc, ◌+◌, inl, inr, min, Bool,
 use Rattle.std.specs.Prelude.{nat_lt}
 use Rattle.std.specs.List.{AllByRecursion}
 use Rattle.std.proofs.lemmas.Bool.{cond-true, cond-false, ltb-false, le-ltb, both_ways}
-use Rattle.grid.specs.Counted.{greatest}
-use Rattle.grid.specs.Text.{IsLine, lines_of}
+use Rattle.text_io.specs.Counted.{greatest}
+use Rattle.text_io.specs.Text.{IsLine, lines_of}
 use Rattle.scen.specs.declared.scen_fault.ScenFault.{ScenFault}
 use Rattle.scen.specs.declared.scen_fault.ScenFault.TheVariants.{NoVersion, LineTooLong}
 use Rattle.scen.specs.Fields.{content_of, has_bytes}

@@ -15,7 +15,7 @@ use Rattle.scen.specs.declared.length.Length.{Length}
 use Rattle.scen.specs.declared.tightness.Corner.{Corner}
 use Rattle.scen.specs.declared.tightness.Corners.{Corners}
 use Rattle.scen.specs.Certificate.{entry_of, Bounds, IsTight}
-use Rattle.scen.specs.Code.Tightness.{Ground, open_land, open_water, no_ground, ground_of_class, ground_of, number_of, corner_at, AreWithin, AreSame, KeepsSide, KeepsBlock, KeepsBlockAt, KeepsBlockIn, KeepsRows, Tells, AreCorners, corner_in}
+use Rattle.scen.specs.Code.Tightness.{Ground, open_land, open_water, no_ground, ground_of_class, ground_of, number_of, corner_at, AreWithinStep, AreSame, KeepsSide, KeepsBlock, KeepsBlockAt, KeepsBlockIn, KeepsRows, TellsSame, AreCorners, corner_in}
 use Rattle.scen.specs.declared.length_table.Entries.{Entries}
 use Rattle.scen.specs.Code.KeyParts.{number_of_entry}
 use Rattle.scen.specs.Code.Distances.{beyond_number}
@@ -30,10 +30,10 @@ all_below_next P n h last k less = elim (cases_lt k n) [ inl before ↦ h k befo
 
 -- ---- what a row holds, and what the map and the table say
 
-pub told_back : (p c : Corner) → Tells p c → Tells c p
+pub told_back : (p c : Corner) → TellsSame p c → TellsSame c p
 told_back p c t = (sym t.0, λ some. sym (t.1 (λ none. some (t.0 ∙ none))))
 
-same_told : (a b e f : Corner) → Tells a e → Tells b f → AreSame e f → AreSame a b
+same_told : (a b e f : Corner) → TellsSame a e → TellsSame b f → AreSame e f → AreSame a b
 same_told a b e f p q same none = same (ap (λ g. bit_and g f.grounds) (sym p.0) ∙ ap (bit_and a.grounds) (sym q.0) ∙ none)
 
 first_some : (e f : Corner) → AreSame e f → e.grounds ≡ 0 → ⊥
@@ -42,16 +42,16 @@ first_some e f same none = same (ap (λ g. bit_and g f.grounds) none ∙ and_zer
 second_some : (e f : Corner) → AreSame e f → f.grounds ≡ 0 → ⊥
 second_some e f same none = same (ap (bit_and e.grounds) none ∙ and_zero_r e.grounds)
 
-within_told : (step : ℕ) (a b e f : Corner) → Tells a e → Tells b f → (e.grounds ≡ 0 → ⊥) → (f.grounds ≡ 0 → ⊥)
-    → AreWithin step a.key b.key → AreWithin step e.key f.key
+within_told : (step : ℕ) (a b e f : Corner) → TellsSame a e → TellsSame b f → (e.grounds ≡ 0 → ⊥) → (f.grounds ≡ 0 → ⊥)
+    → AreWithinStep step a.key b.key → AreWithinStep step e.key f.key
 within_told step a b e f p q first second within =
-    subst (λ k. AreWithin step k f.key) (p.1 first) (subst (AreWithin step a.key) (q.1 second) within)
+    subst (λ k. AreWithinStep step k f.key) (p.1 first) (subst (AreWithinStep step a.key) (q.1 second) within)
 
-side_told : (a b e f : Corner) → Tells a e → Tells b f → KeepsSide a b → KeepsSide e f
+side_told : (a b e f : Corner) → TellsSame a e → TellsSame b f → KeepsSide a b → KeepsSide e f
 side_told a b e f p q keeps same =
     within_told 6625109 a b e f p q (first_some e f same) (second_some e f same) (keeps (same_told a b e f p q same))
 
-pub block_told : (a e b f c g d h : Corner) → Tells a e → Tells b f → Tells c g → Tells d h → KeepsBlock a b c d → KeepsBlock e f g h
+pub block_told : (a e b f c g d h : Corner) → TellsSame a e → TellsSame b f → TellsSame c g → TellsSame d h → KeepsBlock a b c d → KeepsBlock e f g h
 block_told a e b f c g d h p q r s keeps = (
   side_told a b e f p q keeps.0,
   side_told a c e g p r keeps.1,
@@ -70,8 +70,8 @@ rows_from_held m numbers left right y upper lower above below keeps x least less
     let next : x + 1 - left ≡ x - left + 1 = omega (arith, least) in
     block_told (corner_in upper (x - left)) (corner_at m numbers x y) (corner_in upper (x - left + 1)) (corner_at m numbers (x + 1) y)
     (corner_in lower (x - left)) (corner_at m numbers x (y + 1)) (corner_in lower (x - left + 1)) (corner_at m numbers (x + 1) (y + 1))
-    (above x least (omega (arith, less))) (subst (λ i. Tells (corner_in upper i) (corner_at m numbers (x + 1) y)) next (above (x + 1) (omega (arith, least)) (omega (arith, less))))
-    (below x least (omega (arith, less))) (subst (λ i. Tells (corner_in lower i) (corner_at m numbers (x + 1) (y + 1))) next (below (x + 1) (omega (arith, least)) (omega (arith, less))))
+    (above x least (omega (arith, less))) (subst (λ i. TellsSame (corner_in upper i) (corner_at m numbers (x + 1) y)) next (above (x + 1) (omega (arith, least)) (omega (arith, less))))
+    (below x least (omega (arith, less))) (subst (λ i. TellsSame (corner_in lower i) (corner_at m numbers (x + 1) (y + 1))) next (below (x + 1) (omega (arith, least)) (omega (arith, less))))
     (keeps (x - left) (omega (arith, least, less)))
 
 pub held_from_rows : (m : Grid) (numbers : ℕ → ℕ → ℕ) (left right y : ℕ) (upper lower : Corners)
@@ -83,10 +83,10 @@ held_from_rows m numbers left right y upper lower above below keeps i less =
     let next : x + 1 - left ≡ i + 1 = omega arith in
     block_told (corner_at m numbers x y) (corner_in upper i) (corner_at m numbers (x + 1) y) (corner_in upper (i + 1))
     (corner_at m numbers x (y + 1)) (corner_in lower i) (corner_at m numbers (x + 1) (y + 1)) (corner_in lower (i + 1))
-    (subst (λ k. Tells (corner_at m numbers x y) (corner_in upper k)) here (told_back _ (corner_at m numbers x y) (above x (omega arith) (omega (arith, less)))))
-    (subst (λ k. Tells (corner_at m numbers (x + 1) y) (corner_in upper k)) next (told_back _ (corner_at m numbers (x + 1) y) (above (x + 1) (omega arith) (omega (arith, less)))))
-    (subst (λ k. Tells (corner_at m numbers x (y + 1)) (corner_in lower k)) here (told_back _ (corner_at m numbers x (y + 1)) (below x (omega arith) (omega (arith, less)))))
-    (subst (λ k. Tells (corner_at m numbers (x + 1) (y + 1)) (corner_in lower k)) next (told_back _ (corner_at m numbers (x + 1) (y + 1)) (below (x + 1) (omega arith) (omega (arith, less)))))
+    (subst (λ k. TellsSame (corner_at m numbers x y) (corner_in upper k)) here (told_back _ (corner_at m numbers x y) (above x (omega arith) (omega (arith, less)))))
+    (subst (λ k. TellsSame (corner_at m numbers (x + 1) y) (corner_in upper k)) next (told_back _ (corner_at m numbers (x + 1) y) (above (x + 1) (omega arith) (omega (arith, less)))))
+    (subst (λ k. TellsSame (corner_at m numbers x (y + 1)) (corner_in lower k)) here (told_back _ (corner_at m numbers x (y + 1)) (below x (omega arith) (omega (arith, less)))))
+    (subst (λ k. TellsSame (corner_at m numbers (x + 1) (y + 1)) (corner_in lower k)) next (told_back _ (corner_at m numbers (x + 1) (y + 1)) (below (x + 1) (omega arith) (omega (arith, less)))))
     (keeps x (omega arith) (omega (arith, less)))
 
 -- of one block more
@@ -217,7 +217,7 @@ no_number no_ground h = refl
 
 -- off the map there are no grounds
 pub told_off : (m : Grid) (numbers : ℕ → ℕ → ℕ) (x y : ℕ) (p : Corner) → ((x < m.width) × (y < m.height) → ⊥) → p.grounds ≡ 0
-    → Tells p (corner_at m numbers x y)
+    → TellsSame p (corner_at m numbers x y)
 told_off m numbers x y p off none =
     let zero = no_number (ground_at m x y) (λ some. off (on_map m x y some)) in
     (none ∙ sym zero, λ some. absurd (some zero))
@@ -239,7 +239,7 @@ place_within x y width height column row =
 -- on the map it is what the character of the cell and its number say
 pub told_on : (m : Grid) (numbers : ℕ → ℕ → ℕ) (x y i : ℕ) (p : Corner) → IsMap m → x < m.width → y < m.height → i ≡ y * m.width + x
     → p.grounds ≡ number_of (ground_of (terrain_of (get_or (map character_of m.terrain) i 0))) → p.key ≡ numbers x y
-    → Tells p (corner_at m numbers x y)
+    → TellsSame p (corner_at m numbers x y)
 told_on m numbers x y i p is_map column row at grounds key =
     let count = is_map.cells in
     let within = place_within x y m.width m.height column row in
@@ -259,7 +259,7 @@ told_on m numbers x y i p is_map column row at grounds key =
 abbrev pub Carries : Grid → (before after : ℕ → ℕ → ℕ) → Type 0
 Carries m before after =
     (step x y i j : ℕ) → AreBeside step x y i j → (x < m.width) × (y < m.height) → (i < m.width) × (j < m.height)
-    → AreWithin step (before x y) (before i j) → AreWithin step (after x y) (after i j)
+    → AreWithinStep step (before x y) (before i j) → AreWithinStep step (after x y) (after i j)
 
 pub block_carried : (m : Grid) (before after : ℕ → ℕ → ℕ) → Carries m before after → (x y : ℕ) → KeepsBlockAt m before x y → KeepsBlockAt m after x y
 block_carried m before after carries x y keeps =
@@ -287,10 +287,10 @@ pub beyond_block : (m : Grid) (entries : Entries) (left right x y : ℕ) → IsB
 beyond_block m entries left right x y beyond least less =
     let b = beyond.0 in
     let near : (step u v i j : ℕ) → left ≤ u → u ≤ right → y ≤ v → v ≤ y + 1 → left ≤ i → i ≤ right → y ≤ j → j ≤ y + 1 → AreBeside step u v i j
-    → AreWithin step (number_on entries m.width u v) (number_on entries m.width i j) =
+    → AreWithinStep step (number_on entries m.width u v) (number_on entries m.width i j) =
     λ step u v i j u_least u_most v_least v_most i_least i_most j_least j_most beside.
-    subst (λ k. AreWithin step k (number_on entries m.width i j)) (sym (beyond.1 u v u_least u_most v_least v_most))
-    (subst (AreWithin step (beyond_number b u v)) (sym (beyond.1 i j i_least i_most j_least j_most)) (beyond_near b step u v i j beside)) in (
+    subst (λ k. AreWithinStep step k (number_on entries m.width i j)) (sym (beyond.1 u v u_least u_most v_least v_most))
+    (subst (AreWithinStep step (beyond_number b u v)) (sym (beyond.1 i j i_least i_most j_least j_most)) (beyond_near b step u v i j beside)) in (
       λ same. near 6625109 x y (x + 1) y (omega arith) (omega arith) (omega arith) (omega arith) (omega arith) (omega arith) (omega arith) (omega arith) (inl (refl, omega arith)),
       λ same. near 6625109 x y x (y + 1) (omega arith) (omega arith) (omega arith) (omega arith) (omega arith) (omega arith) (omega arith) (omega arith) (inl (refl, omega arith)),
       λ same. (
@@ -382,8 +382,8 @@ abbrev Diagonals : Grid → List (Option Length) → (x y i j : ℕ) → Type 0
 Diagonals m table x y i j =
     Alike (ground_at m x y) (ground_at m i y) → Alike (ground_at m x y) (ground_at m x j)
     → Alike (ground_at m x y) (ground_at m i j)
-    → AreWithin 9369319 (corner_at m (entry_number table m.width) x y).key (corner_at m (entry_number table m.width) i j).key
-    × AreWithin 9369319 (corner_at m (entry_number table m.width) i y).key (corner_at m (entry_number table m.width) x j).key
+    → AreWithinStep 9369319 (corner_at m (entry_number table m.width) x y).key (corner_at m (entry_number table m.width) i j).key
+    × AreWithinStep 9369319 (corner_at m (entry_number table m.width) i y).key (corner_at m (entry_number table m.width) x j).key
 
 diagonals : (m : Grid) (table : List (Option Length)) → AllBlocks m table → (x y i j : ℕ) → i ≡ x + 1 → j ≡ y + 1 → Diagonals m table x y i j
 diagonals m table rows x y i j e f =
@@ -394,10 +394,10 @@ diagonals m table rows x y i j e f =
     (rows y on.1 x on.0).2
     (same_from here (ground_at m (x + 1) y) beside, same_from here (ground_at m x (y + 1)) below, same_from here (ground_at m (x + 1) (y + 1)) across)))
 
-straight_bounds : (p q : Option Length) → AreWithin 6625109 (number_of_entry p) (number_of_entry q) → BoundEachOther 1 0 p q
+straight_bounds : (p q : Option Length) → AreWithinStep 6625109 (number_of_entry p) (number_of_entry q) → BoundEachOther 1 0 p q
 straight_bounds p q h = from_within 1 0 p q (omega arith) (omega arith) h
 
-diagonal_bounds : (p q : Option Length) → AreWithin 9369319 (number_of_entry p) (number_of_entry q) → BoundEachOther 0 1 p q
+diagonal_bounds : (p q : Option Length) → AreWithinStep 9369319 (number_of_entry p) (number_of_entry q) → BoundEachOther 0 1 p q
 diagonal_bounds p q h = from_within 0 1 p q (omega arith) (omega arith) h
 
 straight_by : (m : Grid) (table : List (Option Length)) → AllBlocks m table → (u v : Cell) → IsStraightStep m u v → ShareSide u v

@@ -12,7 +12,7 @@ use Rattle.scen.specs.Code.KeyParts.{IsKey, number_of_entry}
 use Rattle.scen.specs.Code.Distances.{distance, number_toward, beyond_number}
 use Rattle.scen.specs.Code.Rounding.{rounded}
 use Rattle.scen.specs.Code.TileKeys.{number_by, number_at, key_at, length_from}
-use Rattle.scen.specs.Code.Tightness.{AreWithin}
+use Rattle.scen.specs.Code.Tightness.{AreWithinStep}
 use Rattle.scen.proofs.KeyNumbers.{number_back}
 use Rattle.scen.proofs.RoundingLemmas.{rounded_most, rounded_key, key_rounded, rounded_step}
 use Rattle.scen.proofs.DistanceLemmas.{AreBeside, beyond_near}
@@ -87,7 +87,7 @@ limit_beyond (Some b) x y = toward_most b.goal b.number b.limit where
     less_most n d h = omega (arith, h)
 
 abbrev Tell : (step p q : ℕ) → Type 0
-Tell step p q = AreWithin step (number_told p) (number_told q) ↔ AreWithin step p q
+Tell step p q = AreWithinStep step (number_told p) (number_told q) ↔ AreWithinStep step p q
 
 own_of : (beyond n : ℕ) → IsOwn beyond → IsCellNumber beyond n → IsOwn n
 own_of beyond n own h = elim h.1 [ inl key ↦ inr key | inr e ↦ subst IsOwn (sym e) own ]
@@ -125,7 +125,7 @@ told_near n some limit =
     let d = is.diagonal_limit in
     told_some n some (omega (arith, limit)) is (omega (arith, e, s, d))
 
-tell_near : (b c p q step straight diagonal : ℕ) → step ≡ straight * 6625109 + diagonal * 9369319 → AreWithin step b c
+tell_near : (b c p q step straight diagonal : ℕ) → step ≡ straight * 6625109 + diagonal * 9369319 → AreWithinStep step b c
     → (0 < b) × (b ≤ 4194304 * 6625109) → (0 < c) × (c ≤ 4194304 * 6625109) → IsCellNumber b p → IsCellNumber c q → Tell step p q
 tell_near b c p q step straight diagonal is near b_in c_in f g =
     let some : (b p : ℕ) → 0 < b → IsCellNumber b p → 0 < p = λ b p h k. elim k.1 [ inl key ↦ key.0 | inr e ↦ omega (arith, e, h) ] in

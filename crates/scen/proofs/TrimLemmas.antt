@@ -3,7 +3,7 @@ use Rattle.std.proofs.Common.{◌≡◌, ℕ, suc, ◌-◌, ◌<◌, ◌≤◌, 
 use Rattle.std.specs.Prelude.{◌==◌, IsTrue}
 use Rattle.std.specs.List.{list_all}
 use Rattle.std.proofs.lemmas.Bool.{cond-true, cond-false, cond_both, and_parts, and_from, eq-eqb, ne_eqb}
-use Rattle.grid.specs.Text.{carriage_return, is_blank}
+use Rattle.text_io.specs.Text.{carriage_return, is_blank}
 use Rattle.scen.specs.Fields.{without_return, without_leading, before_trailing, without_trailing, trimmed}
 
 -- a list that is not empty is its front and its last element

@@ -6,12 +6,12 @@ use Rattle.std.specs.Str.{bytes_eq}
 use Rattle.std.specs.Cmp.Lexicographic.{same_text, bytes_decides}
 use Rattle.std.proofs.lemmas.Bool.{and_parts, and_from, or_cases, or_left, or_right, cond-true, cond-false, eqb-false, both_ways, ltb-true, lt-ltb}
 use Rattle.std.proofs.lemmas.List.{take-append-drop}
-use Rattle.grid.specs.Text.{is_blank}
+use Rattle.text_io.specs.Text.{is_blank}
 use Rattle.scen.specs.Fields.{without_leading, content_of}
 use Rattle.scen.specs.ScenText.{IsShort, IsVersion}
 use Rattle.scen.specs.declared.scen_fault.ScenFault.TheVariants.{NoVersion}
 use Rattle.scen.specs.ScenFault.{version_due}
-use Rattle.scen.specs.Code.Parsing.{is_one, is_version, Refuses}
+use Rattle.scen.specs.Code.Parsing.{is_one, is_version, RefusesLine}
 
 -- blanks in front of a byte that is none are taken off
 without_leading-gap : (gap : List ℕ) (b : ℕ) (bytes : List ℕ) → IsTrue (list_all is_blank gap) → is_blank b ≡ false
@@ -98,7 +98,7 @@ test-from_IsVersion line h = ap is_version h.bytes ∙ passes h.one
 
 -- another line than the version, where that is due
 pub refuses-other : (number : ℕ) (line content : List ℕ) (none version : Bool) → IsShort line → content ≡ content_of line
-    → none ≡ (length content == 0) → none ≡ false → version ≡ is_version content → version ≡ false → Refuses version_due number line NoVersion
+    → none ≡ (length content == 0) → none ≡ false → version ≡ is_version content → version ≡ false → RefusesLine version_due number line NoVersion
 refuses-other number line content none version short is empty some test other =
     inr (λ place over. (
       refl,

@@ -11,16 +11,15 @@ use Rattle.std.proofs.lemmas.List.Folds.{list_all-append, list_any-append}
 use Rattle.std.proofs.lemmas.List.Splits.{slice_split_none, slice_split_at}
 use Rattle.std.proofs.lemmas.List.Sums.{AllPass-from_list_all}
 use Rattle.std.proofs.lemmas.Nat.{div_below, pow-add}
-use Rattle.grid.specs.Text.{tab, space, line_feed, carriage_return, is_blank, is_line_byte}
-use Rattle.grid.specs.Text.{IsLine}
-use Rattle.grid.specs.Text.{SpellsNumber}
+use Rattle.text_io.specs.Text.{tab, space, line_feed, carriage_return, is_blank, is_line_byte, IsLine, SpellsNumber}
 use Rattle.scen.specs.Fields.{without_return, without_leading, before_trailing, without_trailing, trimmed, content_of, has_bytes, fields_between, fields_in_content, fields_of}
 use Rattle.scen.specs.Query.{Query, IsName, is_name_byte, IsQuery, point, last_digits, decimals_text, listed_text, row_line}
 use Rattle.scen.specs.ScenText.{IsVersion, SpellsListed, SpellsRow, AreQueries}
 use Rattle.scen.proofs.TrimLemmas.{without_return-last, without_trailing-other}
 use Rattle.scen.proofs.FieldLemmas.{IsField, fields_in}
 use Rattle.scen.proofs.ListedLemmas.{ten_pow-mono}
-use Rattle.scen.proofs.DigitLemmas.{ten_pow-some, length-last_digits, digits-last_digits, digits-decimal, value-last_digits}
+use Rattle.scen.proofs.DigitLemmas.{ten_pow-some, length-last_digits, digits-last_digits, value-last_digits}
+use Rattle.text_io.specs.Laws.Numerals.{digits-decimal}
 
 -- ---- the bytes of written numbers
 

@@ -1,7 +1,7 @@
 -- What a line of a scenario holds: its content, and the fields into which that is cut.
 use Rattle.std.specs.Prelude.{ℕ, Bool, ◌==◌, if◌then◌else◌, nat_lt, List, [], ◌∷◌, length, map}
 use Rattle.std.specs.List.{filter, list_any, slice_split}
-use Rattle.grid.specs.Text.{tab, space, carriage_return, is_blank}
+use Rattle.text_io.specs.Text.{tab, space, carriage_return, is_blank}
 
 -- the line without the one CR at its end
 abbrev pub without_return : List ℕ → List ℕ

@@ -2,7 +2,7 @@
 use Rattle.std.specs.Prelude.{◌≡◌, ℕ, ◌+◌, ◌^◌, ◌<◌, ◌≤◌, ◌/◌, ◌%◌, ◌==◌, zero, suc, IsTrue, Bool, ◌&&◌, not, List, [], ◌∷◌, ◌++◌, length, map, codes, decimal}
 use Rattle.std.specs.List.{list_all, join_with_byte}
 use Rattle.grid.specs.declared.cell.Cell.{Cell}
-use Rattle.grid.specs.Text.{line_feed, tab, ended}
+use Rattle.text_io.specs.Text.{line_feed, tab, ended}
 use Rattle.scen.specs.Fields.{trimmed}
 
 -- a row's nine fields; the listed length is listed / 10^decimals

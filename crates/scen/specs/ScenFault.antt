@@ -3,12 +3,14 @@ use Rattle.std.specs.Prelude.{◌≡◌, ◌≢◌, ℕ, ◌+◌, ◌⊎◌, Boo
 use Rattle.std.specs.List.{list_all}
 use Rattle.std.specs.Char.{is_ascii_digit}
 use Rattle.std.specs.Str.Parse.{digits_value}
-use Rattle.grid.specs.Reading.{by_input, Place, at_byte, at_end, IsOver, FaultAt, Outcome, is_value, is_fault, is_failed, is_refused}
+use Rattle.text_io.specs.Reading.{by_input, Place, at_byte, at_end, IsOver, FaultAt, Outcome, is_value, is_fault, is_failed, is_refused, ReadsText}
+use Rattle.text_io.specs.declared.counted.Counted.{Counted}
+use Rattle.text_io.specs.Counted.{counted_inner, failures_of}
 use Rattle.scen.specs.declared.scen_fault.ScenFault.{ScenFault}
 use Rattle.scen.specs.declared.scen_fault.ScenFault.TheVariants.{NoVersion, FieldCount, BadNumber, OutOfGrid, BadLength, ReadFailed, OutOfMemory, LineTooLong}
 use Rattle.scen.specs.Fields.{content_of, fields_of}
 use Rattle.scen.specs.Query.{Query, longest_line}
-use Rattle.scen.specs.ScenText.{IsShort, IsSkipped, IsVersion, SpellsListed, SpellsRow}
+use Rattle.scen.specs.ScenText.{IsShort, IsSkipped, IsVersion, SpellsListed, SpellsRow, ScenText}
 
 -- the line that is due: the version, or after it a row
 pub data ScenDue : Type 0 where
@@ -108,3 +110,8 @@ scen_outcome (Err (BadLength line)) = is_fault (BadLength line)
 scen_outcome (Err (LineTooLong line)) = is_fault (LineTooLong line)
 scen_outcome (Err ReadFailed) = is_failed
 scen_outcome (Err OutOfMemory) = is_refused
+
+-- the scenario was read as `read_scen` reads it, with this answer
+abbrev pub ReadsScen : {R : Type 0} → (R → Option (List ℕ)) → Counted R → Counted R → Result (List Query) ScenFault → Type 0
+ReadsScen remaining old new answer =
+    ReadsText ScenText ScenFaultAt (remaining (counted_inner old)) (remaining (counted_inner new)) (failures_of old) (failures_of new) (scen_outcome answer)

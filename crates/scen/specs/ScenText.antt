@@ -1,7 +1,7 @@
 -- The text of a scenario of version 1 (MovingAI, scenario format): which texts spell a list of rows.
 use Rattle.std.specs.Prelude.{◌≡◌, ℕ, ◌<◌, ◌≤◌, ◌⊎◌, List, [], ◌∷◌, ◌++◌, length, codes}
 use Rattle.std.specs.List.{AllByRecursion}
-use Rattle.grid.specs.Text.{IsGap, SpellsNumber, lines_of}
+use Rattle.text_io.specs.Text.{IsGap, SpellsNumber, lines_of}
 use Rattle.scen.specs.Fields.{content_of, fields_of}
 use Rattle.scen.specs.Query.{Query, IsQuery, point, longest_line}
 

@@ -1,6 +1,6 @@
 //! Certificates of shortest lengths: proposed by any search, and judged here.
 ghost use Rattle.std.specs.Prelude.{◌≡◌, ◌∷◌, ◌*◌, Some, IfOk, IsTrue, length, ◌↔◌};
-ghost use Rattle.grid.specs.FaultWords.{words_of, words_text};
+ghost use Rattle.text_io.specs.FaultWords.{words_of, words_text};
 ghost use Rattle.grid.specs.Map.{terrain_at};
 ghost use Rattle.scen.specs.FaultWords.{cert_fault_words};
 ghost use Rattle.scen.specs.Walk.{IsOn, IsWalk};
@@ -8,8 +8,9 @@ ghost use Rattle.scen.specs.Certificate.{entry_of, IsTable, IsProof, Certifies, 
 
 use crate::Length;
 use crate::length_table::LengthTable;
-use grid::{Cell, FaultWords, Map, step4, step8};
+use grid::{Cell, Map, step4, step8};
 use std::fmt;
+use text_io::FaultWords;
 use thiserror::Error;
 
 /// What a search proposes: a walk, and for each cell, row by row, a length from the start, or none.

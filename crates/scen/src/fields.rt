@@ -1,7 +1,7 @@
 //! The fields of a line.
 ghost use Rattle.std.specs.Prelude.{◌≡◌, ◌∷◌, [], ◌==◌, ◌≢◌, length, ℕ, MatchOption, IsTrue};
 ghost use Rattle.std.specs.List.{list_any, position_or_len};
-ghost use Rattle.grid.specs.Text.{tab, is_blank};
+ghost use Rattle.text_io.specs.Text.{tab, is_blank};
 ghost use Rattle.scen.specs.Fields.{without_return, without_leading, without_trailing, trimmed, content_of, separator_of, fields_between, fields_in_content};
 ghost use Rattle.scen.specs.ScenFault.{all_fields};
 ghost use Rattle.scen.specs.Code.Parsing.{fields_seen};

@@ -1,7 +1,7 @@
 //! What the definitions of this crate mean: laws, which hold of all values and need no code.
 ghost use Rattle.std.specs.Prelude.{◌≡◌, ℕ, ◌+◌, ◌*◌, ◌⊎◌, ◌↔◌, List};
 ghost use Rattle.std.specs.List.{AllByRecursion};
-ghost use Rattle.grid.specs.Reading.{IsFirstFault};
+ghost use Rattle.text_io.specs.Reading.{IsFirstFault};
 ghost use Rattle.scen.specs.declared.scen_fault.ScenFault.{ScenFault};
 ghost use Rattle.scen.specs.Query.{Query, IsQuery, canonical_scen_text};
 ghost use Rattle.scen.specs.ScenText.{ScenText};
@@ -35,7 +35,7 @@ pub fn one_reading()
     ensures one_fault { (text : List ℕ) (f g : ScenFault) → IsFirstFault ScenFaultAt f text → IsFirstFault ScenFaultAt g text → f ≡ g }
     ensures never_both { (text : List ℕ) (rows : List Query) (f : ScenFault) → ScenText rows text → IsFirstFault ScenFaultAt f text → ⊥ }
 {
-    grid::laws::places();
+    text_io::laws::places();
 }
 
 /// The text that is written for rows within their limits spells those rows, and no others.
@@ -43,5 +43,5 @@ pub fn written_text()
     ensures spells { (rows : List Query) → AllByRecursion IsQuery rows → ScenText rows (canonical_scen_text rows) }
     ensures only { (rows others : List Query) → AllByRecursion IsQuery rows → ScenText others (canonical_scen_text rows) → others ≡ rows }
 {
-    grid::laws::places();
+    text_io::laws::places();
 }

@@ -1,12 +1,12 @@
 //! Reading a line as a row.
 ghost use Rattle.std.specs.Prelude.{◌≡◌, ◌≢◌, ◌≤◌, ℕ, List, [], None, length, IfOk, MatchOption, MatchResult};
 ghost use Rattle.std.specs.Arc.{arc_slice_items};
-ghost use Rattle.grid.specs.Text.{IsLine};
+ghost use Rattle.text_io.specs.Text.{IsLine};
 ghost use Rattle.scen.specs.Fields.{content_of, fields_in_content};
 ghost use Rattle.scen.specs.Query.{longest_line};
 ghost use Rattle.scen.specs.ScenText.{IsShort, IsSkipped, SpellsRow};
 ghost use Rattle.scen.specs.ScenFault.{row_due, all_fields, wrong_number};
-ghost use Rattle.scen.specs.Code.Parsing.{fields_seen, HasNumbers, Refuses};
+ghost use Rattle.scen.specs.Code.Parsing.{fields_seen, HasNumbers, RefusesLine};
 
 use crate::fields::{FieldBytes, content_of, nine_fields};
 use crate::numbers::{Numbers, listed_of};
@@ -25,7 +25,7 @@ pub(crate) fn read_row(
 ) -> Result<Option<Row>, ScenFault>
     requires line { IsLine line.now }
     requires short { length line.now ≤ longest_line }
-    ensures { MatchResult result (λ row. MatchOption row (IsSkipped line.now) (λ q. SpellsRow q line.now)) (Refuses row_due number line.now) }
+    ensures { MatchResult result (λ row. MatchOption row (IsSkipped line.now) (λ q. SpellsRow q line.now)) (RefusesLine row_due number line.now) }
 {
     let content = content_of(line);
     if content.is_empty() {
@@ -53,7 +53,7 @@ pub(crate) fn read_row(
 fn row_fields(content: &[u8], number: u64) -> Result<(FieldBytes<'_>, Numbers), ScenFault>
     ensures { MatchResult result
         (λ p. (fields_in_content content.now ≡ all_fields (fields_seen p.0)) × (wrong_number (fields_seen p.0) ≡ None) × HasNumbers (fields_seen p.0) p.1)
-        (λ fault. (line : List ℕ) → IsLine line → IsShort line → (content_of line ≡ content.now) → (content_of line ≢ []) → Refuses row_due number line fault) }
+        (λ fault. (line : List ℕ) → IsLine line → IsShort line → (content_of line ≡ content.now) → (content_of line ≢ []) → RefusesLine row_due number line fault) }
 {
     if let Some(usual) = usual_fields(content) {
         return Ok(usual);

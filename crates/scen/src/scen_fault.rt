@@ -1,12 +1,12 @@
 //! Why a scenario could not be read.
 ghost use Rattle.std.specs.Prelude.{◌≡◌, Some};
-ghost use Rattle.grid.specs.FaultWords.{words_of, words_text};
+ghost use Rattle.text_io.specs.FaultWords.{words_of, words_text};
 ghost use Rattle.scen.specs.FaultWords.{scen_fault_words};
 ghost use Rattle.scen.specs.declared.scen_fault.ScenFault.TheVariants.{OutOfMemory as out_of_memory};
 
-use grid::FaultWords;
 use std::alloc::AllocError;
 use std::fmt;
+use text_io::{Failure, FaultWords};
 use thiserror::Error;
 
 /// The first fault of a scenario text, with its line and field from 1 on, or why the text was not read to that point.
@@ -35,8 +35,8 @@ impl ScenFault {
             }
             ScenFault::OutOfGrid(line) => FaultWords::new("OutOfGrid", &[line]),
             ScenFault::BadLength(line) => FaultWords::new("BadLength", &[line]),
-            ScenFault::ReadFailed => FaultWords::new("ReadFailed", &[]),
-            ScenFault::OutOfMemory => FaultWords::new("OutOfMemory", &[]),
+            ScenFault::ReadFailed => Failure::ReadFailed.words(),
+            ScenFault::OutOfMemory => Failure::OutOfMemory.words(),
             ScenFault::LineTooLong(line) => FaultWords::new("LineTooLong", &[line]),
         }
     }

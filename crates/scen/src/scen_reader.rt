@@ -1,25 +1,25 @@
 //! Reading the text of a scenario.
 ghost use Rattle.std.specs.Prelude.{◌≡◌, ◌≤◌, true, false, [], length, MatchResult};
 ghost use Rattle.std.specs.List.{AllByRecursion};
-ghost use Rattle.grid.specs.Counted.{counted_inner, failures_of};
-ghost use Rattle.grid.specs.Source.{source_reader};
-ghost use Rattle.grid.specs.Text.{IsLine};
-ghost use Rattle.grid.specs.Lines.{HasTaken};
-ghost use Rattle.grid.specs.Reading.{ReadsText};
+ghost use Rattle.text_io.specs.Counted.{counted_inner, failures_of};
+ghost use Rattle.text_io.specs.Source.{source_reader};
+ghost use Rattle.text_io.specs.Text.{IsLine};
+ghost use Rattle.text_io.specs.Lines.{HasTaken};
+ghost use Rattle.text_io.specs.Reading.{ReadsText};
 ghost use Rattle.scen.specs.Query.{IsQuery, longest_line};
 ghost use Rattle.scen.specs.ScenText.{ScenText};
 ghost use Rattle.scen.specs.ScenFault.{ScenFaultAt, scen_outcome};
-ghost use Rattle.scen.specs.Code.Parsing.{due_after, Adds, Refuses};
+ghost use Rattle.scen.specs.Code.Parsing.{due_after, Adds, RefusesLine};
 ghost use Rattle.scen.specs.Code.AtHand.{AddsAtHand};
 
 use crate::fields::content_of;
 use crate::row_reader::read_row;
 use crate::version::is_version;
 use crate::{Row, ScenFault, Scenario};
-use grid::{Counted, Source, TakenLine};
 use memchr::memchr;
 use std::alloc::{AllocError, Global};
 use std::io::Read;
+use text_io::{Counted, PIECE, Source, TakenLine};
 
 /// A line of a scenario has no more bytes before its LF.
 const LONGEST_LINE: usize = 4096;
@@ -35,13 +35,16 @@ pub fn read_scen<R: Read>(alloc: Global, reader: &mut Counted<R>) -> Result<Scen
 }
 
 /// Reads the lines of a source of which nothing was taken.
-fn read_lines<R: Read>(alloc: Global, source: &mut Source<'_, R>) -> Result<Scenario, ScenFault>
+fn read_lines<R: Read>(
+    alloc: Global,
+    source: &mut Source<'_, R, PIECE>,
+) -> Result<Scenario, ScenFault>
     requires { HasTaken R.remaining (source_reader source.old) source.old [] }
     ensures same_reader { source.new.reader.ghost_name ≡ source.old.reader.ghost_name }
     ensures reads { ReadsText ScenText ScenFaultAt (R.remaining (counted_inner (source_reader source.old))) (R.remaining (counted_inner (source_reader source.new)))
         (failures_of (source_reader source.old)) (failures_of (source_reader source.new)) (scen_outcome result) }
 {
-    grid::laws::places();
+    text_io::laws::places();
     let mut room = [0; LONGEST_LINE];
     let mut progress = Progress::new(alloc);
     let mut number = 1u64;
@@ -87,7 +90,7 @@ impl Progress {
     fn add_line_at_hand<R: Read>(
         &mut self,
         alloc: Global,
-        source: &mut Source<'_, R>,
+        source: &mut Source<'_, R, PIECE>,
         number: u64,
     ) -> Result<bool, ScenFault>
         ensures { AddsAtHand R.remaining source.old source.new self.old self.new number result }
@@ -107,7 +110,7 @@ impl Progress {
         requires line { IsLine line.now }
         requires short { length line.now ≤ longest_line }
         ensures { MatchResult result (λ _. Adds self.old.has_version self.new.has_version self.old.rows.items self.new.rows.items line.now)
-            (Refuses (due_after self.old.has_version) number line.now) }
+            (RefusesLine (due_after self.old.has_version) number line.now) }
     {
         if self.has_version {
             if let Some(row) = read_row(alloc, line, number, self.rows.last())? {

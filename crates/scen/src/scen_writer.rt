@@ -1,16 +1,16 @@
 //! Writing a scenario as text.
 ghost use Rattle.std.specs.Prelude.{◌≡◌, ◌≤◌, [], ◌∷◌, ◌++◌, length, map, decimal, OnOk, OnErr, is_ok};
 ghost use Rattle.std.specs.List.{flat_map};
-ghost use Rattle.grid.specs.Counted.{counted_inner, failures_of};
-ghost use Rattle.grid.specs.Text.{tab, line_feed, ended};
-ghost use Rattle.grid.specs.Sink.{held_back, Puts, Breaks};
-ghost use Rattle.grid.specs.Writing.{WritesText};
+ghost use Rattle.text_io.specs.Counted.{counted_inner, failures_of};
+ghost use Rattle.text_io.specs.Text.{tab, line_feed, ended};
+ghost use Rattle.text_io.specs.Sink.{held_back, Puts, Breaks};
+ghost use Rattle.text_io.specs.Writing.{WritesText};
 ghost use Rattle.scen.specs.Query.{listed_text, row_line, canonical_scen_text};
 
 use crate::{Listed, Row, Scenario};
-use grid::{Counted, Sink, WriteFault};
 use itoa::Buffer;
 use std::io::Write;
+use text_io::{Counted, Sink, WriteFault};
 
 /// Writes a scenario in canonical form: `version 1`, and for each row its nine fields with one tab
 /// between each two, no leading zeros, an LF after each line. The writer is not flushed.

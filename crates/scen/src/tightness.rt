@@ -3,7 +3,7 @@ ghost use Rattle.std.specs.Prelude.{◌≡◌, ◌+◌, ◌*◌, ◌<◌, ◌≤
 ghost use Rattle.grid.specs.Terrain.{terrain_of};
 ghost use Rattle.scen.specs.Certificate.{IsTight};
 ghost use Rattle.scen.specs.Code.TableEntries.{table_entries, number_on};
-ghost use Rattle.scen.specs.Code.Tightness.{ground_of, number_of, is_land, is_water, AreSame, AreWithin, KeepsSide, KeepsDiagonals, KeepsBlock, KeepsRows, IsStrip, AreCorners, KeepsPatch, KeepsBand};
+ghost use Rattle.scen.specs.Code.Tightness.{ground_of, number_of, is_land, is_water, AreSame, AreWithinStep, KeepsSide, KeepsDiagonals, KeepsBlock, KeepsRows, IsStrip, AreCorners, KeepsPatch, KeepsBand};
 
 use crate::keys::{DIAGONAL, STRAIGHT};
 use crate::length_table::Entries;
@@ -198,7 +198,7 @@ fn are_same(p: Corner, q: Corner) -> bool
 
 /// Whether neither of two keys is more than the other and a step.
 fn are_within(p: u64, q: u64, step: u64) -> bool
-    ensures { IsTrue result ↔ AreWithin step p q }
+    ensures { IsTrue result ↔ AreWithinStep step p q }
 {
     p.abs_diff(q) <= step
 }

@@ -1,6 +1,6 @@
 //! The fields of a line as most rows have them: short numbers, each with a tab behind it. They are cut and spelled in one pass.
 ghost use Rattle.std.specs.Prelude.{◌≡◌, ◌∷◌, ◌<◌, ◌↔◌, IsTrue, None, IfSome};
-ghost use Rattle.grid.specs.Text.{tab};
+ghost use Rattle.text_io.specs.Text.{tab};
 ghost use Rattle.scen.specs.Fields.{fields_between, fields_in_content};
 ghost use Rattle.scen.specs.ScenFault.{all_fields, wrong_number};
 ghost use Rattle.scen.specs.Code.Parsing.{fields_seen, HasNumbers, IsShortNumber};

@@ -1,9 +1,9 @@
 //! What a scenario text is answered with, as text: the scenario in canonical form, or the fault.
-use grid::Counted;
 use scen::{read_scen, write_scen};
 use std::alloc::Global;
 use std::io::Read;
 use std::test::Fail;
+use text_io::Counted;
 
 /// What a reader of a scenario text is answered with.
 pub fn answer<R: Read + Drop>(alloc: Global, reader: R) -> Result<String, Fail> {

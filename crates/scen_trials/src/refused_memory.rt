@@ -1,10 +1,10 @@
 //! A scenario that is read while memory may be refused, as `./test --prove` refuses each allocation of these tests in turn: at the most one in a run.
 use fakes::{Keeper, ROW, ROW_WRITTEN};
-use grid::Counted;
 use scen::{ScenFault, read_scen, write_scen};
 use std::alloc::Global;
 use std::process::Abort;
 use std::test::Fail;
+use text_io::Counted;
 
 /// Reads a scenario and writes it; nothing but memory is lacking.
 fn attempt(rt: &impl Abort, alloc: Global) -> Result<(), ScenFault> {

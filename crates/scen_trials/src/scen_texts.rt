@@ -1,10 +1,11 @@
 //! Scenario texts in pieces, and the parts of a row.
 use crate::answers::answer;
 use fakes::{Pieces, ROW, ROW_WRITTEN};
-use grid::{Cell, Counted};
+use grid::Cell;
 use scen::read_scen;
 use std::alloc::{AllocError, Global};
 use std::test::Fail;
+use text_io::Counted;
 
 #[test]
 fn parts_of_a_row(rt: HostRuntime) -> Result<(), Fail> {

@@ -1,9 +1,9 @@
 //! Scenarios from readers that fail and to writers that fail, at each of their calls in turn.
 use fakes::{Keeper, Pieces, ROW, ROW_WRITTEN, Trouble};
-use grid::{Counted, WriteFault};
 use scen::{ScenFault, read_scen, write_scen};
 use std::io::ErrorKind;
 use std::test::Fail;
+use text_io::{Counted, WriteFault};
 
 #[test]
 fn reader_fails_at_each_call(rt: HostRuntime) -> Result<(), Fail> {

@@ -1,13 +1,13 @@
 -- The parts of a fault's line, and how far they have been put.
 use Rattle.std.proofs.Common.{◌≡◌, ◌∙◌, ℕ, List, [], ◌∷◌, ◌++◌, refl, sym, ap, take, append_assoc}
 use Rattle.std.specs.Prelude.{Option, codes}
-use Rattle.grid.proofs.WordLemmas.{joined}
-use Rattle.grid.specs.Text.{line_feed, spaced_numbers}
-use Rattle.grid.specs.FaultWords.{words_of}
-use Rattle.grid.specs.Sink.{Puts}
-use Rattle.grid.specs.declared.fault_words.FaultWords.{FaultWords}
-use Rattle.grid.specs.declared.sink.Sink.{Sink}
-use Rattle.scen.proofs.PutLemmas.{Leaves, Leaves-all, Leaves-less}
+use Rattle.text_io.specs.Laws.Words.{joined}
+use Rattle.text_io.specs.Text.{line_feed, spaced_numbers}
+use Rattle.text_io.specs.FaultWords.{words_of}
+use Rattle.text_io.specs.Sink.{Puts, Leaves}
+use Rattle.text_io.specs.declared.fault_words.FaultWords.{FaultWords}
+use Rattle.text_io.specs.declared.sink.Sink.{Sink}
+use Rattle.text_io.specs.Laws.Putting.{Leaves-all, Leaves-less}
 use Rattle.text_commands.specs.Telling.{fault_line}
 
 abbrev pub numbers_of : FaultWords → List ℕ

@@ -1,13 +1,13 @@
 -- How far the line of a shortest length has been put.
 use Rattle.std.proofs.Common.{◌≡◌, ℕ, Bool, true, false, List, [], ◌∷◌, ◌++◌, refl, ap, append_assoc}
 use Rattle.std.specs.Prelude.{Option, codes, decimal, if◌then◌else◌}
-use Rattle.grid.specs.declared.sink.Sink.{Sink}
-use Rattle.grid.specs.Sink.{Puts}
-use Rattle.grid.specs.Text.{space, line_feed}
+use Rattle.text_io.specs.declared.sink.Sink.{Sink}
+use Rattle.text_io.specs.Sink.{Puts, Leaves}
+use Rattle.text_io.specs.Text.{space, line_feed}
 use Rattle.scen.specs.Query.{listed_text}
 use Rattle.scen.specs.declared.length.Length.{Length}
 use Rattle.scen.specs.declared.listed.Listed.{Listed}
-use Rattle.scen.proofs.PutLemmas.{Leaves, Leaves-all, Leaves-less}
+use Rattle.text_io.specs.Laws.Putting.{Leaves-all, Leaves-less}
 use Rattle.text_commands.specs.RowCommand.{shortest_text}
 
 -- a word that another one follows

@@ -16,3 +16,5 @@ pub mod MapCommand
 pub mod ScenCommand
 -- what `mapf row` does and answers
 pub mod RowCommand
+-- What follows from these definitions, each with its proof: proofs of other crates cite it, and nothing of it has to be believed.
+pub mod Laws

@@ -1,17 +1,16 @@
 -- What `mapf row` does and answers.
 use Rattle.std.specs.Prelude.{◌≡◌, ℕ, ◌≤◌, ◌↔◌, IsTrue, Bool, if◌then◌else◌, List, [], ◌∷◌, ◌++◌, length, Option, Some, None, Result, Ok, Err, slice_get, codes, decimal}
 use Rattle.std.specs.List.{join_with_byte}
-use Rattle.grid.specs.declared.counted.Counted.{Counted}
+use Rattle.text_io.specs.FaultWords.{Words}
+use Rattle.text_io.specs.declared.counted.Counted.{Counted}
 use Rattle.grid.specs.Map.{Grid}
-use Rattle.grid.specs.MapFault.{MapFaultAt, map_outcome}
-use Rattle.grid.specs.MapText.{MapText}
-use Rattle.grid.specs.Text.{space, line_feed}
+use Rattle.grid.specs.MapFault.{ReadsMap}
+use Rattle.text_io.specs.Text.{space, line_feed}
 use Rattle.grid.specs.declared.map_fault.MapFault.{MapFault}
 use Rattle.scen.specs.Certificate.{AreOn, Certifies, IsLeast}
 use Rattle.scen.specs.Length.{Agrees}
 use Rattle.scen.specs.Query.{Query, listed_text}
-use Rattle.scen.specs.ScenFault.{ScenFaultAt, scen_outcome}
-use Rattle.scen.specs.ScenText.{ScenText}
+use Rattle.scen.specs.ScenFault.{ReadsScen}
 use Rattle.scen.specs.declared.certificate.Proposal.{Proposal}
 use Rattle.scen.specs.declared.length.Length.{Length}
 use Rattle.scen.specs.declared.listed.Listed.{Listed}
@@ -21,8 +20,8 @@ use Rattle.text_commands.specs.declared.row_fault.RowFault.TheVariants.{Map, Sce
 use Rattle.text_commands.specs.declared.row_verdict.RowVerdict.{RowVerdict}
 use Rattle.text_commands.specs.declared.row_verdict.RowVerdict.TheVariants.{Shortest, Unreachable}
 use Rattle.text_commands.specs.FaultWords.{row_fault_words}
-use Rattle.text_commands.specs.Rewriting.{Reads, EndsWriting}
-use Rattle.text_commands.specs.Status.{code_of, row_fault_status, row_verdict_status}
+use Rattle.text_commands.specs.Rewriting.{EndsWriting}
+use Rattle.text_commands.specs.Status.{code_of, status_of, row_verdict_status}
 
 -- the words of the line, as `shortest 2 0 listed 2 agrees`
 abbrev pub shortest_words : Length → Listed → Bool → List (List ℕ)
@@ -75,13 +74,6 @@ JudgesRow m rows number (Err (Certificate fault)) =
 JudgesRow m rows number (Err (Map fault)) = ⊥
 JudgesRow m rows number (Err (Scen fault)) = ⊥
 
--- a map was read as `read_map` reads it, and a scenario as `read_scen` does, with these answers
-abbrev pub ReadsMap : {R : Type 0} → (R → Option (List ℕ)) → Counted R → Counted R → Result Grid MapFault → Type 0
-ReadsMap remaining old new answer = Reads MapText MapFaultAt remaining old new (map_outcome answer)
-
-abbrev pub ReadsScen : {S : Type 0} → (S → Option (List ℕ)) → Counted S → Counted S → Result (List Query) ScenFault → Type 0
-ReadsScen remaining old new answer = Reads ScenText ScenFaultAt remaining old new (scen_outcome answer)
-
 -- The map was read, and then the scenario, and then the row was judged by the two; a text that could not be read is answered, and
 -- what comes after it isn't touched.
 abbrev pub ReadsAndJudges
@@ -98,16 +90,16 @@ ReadsAndJudges map_left scen_left old_map new_map old_scen new_scen number answe
 -- The exit status, what the output got and which fault was told: the line of the verdict, or a beginning of it where the output failed;
 -- nothing where there is no verdict.
 abbrev pub EndsByRowVerdict
-    : {W : Type 0} → (W → Option (List ℕ)) → (Told : Option (List (List ℕ)) → Type 0) → Counted W → Counted W → ℕ → Result RowVerdict RowFault → Type 0
+    : {W : Type 0} → (W → Option (List ℕ)) → (Told : Option Words → Type 0) → Counted W → Counted W → ℕ → Result RowVerdict RowFault → Type 0
 EndsByRowVerdict contents Told old new status (Ok verdict) =
     EndsWriting contents Told old new status (row_verdict_status verdict) (row_verdict_text verdict)
 EndsByRowVerdict contents Told old new status (Err fault) =
-    (status ≡ code_of (row_fault_status fault)) × (new ≡ old) × Told (Some (row_fault_words fault))
+    (status ≡ code_of (status_of (row_fault_words fault))) × (new ≡ old) × Told (Some (row_fault_words fault))
 
 -- The texts were read and the row was judged, and the command ended by that.
 pub record AnswersRow
     {R S W : Type 0} (map_left : R → Option (List ℕ)) (scen_left : S → Option (List ℕ)) (contents : W → Option (List ℕ))
-    (Told : Option (List (List ℕ)) → Type 0) (old_map new_map : Counted R) (old_scen new_scen : Counted S) (number : ℕ) (old_out new_out : Counted W) (status : ℕ) : Type 0 where
+    (Told : Option Words → Type 0) (old_map new_map : Counted R) (old_scen new_scen : Counted S) (number : ℕ) (old_out new_out : Counted W) (status : ℕ) : Type 0 where
   pub answer : Result RowVerdict RowFault
   pub judges : ReadsAndJudges map_left scen_left old_map new_map old_scen new_scen number answer
   pub ends : EndsByRowVerdict contents Told old_out new_out status answer

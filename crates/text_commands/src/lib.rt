@@ -10,9 +10,9 @@ mod scen_command;
 mod status;
 mod writing;
 
-pub use fault_line::report;
-pub use map_command::{map_cmd, map_fault_status};
+pub use fault_line::{give_up, report};
+pub use map_command::map_cmd;
 pub use row_command::row_cmd;
-pub use scen_command::{scen_cmd, scen_fault_status};
+pub use scen_command::scen_cmd;
 pub use status::Status;
 pub use writing::{finish, write_text};

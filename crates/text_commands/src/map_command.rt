@@ -1,14 +1,14 @@
 //! `mapf map`: reads a map and writes it in canonical form.
-ghost use Rattle.std.specs.Prelude.{◌≡◌};
-ghost use Rattle.text_commands.specs.Status.{map_fault_status};
 ghost use Rattle.text_commands.specs.Telling.{Tells};
 ghost use Rattle.text_commands.specs.MapCommand.{RewritesMap};
 
+use crate::Status;
+use crate::fault_line::give_up;
 use crate::writing::finish;
-use crate::{Status, report};
-use grid::{Counted, MapFault, read_map, write_map};
+use grid::{read_map, write_map};
 use std::alloc::Global;
 use std::io::{Read, Write};
+use text_io::Counted;
 
 /// Reads a map from `map` and writes its canonical text to `out`, with a fault's line on `err`. The answer is the exit status,
 /// which stays where `err` fails.
@@ -25,19 +25,6 @@ pub fn map_cmd<R: Read, W: Write, E: Write>(
             let written = write_map(&map, out);
             finish(written, Status::Done, out, err).code()
         }
-        Err(fault) => {
-            report(err, fault.words());
-            map_fault_status(fault).code()
-        }
-    }
-}
-
-/// The status that a map's fault ends with.
-pub fn map_fault_status(fault: MapFault) -> Status
-    ensures { result ≡ map_fault_status fault }
-{
-    match fault {
-        MapFault::ReadFailed | MapFault::OutOfMemory => Status::Failure,
-        _ => Status::Fault,
+        Err(fault) => give_up(fault.words(), err),
     }
 }

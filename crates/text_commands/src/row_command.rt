@@ -4,14 +4,15 @@ ghost use Rattle.scen.specs.Certificate.{AreOn};
 ghost use Rattle.text_commands.specs.Telling.{Tells};
 ghost use Rattle.text_commands.specs.RowCommand.{HasSizeOf, IsAsked, JudgesRow, ReadsAndJudges, AnswersRow};
 
-use crate::report;
+use crate::fault_line::give_up;
 use crate::row_fault::RowFault;
 use crate::row_verdict::{RowVerdict, write_row_verdict};
 use crate::writing::finish;
-use grid::{Cell, Counted, Map, read_map};
+use grid::{Cell, Map, read_map};
 use scen::{Proposal, Row, Scenario, SearchFault, certify, read_scen, search};
 use std::alloc::Global;
 use std::io::{Read, Write};
+use text_io::Counted;
 
 /// Reads a map from `map` and a scenario from `scen`, and writes the shortest length for the scenario's row with this number,
 /// counted from 0, and whether the listed one agrees with it, to `out`, with a fault's line on `err`. The answer is the exit status,
@@ -31,10 +32,7 @@ pub fn row_cmd<R: Read, S: Read, W: Write, E: Write>(
             let written = write_row_verdict(verdict, out);
             finish(written, verdict.status(), out, err).code()
         }
-        Err(fault) => {
-            report(err, fault.words());
-            fault.status().code()
-        }
+        Err(fault) => give_up(fault.words(), err),
     }
 }
 

@@ -1,16 +1,13 @@
 //! Why a row of a scenario has no answer.
 ghost use Rattle.std.specs.Prelude.{◌≡◌, Some};
-ghost use Rattle.grid.specs.FaultWords.{words_of, words_text};
+ghost use Rattle.text_io.specs.FaultWords.{words_of, words_text};
 ghost use Rattle.text_commands.specs.FaultWords.{row_fault_words};
-ghost use Rattle.text_commands.specs.Status.{row_fault_status};
 ghost use Rattle.text_commands.specs.declared.row_fault.RowFault.TheVariants as row_fault;
 
-use crate::Status;
-use crate::map_command::map_fault_status;
-use crate::scen_command::scen_fault_status;
-use grid::{FaultWords, MapFault};
+use grid::MapFault;
 use scen::{CertFault, ScenFault};
 use std::fmt;
+use text_io::{Failure, FaultWords};
 use thiserror::Error;
 
 /// Why a row has no answer.
@@ -31,18 +28,6 @@ pub(crate) enum RowFault {
 }
 
 impl RowFault {
-    /// The status that it ends with.
-    pub(crate) fn status(self) -> Status
-        ensures { result ≡ row_fault_status self }
-    {
-        match self {
-            RowFault::Map(fault) => map_fault_status(fault),
-            RowFault::Scen(fault) => scen_fault_status(fault),
-            RowFault::OutOfMemory => Status::Failure,
-            _ => Status::Fault,
-        }
-    }
-
     /// The words in which it is told.
     pub(crate) fn words(self) -> FaultWords
         ensures { words_of result ≡ row_fault_words self }
@@ -52,7 +37,7 @@ impl RowFault {
             RowFault::Scen(fault) => fault.words(),
             RowFault::NoSuchRow => FaultWords::new("NoSuchRow", &[]),
             RowFault::SizeDiffers(row) => FaultWords::new("SizeDiffers", &[u64::from(row)]),
-            RowFault::OutOfMemory => FaultWords::new("OutOfMemory", &[]),
+            RowFault::OutOfMemory => Failure::OutOfMemory.words(),
             RowFault::Certificate(fault) => fault.words(),
         }
     }

@@ -1,17 +1,17 @@
 //! What a row of a scenario comes to, and its line.
 ghost use Rattle.std.specs.Prelude.{◌≡◌, [], ◌∷◌, ◌++◌, is_ok, OnOk, OnErr};
-ghost use Rattle.grid.specs.Counted.{counted_inner, failures_of};
-ghost use Rattle.grid.specs.Text.{space};
-ghost use Rattle.grid.specs.Sink.{held_back, Puts, Breaks};
-ghost use Rattle.grid.specs.Writing.{WritesText};
+ghost use Rattle.text_io.specs.Counted.{counted_inner, failures_of};
+ghost use Rattle.text_io.specs.Text.{space};
+ghost use Rattle.text_io.specs.Sink.{held_back, Puts, Breaks};
+ghost use Rattle.text_io.specs.Writing.{WritesText};
 ghost use Rattle.text_commands.specs.Status.{row_verdict_status};
 ghost use Rattle.text_commands.specs.RowCommand.{shortest_text, row_verdict_text, IsRowVerdictOn};
 
 use crate::Status;
-use grid::{Counted, Sink, WriteFault};
 use itoa::Buffer;
 use scen::{Length, Listed, agrees, put_listed};
 use std::io::Write;
+use text_io::{Counted, Sink, WriteFault};
 
 /// What a row comes to.
 #[derive(Clone, Copy, Debug, PartialEq, Eq)]

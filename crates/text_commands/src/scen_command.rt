@@ -1,15 +1,14 @@
 //! `mapf scen`: reads a scenario and writes it in canonical form.
-ghost use Rattle.std.specs.Prelude.{◌≡◌};
-ghost use Rattle.text_commands.specs.Status.{scen_fault_status};
 ghost use Rattle.text_commands.specs.Telling.{Tells};
 ghost use Rattle.text_commands.specs.ScenCommand.{RewritesScen};
 
+use crate::Status;
+use crate::fault_line::give_up;
 use crate::writing::finish;
-use crate::{Status, report};
-use grid::Counted;
-use scen::{ScenFault, read_scen, write_scen};
+use scen::{read_scen, write_scen};
 use std::alloc::Global;
 use std::io::{Read, Write};
+use text_io::Counted;
 
 /// Reads a scenario from `scen` and writes its canonical text to `out`, with a fault's line on `err`. The answer is the exit status,
 /// which stays where `err` fails.
@@ -26,19 +25,6 @@ pub fn scen_cmd<R: Read, W: Write, E: Write>(
             let written = write_scen(&scenario, out);
             finish(written, Status::Done, out, err).code()
         }
-        Err(fault) => {
-            report(err, fault.words());
-            scen_fault_status(fault).code()
-        }
-    }
-}
-
-/// The status that a scenario's fault ends with.
-pub fn scen_fault_status(fault: ScenFault) -> Status
-    ensures { result ≡ scen_fault_status fault }
-{
-    match fault {
-        ScenFault::ReadFailed | ScenFault::OutOfMemory => Status::Failure,
-        _ => Status::Fault,
+        Err(fault) => give_up(fault.words(), err),
     }
 }

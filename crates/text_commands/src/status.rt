@@ -1,6 +1,8 @@
 //! How a command ends: its exit status.
 ghost use Rattle.std.specs.Prelude.{◌≡◌};
 
+use text_io::FaultWords;
+
 /// The exit status of the program.
 #[derive(Clone, Copy, Debug, PartialEq, Eq)]
 pub enum Status {
@@ -15,7 +17,19 @@ pub enum Status {
 }
 
 impl Status {
-    ghost use Rattle.text_commands.specs.Status.{code_of};
+    ghost use Rattle.text_io.specs.FaultWords.{words_of};
+    ghost use Rattle.text_commands.specs.Status.{code_of, status_of};
+
+    /// What a fault ends with.
+    pub fn of_fault(words: &FaultWords) -> Status
+        ensures { result ≡ status_of (words_of words.now) }
+    {
+        if words.is_failure() {
+            Status::Failure
+        } else {
+            Status::Fault
+        }
+    }
 
     /// The number that the system gets.
     pub fn code(self) -> u8

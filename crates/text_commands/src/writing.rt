@@ -1,16 +1,16 @@
 //! Ending a command that wrote a text.
 ghost use Rattle.std.specs.Prelude.{◌≡◌, [], None, Some, is_ok, OnOk, OnErr};
-ghost use Rattle.grid.specs.Counted.{counted_inner, failures_of};
-ghost use Rattle.grid.specs.FaultWords.{write_fault_words};
-ghost use Rattle.grid.specs.Sink.{held_back, Puts, Breaks};
-ghost use Rattle.grid.specs.Writing.{WritesText};
-ghost use Rattle.grid.specs.declared.sink.WriteFault.TheVariants as write_fault;
+ghost use Rattle.text_io.specs.Counted.{counted_inner, failures_of};
+ghost use Rattle.text_io.specs.FaultWords.{write_fault_words};
+ghost use Rattle.text_io.specs.Sink.{held_back, Puts, Breaks};
+ghost use Rattle.text_io.specs.Writing.{WritesText};
+ghost use Rattle.text_io.specs.declared.sink.WriteFault.TheVariants as write_fault;
 ghost use Rattle.text_commands.specs.Telling.{Tells};
-ghost use Rattle.text_commands.specs.Finishing.{Finishes};
+ghost use Rattle.text_commands.specs.Finishing.{FinishesWriting};
 
 use crate::{Status, report};
-use grid::{Counted, Sink, WriteFault};
 use std::io::Write;
+use text_io::{Counted, Sink, WriteFault};
 
 /// Writes a text. The writer is not flushed.
 // Compiled by itself: what it reads and writes has room on the stack, for which a caller would pay at each of its calls.
@@ -39,7 +39,7 @@ pub fn finish<W: Write, E: Write>(
     out: &mut Counted<W>,
     err: &mut Counted<E>,
 ) -> Status
-    ensures { Finishes W.contents (Tells E.contents err.old err.new None) (Tells E.contents err.old err.new (Some (write_fault_words write_fault.WriteFailed)))
+    ensures { FinishesWriting W.contents (Tells E.contents err.old err.new None) (Tells E.contents err.old err.new (Some (write_fault_words write_fault.WriteFailed)))
         (is_ok written) success out.old out.new result }
 {
     if written.is_ok() && out.flush().is_ok() {

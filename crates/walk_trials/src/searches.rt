@@ -1,9 +1,10 @@
 //! What the search proposes is certified, on all small maps; and what is changed in it is refused.
-use grid::{Cell, Counted, Map, read_map};
+use grid::{Cell, Map, read_map};
 use scen::{CertFault, Length, LengthTable, Proposal, SearchFault, certify, search};
 use std::alloc::Global;
 use std::process::Abort;
 use std::test::Fail;
+use text_io::Counted;
 
 const WIDTH: u16 = 3;
 

@@ -1,8 +1,9 @@
 //! What the search proposes on maps of users' sizes is certified, and is as long as it has to be.
-use grid::{Cell, Counted, Map, read_map};
+use grid::{Cell, Map, read_map};
 use scen::{certify, search};
 use std::alloc::Global;
 use std::test::Fail;
+use text_io::Counted;
 
 /// How the terrain of a map is laid out.
 #[derive(Clone, Copy)]

@@ -5,7 +5,7 @@ use Rattle.agent.specs.declared.counters.Counter.{Counter}
 use Rattle.agent.specs.Counters.{agent_at, IsRising}
 
 -- the counter at a place is that of the agent
-pub record IsAt (counters : List Counter) (agent i : ℕ) : Type 0 where
+pub record IsCounterAt (counters : List Counter) (agent i : ℕ) : Type 0 where
   pub in_range : i < length counters
   pub is_own : agent_at counters i ≡ agent
 

@@ -1,6 +1,6 @@
 -- What is read for one agent.
 use Rattle.std.specs.Prelude.{◌≡◌, ℕ, List, Option, None, MatchOption, Result, Ok, Err}
-use Rattle.grid.specs.declared.counted.Counted.{Counted}
+use Rattle.text_io.specs.declared.counted.Counted.{Counted}
 use Rattle.model.specs.Timetable.{Timetable, track_of}
 use Rattle.depgraph.specs.AgentParts.{AgentPart, IsPartOf}
 use Rattle.plan_commands.specs.DepsCommand.{ReadsTimetable}

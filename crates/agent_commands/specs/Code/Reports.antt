@@ -1,16 +1,16 @@
 -- What the parts of `mapf tape` owe each other.
 use Rattle.std.specs.Prelude.{◌≡◌, ℕ, ◌+◌, ◌-◌, ◌*◌, ◌≤◌, List, [], ◌∷◌, ◌++◌, length, Option, Result, Ok, Err}
 use Rattle.std.specs.Io.KnownBytes.{Consumes}
-use Rattle.grid.specs.declared.counted.Counted.{Counted}
-use Rattle.grid.specs.Counted.{counted_inner, failures_of, Rises}
-use Rattle.grid.specs.Text.{line_feed}
+use Rattle.text_io.specs.declared.counted.Counted.{Counted}
+use Rattle.text_io.specs.Counted.{counted_inner, failures_of, Rises}
+use Rattle.text_io.specs.Text.{line_feed}
 use Rattle.model.specs.History.{record_length}
 use Rattle.model.specs.Timetable.{Timetable}
 use Rattle.agent.specs.declared.mem_tape.MemTape.{MemTape}
-use Rattle.agent.specs.Agents.{AgentOn, state_of, Holds}
+use Rattle.agent.specs.Agents.{AgentOn, state_of, IsHolding}
 use Rattle.agent.specs.MemTape.{mem_state}
 use Rattle.agent.specs.Replies.{stood}
-use Rattle.agent.specs.States.{done}
+use Rattle.agent.specs.States.{finished_moves}
 use Rattle.agent.specs.Tape.{whole_records}
 use Rattle.event_text.specs.ReplyText.{reply_line}
 use Rattle.file_tape.specs.declared.file_tape.FileTapeFault.{FileTapeFault}
@@ -39,8 +39,8 @@ IsReported remaining tt i old new r = IsShown remaining tt i old new (report_tex
 
 -- the report of an agent of a timetable, the file of whose tape has so many bytes
 pub record IsReportOf (tt : Timetable) (a : AgentOn MemTape) (count : ℕ) (r : TapeReport) : Type 0 where
-  pub holds : Holds mem_state tt a r.held
-  pub is_done : r.done ≡ done (state_of mem_state a)
+  pub holds : IsHolding mem_state tt a r.held
+  pub is_done : r.done ≡ finished_moves (state_of mem_state a)
   pub records : r.records ≡ whole_records (mem_state a.tape)
   pub torn : r.torn ≡ count - record_length * whole_records (mem_state a.tape)
 

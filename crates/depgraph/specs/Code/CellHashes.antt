@@ -4,8 +4,8 @@ use Rattle.depgraph.specs.declared.cell_hash.TheConstants.{SCATTER}
 use Rattle.depgraph.specs.declared.cell_hash.CellHashing.{CellHashing}
 use Rattle.depgraph.specs.declared.cell_hash.CellHasher.{CellHasher}
 
-abbrev pub begun : CellHashing → CellHasher
-begun s = record { x = 0; y = 0 }
+abbrev pub new_hasher : CellHashing → CellHasher
+new_hasher s = record { x = 0; y = 0 }
 
 -- the last two numbers of 16 bits are kept
 abbrev pub written : CellHasher → List ℕ → CellHasher

@@ -4,14 +4,14 @@ use Rattle.model.specs.Dependency.{following}
 use Rattle.depgraph.specs.Code.Waits.{no_entry}
 
 -- the entry has a link to another
-abbrev pub Leads : List ℕ → ℕ → ℕ → Type 0
-Leads ahead i j = (slice_get ahead i ≡ Some j) × (j ≢ no_entry)
+abbrev pub LinksTo : List ℕ → ℕ → ℕ → Type 0
+LinksTo ahead i j = (slice_get ahead i ≡ Some j) × (j ≢ no_entry)
 
 -- For each entry the one ahead of it, or no entry. No two have one entry ahead.
 pub record AreLinks (ahead : List ℕ) : Type 0 where
   pub few : length ahead < 2 ^ 32
-  pub within : (i j : ℕ) → Leads ahead i j → j < length ahead
-  pub injective : (i k j : ℕ) → Leads ahead i j → Leads ahead k j → i ≡ k
+  pub within : (i j : ℕ) → LinksTo ahead i j → j < length ahead
+  pub injective : (i k j : ℕ) → LinksTo ahead i j → LinksTo ahead k j → i ≡ k
 
 -- Different entries, the least first, each of which has a link to the next.
 pub record IsCycle (ahead entries : List ℕ) : Type 0 where
@@ -23,11 +23,11 @@ pub record IsCycle (ahead entries : List ℕ) : Type 0 where
 -- Links were only taken away.
 pub record IsCut (before after : List ℕ) : Type 0 where
   pub count : length after ≡ length before
-  pub kept : (i j : ℕ) → Leads after i j → Leads before i j
+  pub kept : (i j : ℕ) → LinksTo after i j → LinksTo before i j
 
 -- What a walk from an entry leaves: no link of that entry, and all cycles but the one that it found.
-pub record IsWalked (first : ℕ) (before after trail : List ℕ) (found : Type 0) : Type 0 where
+pub record IsCycleWalked (first : ℕ) (before after trail : List ℕ) (found : Type 0) : Type 0 where
   pub is_cut : IsCut before after
-  pub gone : (j : ℕ) → Leads after first j → ⊥
+  pub gone : (j : ℕ) → LinksTo after first j → ⊥
   pub is_cycle : found → IsCycle before trail × (slice_get trail 0 ≡ Some first)
   pub others : (entries : List ℕ) → IsCycle before entries → (found × (entries ≡ trail)) ⊎ IsCycle after entries

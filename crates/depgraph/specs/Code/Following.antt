@@ -3,7 +3,7 @@ use Rattle.std.specs.Prelude.{◌≡◌, ℕ, ◌+◌, ◌<◌, ◌≤◌, ◌^�
 use Rattle.depgraph.specs.declared.placing.Arrival.{Arrival}
 use Rattle.depgraph.specs.declared.waiting.Wait.{Wait}
 use Rattle.depgraph.specs.Code.Entries.{begin_in, IsEntry}
-use Rattle.depgraph.specs.Code.Schedules.{entry_of}
+use Rattle.depgraph.specs.Code.Schedules.{entry_of_arrival}
 use Rattle.depgraph.specs.Code.Waits.{no_wait}
 
 -- Entries of agents' paths, with the times at which they are entered and the numbers of their cells, which are below a limit. Nobody is in a
@@ -28,8 +28,8 @@ pub record AreEntries (times ends numbers : List ℕ) (limit : ℕ) : Type 0 whe
 abbrev pub IsLastIn : (times ends numbers : List ℕ) → (number t : ℕ) → Option Arrival → Type 0
 IsLastIn times ends numbers n t None = (i k e : ℕ) → IsEntry ends i k e → get_or numbers e 0 ≡ n → get_or times e 0 < t → ⊥
 IsLastIn times ends numbers n t (Some a) =
-    IsEntry ends a.agent a.index (entry_of ends a) × (get_or numbers (entry_of ends a) 0 ≡ n) × (get_or times (entry_of ends a) 0 < t)
-    × ((i k e : ℕ) → IsEntry ends i k e → get_or numbers e 0 ≡ n → get_or times e 0 < t → get_or times e 0 ≤ get_or times (entry_of ends a) 0)
+    IsEntry ends a.agent a.index (entry_of_arrival ends a) × (get_or numbers (entry_of_arrival ends a) 0 ≡ n) × (get_or times (entry_of_arrival ends a) 0 < t)
+    × ((i k e : ℕ) → IsEntry ends i k e → get_or numbers e 0 ≡ n → get_or times e 0 < t → get_or times e 0 ≤ get_or times (entry_of_arrival ends a) 0)
 
 -- what a move into a cell waits for, after the last arrival there: that the other agent has left, and for nobody after its own
 abbrev pub wait_after : ℕ → Option Arrival → Wait

@@ -15,7 +15,7 @@ use Rattle.depgraph.specs.Code.Placing.{IsTimeline, IsPlacing}
 use Rattle.depgraph.specs.Code.Waits.{AreWaits}
 
 -- the paths, what their moves wait for, and the visits of a timetable
-pub record IsKept (tt : Timetable) (cells : List Cell) (times ends : List ℕ) (needs : List Wait) (visits : List Visit) (visit_ends : List ℕ) : Type 0 where
+pub record AreKeptVisits (tt : Timetable) (cells : List Cell) (times ends : List ℕ) (needs : List Wait) (visits : List Visit) (visit_ends : List ℕ) : Type 0 where
   pub graphed : IsGraphed tt
   pub are_cells : cells ≡ all_entered tt.tracks
   pub are_times : times ≡ all_times tt.tracks
@@ -29,7 +29,7 @@ pub record IsKept (tt : Timetable) (cells : List Cell) (times ends : List ℕ) (
 pub record AreKept (tt : Timetable) (cells : List Cell) (times ends : List ℕ) (needs : List Wait) : Type 0 where
   pub visits : List Visit
   pub visit_ends : List ℕ
-  pub kept : IsKept tt cells times ends needs visits visit_ends
+  pub kept : AreKeptVisits tt cells times ends needs visits visit_ends
 
 -- the visits of a timetable, and its visited cells, each with its number, in order of first visit
 pub record HasVisits (tt : Timetable) (visits : List Visit) (visit_ends : List ℕ) (entries : List (Cell × ℕ)) : Type 0 where
@@ -37,7 +37,7 @@ pub record HasVisits (tt : Timetable) (visits : List Visit) (visit_ends : List �
   pub times : List ℕ
   pub ends : List ℕ
   pub needs : List Wait
-  pub kept : IsKept tt cells times ends needs visits visit_ends
+  pub kept : AreKeptVisits tt cells times ends needs visits visit_ends
   pub ordered : AreOrdered kept.placing.names kept.placing.listed entries
 
 -- the route of an agent

@@ -4,7 +4,7 @@ use Rattle.grid.specs.declared.cell.Cell.{Cell}
 use Rattle.model.specs.declared.visit.Visit.{Visit}
 use Rattle.model.specs.Timetable.{Timetable}
 use Rattle.depgraph.specs.declared.waiting.Wait.{Wait}
-use Rattle.depgraph.specs.Code.Keeping.{IsKept, AreKept}
+use Rattle.depgraph.specs.Code.Keeping.{AreKeptVisits, AreKept}
 use Rattle.depgraph.specs.Code.Links.{all_links}
 use Rattle.depgraph.specs.Code.Numbers.{cells_by, AreDistinct, AreKnown}
 use Rattle.depgraph.specs.Code.Tracks.{timetable_by}
@@ -20,7 +20,7 @@ pub record AreFound (tt : Timetable) (number : ℕ) (names : List Cell) (numbers
 -- the same with the visits, those of each cell by its name
 pub record AreLaidOut (tt : Timetable) (number : ℕ) (names : List Cell) (numbers times ends : List ℕ) (needs : List Wait) (visits : List Visit) (visit_ends : List ℕ) : Type 0 where
   pub told : timetable_by number (cells_by names numbers) times ends ≡ tt
-  pub kept : IsKept tt (cells_by names numbers) times ends needs visits visit_ends
+  pub kept : AreKeptVisits tt (cells_by names numbers) times ends needs visits visit_ends
   pub named : kept.placing.names ≡ names
   pub distinct : AreDistinct names
   pub known : AreKnown names numbers

@@ -9,13 +9,13 @@ use Rattle.depgraph.specs.declared.following.Coming.{Coming}
 use Rattle.depgraph.specs.declared.following.Pass.{Pass}
 use Rattle.depgraph.specs.Code.Entries.{begin_in, IsEntry}
 use Rattle.depgraph.specs.Code.Following.{AreEntries, AreShared, IsFollowed, IsLastIn, IsMeeting}
-use Rattle.depgraph.specs.Code.Schedules.{no_arrival, entry_of}
+use Rattle.depgraph.specs.Code.Schedules.{no_arrival, entry_of_arrival}
 use Rattle.depgraph.specs.Code.Waits.{no_wait}
 
 -- ---- which cells are shared
 
 -- An agent came into the cell with a number: it was the first, or the first was the same, or the cell is shared.
-pub record IsSeen (number agent : ℕ) (old new : Owners) : Type 0 where
+pub record IsOwnerSeen (number agent : ℕ) (old new : Owners) : Type 0 where
   pub owner_count : length new.owners.items ≡ length old.owners.items
   pub shared_count : length new.shared.items ≡ length old.shared.items
   pub own : get_or new.shared.items number true ≡ false → get_or new.owners.items number None ≡ Some agent
@@ -43,7 +43,7 @@ coming_at list p = get_or list p no_coming
 
 -- the entry at which somebody comes
 abbrev pub entry_by : List ℕ → Coming → ℕ
-entry_by ends c = entry_of ends c.arrival
+entry_by ends c = entry_of_arrival ends c.arrival
 
 -- somebody comes into a shared cell at a time
 pub record IsComing (m : Meetings) (t : ℕ) (c : Coming) : Type 0 where
@@ -55,15 +55,15 @@ pub record IsComing (m : Meetings) (t : ℕ) (c : Coming) : Type 0 where
 abbrev pub AllComing : Meetings → ℕ → List Coming → Type 0
 AllComing m t list = (p : ℕ) → p < length list → IsComing m t (coming_at list p)
 
-abbrev pub IsIn : List Coming → Coming → Type 0
-IsIn list c = (p : ℕ) × (p < length list) × (coming_at list p ≡ c)
+abbrev pub IsInComings : List Coming → Coming → Type 0
+IsInComings list c = (p : ℕ) × (p < length list) × (coming_at list p ≡ c)
 
 abbrev pub coming_by : Meetings → (agent index entry : ℕ) → Coming
 coming_by m i k e = record { number = get_or m.numbers.now e 0; arrival = record { agent = i; index = k } }
 
 -- all who come into shared cells at a time
 abbrev pub HasAll : Meetings → ℕ → List Coming → Type 0
-HasAll m t list = (i k e : ℕ) → IsEntry m.ends.now i k e → IsMeeting m.numbers.now m.shared.items e → get_or m.times.now e 0 ≡ t → IsIn list (coming_by m i k e)
+HasAll m t list = (i k e : ℕ) → IsEntry m.ends.now i k e → IsMeeting m.numbers.now m.shared.items e → get_or m.times.now e 0 ≡ t → IsInComings list (coming_by m i k e)
 
 -- ---- blocks of times
 
@@ -83,9 +83,9 @@ pub record AreBlock (m : Meetings) (t : ℕ) (block : List (List Coming)) : Type
 pub record AreAdded (m : Meetings) (t agent : ℕ) (old new : List (List Coming)) : Type 0 where
   pub count : length new ≡ length old
   pub sound : (s : ℕ) → s < block_times → AllComing m (t + s) (list_at old s) → AllComing m (t + s) (list_at new s)
-  pub kept : (s : ℕ) (c : Coming) → s < block_times → IsIn (list_at old s) c → IsIn (list_at new s) c
+  pub kept : (s : ℕ) (c : Coming) → s < block_times → IsInComings (list_at old s) c → IsInComings (list_at new s) c
   pub own : (k e s : ℕ) → s < block_times → IsEntry m.ends.now agent k e → IsMeeting m.numbers.now m.shared.items e → get_or m.times.now e 0 ≡ t + s
-      → IsIn (list_at new s) (coming_by m agent k e)
+      → IsInComings (list_at new s) (coming_by m agent k e)
 
 -- ---- who is under way
 
@@ -96,7 +96,7 @@ abbrev pub is_under_way : List ℕ → Follower → Bool
 is_under_way ends f = nat_lt f.agent (length ends) && nat_lt f.index (get_or ends f.agent 0 - begin_in ends f.agent)
 
 -- an agent comes next into the first shared cell from a time on
-pub record IsAt (m : Meetings) (t : ℕ) (f : Follower) : Type 0 where
+pub record ComesNextAt (m : Meetings) (t : ℕ) (f : Follower) : Type 0 where
   pub agent : f.agent < length m.ends.now
   pub within : entry_next m f ≤ get_or m.ends.now f.agent 0
   pub before : (k e : ℕ) → IsEntry m.ends.now f.agent k e → e < entry_next m f → IsMeeting m.numbers.now m.shared.items e → get_or m.times.now e 0 < t
@@ -111,13 +111,13 @@ follower_at followers b = get_or followers b no_follower
 
 -- all agents that come into shared cells from a time on
 pub record AreAllUnderWay (m : Meetings) (t : ℕ) (followers : List Follower) : Type 0 where
-  pub at : (b : ℕ) → b < length followers → IsAt m t (follower_at followers b)
+  pub at : (b : ℕ) → b < length followers → ComesNextAt m t (follower_at followers b)
   pub all : (i k e : ℕ) → IsEntry m.ends.now i k e → IsMeeting m.numbers.now m.shared.items e → t ≤ get_or m.times.now e 0
       → (b : ℕ) × (b < length followers) × ((follower_at followers b).agent ≡ i)
 
 -- nobody comes into a shared cell from a time on
-abbrev pub IsPast : Meetings → ℕ → Type 0
-IsPast m t = (i k e : ℕ) → IsEntry m.ends.now i k e → IsMeeting m.numbers.now m.shared.items e → get_or m.times.now e 0 < t
+abbrev pub NobodyComes : Meetings → ℕ → Type 0
+NobodyComes m t = (i k e : ℕ) → IsEntry m.ends.now i k e → IsMeeting m.numbers.now m.shared.items e → get_or m.times.now e 0 < t
 
 -- ---- the pass
 
@@ -127,7 +127,7 @@ noted i None old = old
 noted i (Some a) old = if a.agent == i then old else record { agent = a.agent; count = a.index + 1 }
 
 -- the last arrivals before the time in all shared cells, and what the moves into them wait for
-pub record IsDone (m : Meetings) (p : Pass) : Type 0 where
+pub record IsPassDone (m : Meetings) (p : Pass) : Type 0 where
   pub last_count : length p.last.items ≡ length m.shared.items
   pub wait_count : length p.waits.items ≡ length m.times.now
   pub last : (n : ℕ) → get_or m.shared.items n true ≡ true → IsLastIn m.times.now m.ends.now m.numbers.now n p.time (get_or p.last.items n None)

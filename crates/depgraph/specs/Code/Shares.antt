@@ -40,12 +40,12 @@ pub record IsShare (number agent : ℕ) (names : List Cell) (numbers : List ℕ)
   pub rising : (i : ℕ) → i < length ends → begin_in ends i < get_or ends i 0
 
 -- the entries of an agent among those of all
-abbrev pub entries_of : {X : Type 0} → List ℕ → ℕ → List X → List X
-entries_of ends i xs = take (get_or ends i 0 - begin_in ends i) (drop (begin_in ends i) xs)
+abbrev pub entries_among : {X : Type 0} → List ℕ → ℕ → List X → List X
+entries_among ends i xs = take (get_or ends i 0 - begin_in ends i) (drop (begin_in ends i) xs)
 
 -- There is such an agent, and its entries in the lists of all agents are those of its part.
 pub record HasShare (number agent : ℕ) (names : List Cell) (all_numbers : List ℕ) (all_needs : List Wait) (ends : List ℕ) : Type 0 where
   pub is_agent : agent < length ends
   pub numbers_end : get_or ends agent 0 ≤ length all_numbers
   pub needs_end : get_or ends agent 0 ≤ length all_needs
-  pub share : IsShare number agent names (entries_of ends agent all_numbers) (entries_of ends agent all_needs) ends
+  pub share : IsShare number agent names (entries_among ends agent all_numbers) (entries_among ends agent all_needs) ends

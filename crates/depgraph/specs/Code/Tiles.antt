@@ -12,15 +12,15 @@ abbrev pub offset_of : Cell → ℕ
 offset_of cell = cell.y % 16 * 16 + cell.x % 16
 
 -- the part of the numbers that the cell's tile has, or 0
-abbrev pub part_of : Tiles → Cell → ℕ
-part_of t cell = get_or t.parts.items (tile_of t.across cell) 0
+abbrev pub tile_part : Tiles → Cell → ℕ
+tile_part t cell = get_or t.parts.items (tile_of t.across cell) 0
 
 abbrev pub place_of : Tiles → Cell → ℕ
-place_of t cell = part_of t cell * 256 + offset_of cell
+place_of t cell = tile_part t cell * 256 + offset_of cell
 
 -- one more than the cell's number, or 0 where it has none
-abbrev pub held : Tiles → Cell → ℕ
-held t cell = get_or t.numbers.items (place_of t cell) 0
+abbrev pub number_held : Tiles → Cell → ℕ
+number_held t cell = get_or t.numbers.items (place_of t cell) 0
 
 -- the cell has a tile, and no cell of another column of tiles has the same
 pub record IsCovered (t : Tiles) (cell : Cell) : Type 0 where
@@ -43,17 +43,17 @@ pub record IsSameMap (old new : Tiles) : Type 0 where
 pub record HasRoom (old new : Tiles) (cell : Cell) : Type 0 where
   pub map : IsSameMap old new
   pub tiles : AreTiles new
-  pub part : 0 < part_of new cell
-  pub kept : (c : Cell) → held new c ≡ held old c
+  pub part : 0 < tile_part new cell
+  pub kept : (c : Cell) → number_held new c ≡ number_held old c
   pub size : length new.numbers.items ≤ length old.numbers.items + 256
 
 -- the cell has this number now: it had it, or had none and has the next one
-pub record IsHeld (old new : Tiles) (cell : Cell) (next number : ℕ) : Type 0 where
-  pub now : held new cell ≡ number + 1
-  pub before : ((held old cell ≡ 0) × (number ≡ next)) ⊎ (held old cell ≡ number + 1)
+pub record IsNumbered (old new : Tiles) (cell : Cell) (next number : ℕ) : Type 0 where
+  pub now : number_held new cell ≡ number + 1
+  pub before : ((number_held old cell ≡ 0) × (number ≡ next)) ⊎ (number_held old cell ≡ number + 1)
 
 -- each name's number stands in its place, and no others do
 pub record AreHeld (t : Tiles) (names : List Cell) : Type 0 where
   pub covered : (n : ℕ) (c : Cell) → slice_get names n ≡ Some c → IsCovered t c
-  pub named : (n : ℕ) (c : Cell) → slice_get names n ≡ Some c → held t c ≡ n + 1
-  pub known : (n : ℕ) (c : Cell) → IsCovered t c → held t c ≡ n + 1 → slice_get names n ≡ Some c
+  pub named : (n : ℕ) (c : Cell) → slice_get names n ≡ Some c → number_held t c ≡ n + 1
+  pub known : (n : ℕ) (c : Cell) → IsCovered t c → number_held t c ≡ n + 1 → slice_get names n ≡ Some c

@@ -1,9 +1,9 @@
 -- The line of an answer, and what sending it leaves.
 use Rattle.std.specs.Prelude.{◌≡◌, ℕ, Bool, true, false, List, [], ◌∷◌, ◌++◌, codes, Option, Some, Result, Ok, Err}
-use Rattle.grid.specs.declared.sink.Sink.{Sink}
-use Rattle.grid.specs.declared.sink.WriteFault.{WriteFault}
-use Rattle.grid.specs.Sink.{held_back, Puts, Breaks}
-use Rattle.grid.specs.Text.{line_feed}
+use Rattle.text_io.specs.declared.sink.Sink.{Sink}
+use Rattle.text_io.specs.declared.sink.WriteFault.{WriteFault}
+use Rattle.text_io.specs.Sink.{held_back, Puts, Breaks}
+use Rattle.text_io.specs.Text.{line_feed}
 use Rattle.model.specs.History.{is_store_failed}
 use Rattle.model.specs.Replies.{answer_of}
 use Rattle.model.specs.Timetable.{Track, Timetable, track_of}

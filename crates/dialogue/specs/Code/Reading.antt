@@ -2,12 +2,12 @@
 use Rattle.std.specs.Prelude.{◌≡◌, ℕ, ◌<◌, ◌≤◌, List, [], ◌∷◌, ◌++◌, length, take, Option, None, Some, ⊤}
 use Rattle.std.specs.List.{AllByRecursion}
 use Rattle.std.specs.Io.KnownBytes.{Consumes, IsAtEnd as IsSpent}
-use Rattle.grid.specs.declared.counted.Counted.{Counted}
-use Rattle.grid.specs.declared.source.Source.{Source}
-use Rattle.grid.specs.Counted.{counted_inner, failures_of, Rises}
-use Rattle.grid.specs.Lines.{HasTaken}
-use Rattle.grid.specs.Source.{source_reader}
-use Rattle.grid.specs.Text.{IsLine, ended}
+use Rattle.text_io.specs.declared.counted.Counted.{Counted}
+use Rattle.text_io.specs.declared.source.Source.{Source}
+use Rattle.text_io.specs.Counted.{counted_inner, failures_of, Rises}
+use Rattle.text_io.specs.Lines.{HasTaken}
+use Rattle.text_io.specs.Source.{source_reader}
+use Rattle.text_io.specs.Text.{IsLine, ended}
 use Rattle.dialogue.specs.Requests as requests
 use Rattle.dialogue.specs.declared.request.Request.{Request}
 use Rattle.dialogue.specs.declared.request.Request.TheVariants.{Start, Finish, Say, Tell, Held, Hear}
@@ -29,13 +29,13 @@ FitsIn room (Hear count) = count ≤ length room
 FitsIn room _ = ⊤
 
 -- the line stands at the front of the room, or is longer than it
-abbrev pub IsKept : List ℕ → List ℕ → Option ℕ → Type 0
-IsKept line room (Some count) = (count ≤ length room) × (line ≡ take count room)
-IsKept line room None = length room < length line
+abbrev pub IsLineKept : List ℕ → List ℕ → Option ℕ → Type 0
+IsLineKept line room (Some count) = (count ≤ length room) × (line ≡ take count room)
+IsLineKept line room None = length room < length line
 
 -- After the lines before it, what stands behind their last LF is a beginning of a line, and no more came.
 pub record HasRest
-    {R : Type 0} (remaining : R → Option (List ℕ)) (first : Counted R) (now : Source R) (before : List (List ℕ)) (rest : List ℕ) : Type 0 where
+    {R : Type 0} {ahead : ℕ} (remaining : R → Option (List ℕ)) (first : Counted R) (now : Source R ahead) (before : List (List ℕ)) (rest : List ℕ) : Type 0 where
   pub delivered : List ℕ
   pub consumed : Consumes (remaining (counted_inner first)) (remaining (counted_inner (source_reader now))) delivered
   pub in_order : delivered ≡ ended before ++ rest
@@ -43,23 +43,23 @@ pub record HasRest
   pub is_line : IsLine rest
 
 -- and there the input ended
-pub record IsOver
-    {R : Type 0} (remaining : R → Option (List ℕ)) (first : Counted R) (now : Source R) (before : List (List ℕ)) (rest : List ℕ) : Type 0 where
+pub record IsInputOver
+    {R : Type 0} {ahead : ℕ} (remaining : R → Option (List ℕ)) (first : Counted R) (now : Source R ahead) (before : List (List ℕ)) (rest : List ℕ) : Type 0 where
   pub has_rest : HasRest remaining first now before rest
   pub spent : IsSpent (remaining (counted_inner (source_reader now)))
   pub failures : failures_of (source_reader now) ≡ failures_of first
 
 -- what came after the lines before it
-abbrev pub LineCame : {R : Type 0} → (R → Option (List ℕ)) → Counted R → Source R → List (List ℕ) → List ℕ → NextLine → Type 0
+abbrev pub LineCame : {R : Type 0} {ahead : ℕ} → (R → Option (List ℕ)) → Counted R → Source R ahead → List (List ℕ) → List ℕ → NextLine → Type 0
 LineCame remaining first now before room (Line kept) =
-    (line : List ℕ) × IsKept line room kept × HasTaken remaining first now (before ++ line ∷ [])
+    (line : List ℕ) × IsLineKept line room kept × HasTaken remaining first now (before ++ line ∷ [])
 LineCame remaining first now before room (LastLine kept) =
-    (line : List ℕ) × IsKept line room kept × (0 < length line) × IsOver remaining first now before line
-LineCame remaining first now before room End = IsOver remaining first now before []
+    (line : List ℕ) × IsLineKept line room kept × (0 < length line) × IsInputOver remaining first now before line
+LineCame remaining first now before room End = IsInputOver remaining first now before []
 LineCame remaining first now before room Failed =
     (rest : List ℕ) × HasRest remaining first now before rest × Rises (failures_of first) (failures_of (source_reader now))
 
 -- a line that its LF ended leaves fewer bytes that can come
-abbrev pub LeavesLess : NextLine → ℕ → ℕ → Type 0
-LeavesLess (Line kept) old new = new < old
-LeavesLess _ old new = new ≤ old
+abbrev pub LeavesLessBehind : NextLine → ℕ → ℕ → Type 0
+LeavesLessBehind (Line kept) old new = new < old
+LeavesLessBehind _ old new = new ≤ old

@@ -1,21 +1,16 @@
 -- How an event is told from its line.
-use Rattle.std.specs.Prelude.{◌≡◌, ℕ, ◌+◌, ◌^◌, ◌<◌, ◌==◌, ◌&&◌, nat_lt, if◌then◌else◌, List, [], ◌∷◌, ◌++◌, length, codes, Option, Some, None}
-use Rattle.grid.specs.Text.{space, line_feed}
-use Rattle.grid.specs.Reading.{LeadsBy}
+use Rattle.std.specs.Prelude.{◌≡◌, ℕ, ◌+◌, ◌^◌, ◌==◌, if◌then◌else◌, List, [], ◌∷◌, ◌++◌, length, codes, Option, Some, None}
+use Rattle.text_io.specs.Text.{space, line_feed}
+use Rattle.text_io.specs.Reading.{LeadsBy}
 use Rattle.model.specs.declared.event.Event.{Event}
 use Rattle.model.specs.declared.event.Event.TheVariants.{Start, Finish, Say, Deliver, Restart, Tear}
-use Rattle.plan_text.specs.PlanText.{IsNumeral}
-use Rattle.plan_text.specs.Code.Numerals.{is_numeral, numeral_value}
+use Rattle.text_io.specs.Numerals.{numeral_below}
 use Rattle.event_text.specs.EventText.{SpellsEvent}
 use Rattle.event_text.specs.EventFault.{EventDue, EventFollows}
 
 -- the lines of a text of events are right, one after another
 abbrev pub EventLeads : EventDue → List (List ℕ) → EventDue → Type 0
 EventLeads = LeadsBy EventFollows
-
--- the number that digits without a leading zero spell, below a limit
-abbrev pub numeral_below : ℕ → List ℕ → Option ℕ
-numeral_below limit digits = if is_numeral digits && nat_lt (numeral_value digits) limit then Some (numeral_value digits) else None
 
 -- what stands behind a word, where the line begins with it
 abbrev pub behind_word : List ℕ → List ℕ → Option (List ℕ)
@@ -69,10 +64,6 @@ event_of line =
     (told_or (two_numbers Tear (2 ^ 32)) (behind_word (codes "tear ") line) None)))))
 
 -- ---- at the front of bytes of which more may follow
-
--- a number below the limit stands at the front, then the byte that ends it, and then the rest
-abbrev pub BeginsWithNumber : ℕ → ℕ → ℕ → List ℕ → List ℕ → Type 0
-BeginsWithNumber limit n ending bytes rest = (digits : List ℕ) × (bytes ≡ digits ++ ending ∷ rest) × IsNumeral n digits × (n < limit)
 
 -- the line of the event stands at the front, then its LF, and then the rest
 abbrev pub IsBehindEvent : Event → List ℕ → List ℕ → Type 0

@@ -7,7 +7,7 @@ use Rattle.grid.specs.declared.header_line.Progress.{Progress}
 use Rattle.grid.specs.declared.header_line.Progress.TheVariants.{Word, Gap, GapReturn, Octile, Number, Tail, Return, OtherValue, OtherForm}
 use Rattle.grid.specs.declared.header_line.Saying.{Saying}
 use Rattle.grid.specs.declared.header_line.Saying.TheVariants.{Whole, Size, NoSize, NoForm}
-use Rattle.grid.specs.Text.{carriage_return, is_blank}
+use Rattle.text_io.specs.Text.{carriage_return, is_blank}
 
 -- the word that the line begins with
 abbrev pub word_of : HeaderLine → List ℕ

@@ -1,6 +1,6 @@
 -- The numbers of cells as they are written.
 use Rattle.std.specs.Prelude.{◌≡◌, ℕ, ◌+◌, List, [], ◌∷◌, decimal}
-use Rattle.grid.specs.Text.{space}
+use Rattle.text_io.specs.Text.{space}
 
 -- a number with a space before it
 abbrev pub spaced : ℕ → List ℕ

@@ -1,7 +1,8 @@
 -- The cells of all agents, time by time, as the code goes through them.
 use Rattle.std.specs.Prelude.{◌≡◌, ℕ, ◌+◌, ◌≤◌, zero, suc, List, [], ◌∷◌, length, map, Option, Some, Result, slice_get}
+use Rattle.text_io.specs.FaultWords.{Words}
 use Rattle.grid.specs.declared.cell.Cell.{Cell}
-use Rattle.grid.specs.declared.counted.Counted.{Counted}
+use Rattle.text_io.specs.declared.counted.Counted.{Counted}
 use Rattle.model.specs.Plan.{Course, Plan, position_of, position_at}
 use Rattle.model.specs.Timetable.{cell_at}
 use Rattle.plan_text.specs.Limits.{most_acts}
@@ -19,8 +20,8 @@ abbrev pub rows_from : List Course → (time count : ℕ) → List (List Cell)
 rows_from courses t zero = []
 rows_from courses t (suc count) = row_at courses t ∷ rows_from courses (t + 1) count
 
-abbrev pub rows_of : List Course → List (List Cell)
-rows_of courses = rows_from courses 0 (count_of_times courses)
+abbrev pub rows_of_courses : List Course → List (List Cell)
+rows_of_courses courses = rows_from courses 0 (count_of_times courses)
 
 -- the agent's cells are in range, and are where its acts lead, which are no more than a plan may have
 pub record IsWalked (course : Course) : Type 0 where
@@ -37,7 +38,7 @@ IsNoAgent p agent = (i : ℕ) × (agent ≡ Some i) × (length p.courses ≤ i)
 
 -- what is asked for of the plan was shown
 pub record EndsByRows
-    {W : Type 0} (contents : W → Option (List ℕ)) (Told : Option (List (List ℕ)) → Type 0) (p : Plan) (agent : Option ℕ) (old new : Counted W) (code : ℕ)
+    {W : Type 0} (contents : W → Option (List ℕ)) (Told : Option Words → Type 0) (p : Plan) (agent : Option ℕ) (old new : Counted W) (code : ℕ)
     : Type 0 where
   pub answer : Result (List (List Cell)) PathFault
   pub shows : ShowsRows p agent answer

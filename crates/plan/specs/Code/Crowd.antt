@@ -10,12 +10,12 @@ use Rattle.plan.specs.Code.Squares.{ground_in, mark_in, square_at, IsOfStep}
 
 -- ---- acts
 
-abbrev pub number_of : Act → ℕ
-number_of N = 0
-number_of E = 1
-number_of S = 2
-number_of W = 3
-number_of Wait = 4
+abbrev pub number_of_act : Act → ℕ
+number_of_act N = 0
+number_of_act E = 1
+number_of_act S = 2
+number_of_act W = 3
+number_of_act Wait = 4
 
 -- the mark that an act in the opposite direction leaves, where the marks of the step begin with the first; none does of a wait
 abbrev pub against_of : ℕ → Act → ℕ
@@ -26,12 +26,12 @@ against_of first W = first + 1
 against_of first Wait = 63
 
 -- by how much the place grows, and by how much it falls
-abbrev pub ahead_of : ℕ → Act → ℕ
-ahead_of wide N = 0
-ahead_of wide E = 1
-ahead_of wide S = wide
-ahead_of wide W = 0
-ahead_of wide Wait = 0
+abbrev pub forward_of : ℕ → Act → ℕ
+forward_of wide N = 0
+forward_of wide E = 1
+forward_of wide S = wide
+forward_of wide W = 0
+forward_of wide Wait = 0
 
 abbrev pub back_of : ℕ → Act → ℕ
 back_of wide N = wide
@@ -44,23 +44,23 @@ abbrev pub no_turn : Turn
 no_turn = record { ahead = 0; back = 0; mark = 0; against = 0 }
 
 abbrev pub turn_by : Turns → Act → Turn
-turn_by turns act = get_or turns.by_act (number_of act) no_turn
+turn_by turns act = get_or turns.by_act (number_of_act act) no_turn
 
-pub record IsTurn (wide first : ℕ) (act : Act) (turn : Turn) : Type 0 where
-  pub ahead : turn.ahead ≡ ahead_of wide act
+pub record IsActTurn (wide first : ℕ) (act : Act) (turn : Turn) : Type 0 where
+  pub ahead : turn.ahead ≡ forward_of wide act
   pub back : turn.back ≡ back_of wide act
-  pub mark : turn.mark ≡ first + number_of act
+  pub mark : turn.mark ≡ first + number_of_act act
   pub against : turn.against ≡ against_of first act
 
 -- each act has its own mark, and looks for that of the act against it
 pub record AreMarks (turns : Turns) : Type 0 where
   pub small : turns.first < 50
-  pub each : (act : Act) → (turn_by turns act).mark ≡ turns.first + number_of act
+  pub each : (act : Act) → (turn_by turns act).mark ≡ turns.first + number_of_act act
   pub against : (act : Act) → (turn_by turns act).against ≡ against_of turns.first act
 
-pub record AreTurns (wide : ℕ) (turns : Turns) : Type 0 where
+pub record AreActTurns (wide : ℕ) (turns : Turns) : Type 0 where
   pub marks : AreMarks turns
-  pub each : (act : Act) → IsTurn wide turns.first act (turn_by turns act)
+  pub each : (act : Act) → IsActTurn wide turns.first act (turn_by turns act)
 
 -- ---- a walker and its act
 
@@ -94,8 +94,8 @@ pub record IsAllowed (turns : Turns) (act : Act) (walker : Walker) (squares : Li
   pub against : mark_in (square_at squares walker.place) ≢ (turn_by turns act).against
 
 -- the act is not allowed, for one of these reasons
-abbrev pub IsRefused : Turns → Act → Walker → List Square → Type 0
-IsRefused turns act walker squares =
+abbrev pub IsActRefused : Turns → Act → Walker → List Square → Type 0
+IsActRefused turns act walker squares =
     (ground_in (square_at squares (led_to turns act walker.place)) ≢ walker.ground)
     ⊎ IsOfStep turns.first (mark_in (square_at squares (led_to turns act walker.place)))
     ⊎ (mark_in (square_at squares walker.place) ≡ (turn_by turns act).against)

@@ -9,13 +9,13 @@ use Rattle.plan.specs.Checking.{Checked}
 use Rattle.plan.specs.Fitting.{task_of, HasSize}
 
 -- the track of the agent, and that it solves the row, or the first that differs
-abbrev pub AnswersAgent : Checked → Query → ℕ → Result Unit FitFault → Type 0
-AnswersAgent c row i (Ok u) = (track : Track) × (track_of c.timetable i ≡ Some track) × Solves c.width c.height track (task_of row)
-AnswersAgent c row i (Err (SizeDiffers j)) = (track : Track) × (track_of c.timetable i ≡ Some track) × (j ≡ i) × (HasSize c row → ⊥)
-AnswersAgent c row i (Err (StartDiffers j)) =
+abbrev pub JudgesAgent : Checked → Query → ℕ → Result Unit FitFault → Type 0
+JudgesAgent c row i (Ok u) = (track : Track) × (track_of c.timetable i ≡ Some track) × Solves c.width c.height track (task_of row)
+JudgesAgent c row i (Err (SizeDiffers j)) = (track : Track) × (track_of c.timetable i ≡ Some track) × (j ≡ i) × (HasSize c row → ⊥)
+JudgesAgent c row i (Err (StartDiffers j)) =
     (track : Track) × (track_of c.timetable i ≡ Some track) × (j ≡ i) × HasSize c row × (track.start ≢ row.start)
-AnswersAgent c row i (Err (GoalDiffers j)) =
+JudgesAgent c row i (Err (GoalDiffers j)) =
     (track : Track) × (track_of c.timetable i ≡ Some track) × (j ≡ i) × HasSize c row × (track.start ≡ row.start)
     × (cell_at track (cost track) ≢ row.goal)
-AnswersAgent c row i (Err TooFewRows) = ⊥
-AnswersAgent c row i (Err AgentCount) = ⊥
+JudgesAgent c row i (Err TooFewRows) = ⊥
+JudgesAgent c row i (Err AgentCount) = ⊥

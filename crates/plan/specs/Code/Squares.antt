@@ -6,7 +6,7 @@ use Rattle.grid.specs.declared.terrain.Terrain.{Terrain}
 use Rattle.grid.specs.Terrain.{character_of}
 use Rattle.plan.specs.declared.board.Square.{Square}
 use Rattle.plan.specs.Code.Standing.{IsOnGrid, place_in}
-use Rattle.plan.specs.Code.Walking.{is_land}
+use Rattle.plan.specs.Code.Walking.{is_land_character}
 
 -- ---- a square
 
@@ -31,7 +31,7 @@ pub record IsOfStep (first mark : ℕ) : Type 0 where
 -- ---- the ground of a cell: 1 for land and swamp, 2 for water, 0 for what is blocked
 
 abbrev pub ground_by : ℕ → ℕ
-ground_by b = cond (b == 87) 2 (cond (is_land b) 1 0)
+ground_by b = cond (b == 87) 2 (cond (is_land_character b) 1 0)
 
 -- a walker may go there: it is land or water, and nobody holds it
 abbrev pub IsOpen : ℕ → Type 0

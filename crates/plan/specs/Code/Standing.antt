@@ -48,7 +48,7 @@ pub record AreSwapped (now next : List Cell) (i j : ℕ) : Type 0 where
 
 -- The cell of the agent has an entry, of an agent in that cell, which is the agent itself or one before it; and in that case the pair
 -- comes no later than that of the two.
-pub record IsSound (width : ℕ) (cells : List Cell) (table : List ℕ) (best : Option Pair) (i : ℕ) : Type 0 where
+pub record IsEntrySound (width : ℕ) (cells : List Cell) (table : List ℕ) (best : Option Pair) (i : ℕ) : Type 0 where
   pub order : entry_at width table (cell_in cells i) ≤ i
   pub same : cell_in cells (entry_at width table (cell_in cells i)) ≡ cell_in cells i
   pub found : (entry_at width table (cell_in cells i) ≡ i) ⊎ NoLater best (entry_at width table (cell_in cells i)) i

@@ -30,7 +30,7 @@ abbrev pub MayGoOn : Option Cell → List Act → Type 0
 MayGoOn next acts = MatchOption next (Unit {0}) (λ c. StaysInRange c acts)
 
 -- what the checked plan's courses keep
-pub record IsKept (course : Course) : Type 0 where
+pub record IsCourseKept (course : Course) : Type 0 where
   pub in_range : StaysInRange course.start course.acts
   pub acts_limit : length course.acts ≤ most_acts
   pub at_rest : length course.acts ≡ cost (track_along course)
@@ -38,4 +38,4 @@ pub record IsKept (course : Course) : Type 0 where
 -- there is no such agent, or its track is that along the course
 abbrev pub HasCourse : Checked → ℕ → Option Course → Type 0
 HasCourse c i None = track_of c.timetable i ≡ None
-HasCourse c i (Some course) = (track_of c.timetable i ≡ Some (track_along course)) × IsKept course
+HasCourse c i (Some course) = (track_of c.timetable i ≡ Some (track_along course)) × IsCourseKept course

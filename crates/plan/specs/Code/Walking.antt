@@ -43,12 +43,12 @@ LeadsBeside from act to =
     ⊎ (((c : Cell) → position_of c ≡ moved act (position_of from) → ⊥) × ((to.x ≡ 65535) ⊎ (to.y ≡ 65535)))
 
 -- the character of a terrain is that of land or of swamp
-abbrev pub is_land : ℕ → Bool
-is_land b = b == 46 || b == 71 || b == 83
+abbrev pub is_land_character : ℕ → Bool
+is_land_character b = b == 46 || b == 71 || b == 83
 
 -- a straight step may lead from the terrain of the one character to that of the other
 abbrev pub joins_by : ℕ → ℕ → Bool
-joins_by b c = (is_land b && is_land c) || (b == 87 && c == 87)
+joins_by b c = (is_land_character b && is_land_character c) || (b == 87 && c == 87)
 
 -- the cell is where the agent stands after the step, and the step is no fault
 pub record IsAhead (m : Grid) (course : Course) (step : ℕ) (cell : Cell) : Type 0 where

@@ -32,7 +32,7 @@ abbrev pub IsWatchedAt : Grid → Plan → ℕ → List Cell → List ℕ → Op
 IsWatchedAt m p t cells entries answer = MatchOption answer (IsWatched m p t cells entries) (IsLeastFault m p)
 
 -- there was no fault up to the time, and these are the cells of the time
-pub record IsPast (m : Grid) (p : Plan) (t : ℕ) : Type 0 where
+pub record IsCleanUpTo (m : Grid) (p : Plan) (t : ℕ) : Type 0 where
   pub cells : List Cell
   pub at : AreAt p.courses t cells
   pub on_map : AreOnGrid m cells

@@ -1,6 +1,6 @@
 -- What the parts of `mapf deps` owe each other.
 use Rattle.std.specs.Prelude.{◌≡◌, ℕ, List, [], ◌∷◌, ◌++◌, Option, None, Some}
-use Rattle.grid.specs.Text.{line_feed}
+use Rattle.text_io.specs.Text.{line_feed}
 use Rattle.model.specs.Timetable.{Track, Timetable, track_of}
 use Rattle.depgraph.specs.AgentParts.{AgentPart}
 use Rattle.plan_commands.specs.DepsText.{need_line, needs_of}

@@ -1,6 +1,6 @@
 -- How the reader of a plan goes from line to line.
 use Rattle.std.specs.Prelude.{◌≡◌, ℕ, ◌+◌, ◌^◌, ◌<◌, ◌≤◌, ◌==◌, ◌⊎◌, zero, suc, if◌then◌else◌, List, [], ◌∷◌, ◌++◌, length, codes}
-use Rattle.grid.specs.Reading.{at_line_feed, LeadsBy}
+use Rattle.text_io.specs.Reading.{at_line_feed, LeadsBy}
 use Rattle.model.specs.declared.act.Act.{Act}
 use Rattle.model.specs.declared.act.Act.TheVariants.{N, E, S, W, Wait}
 use Rattle.model.specs.Plan.{Course, Plan}
@@ -44,7 +44,7 @@ PlanSaid (agent_due left acts) p lines =
     × (length p.courses + left ≤ most_agents) × AreCourses p.courses agent_lines × (acts ≡ acts_in p.courses)
 
 -- The lines so far are right, and the plan is what they have said.
-pub record HasRead (due : PlanDue) (p : Plan) (lines : List (List ℕ)) : Type 0 where
+pub record HasReadPlan (due : PlanDue) (p : Plan) (lines : List (List ℕ)) : Type 0 where
   pub right : PlanLeads header_due lines due
   pub said : PlanSaid due p lines
   pub within : IsPlan p

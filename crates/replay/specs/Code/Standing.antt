@@ -1,7 +1,7 @@
 -- Where a runner stands behind the events of a text.
 use Rattle.std.specs.Prelude.{◌≡◌, ℕ, List, Option, Some, Result, Ok, Err}
-use Rattle.grid.specs.declared.counted.Counted.{Counted}
-use Rattle.grid.specs.Reading.{is_value}
+use Rattle.text_io.specs.declared.counted.Counted.{Counted}
+use Rattle.text_io.specs.Reading.{is_value}
 use Rattle.model.specs.declared.event.Event.{Event}
 use Rattle.model.specs.History.{Answer}
 use Rattle.model.specs.Timetable.{Timetable}

@@ -1,6 +1,6 @@
 -- How a run is ended.
 use Rattle.std.specs.Prelude.{◌≡◌, ℕ, List, Option, Result, Err}
-use Rattle.grid.specs.declared.counted.Counted.{Counted}
+use Rattle.text_io.specs.declared.counted.Counted.{Counted}
 use Rattle.replay.specs.declared.completion.Completion.{Completion}
 use Rattle.replay.specs.declared.run_fault.RunFault.{RunFault}
 use Rattle.replay.specs.declared.run_fault.RunFault.TheVariants.{WriteFailed}

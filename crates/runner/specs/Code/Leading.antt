@@ -59,7 +59,7 @@ pub record IsUntouched (h new : History) (i : ℕ) : Type 0 where
   pub finished : done new i ≡ done h i
 
 -- What is so after all events.
-pub record LeadsTo (version : Version) (s : EndingState) (h new : History) : Type 0 where
+pub record LeadsThroughTo (version : Version) (s : EndingState) (h new : History) : Type 0 where
   pub accepted : AreAccepted version s.timetable h s.events
   pub said : length (messages version s.timetable new) ≡ s.messages
   pub stand : (i : ℕ) (x : Standing) → slice_get s.standings i ≡ Some x → StandsThere version s.timetable new i x
@@ -68,12 +68,12 @@ pub record LeadsTo (version : Version) (s : EndingState) (h new : History) : Typ
       → (j : ℕ) → known_in a.heard j ≤ known version s.timetable new i j
   pub heard : (n : ℕ) (x : Heard) → slice_get s.heard n ≡ Some x → x.number ≤ known version s.timetable new x.agent x.of
 
-abbrev pub Leads : Version → EndingState → History → Type 0
-Leads version s h = LeadsTo version s h (history_after version s.timetable h s.events)
+abbrev pub LeadsThrough : Version → EndingState → History → Type 0
+LeadsThrough version s h = LeadsThroughTo version s h (history_after version s.timetable h s.events)
 
 -- wherever the events led, they still lead there
 abbrev pub LeadsOn : EndingState → EndingState → Type 0
-LeadsOn old new = (version : Version) (h : History) → Begins version old.timetable old.agents h → Leads version old h → Leads version new h
+LeadsOn old new = (version : Version) (h : History) → Begins version old.timetable old.agents h → LeadsThrough version old h → LeadsThrough version new h
 
 -- the same agents over the same timetable
 pub record IsOf (old new : EndingState) : Type 0 where
@@ -89,27 +89,27 @@ pub record HasStayed (old new : EndingState) : Type 0 where
 -- after all events the one agent knows that the other has finished so many moves
 abbrev pub Knows : EndingState → ℕ → ℕ → ℕ → Type 0
 Knows s i j n =
-    (version : Version) (h : History) → Begins version s.timetable s.agents h → Leads version s h
+    (version : Version) (h : History) → Begins version s.timetable s.agents h → LeadsThrough version s h
     → n ≤ known version s.timetable (history_after version s.timetable h s.events) i j
 
 -- after more events it does, wherever those before them led
 abbrev pub Teaches : EndingState → EndingState → ℕ → ℕ → ℕ → Type 0
 Teaches old new i j n =
-    (version : Version) (h : History) → Begins version old.timetable old.agents h → Leads version old h
+    (version : Version) (h : History) → Begins version old.timetable old.agents h → LeadsThrough version old h
     → n ≤ known version new.timetable (history_after version new.timetable h new.events) i j
 
 -- and the agent knows that the need of its next move is met
 abbrev pub TeachesNeed : EndingState → EndingState → ℕ → Type 0
 TeachesNeed old new i =
-    (version : Version) (h : History) → Begins version old.timetable old.agents h → Leads version old h → (track : Track) → track_of old.timetable i ≡ Some track
+    (version : Version) (h : History) → Begins version old.timetable old.agents h → LeadsThrough version old h → (track : Track) → track_of old.timetable i ≡ Some track
     → IsMet (known version new.timetable (history_after version new.timetable h new.events) i) (need old.timetable i track (finished_in old.standings i))
 
 -- wherever the events led where the agent knows that, they still lead there
 abbrev pub LeadsOnceKnown : EndingState → EndingState → ℕ → Type 0
 LeadsOnceKnown old new i =
-    (version : Version) (h : History) → Begins version old.timetable old.agents h → Leads version old h → (track : Track) → track_of old.timetable i ≡ Some track
+    (version : Version) (h : History) → Begins version old.timetable old.agents h → LeadsThrough version old h → (track : Track) → track_of old.timetable i ≡ Some track
     → IsMet (known version old.timetable (history_after version old.timetable h old.events) i) (need old.timetable i track (finished_in old.standings i))
-    → Leads version new h
+    → LeadsThrough version new h
 
 -- how many moves the last message tells that an agent said
 abbrev pub told_in : List Standing → ℕ → ℕ

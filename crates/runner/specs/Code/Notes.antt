@@ -5,5 +5,5 @@ use Rattle.model.specs.declared.entry.Entry.{Entry}
 use Rattle.runner.specs.declared.said.Note.{Note}
 
 -- each names entries that there are
-abbrev pub AreKept : List Entry → List Note → Type 0
-AreKept entries notes = AllByRecursion (λ note. note.first + note.count ≤ length entries) notes
+abbrev pub AreNoted : List Entry → List Note → Type 0
+AreNoted entries notes = AllByRecursion (λ note. note.first + note.count ≤ length entries) notes

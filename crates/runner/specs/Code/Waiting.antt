@@ -6,11 +6,11 @@ use Rattle.model.specs.declared.event.Event.{Event}
 use Rattle.model.specs.declared.version.Version.{Version}
 use Rattle.model.specs.History.{History, messages}
 use Rattle.agent.specs.Agents.{AgentOn, state_of}
-use Rattle.agent.specs.States.{done, is_moving}
+use Rattle.agent.specs.States.{finished_moves, is_on_the_way}
 use Rattle.agent.specs.CountedTape.{counted_state}
 use Rattle.agent.specs.declared.counted_tape.CountedTape.{CountedTape}
 use Rattle.runner.specs.Endings.{IsEndedBy, HaveArrived}
-use Rattle.runner.specs.Code.Leading.{EndingState, finished_in, Begins, Leads, LeadsOn, IsOf, HasLeft}
+use Rattle.runner.specs.Code.Leading.{EndingState, finished_in, Begins, LeadsThrough, LeadsOn, IsOf, HasLeft}
 
 -- nobody moves in a rotation
 abbrev pub HasNoRotation : Timetable → Type 0
@@ -32,8 +32,8 @@ abbrev pub HaveRisen : EndingState → EndingState → Type 0
 HaveRisen old new = (k : ℕ) → finished_in old.standings k ≤ finished_in new.standings k
 
 -- the agent has finished all its moves
-abbrev pub IsDone : EndingState → ℕ → Type 0
-IsDone s i = (track : Track) → track_of s.timetable i ≡ Some track → moves track ≤ finished_in s.standings i
+abbrev pub HasEndedMoves : EndingState → ℕ → Type 0
+HasEndedMoves s i = (track : Track) → track_of s.timetable i ≡ Some track → moves track ≤ finished_in s.standings i
 
 -- how many moves are left, by how many each agent has finished, from one on
 abbrev pub moves_left : List Track → ℕ → (ℕ → ℕ) → ℕ
@@ -55,7 +55,7 @@ pub record GoesNearer (agent : ℕ) (old new : EndingState) (waiting more : List
 
 -- wherever a run left the agents after so many messages, all the events lead there
 abbrev pub LeadsFrom : Timetable → List (AgentOn CountedTape) → ℕ → EndingState → Type 0
-LeadsFrom tt agents count s = (version : Version) (h : History) → Begins version tt agents h → length (messages version tt h) ≡ count → Leads version s h
+LeadsFrom tt agents count s = (version : Version) (h : History) → Begins version tt agents h → length (messages version tt h) ≡ count → LeadsThrough version s h
 
 -- they end it
 abbrev pub CompletesFrom : Timetable → List (AgentOn CountedTape) → ℕ → List Event → Type 0
@@ -69,4 +69,4 @@ pub record TellsArrival (tt : Timetable) (agents : List (AgentOn CountedTape)) (
 
 -- the same of one of them, by what it has on its tape
 abbrev pub HasStopped : Timetable → ℕ → AgentOn CountedTape → Type 0
-HasStopped tt i a = (track : Track) → track_of tt i ≡ Some track → (done (state_of counted_state a) ≡ moves track) × (is_moving (state_of counted_state a) ≡ false)
+HasStopped tt i a = (track : Track) → track_of tt i ≡ Some track → (finished_moves (state_of counted_state a) ≡ moves track) × (is_on_the_way (state_of counted_state a) ≡ false)

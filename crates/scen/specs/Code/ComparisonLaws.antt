@@ -73,8 +73,8 @@ answers_Greater a b c d o e =
 
 -- ---- the laws of an order
 
-turned : (a b c d : ℕ) → parts_cmp a b c d ≡ ordering_reverse (parts_cmp c d a b)
-turned a b c d = elim (total a b c d) [
+cmp-turned : (a b c d : ℕ) → parts_cmp a b c d ≡ ordering_reverse (parts_cmp c d a b)
+cmp-turned a b c d = elim (total a b c d) [
   | inl h ↦ parts_cmp-Less a b c d h ∙ ap ordering_reverse (sym (parts_cmp-Greater c d a b h))
   | inr (inl h) ↦ parts_cmp-Equal a b c d h ∙ ap ordering_reverse (sym (parts_cmp-Equal c d a b (sym h.0, sym h.1)))
   | inr (inr h) ↦ parts_cmp-Greater a b c d h ∙ ap ordering_reverse (sym (parts_cmp-Less c d a b h))
@@ -93,7 +93,7 @@ alike a b c d e f h =
 -- at values with such parts
 pub parts_cmp-total : {K : Type 0} (straight diagonal : K → ℕ) → IsTotalOrder (λ x y. parts_cmp (straight x) (diagonal x) (straight y) (diagonal y))
 parts_cmp-total straight diagonal = record {
-  antisymm = λ x y. turned (straight x) (diagonal x) (straight y) (diagonal y);
+  antisymm = λ x y. cmp-turned (straight x) (diagonal x) (straight y) (diagonal y);
   trans = λ x y z. chained (straight x) (diagonal x) (straight y) (diagonal y) (straight z) (diagonal z);
   congr = λ x y z. alike (straight x) (diagonal x) (straight y) (diagonal y) (straight z) (diagonal z);
 }

@@ -12,8 +12,8 @@ IsMoreBy a b c d =
     ⊎ ((p : ℕ) × (q : ℕ) × (2 * (q * q) < p * p) × (a + p ≡ c) × (b ≡ d + q)))
 
 -- a product of a number with itself, at an equal number
-square_at : (m n : ℕ) → m ≡ n → m * m ≡ n * n
-square_at m n e = ap (λ x. x * x) e
+square-same : (m n : ℕ) → m ≡ n → m * m ≡ n * n
+square-same m n e = ap (λ x. x * x) e
 
 pub IsMoreBy-from_IsLess : (a b c d : ℕ) → IsLess a b c d → IsMoreBy a b c d
 IsMoreBy-from_IsLess a b c d (inl h) = inl (c - a, d - b, omega arith, omega arith, omega arith)
@@ -27,20 +27,20 @@ below_both a b c d p q some e f = inl (omega arith, omega arith)
 
 below_diagonal : (a b c d p q : ℕ) → p * p < 2 * (q * q) → a ≡ c + p → b + q ≡ d → IsLess a b c d
 below_diagonal a b c d p q h e f =
-    let s = square_at (a - c) p (omega arith) in
-    let t = square_at (d - b) q (omega arith) in
+    let s = square-same (a - c) p (omega arith) in
+    let t = square-same (d - b) q (omega arith) in
     elim (cases_lt 0 q) [
       | inl some ↦ inr (inl (omega (arith, e), omega (arith, f), omega (arith, h, s, t)))
-      | inr none ↦ absurd (let z : q ≡ 0 = omega (arith, none) in let zz = square_at q 0 z in omega (arith, h, zz))
+      | inr none ↦ absurd (let z : q ≡ 0 = omega (arith, none) in let zz = square-same q 0 z in omega (arith, h, zz))
     ]
 
 below_straight : (a b c d p q : ℕ) → 2 * (q * q) < p * p → a + p ≡ c → b ≡ d + q → IsLess a b c d
 below_straight a b c d p q h e f =
-    let s = square_at (c - a) p (omega arith) in
-    let t = square_at (b - d) q (omega arith) in
+    let s = square-same (c - a) p (omega arith) in
+    let t = square-same (b - d) q (omega arith) in
     let less : a < c = elim (cases_lt 0 p) [
       | inl some ↦ omega (arith, some, e)
-      | inr none ↦ absurd (let z : p ≡ 0 = omega (arith, none) in let zz = square_at p 0 z in omega (arith, h, zz))
+      | inr none ↦ absurd (let z : p ≡ 0 = omega (arith, none) in let zz = square-same p 0 z in omega (arith, h, zz))
     ] in
     elim (cases_lt 0 q) [
       | inl some ↦ inr (inr (less, omega (arith, f, some), omega (arith, h, s, t)))
@@ -90,8 +90,8 @@ less_straight p q r s m n h k e f =
       | inl less ↦ less
       | inr most ↦ absurd (
           let sum = sum_above_double m n r s most k in
-          let left = square_at p (m + r) (omega (arith, e)) in
-          let right = square_at q (n + s) (omega (arith, f)) in
+          let left = square-same p (m + r) (omega (arith, e)) in
+          let right = square-same q (n + s) (omega (arith, f)) in
           omega (arith, sum, left, right, h)
           )
     ]
@@ -102,8 +102,8 @@ less_diagonal p q r s m n h k e f =
       | inl less ↦ less
       | inr most ↦ absurd (
           let sum = sum_below_double m n p q most h in
-          let left = square_at r (m + p) (omega (arith, e)) in
-          let right = square_at s (n + q) (omega (arith, f)) in
+          let left = square-same r (m + p) (omega (arith, e)) in
+          let right = square-same s (n + q) (omega (arith, f)) in
           omega (arith, sum, left, right, k)
           )
     ]

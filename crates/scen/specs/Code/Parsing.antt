@@ -6,8 +6,8 @@ use Rattle.std.specs.Str.{bytes_eq}
 use Rattle.std.specs.Str.Parse.{digits_value_after}
 use Rattle.scen.specs.declared.fields.FieldBytes.{FieldBytes}
 use Rattle.scen.specs.declared.numbers.Numbers.{Numbers}
-use Rattle.grid.specs.Text.{tab}
-use Rattle.grid.specs.Reading.{LeadsBy, Place, IsOver}
+use Rattle.text_io.specs.Text.{tab}
+use Rattle.text_io.specs.Reading.{LeadsBy, Place, IsOver}
 use Rattle.scen.specs.declared.scen_fault.ScenFault.{ScenFault}
 use Rattle.scen.specs.declared.scen_fault.ScenFault.TheVariants.{OutOfMemory}
 use Rattle.scen.specs.Fields.{without_leading}
@@ -105,8 +105,8 @@ due_after false = version_due
 due_after true = row_due
 
 -- why a line was refused: there was no memory, or the line has the fault wherever it is over
-abbrev pub Refuses : ScenDue → ℕ → List ℕ → ScenFault → Type 0
-Refuses due number line fault = (fault ≡ OutOfMemory) ⊎ ((place : Place) → IsOver place → HasScenFault fault place due number line)
+abbrev pub RefusesLine : ScenDue → ℕ → List ℕ → ScenFault → Type 0
+RefusesLine due number line fault = (fault ≡ OutOfMemory) ⊎ ((place : Place) → IsOver place → HasScenFault fault place due number line)
 
 -- start and goal lie within the size
 abbrev pub are_in_grid : Numbers → Bool

@@ -48,16 +48,16 @@ abbrev pub AreSame : Corner → Corner → Type 0
 AreSame p q = bit_and p.grounds q.grounds ≡ 0 → ⊥
 
 -- neither key is more than the other and a step
-abbrev pub AreWithin : (step p q : ℕ) → Type 0
-AreWithin step p q = (p ≤ q + step) × (q ≤ p + step)
+abbrev pub AreWithinStep : (step p q : ℕ) → Type 0
+AreWithinStep step p q = (p ≤ q + step) × (q ≤ p + step)
 
 -- two cells that share a side
 abbrev pub KeepsSide : Corner → Corner → Type 0
-KeepsSide p q = AreSame p q → AreWithin 6625109 p.key q.key
+KeepsSide p q = AreSame p q → AreWithinStep 6625109 p.key q.key
 
 -- the diagonal steps of four cells that share a corner: upper left and right, lower left and right
 abbrev pub KeepsDiagonals : Corner → Corner → Corner → Corner → Type 0
-KeepsDiagonals a b c d = AreSame a b × AreSame a c × AreSame a d → AreWithin 9369319 a.key d.key × AreWithin 9369319 b.key c.key
+KeepsDiagonals a b c d = AreSame a b × AreSame a c × AreSame a d → AreWithinStep 9369319 a.key d.key × AreWithinStep 9369319 b.key c.key
 
 -- of four such cells, the steps from the upper left one and the diagonal ones
 abbrev pub KeepsBlock : Corner → Corner → Corner → Corner → Type 0
@@ -85,12 +85,12 @@ abbrev pub IsStrip : Grid → (left right : ℕ) → Type 0
 IsStrip m left right = (left < right) × (right ≤ left + 64) × (right ≤ m.width)
 
 -- The one tells of a cell what the other does. A key tells nothing where no step may enter.
-abbrev pub Tells : Corner → Corner → Type 0
-Tells p c = (p.grounds ≡ c.grounds) × ((c.grounds ≡ 0 → ⊥) → p.key ≡ c.key)
+abbrev pub TellsSame : Corner → Corner → Type 0
+TellsSame p c = (p.grounds ≡ c.grounds) × ((c.grounds ≡ 0 → ⊥) → p.key ≡ c.key)
 
 -- what the cells of a row say, from one column to another
 abbrev pub AreCorners : Grid → (ℕ → ℕ → ℕ) → (left right y : ℕ) → Corners → Type 0
-AreCorners m numbers left right y corners = (x : ℕ) → left ≤ x → x ≤ right → Tells (corner_in corners (x - left)) (corner_at m numbers x y)
+AreCorners m numbers left right y corners = (x : ℕ) → left ≤ x → x ≤ right → TellsSame (corner_in corners (x - left)) (corner_at m numbers x y)
 
 -- each block whose upper left cell is in a band of rows, and in a column from one to before another
 abbrev pub KeepsPatch : Grid → (ℕ → ℕ → ℕ) → (left right top : ℕ) → Type 0

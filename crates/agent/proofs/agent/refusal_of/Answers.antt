@@ -6,7 +6,7 @@ use Rattle.agent.specs.States.{moves_of}
 use Rattle.agent.proofs.TakingLemmas.{told-agent, any-more, names-nobody}
 use Rattle.agent.proofs.agent.refusal_of.Goals as goal
 use Rattle.agent.proofs.agent.refusal_of.Goals.{then-too_many, else-too_many}
-use Rattle.depgraph.proofs.AgentPartLemmas.{moves-told}
+use Rattle.depgraph.specs.Laws.AgentParts.{moves-told}
 
 pub returns-in_default : goal.returns-in_default
 returns-in_default c tt is =

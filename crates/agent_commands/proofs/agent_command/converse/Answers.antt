@@ -3,7 +3,7 @@ use Rattle.std.proofs.Common.{refl, sym, ap, subst}
 use Rattle.std.specs.Prelude.{Ok, Err}
 use Rattle.std.proofs.lemmas.Result.{err_from_is_err_and}
 use Rattle.depgraph.specs.AgentParts.{IsPartOf}
-use Rattle.agent_commands.specs.AgentCommand.{told}
+use Rattle.agent_commands.specs.AgentCommand.{told_of_dialogue}
 use Rattle.agent_commands.proofs.agent_command.converse.Goals as goal
 
 pub returns-in_err-talk : goal.returns-in_err-talk
@@ -12,14 +12,14 @@ returns-in_err-talk g c table is =
     rw (p.1, p.2) (record {
       opened = Ok _;
       opens = c.in_ok-agent.ensures.opened table is;
-      ends = (c.talk.result, _, c.talk.ensures table (subst (IsPartOf table) (sym c.in_ok-agent.ensures.part) is), sym (ap told c.in_err-talk.was));
+      ends = (c.talk.result, _, c.talk.ensures table (subst (IsPartOf table) (sym c.in_ok-agent.ensures.part) is), sym (ap told_of_dialogue c.in_err-talk.was));
     })
 
 pub returns : goal.returns
 returns g c table is = record {
   opened = Ok _;
   opens = c.in_ok-agent.ensures.opened table is;
-  ends = (c.talk.result, _, c.talk.ensures table (subst (IsPartOf table) (sym c.in_ok-agent.ensures.part) is), sym (ap told c.in_ok-talk.was));
+  ends = (c.talk.result, _, c.talk.ensures table (subst (IsPartOf table) (sym c.in_ok-agent.ensures.part) is), sym (ap told_of_dialogue c.in_ok-talk.was));
 }
 
 pub returns-in_err-agent : goal.returns-in_err-agent

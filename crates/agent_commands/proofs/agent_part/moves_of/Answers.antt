@@ -1,6 +1,6 @@
 -- A plan's agents make few moves.
 use Rattle.std.proofs.Common.{sym, ◌∙◌}
-use Rattle.depgraph.proofs.AgentPartLemmas.{told-most}
+use Rattle.depgraph.specs.Laws.AgentParts.{told-most}
 use Rattle.agent_commands.proofs.agent_part.moves_of.Goals as goal
 
 pub returns-clause-few : goal.returns-clause-few

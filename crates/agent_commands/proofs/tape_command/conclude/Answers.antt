@@ -4,7 +4,7 @@ use Rattle.std.specs.Prelude.{is_ok}
 use Rattle.text_commands.specs.declared.status.Status.TheVariants.{Done}
 use Rattle.text_commands.specs.Rewriting.{EndsWriting}
 use Rattle.text_commands.specs.Telling.{Tells}
-use Rattle.text_commands.proofs.Rewriting.{ends_writing}
+use Rattle.text_commands.specs.Laws.Ending.{ends_writing}
 use Rattle.agent_commands.specs.TapeCommand.{EndsByTape}
 use Rattle.agent_commands.specs.Code.Reports.{outcome_of, report_text}
 use Rattle.agent_commands.proofs.tape_command.conclude.Goals as goal

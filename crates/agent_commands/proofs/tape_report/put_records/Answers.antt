@@ -2,8 +2,8 @@
 use Rattle.std.proofs.Common.{[], ◌∷◌, ◌++◌, append_assoc, refl, sym}
 use Rattle.std.specs.Prelude.{codes, decimal}
 use Rattle.std.proofs.lemmas.Result.{err_from_is_err_and}
-use Rattle.grid.specs.Text.{line_feed}
-use Rattle.scen.proofs.PutLemmas.{Leaves-all, Leaves-less, Leaves-broken, Puts-last, Breaks-last}
+use Rattle.text_io.specs.Text.{line_feed}
+use Rattle.text_io.specs.Laws.Putting.{Leaves-all, Leaves-less, Leaves-broken, Puts-last, Breaks-last}
 use Rattle.agent_commands.proofs.tape_report.put_records.Goals as goal
 
 pub returns-in_err-put_number-clause-err : goal.returns-in_err-put_number-clause-err

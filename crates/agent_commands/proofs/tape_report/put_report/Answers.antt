@@ -1,9 +1,9 @@
 -- Where the agent is, and then what its file has.
 use Rattle.std.proofs.Common.{[], ◌∷◌, ◌++◌, ap, append-nil, refl}
 use Rattle.std.proofs.lemmas.Result.{err_from_is_err_and}
-use Rattle.grid.specs.Text.{line_feed}
+use Rattle.text_io.specs.Text.{line_feed}
 use Rattle.event_text.specs.ReplyText.{reply_line}
-use Rattle.scen.proofs.PutLemmas.{Leaves-all, Leaves-less, Leaves-broken, Puts-last, Breaks-last}
+use Rattle.text_io.specs.Laws.Putting.{Leaves-all, Leaves-less, Leaves-broken, Puts-last, Breaks-last}
 use Rattle.agent_commands.specs.Code.Reports.{standing_of}
 use Rattle.agent_commands.specs.TapeCommand.{records_line}
 use Rattle.agent_commands.proofs.tape_report.put_report.Goals as goal

@@ -1,7 +1,7 @@
 -- What was read stands at the front, and no call failed.
 use Rattle.std.proofs.Common.{◌≡◌, length, ◌-◌, ◌≤◌, take}
 use Rattle.std.specs.Io.KnownBytes.{Consumes}
-use Rattle.grid.specs.Counted.{counted_inner, failures_of}
+use Rattle.text_io.specs.Counted.{counted_inner, failures_of}
 use Rattle.agent_commands.proofs.tape_report.read_up_to.Given as goal
 
 abbrev pub invariant-pieces : goal.invariant-pieces

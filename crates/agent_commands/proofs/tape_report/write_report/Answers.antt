@@ -1,6 +1,6 @@
 -- What was put was written.
 use Rattle.std.proofs.Common.{rules}
-use Rattle.text_commands.proofs.SinkWritten.{same_writer, sink_written}
+use Rattle.text_io.specs.Laws.Putting.{same_writer, sink_written}
 use Rattle.agent_commands.specs.Code.Reports.{report_text}
 use Rattle.agent_commands.proofs.tape_report.write_report.Goals as goal
 

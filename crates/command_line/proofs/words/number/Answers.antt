@@ -1,7 +1,7 @@
 use Rattle.std.proofs.Common.{◌≡◌, ◌∙◌, ℕ, ◌^◌, ◌<◌, List, Option, Some, None, MatchOption, sym, subst, rules}
 use Rattle.clap.specs.Words.{Row, Text, first_of, found_of, rows_of}
 use Rattle.clap.proofs.WalkLemmas.{first_value-rows}
-use Rattle.grid.specs.Text.{SpellsNumber}
+use Rattle.text_io.specs.Text.{SpellsNumber}
 use Rattle.command_line.specs.Words.{GivesNumber, GivesNumberBelow}
 use Rattle.command_line.proofs.words.number.Goals as goal
 

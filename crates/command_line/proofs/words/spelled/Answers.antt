@@ -4,7 +4,7 @@ use Rattle.std.specs.List.{list_all}
 use Rattle.std.specs.Result.{result_ok, OkIff}
 use Rattle.std.specs.Str.Parse.{digits_value}
 use Rattle.std.proofs.lemmas.Str.Parse.{IsDigitsTest, IsNumeralModel, numerals_by_value, parse_digits}
-use Rattle.grid.specs.Text.{SpellsNumber}
+use Rattle.text_io.specs.Text.{SpellsNumber}
 use Rattle.command_line.proofs.words.spelled.Goals as goal
 
 abbrev AreDigits : List ℕ → Type 0

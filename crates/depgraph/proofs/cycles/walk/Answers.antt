@@ -2,7 +2,7 @@
 use Rattle.std.proofs.Common.{◌<◌, ◌++◌, ◌∷◌, [], true, false, length, Some, inl, inr, arith, refl, sym, ap, subst, ◌∙◌}
 use Rattle.std.specs.Prelude.{IsTrue}
 use Rattle.std.proofs.lemmas.Bool.{false≢true}
-use Rattle.depgraph.specs.Code.Cycles.{IsWalked}
+use Rattle.depgraph.specs.Code.Cycles.{IsCycleWalked}
 use Rattle.depgraph.specs.Code.Links.{links_in}
 use Rattle.depgraph.proofs.RingLemmas.{push-new}
 use Rattle.depgraph.proofs.WalkLemmas.{IsPath, AreTaken, links_left, link-taken, fewer-links, path-more, walk-ends, walked-none}
@@ -45,7 +45,7 @@ entries-preserved c =
 pub returns-then-next-first-clause-walked : goal.returns-then-next-first-clause-walked
 returns-then-next-first-clause-walked c =
     let links = links_in c.entries.links in
-    subst (λ l. IsWalked c.args.first (links_in c.args.links.now) l c.push.new.self.items (IsTrue true)) (sym c.take-next.ensures.taken)
+    subst (λ l. IsCycleWalked c.args.first (links_in c.args.links.now) l c.push.new.self.items (IsTrue true)) (sym c.take-next.ensures.taken)
     (walk-ends c.args.first (links_in c.args.links.now) links c.entries.trail.items c.push.new.self.items c.entries.entry (IsTrue true)
     c.requires.links c.requires.least c.entries.invariant.path c.entries.invariant.taken c.in_ok-push.ensures.items
     (inl (sym c.take-next.ensures.link ∙ c.if-next-first.true, refl)))
@@ -53,7 +53,7 @@ returns-then-next-first-clause-walked c =
 pub returns-then-next-clause-walked : goal.returns-then-next-clause-walked
 returns-then-next-clause-walked c =
     let links = links_in c.entries.links in
-    subst (λ l. IsWalked c.args.first (links_in c.args.links.now) l c.push.new.self.items (IsTrue false)) (sym c.take-next.ensures.taken)
+    subst (λ l. IsCycleWalked c.args.first (links_in c.args.links.now) l c.push.new.self.items (IsTrue false)) (sym c.take-next.ensures.taken)
     (walk-ends c.args.first (links_in c.args.links.now) links c.entries.trail.items c.push.new.self.items c.entries.entry (IsTrue false)
     c.requires.links c.requires.least c.entries.invariant.path c.entries.invariant.taken c.in_ok-push.ensures.items
     (inr (sym c.take-next.ensures.link ∙ c.if-next.true, λ is. false≢true is)))

@@ -4,7 +4,7 @@ use Rattle.std.proofs.lemmas.Bool.{cases_lt}
 use Rattle.std.proofs.lemmas.List.{length-append, get_or_push, get_or_append_left}
 use Rattle.depgraph.specs.declared.following.Follower.{Follower}
 use Rattle.depgraph.specs.Code.Entries.{begin_in}
-use Rattle.depgraph.specs.Code.Meetings.{IsAt, IsNextMeeting, follower_at, no_follower}
+use Rattle.depgraph.specs.Code.Meetings.{ComesNextAt, IsNextMeeting, follower_at, no_follower}
 use Rattle.depgraph.proofs.FollowerLemmas.{end-within, at-first, all-first}
 use Rattle.depgraph.proofs.following.all_followers.Goals as goal
 
@@ -37,17 +37,17 @@ loop-agent-preserved c =
     let items = c.in_ok-push.ensures.items in
     let begin = c.begin_in-begin.ensures in
     let own : Follower = record { agent = agent; index = c.next_meeting-next.result - c.begin_in-begin.result } in
-    let first = subst (λ b. IsAt m 0 (record { agent = agent; index = c.next_meeting-next.result - b })) (sym begin)
+    let first = subst (λ b. ComesNextAt m 0 (record { agent = agent; index = c.next_meeting-next.result - b })) (sym begin)
     (at-first m c.requires agent c.next_meeting-next.result c.loop-agent-test.true
     (subst (λ b. IsNextMeeting m b (get_or m.ends.now agent 0) c.next_meeting-next.result) begin c.next_meeting-next.ensures)) in
     record {
       count = (let long = ap length items in let more = length-append old (own ∷ []) in omega (arith, long, more, count));
       each = λ b less. elim (cases_lt b agent) [
-        | inl before ↦ subst (λ f. IsAt m 0 f × (f.agent ≡ b)) (sym (ap (λ l. follower_at l b) items ∙ get_or_append_left old _ no_follower b (omega (arith, before, count)))) (was.each b before)
+        | inl before ↦ subst (λ f. ComesNextAt m 0 f × (f.agent ≡ b)) (sym (ap (λ l. follower_at l b) items ∙ get_or_append_left old _ no_follower b (omega (arith, before, count)))) (was.each b before)
         | inr end ↦ (
             let same : length old ≡ b = omega (arith, less, end, count) in
             let is : agent ≡ b = omega (arith, same, count) in
-            subst (λ f. IsAt m 0 f × (f.agent ≡ b)) (sym (ap (λ l. follower_at l b) items ∙ get_or_push old own no_follower b same)) (first, is)
+            subst (λ f. ComesNextAt m 0 f × (f.agent ≡ b)) (sym (ap (λ l. follower_at l b) items ∙ get_or_push old own no_follower b same)) (first, is)
             )
       ];
     }

@@ -2,7 +2,7 @@
 use Rattle.std.proofs.Common.{◌≡◌, ◌+◌, ◌*◌, [], length, get_or, arith, sym, ap, subst, ◌∙◌}
 use Rattle.std.proofs.lemmas.Bool.{eqb-true}
 use Rattle.std.proofs.lemmas.List.{get_or_default}
-use Rattle.depgraph.specs.Code.Meetings.{AllComing, HasAll, AreAllUnderWay, IsPast, block_times, list_at}
+use Rattle.depgraph.specs.Code.Meetings.{AllComing, HasAll, AreAllUnderWay, NobodyComes, block_times, list_at}
 use Rattle.depgraph.proofs.FollowerLemmas.{past-none, past-all}
 use Rattle.depgraph.proofs.RingLemmas.{written}
 use Rattle.depgraph.proofs.following.follow.Goals as goal
@@ -53,7 +53,7 @@ returns-then-is_empty-clause-end c =
     let m = c.args.meetings.now in
     let few = c.keep_under_way.new.followers in
     let none : few.len ≡ 0 = eqb-true few.len 0 (sym c.is_empty.ensures ∙ c.if-is_empty.true) in
-    subst (IsPast m) (sym c.loop-number.invariant.time)
+    subst (NobodyComes m) (sym c.loop-number.invariant.time)
     (past-none m c.requires.meetings (c.loop-number.number * block_times) few.items (sym few.ok.0 ∙ none) c.keep_under_way.ensures)
 
 pub returns-clause-end : goal.returns-clause-end

@@ -1,10 +1,10 @@
 use Rattle.std.proofs.Common.{◌≡◌, ◌+◌, ◌*◌, length}
-use Rattle.depgraph.specs.Code.Meetings.{AreAllUnderWay, IsDone, block_times}
+use Rattle.depgraph.specs.Code.Meetings.{AreAllUnderWay, IsPassDone, block_times}
 use Rattle.depgraph.proofs.following.follow.Given as goal
 
 abbrev pub invariant-loop-number : goal.invariant-loop-number
 invariant-loop-number l = record {
-  done : IsDone l.meetings l.pass;
+  done : IsPassDone l.meetings l.pass;
   time : l.pass.time ≡ l.number * block_times;
   all : AreAllUnderWay l.meetings (l.number * block_times) l.followers.items;
   count : length l.block.items ≡ block_times;
@@ -12,6 +12,6 @@ invariant-loop-number l = record {
 
 abbrev pub invariant-loop-step : goal.invariant-loop-step
 invariant-loop-step l = record {
-  done : IsDone l.meetings l.pass;
+  done : IsPassDone l.meetings l.pass;
   time : l.pass.time ≡ l.time + l.step;
 }

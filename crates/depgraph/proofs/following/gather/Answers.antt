@@ -3,7 +3,7 @@ use Rattle.std.proofs.Common.{◌≡◌, ◌≢◌, ℕ, ◌+◌, ◌<◌, lengt
 use Rattle.std.proofs.lemmas.Bool.{cases_lt, cases_eq}
 use Rattle.std.proofs.lemmas.List.{get_or-set_same, get_or-set_other}
 use Rattle.depgraph.specs.Code.Entries.{IsEntry}
-use Rattle.depgraph.specs.Code.Meetings.{IsAt, IsIn, block_times, coming_by, follower_at, list_at, no_follower}
+use Rattle.depgraph.specs.Code.Meetings.{ComesNextAt, IsInComings, block_times, coming_by, follower_at, list_at, no_follower}
 use Rattle.depgraph.proofs.following.gather.Goals as goal
 
 before : (b at : ℕ) → b < at + 1 → (b ≡ at → ⊥) → b < at
@@ -13,7 +13,7 @@ pub look_ahead-requires-clause-at : goal.look_ahead-requires-clause-at
 look_ahead-requires-clause-at c =
     let was = c.loop-at.invariant in
     let less = c.loop-at-test.true in
-    subst (IsAt c.args.meetings.now c.args.time) (sym (was.rest c.loop-at.at (omega arith))) (c.requires.all.at c.loop-at.at less)
+    subst (ComesNextAt c.args.meetings.now c.args.time) (sym (was.rest c.loop-at.at (omega arith))) (c.requires.all.at c.loop-at.at less)
 
 pub loop-at-init : goal.loop-at-init
 loop-at-init c =
@@ -48,15 +48,15 @@ loop-at-preserved c =
         | inr other ↦ ap (λ f. f.agent) (there b other) ∙ was.agents b
       ];
       past = λ b sooner. elim (cases_eq b at) [
-        | inl same ↦ subst (λ q. IsAt m (c.args.time + block_times) (follower_at (set followers at new) q)) (sym same) (subst (IsAt m (c.args.time + block_times)) (sym here) did.at)
-        | inr other ↦ subst (IsAt m (c.args.time + block_times)) (sym (there b other)) (was.past b (before b at sooner other))
+        | inl same ↦ subst (λ q. ComesNextAt m (c.args.time + block_times) (follower_at (set followers at new) q)) (sym same) (subst (ComesNextAt m (c.args.time + block_times)) (sym here) did.at)
+        | inr other ↦ subst (ComesNextAt m (c.args.time + block_times)) (sym (there b other)) (was.past b (before b at sooner other))
       ];
       rest = λ b after. there b (λ same. omega (arith, same, after)) ∙ was.rest b (omega (arith, after));
       sound = λ s within. did.added.sound s within (was.sound s within);
       whole = λ b sooner k e s within entry meets is. elim (cases_eq b at) [
         | inl same ↦ (
             let agent : (follower_at followers at).agent ≡ (follower_at c.args.followers.now b).agent = own ∙ ap (λ q. (follower_at c.args.followers.now q).agent) (sym same) in
-            subst (λ i. IsIn (list_at c.look_ahead.new.block s) (coming_by m i k e)) agent (did.added.own k e s within (subst (λ i. IsEntry m.ends.now i k e) (sym agent) entry) meets is)
+            subst (λ i. IsInComings (list_at c.look_ahead.new.block s) (coming_by m i k e)) agent (did.added.own k e s within (subst (λ i. IsEntry m.ends.now i k e) (sym agent) entry) meets is)
             )
         | inr other ↦ did.added.kept s (coming_by m (follower_at c.args.followers.now b).agent k e) within (was.whole b (before b at sooner other) k e s within entry meets is)
       ];
@@ -87,7 +87,7 @@ returns-clause-block c =
       whole = λ s within i k e entry meets is. (
           let found = c.requires.all.all i k e entry meets (omega (arith, is)) in
           let inside = found.1 in
-          subst (λ j. IsIn (list_at c.loop-at.block s) (coming_by m j k e)) found.2
+          subst (λ j. IsInComings (list_at c.loop-at.block s) (coming_by m j k e)) found.2
           (was.whole found.0 (omega (arith, inside, past)) k e s within (subst (λ j. IsEntry m.ends.now j k e) (sym found.2) entry) meets is)
           );
     }

@@ -3,7 +3,7 @@ use Rattle.std.proofs.Common.{◌≡◌, ◌+◌, ◌-◌, ◌<◌, ◌≤◌, L
 use Rattle.std.proofs.lemmas.List.{get_or_default}
 use Rattle.depgraph.specs.declared.following.Coming.{Coming}
 use Rattle.depgraph.specs.Code.Entries.{begin_in}
-use Rattle.depgraph.specs.Code.Meetings.{IsAt, IsNextMeeting, block_times, coming_by, list_at}
+use Rattle.depgraph.specs.Code.Meetings.{ComesNextAt, IsNextMeeting, block_times, coming_by, list_at}
 use Rattle.depgraph.proofs.FollowerLemmas.{AreAddedTo, ComesTo, end-within, comer-inside, come-few, added-none, comes-first, comes-next, before-more, added-more, at-next, added-all}
 use Rattle.depgraph.proofs.following.look_ahead.Goals as goal
 use Rattle.depgraph.proofs.following.look_ahead.Goals.{then-loop-entry-test+else-from-time, else-loop-entry-test}
@@ -112,7 +112,7 @@ returns-clause-at c =
           absurd (omega (arith, past, same, more))
           )
     ]) in
-    subst (λ b. IsAt m (c.args.time + block_times) (record { agent = agent; index = c.loop-entry.entry - b })) (sym begin)
+    subst (λ b. ComesNextAt m (c.args.time + block_times) (record { agent = agent; index = c.loop-entry.entry - b })) (sym begin)
     (at-next m c.requires.meetings c.args.time agent c.loop-entry.entry c.requires.at.agent c.loop-entry.invariant.comes c.loop-entry.invariant.before end)
 
 pub returns-clause-added : goal.returns-clause-added

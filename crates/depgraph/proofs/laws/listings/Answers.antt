@@ -7,7 +7,7 @@ use Rattle.model.specs.declared.visit.Visit.{Visit}
 use Rattle.model.specs.Timetable.{Timetable}
 use Rattle.depgraph.specs.Rotations.{Turn, TurnsBefore, AreRotations}
 use Rattle.depgraph.specs.Visits.{AreVisitsTo, ComesBefore, Visited, AreAllVisits}
-use Rattle.depgraph.proofs.RisingLemmas.{StandsAmong, IsStrict, one_list}
+use Rattle.depgraph.specs.Laws.Rising.{StandsAmong, IsStrict, one_list}
 use Rattle.depgraph.proofs.laws.listings.Goals as goal
 
 -- ---- rotations

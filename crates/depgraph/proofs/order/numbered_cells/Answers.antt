@@ -4,7 +4,7 @@ use Rattle.std.proofs.lemmas.List.{get_or-map}
 use Rattle.std.specs.Prelude.{get_or}
 use Rattle.indexmap.specs.IndexMap.{insert_entry}
 use Rattle.model.specs.Timetable.{same_cell}
-use Rattle.model.proofs.TrackLemmas.{same_cell-same}
+use Rattle.model.specs.Laws.Tracks.{same_cell-same}
 use Rattle.depgraph.specs.Code.Numbers.{no_cell}
 use Rattle.depgraph.proofs.CellLemmas.{one_more}
 use Rattle.depgraph.proofs.order.numbered_cells.Goals as goal

@@ -5,7 +5,7 @@ use Rattle.std.proofs.lemmas.Option.{same_Some}
 use Rattle.depgraph.specs.declared.sharing.Owners.{Owners}
 use Rattle.depgraph.specs.Code.Entries.{begin_in, IsEntry}
 use Rattle.depgraph.specs.Code.Following.{AreEntries}
-use Rattle.depgraph.specs.Code.Meetings.{IsSeen}
+use Rattle.depgraph.specs.Code.Meetings.{IsOwnerSeen}
 use Rattle.depgraph.proofs.sharing.shared_cells.Goals as goal
 
 -- the entry at hand is among those of its agent
@@ -19,7 +19,7 @@ at_hand times ends numbers limit agent entry h is_agent after within =
     (less, h.known entry less, omega (arith, count, all))
 
 -- who was seen before is still the owner of a cell that isn't shared
-still : (n agent m i : ℕ) (old new : Owners) → IsSeen n agent old new → (get_or old.shared.items m true ≡ false → get_or old.owners.items m None ≡ Some i)
+still : (n agent m i : ℕ) (old new : Owners) → IsOwnerSeen n agent old new → (get_or old.shared.items m true ≡ false → get_or old.owners.items m None ≡ Some i)
     → get_or new.shared.items m true ≡ false → get_or new.owners.items m None ≡ Some i
 still n agent m i old new seen was alone = seen.kept m i alone (was (seen.shared m alone))
 

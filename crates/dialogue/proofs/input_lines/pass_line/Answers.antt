@@ -1,6 +1,6 @@
 -- The front of the line and what was passed is the line.
 use Rattle.std.proofs.Common.{◌++◌, Err, subst}
-use Rattle.grid.specs.Lines.{LinePassed}
+use Rattle.text_io.specs.Lines.{LinePassed}
 use Rattle.dialogue.proofs.InputLemmas.{has_rest, is_over, longer, not_empty}
 use Rattle.dialogue.proofs.input_lines.pass_line.Goals as goal
 

@@ -2,8 +2,8 @@
 use Rattle.std.proofs.Common.{[], ◌∷◌, ◌++◌, Ok, refl, codes}
 use Rattle.std.proofs.lemmas.Result.{err_from_is_err_and}
 use Rattle.hex.specs.Hex.{encode_lower}
-use Rattle.grid.specs.Text.{line_feed}
-use Rattle.grid.proofs.SinkLemmas.{Puts-trans, Puts-then, Breaks-then, Breaks-text, Breaks-text-after}
+use Rattle.text_io.specs.Text.{line_feed}
+use Rattle.text_io.specs.Laws.Putting.{Puts-trans, Puts-then, Breaks-then, Breaks-text, Breaks-text-after}
 use Rattle.dialogue.specs.Turns.{said_line}
 use Rattle.dialogue.proofs.line_answer.put_said.Goals as goal
 

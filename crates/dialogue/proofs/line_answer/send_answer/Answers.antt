@@ -1,7 +1,7 @@
 -- Flushing puts nothing.
 use Rattle.std.proofs.Common.{[], ◌∷◌, ◌++◌, append-nil}
-use Rattle.grid.specs.Text.{line_feed}
-use Rattle.grid.proofs.SinkLemmas.{Breaks-then}
+use Rattle.text_io.specs.Text.{line_feed}
+use Rattle.text_io.specs.Laws.Putting.{Breaks-then}
 use Rattle.dialogue.specs.Code.Answering.{answer_line}
 use Rattle.dialogue.proofs.line_answer.send_answer.Goals as goal
 

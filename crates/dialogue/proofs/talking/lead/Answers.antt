@@ -1,8 +1,8 @@
 -- Each line is answered behind those before it; then comes what ends the dialogue.
 use Rattle.std.proofs.Common.{[], Ok, Err, refl, sym, subst, ◌∙◌, append-nil}
 use Rattle.std.proofs.lemmas.Result.{err_from_is_err_and}
-use Rattle.grid.specs.Sink.{Puts}
-use Rattle.grid.specs.Source.{source_reader}
+use Rattle.text_io.specs.Sink.{Puts}
+use Rattle.text_io.specs.Source.{source_reader}
 use Rattle.dialogue.proofs.DialogueLemmas.{far_more, led_by_last, led_to_end, led_to_failure, led_to_fault, read_first, read_last, replied, same_writer, state_not_said}
 use Rattle.dialogue.proofs.InputLemmas.{kept_within}
 use Rattle.dialogue.proofs.talking.lead.Goals as goal

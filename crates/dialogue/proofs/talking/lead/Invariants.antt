@@ -1,5 +1,5 @@
 use Rattle.std.proofs.Common.{◌≡◌}
-use Rattle.grid.specs.Source.{source_reader, most_left}
+use Rattle.text_io.specs.Source.{source_reader, most_left}
 use Rattle.model.specs.Timetable.{Timetable}
 use Rattle.depgraph.specs.AgentParts.{IsPartOf, IsOfGraph}
 use Rattle.dialogue.proofs.DialogueLemmas.{SoFar}

@@ -1,7 +1,8 @@
 -- What is told of a line by the word that it begins with.
 use Rattle.std.proofs.Common.{◌^◌, Some, refl, sym, ap, ◌∙◌, codes}
 use Rattle.model.specs.declared.event.Event.TheVariants.{Start, Finish, Say, Deliver, Restart, Tear}
-use Rattle.event_text.specs.Code.EventLines.{numeral_below, with_agent, with_both, with_parts}
+use Rattle.text_io.specs.Numerals.{numeral_below}
+use Rattle.event_text.specs.Code.EventLines.{with_agent, with_both, with_parts}
 use Rattle.event_text.proofs.EventLemmas.{behind_word-missed, told_start, told_finish, told_say, told_deliver, told_restart, told_tear}
 use Rattle.event_text.proofs.event_line.read_event.Goals as goal
 

@@ -1,8 +1,8 @@
 -- The answer of the last call, or that memory was refused.
 use Rattle.std.proofs.Common.{◌++◌, ◌∷◌, [], Ok, sym, subst}
 use Rattle.std.proofs.lemmas.Result.{err_from_is_err_and}
-use Rattle.grid.specs.Reading.{is_value}
-use Rattle.grid.specs.Source.{source_reader}
+use Rattle.text_io.specs.Reading.{is_value}
+use Rattle.text_io.specs.Source.{source_reader}
 use Rattle.event_text.specs.Taking.{HasReadEvents, NoMoreEvents, EventTaken}
 use Rattle.event_text.proofs.EventsRead.{all_read, none_read, refused, nothing_read}
 use Rattle.event_text.proofs.event_reader.read_all.Goals as goal

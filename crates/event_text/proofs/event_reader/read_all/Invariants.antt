@@ -1,6 +1,6 @@
 -- The events so far were read, behind the version's header.
 use Rattle.std.proofs.Common.{◌≡◌, Some}
-use Rattle.grid.specs.Source.{source_reader, most_left}
+use Rattle.text_io.specs.Source.{source_reader, most_left}
 use Rattle.event_text.specs.Taking.{HasReadEvents}
 use Rattle.event_text.proofs.event_reader.read_all.Given as goal
 

@@ -1,8 +1,8 @@
 -- The line, and then its LF.
 use Rattle.std.proofs.Common.{[], ◌∷◌, ◌++◌, refl}
 use Rattle.std.proofs.lemmas.Result.{err_from_is_err_and}
-use Rattle.grid.specs.Text.{line_feed}
-use Rattle.scen.proofs.PutLemmas.{Leaves-all, Leaves-less, Leaves-broken, Puts-last, Breaks-last}
+use Rattle.text_io.specs.Text.{line_feed}
+use Rattle.text_io.specs.Laws.Putting.{Leaves-all, Leaves-less, Leaves-broken, Puts-last, Breaks-last}
 use Rattle.event_text.specs.EventLine.{event_line}
 use Rattle.event_text.proofs.event_writer.put_event.Goals as goal
 

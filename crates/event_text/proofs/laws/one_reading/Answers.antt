@@ -1,6 +1,6 @@
 -- What is found line by line is the one reading.
 use Rattle.std.proofs.Common.{◌⊎◌, inl, inr, List, refl, subst}
-use Rattle.grid.specs.Reading.{IsFirstFault}
+use Rattle.text_io.specs.Reading.{IsFirstFault}
 use Rattle.model.specs.declared.event.Event.{Event}
 use Rattle.model.specs.declared.version.Version.TheVariants.{One}
 use Rattle.event_text.specs.declared.event_fault.EventFault.{EventFault}

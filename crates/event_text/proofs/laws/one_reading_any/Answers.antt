@@ -1,6 +1,6 @@
 -- As for version 1 alone.
 use Rattle.std.proofs.Common.{◌⊎◌, inl, inr, List, ap, ◌∙◌}
-use Rattle.grid.specs.Reading.{IsFirstFault}
+use Rattle.text_io.specs.Reading.{IsFirstFault}
 use Rattle.model.specs.declared.event.Event.{Event}
 use Rattle.model.specs.declared.version.Version.{Version}
 use Rattle.event_text.specs.declared.event_fault.EventFault.{EventFault}

@@ -1,6 +1,6 @@
 -- Line by line.
 use Rattle.std.proofs.Common.{◌∷◌, map, refl, ap, ◌∙◌}
-use Rattle.grid.specs.Text.{ended}
+use Rattle.text_io.specs.Text.{ended}
 use Rattle.event_text.specs.EventText.{event_header}
 use Rattle.event_text.specs.EventLine.{event_line}
 use Rattle.event_text.proofs.OneText.{lines-are, lines-within, lines-spell}

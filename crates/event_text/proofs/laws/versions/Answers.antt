@@ -1,7 +1,7 @@
 -- A fault behind the header is none of its, and the header of version 2 is a whole line that is not that of version 1.
 use Rattle.std.proofs.Common.{◌≡◌, ◌≢◌, ℕ, List, [], ◌∷◌, ◌++◌, inl, inr, refl, subst, arith}
-use Rattle.grid.specs.Text.{ended, line_feed}
-use Rattle.grid.specs.Reading.{Place, at_line_feed, at_end}
+use Rattle.text_io.specs.Text.{ended, line_feed}
+use Rattle.text_io.specs.Reading.{Place, at_line_feed, at_end}
 use Rattle.model.specs.declared.version.Version.TheVariants.{Two}
 use Rattle.event_text.specs.declared.event_fault.EventFault.{EventFault}
 use Rattle.event_text.specs.declared.event_fault.EventFault.TheVariants.{NoHeader, BadEvent, Unfinished, ReadFailed, OutOfMemory}

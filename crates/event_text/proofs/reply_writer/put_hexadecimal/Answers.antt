@@ -4,7 +4,8 @@ use Rattle.std.proofs.lemmas.Bool.{eqb-true}
 use Rattle.std.proofs.lemmas.List.{take-append-drop, take_rest, nil_from_length}
 use Rattle.std.proofs.lemmas.Result.{err_from_is_err_and}
 use Rattle.hex.specs.Hex.{encode_lower}
-use Rattle.scen.proofs.PutLemmas.{Leaves, Leaves-less, Leaves-broken, Leaves-none}
+use Rattle.text_io.specs.Sink.{Leaves}
+use Rattle.text_io.specs.Laws.Putting.{Leaves-less, Leaves-broken, Leaves-none}
 use Rattle.event_text.proofs.ReplyLemmas.{encode_lower-append, encode_lower-none}
 use Rattle.event_text.proofs.reply_writer.put_hexadecimal.Goals as goal
 

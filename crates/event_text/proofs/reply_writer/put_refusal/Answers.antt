@@ -1,8 +1,9 @@
 -- The word, the name, and then the numbers, if there are any.
 use Rattle.std.proofs.Common.{[], ◌∷◌, ◌++◌, refl, sym, ap, ◌∙◌, append-nil, codes}
 use Rattle.std.proofs.lemmas.Result.{err_from_is_err_and}
-use Rattle.scen.proofs.PutLemmas.{Leaves-all, Leaves-less, Leaves-broken, Puts-last, Breaks-last}
-use Rattle.event_text.specs.ReplyText.{spaced_numbers, refusal_name, refusal_numbers}
+use Rattle.text_io.specs.Laws.Putting.{Leaves-all, Leaves-less, Leaves-broken, Puts-last, Breaks-last}
+use Rattle.event_text.specs.ReplyText.{refusal_name, refusal_numbers}
+use Rattle.text_io.specs.Text.{spaced_numbers}
 use Rattle.event_text.proofs.ReplyLemmas.{numbers-none}
 use Rattle.event_text.proofs.reply_writer.put_refusal.Goals as goal
 

@@ -2,9 +2,10 @@
 use Rattle.std.proofs.Common.{◌+◌, ◌≤◌, [], ◌∷◌, ◌++◌, length, drop, map, refl, ap, subst, arith}
 use Rattle.std.proofs.lemmas.List.{at_drop_more, drop_all}
 use Rattle.std.proofs.lemmas.Result.{err_from_is_err_and}
-use Rattle.grid.specs.Text.{line_feed}
+use Rattle.text_io.specs.Text.{line_feed}
 use Rattle.model.specs.Replies.{answer_of}
-use Rattle.scen.proofs.PutLemmas.{Leaves, Leaves-less, Leaves-broken, Puts-last, Breaks-last}
+use Rattle.text_io.specs.Sink.{Leaves}
+use Rattle.text_io.specs.Laws.Putting.{Leaves-less, Leaves-broken, Puts-last, Breaks-last}
 use Rattle.event_text.specs.ReplyText.{reply_line, replies_text}
 use Rattle.event_text.proofs.reply_writer.put_replies.Goals as goal
 

@@ -1,7 +1,7 @@
 -- The lines of the replies that follow are left.
 use Rattle.std.proofs.Common.{drop, map}
 use Rattle.model.specs.Replies.{answer_of}
-use Rattle.scen.proofs.PutLemmas.{Leaves}
+use Rattle.text_io.specs.Sink.{Leaves}
 use Rattle.event_text.specs.ReplyText.{replies_text}
 use Rattle.event_text.proofs.reply_writer.put_replies.Given as goal
 

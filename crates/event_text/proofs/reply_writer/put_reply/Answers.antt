@@ -1,9 +1,9 @@
 -- The line, and then its LF.
 use Rattle.std.proofs.Common.{[], ◌∷◌, ◌++◌, refl}
 use Rattle.std.proofs.lemmas.Result.{err_from_is_err_and}
-use Rattle.grid.specs.Text.{line_feed}
+use Rattle.text_io.specs.Text.{line_feed}
 use Rattle.model.specs.Replies.{answer_of}
-use Rattle.scen.proofs.PutLemmas.{Leaves-all, Leaves-less, Leaves-broken, Puts-last, Breaks-last}
+use Rattle.text_io.specs.Laws.Putting.{Leaves-all, Leaves-less, Leaves-broken, Puts-last, Breaks-last}
 use Rattle.event_text.specs.ReplyText.{reply_line}
 use Rattle.event_text.proofs.reply_writer.put_reply.Goals as goal
 

@@ -2,9 +2,8 @@
 use Rattle.std.proofs.Common.{[], ◌∷◌, ◌++◌, refl, codes}
 use Rattle.std.proofs.lemmas.Result.{err_from_is_err_and}
 use Rattle.hex.specs.Hex.{encode_lower}
-use Rattle.grid.specs.Text.{space}
-use Rattle.scen.proofs.PutLemmas.{Leaves-all, Leaves-less, Leaves-broken, Puts-last, Breaks-last}
-use Rattle.event_text.specs.ReplyText.{spaced_numbers}
+use Rattle.text_io.specs.Text.{space, spaced_numbers}
+use Rattle.text_io.specs.Laws.Putting.{Leaves-all, Leaves-less, Leaves-broken, Puts-last, Breaks-last}
 use Rattle.event_text.proofs.reply_writer.put_said.Goals as goal
 
 pub returns-in_err-put_numbers-clause-err : goal.returns-in_err-put_numbers-clause-err

@@ -1,8 +1,9 @@
 -- The word and the places, and then the number of moves.
 use Rattle.std.proofs.Common.{[], ◌∷◌, ◌++◌, refl, sym, ap, append_assoc, codes}
 use Rattle.std.proofs.lemmas.Result.{err_from_is_err_and}
-use Rattle.scen.proofs.PutLemmas.{Leaves-all, Leaves-less, Leaves-broken, Puts-last, Breaks-last}
-use Rattle.event_text.specs.ReplyText.{spaced_numbers, standing_line}
+use Rattle.text_io.specs.Laws.Putting.{Leaves-all, Leaves-less, Leaves-broken, Puts-last, Breaks-last}
+use Rattle.event_text.specs.ReplyText.{standing_line}
+use Rattle.text_io.specs.Text.{spaced_numbers}
 use Rattle.event_text.proofs.reply_writer.put_standing.Goals as goal
 
 pub returns-in_err-put_numbers-clause-err : goal.returns-in_err-put_numbers-clause-err

@@ -1,4 +1,4 @@
-use Rattle.file_tape.proofs.ReadLemmas.{reads_more, within_more}
+use Rattle.file_tape.specs.Laws.Pieces.{reads_more, within_more}
 use Rattle.file_tape.proofs.disk.read_up_to.Goals as goal
 
 pub pieces-preserved : goal.pieces-preserved

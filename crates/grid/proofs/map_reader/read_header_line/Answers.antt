@@ -2,10 +2,9 @@
 use Rattle.std.proofs.Common.{[], ◌∷◌, ◌++◌, refl, sym, ap, ◌∙◌, inl, inr}
 use Rattle.std.proofs.lemmas.Grind.{fold-append}
 use Rattle.grid.specs.declared.header_line.Progress.TheVariants.{Word}
-use Rattle.grid.specs.Text.{line_feed}
+use Rattle.text_io.specs.Text.{line_feed}
 use Rattle.grid.specs.Code.HeaderLine.{header_step, saying_at}
-use Rattle.grid.proofs.SourceLemmas.{Takes-same, Takes-trans, Takes-then_none}
-use Rattle.grid.proofs.FollowLemmas.{IsLine-push, IsAtEnd-from, has_failed-from, Takes-byte}
+use Rattle.text_io.specs.Laws.Taking.{Takes-same, Takes-trans, Takes-then_none, IsLine-push, IsAtEnd-from, has_failed-from, Takes-byte}
 use Rattle.grid.proofs.map_reader.read_header_line.Goals as goal
 
 pub loop-b-init : goal.loop-b-init

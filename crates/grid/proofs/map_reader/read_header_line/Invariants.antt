@@ -2,9 +2,9 @@
 use Rattle.std.proofs.Common.{◌≡◌, ℕ, List}
 use Rattle.std.specs.Prelude.{fold}
 use Rattle.grid.specs.declared.header_line.Progress.TheVariants.{Word}
-use Rattle.grid.specs.Source.{Takes, most_left}
+use Rattle.text_io.specs.Source.{Takes, most_left}
 use Rattle.grid.specs.Code.HeaderLine.{header_step}
-use Rattle.grid.specs.Text.{IsLine}
+use Rattle.text_io.specs.Text.{IsLine}
 use Rattle.grid.proofs.map_reader.read_header_line.Given as goal
 
 abbrev pub invariant-loop-b : goal.invariant-loop-b

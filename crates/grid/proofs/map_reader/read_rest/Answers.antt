@@ -1,8 +1,7 @@
 -- A byte ends a blank line, goes on with it, or is a fault.
 use Rattle.std.proofs.Common.{[], ◌∷◌, ◌++◌, refl, sym, ◌∙◌}
-use Rattle.grid.specs.Text.{line_feed}
-use Rattle.grid.proofs.SourceLemmas.{Takes-same}
-use Rattle.grid.proofs.FollowLemmas.{IsAtEnd-from, has_failed-from, Takes-byte}
+use Rattle.text_io.specs.Text.{line_feed}
+use Rattle.text_io.specs.Laws.Taking.{Takes-same, IsAtEnd-from, has_failed-from, Takes-byte}
 use Rattle.grid.proofs.RowTaken.{number_is}
 use Rattle.grid.proofs.RestTaken.{blank_push, blanks_push, number_after-next, rest_line, rest_byte, rest_fault, rest_failed, rest_right}
 use Rattle.grid.proofs.map_reader.read_rest.Goals as goal

@@ -1,9 +1,9 @@
 -- The lines so far are blank, and the number is that of the line that is read.
 use Rattle.std.proofs.Common.{◌≡◌, ℕ, ◌+◌, List, ◌++◌, min}
 use Rattle.std.specs.List.{AllByRecursion}
-use Rattle.grid.specs.Counted.{greatest}
-use Rattle.grid.specs.Text.{ended}
-use Rattle.grid.specs.Source.{Takes, most_left}
+use Rattle.text_io.specs.Counted.{greatest}
+use Rattle.text_io.specs.Text.{ended}
+use Rattle.text_io.specs.Source.{Takes, most_left}
 use Rattle.grid.specs.Code.Following.{number_after}
 use Rattle.grid.proofs.RestTaken.{IsBlankLine}
 use Rattle.grid.proofs.map_reader.read_rest.Given as goal

@@ -5,8 +5,8 @@ use Rattle.std.specs.List.{list_all}
 use Rattle.std.proofs.lemmas.List.Folds.{list_all-append}
 use Rattle.std.proofs.lemmas.Result.{err_from_is_err_and}
 use Rattle.grid.specs.Terrain.{is_terrain}
-use Rattle.grid.specs.Source.{Takes}
-use Rattle.grid.proofs.SourceLemmas.{Takes-same, Takes-trans, Takes-then_none}
+use Rattle.text_io.specs.Source.{Takes}
+use Rattle.text_io.specs.Laws.Taking.{Takes-same, Takes-trans, Takes-then_none}
 use Rattle.grid.proofs.RowTaken.{length_zero, number_is, row_ended, row_at_end, row_failed, row_long, row_stop, refused_after}
 use Rattle.grid.proofs.map_reader.read_row.Goals as goal
 

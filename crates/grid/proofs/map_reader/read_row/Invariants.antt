@@ -3,7 +3,7 @@ use Rattle.std.proofs.Common.{◌≡◌, ◌≤◌, ◌-◌, ℕ, List, ◌++◌
 use Rattle.std.specs.Prelude.{IsTrue}
 use Rattle.std.specs.List.{list_all}
 use Rattle.grid.specs.Terrain.{is_terrain}
-use Rattle.grid.specs.Source.{Takes}
+use Rattle.text_io.specs.Source.{Takes}
 use Rattle.grid.proofs.map_reader.read_row.Given as goal
 
 abbrev pub invariant-loop-count : goal.invariant-loop-count

@@ -1,9 +1,9 @@
 -- Each turn takes one row more.
 use Rattle.std.proofs.Common.{◌≡◌, ◌+◌, [], ◌∷◌, ◌++◌, min, refl, sym, ap, subst, ◌∙◌, inl, arith, length-append}
 use Rattle.std.proofs.lemmas.Result.{err_from_is_err_and}
-use Rattle.grid.specs.Counted.{greatest}
+use Rattle.text_io.specs.Counted.{greatest}
 use Rattle.grid.specs.Code.Following.{HaveRows}
-use Rattle.grid.proofs.SourceLemmas.{Takes-same}
+use Rattle.text_io.specs.Laws.Taking.{Takes-same}
 use Rattle.grid.proofs.RowsTaken.{rows_stop, TakesRows-push}
 use Rattle.grid.proofs.map_reader.read_rows.Goals as goal
 

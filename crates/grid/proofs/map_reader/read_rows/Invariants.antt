@@ -1,8 +1,8 @@
 -- The rows so far were taken, and their characters kept.
 use Rattle.std.proofs.Common.{◌≡◌, ℕ, List, length, false}
 use Rattle.std.specs.List.{AllByRecursion}
-use Rattle.grid.specs.Source.{has_failed}
-use Rattle.grid.specs.Text.{IsLine}
+use Rattle.text_io.specs.Source.{has_failed}
+use Rattle.text_io.specs.Text.{IsLine}
 use Rattle.grid.specs.Code.Following.{TakesLines, HaveRows}
 use Rattle.grid.proofs.map_reader.read_rows.Given as goal
 

@@ -1,11 +1,11 @@
 -- The header, the rows and what follows them, or where the text stops the reader.
 use Rattle.std.proofs.Common.{◌≡◌, zero, ◌+◌, ◌*◌, ◌++◌, length, map, min, ap, ◌∙◌, arith, length-append}
 use Rattle.std.proofs.lemmas.Result.{err_from_is_err_and}
-use Rattle.grid.specs.Counted.{greatest}
+use Rattle.text_io.specs.Counted.{greatest}
 use Rattle.grid.specs.Terrain.{kind_of}
 use Rattle.grid.specs.Map.{Grid}
 use Rattle.grid.specs.MapFault.{type_due, rows_due}
-use Rattle.grid.specs.Text.{IsLine}
+use Rattle.text_io.specs.Text.{IsLine}
 use Rattle.grid.proofs.TakenLines.{TakesLines-append, TakesRight-append, StopsReading-after, all-append}
 use Rattle.grid.proofs.MapTaken.{reads_stop, reads_map, map_of_lines, header_from_Leads, blank_from_Leads, length-rows, terrain_of_rows, same_reader_of_stop, same_reader_of_lines, rows_right}
 use Rattle.grid.proofs.map_reader.read_text.Goals as goal

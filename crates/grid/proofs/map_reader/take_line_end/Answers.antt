@@ -1,8 +1,7 @@
 -- After a CR comes the LF or the end, or a byte that makes the CR none of a line end.
 use Rattle.std.proofs.Common.{[], ◌∷◌, refl, inl, inr, arith}
-use Rattle.grid.specs.Text.{line_feed, carriage_return}
-use Rattle.grid.proofs.SourceLemmas.{Takes-trans}
-use Rattle.grid.proofs.FollowLemmas.{is_line_byte-other, IsAtEnd-from, has_failed-from, Takes-byte}
+use Rattle.text_io.specs.Text.{line_feed, carriage_return}
+use Rattle.text_io.specs.Laws.Taking.{Takes-trans, is_line_byte-other, IsAtEnd-from, has_failed-from, Takes-byte}
 use Rattle.grid.proofs.map_reader.take_line_end.Goals as goal
 
 pub returns-in-Ok-eq10-next_byte : goal.returns-in-Ok-eq10-next_byte

@@ -1,10 +1,9 @@
 -- The run of terrain lies in the bytes at hand.
 use Rattle.std.proofs.Common.{◌≡◌, ◌≤◌, ◌<◌, [], length, take, drop, sym, ap, subst, ◌∙◌, inr, arith, length-take-le}
 use Rattle.grid.specs.Terrain.{is_terrain}
-use Rattle.grid.specs.Source.{at_hand, Takes}
-use Rattle.grid.proofs.SourceLemmas.{Takes-trans}
-use Rattle.grid.proofs.FollowLemmas.{none_matched}
-use Rattle.grid.proofs.RunLemmas.{run_in_bytes, run_at_most, run_is_all, no_run}
+use Rattle.text_io.specs.Source.{at_hand, Takes}
+use Rattle.text_io.specs.Laws.Taking.{Takes-trans, none_matched}
+use Rattle.text_io.specs.Laws.Runs.{run_in_bytes, run_at_most, run_is_all, no_run}
 use Rattle.grid.proofs.map_reader.take_terrain.Goals as goal
 
 pub slice_bounds-extend_from_slice-end : goal.slice_bounds-extend_from_slice-end
@@ -15,8 +14,8 @@ slice_bounds-extend_from_slice-end g c =
 pub take-requires : goal.take-requires
 take-requires g c =
     let bytes = c.at_hand-bytes.result.now in
-    subst (λ l. c.terrain_run-run.result ≤ length l) c.at_hand-bytes.ensures
-    (run_in_bytes is_terrain bytes c.args.most c.min-room.result _ c.min-room.ensures c.terrain_run-run.ensures)
+    let within = run_in_bytes is_terrain bytes c.args.most c.min-room.result _ c.min-room.ensures c.terrain_run-run.ensures in
+    (omega arith, subst (λ l. c.terrain_run-run.result ≤ length l) c.at_hand-bytes.ensures within)
 
 pub overflow_cast-result : goal.overflow_cast-result
 overflow_cast-result g c =

@@ -2,9 +2,9 @@
 use Rattle.std.proofs.Common.{◌≡◌, [], ◌∷◌, ◌++◌, refl, sym, ap, ◌∙◌, append_assoc, append-nil}
 use Rattle.std.specs.Prelude.{codes, decimal}
 use Rattle.std.proofs.lemmas.Result.{err_from_is_err_and}
-use Rattle.grid.specs.Text.{line_feed, ended}
+use Rattle.text_io.specs.Text.{line_feed, ended}
 use Rattle.grid.specs.MapText.{header_lines}
-use Rattle.grid.proofs.SinkLemmas.{Puts-trans, Puts-then, Breaks-then, Breaks-text, Breaks-text-after}
+use Rattle.text_io.specs.Laws.Putting.{Puts-trans, Puts-then, Breaks-then, Breaks-text, Breaks-text-after}
 use Rattle.grid.proofs.map_writer.put_header.Goals as goal
 
 pub returns-in_err-put_line-clause-err : goal.returns-in_err-put_line-clause-err

@@ -1,8 +1,8 @@
 -- The line, and then its LF.
 use Rattle.std.proofs.Common.{[], ◌∷◌, refl}
 use Rattle.std.proofs.lemmas.Result.{err_from_is_err_and}
-use Rattle.grid.specs.Text.{line_feed}
-use Rattle.grid.proofs.SinkLemmas.{Puts-then, Breaks-then, Breaks-text}
+use Rattle.text_io.specs.Text.{line_feed}
+use Rattle.text_io.specs.Laws.Putting.{Puts-then, Breaks-then, Breaks-text}
 use Rattle.grid.proofs.map_writer.put_line.Goals as goal
 
 pub returns-in_err-put-clause-err : goal.returns-in_err-put-clause-err

@@ -1,10 +1,10 @@
 -- The header, the rows, and then what is held back.
 use Rattle.std.proofs.Common.{[], ◌++◌, map, refl, ◌∙◌, append-nil}
 use Rattle.std.proofs.lemmas.Result.{err_from_is_err_and}
-use Rattle.grid.specs.Text.{ended}
+use Rattle.text_io.specs.Text.{ended}
 use Rattle.grid.specs.Terrain.{character_of}
 use Rattle.grid.specs.MapText.{rows_of, header_lines}
-use Rattle.grid.proofs.SinkLemmas.{Puts-trans, Puts-then, Breaks-then, Breaks-text, Breaks-text-after}
+use Rattle.text_io.specs.Laws.Putting.{Puts-trans, Puts-then, Breaks-then, Breaks-text, Breaks-text-after}
 use Rattle.grid.proofs.RowLemmas.{canonical_map_text-parts}
 use Rattle.grid.proofs.map_writer.put_map.Goals as goal
 

@@ -1,9 +1,9 @@
 -- Each turn puts the first of the rows that are left.
 use Rattle.std.proofs.Common.{◌≡◌, ◌+◌, ◌-◌, ◌*◌, [], ◌∷◌, ◌++◌, length, take, drop, sym, ap, ◌∙◌, arith, append_assoc}
 use Rattle.std.proofs.lemmas.Result.{err_from_is_err_and}
-use Rattle.grid.specs.Text.{line_feed, ended}
+use Rattle.text_io.specs.Text.{line_feed, ended}
 use Rattle.grid.specs.MapText.{rows_of}
-use Rattle.grid.proofs.SinkLemmas.{Puts-same, Puts-trans, Breaks-text-after}
+use Rattle.text_io.specs.Laws.Putting.{Puts-same, Puts-trans, Breaks-text-after}
 use Rattle.grid.proofs.RowLemmas.{rows_of-next, length-drop_row}
 use Rattle.grid.proofs.map_writer.put_rows.Goals as goal
 

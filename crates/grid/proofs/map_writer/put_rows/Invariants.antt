@@ -1,7 +1,7 @@
 -- The rows that were put, and those of the rest, are all.
 use Rattle.std.proofs.Common.{◌≡◌, ℕ, ◌-◌, ◌*◌, List, ◌++◌, length}
-use Rattle.grid.specs.Text.{ended}
-use Rattle.grid.specs.Sink.{Puts}
+use Rattle.text_io.specs.Text.{ended}
+use Rattle.text_io.specs.Sink.{Puts}
 use Rattle.grid.specs.MapText.{rows_of}
 use Rattle.grid.proofs.map_writer.put_rows.Given as goal
 

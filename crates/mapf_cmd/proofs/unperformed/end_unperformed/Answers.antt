@@ -2,7 +2,7 @@ use Rattle.std.proofs.Common.{ℕ, inl, subst, sym}
 use Rattle.text_commands.specs.Rewriting.{EndsWriting}
 use Rattle.text_commands.specs.Telling.{Tells}
 use Rattle.text_commands.specs.declared.status.Status.TheVariants.{Done}
-use Rattle.text_commands.proofs.Rewriting.{ends_writing}
+use Rattle.text_commands.specs.Laws.Ending.{ends_writing}
 use Rattle.mapf_cmd.proofs.unperformed.end_unperformed.Goals as goal
 
 pub returns-in-Some : goal.returns-in-Some

@@ -1,12 +1,13 @@
-use Rattle.std.proofs.Common.{ℕ, List, Some, refl, sym, subst}
+use Rattle.std.proofs.Common.{ℕ, List, Some, refl, sym, ap, subst, ◌∙◌}
+use Rattle.text_io.specs.FaultWords.{Words}
 use Rattle.command_line.specs.declared.command_line.LineFault.{LineFault}
 use Rattle.command_line.specs.declared.command_line.LineFault.TheVariants.{Help}
 use Rattle.mapf_cmd.specs.Program.{EndsRefused}
 use Rattle.text_commands.specs.Rewriting.{EndsWriting}
-use Rattle.text_commands.specs.Status.{code_of}
+use Rattle.text_commands.specs.Status.{code_of, status_of}
 use Rattle.text_commands.specs.Telling.{Tells}
 use Rattle.text_commands.specs.declared.status.Status.TheVariants.{Done}
-use Rattle.text_commands.proofs.Rewriting.{ends_writing}
+use Rattle.text_commands.specs.Laws.Ending.{ends_writing}
 use Rattle.mapf_cmd.proofs.unperformed.refuse.Goals as goal
 
 pub returns-in-Help : goal.returns-in-Help
@@ -21,5 +22,5 @@ returns-in-Help g c =
 
 pub returns-in-OutOfMemory : goal.returns-in-OutOfMemory
 returns-in-OutOfMemory g c =
-    let told = subst (λ (words : List (List ℕ)). Tells g.E.Write.contents c.args.err.now c.report.new.err (Some words)) c.words.ensures c.report.ensures in
-    rw c.in-OutOfMemory.is (c.code-in-OutOfMemory.ensures, refl, told)
+    let told = subst (λ (words : Words). Tells g.E.Write.contents c.args.err.now c.give_up.new.err (Some words)) c.words.ensures c.give_up.ensures.told in
+    rw c.in-OutOfMemory.is (c.give_up.ensures.code ∙ ap (λ (words : Words). code_of (status_of words)) c.words.ensures, refl, told)

@@ -1,7 +1,7 @@
 use Rattle.std.proofs.Common.{ℕ, ◌≤◌, [], ◌∷◌, ◌++◌, arith}
 use Rattle.model.specs.History.{History, kept_starts, done}
-use Rattle.model.proofs.HistoryLemmas.{done-next, known-done}
-use Rattle.model.proofs.RunLemmas.{level, in_step}
+use Rattle.model.specs.Laws.Histories.{done-next, known-done}
+use Rattle.model.specs.Laws.Runs.{level, in_step}
 use Rattle.model.proofs.laws.counters.Goals as goal
 
 done-later : (later earlier : History) (i : ℕ) → done earlier i ≤ done (later ++ earlier) i

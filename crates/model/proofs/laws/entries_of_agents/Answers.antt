@@ -1,4 +1,4 @@
-use Rattle.model.proofs.EntryLemmas.{entries-rising, entries-own, entries-told, entries-few}
+use Rattle.model.specs.Laws.Entries.{entries-rising, entries-own, entries-told, entries-few}
 use Rattle.model.proofs.laws.entries_of_agents.Goals as goal
 
 pub returns-clause-rising : goal.returns-clause-rising

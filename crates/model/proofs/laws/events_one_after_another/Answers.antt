@@ -1,4 +1,4 @@
-use Rattle.model.proofs.AfterLemmas.{history-more, accepted-more, run-more}
+use Rattle.model.specs.Laws.After.{history-more, accepted-more, run-more}
 use Rattle.model.proofs.laws.events_one_after_another.Goals as goal
 
 pub returns-clause-history : goal.returns-clause-history

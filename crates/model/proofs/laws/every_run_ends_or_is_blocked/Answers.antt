@@ -7,11 +7,11 @@ use Rattle.model.specs.Dependency.{MovesInto, IsRotation}
 use Rattle.model.specs.History.{History, done}
 use Rattle.model.specs.Rules.{IsRun}
 use Rattle.model.specs.Completion.{history_after}
-use Rattle.model.proofs.AfterLemmas.{run-more}
-use Rattle.model.proofs.RunLemmas.{progress}
-use Rattle.model.proofs.TrackLemmas.{moves-most, moves-leave}
+use Rattle.model.specs.Laws.After.{run-more}
+use Rattle.model.specs.Laws.Runs.{progress}
+use Rattle.model.specs.Laws.Tracks.{moves-most, moves-leave}
 use Rattle.model.proofs.CompletionLemmas.{turns_or_ends}
-use Rattle.model.proofs.RotationLemmas.{never, after}
+use Rattle.model.specs.Laws.Rotations.{never, after}
 use Rattle.model.proofs.laws.every_run_ends_or_is_blocked.Goals as goal
 
 -- no move of a rotation is finished in a run

@@ -9,10 +9,10 @@ use Rattle.model.specs.Timetable.{Track, Timetable, track_of, IsConflictFree}
 use Rattle.model.specs.History.{History, kept_starts, done, is_moving}
 use Rattle.model.specs.Rules.{path_cell, IsRun}
 use Rattle.model.specs.Safety.{held, IsIn, Holds}
-use Rattle.model.proofs.Options.{found}
-use Rattle.model.proofs.TrackLemmas.{length-path}
+use Rattle.model.specs.Laws.Options.{some-found}
+use Rattle.model.specs.Laws.Tracks.{length-path}
 use Rattle.model.proofs.Visited.{IsKept, IsInside, inside-apart}
-use Rattle.model.proofs.RunLemmas.{Progress, progress}
+use Rattle.model.specs.Laws.Runs.{Progress, progress}
 use Rattle.model.proofs.WalkedLemmas.{walk-beginning}
 use Rattle.model.proofs.laws.every_run_is_safe.Goals as goal
 
@@ -46,7 +46,7 @@ held_inside tab h i track c there went =
 
 inside : (v : Version) (tab : Timetable) (h : History) → IsRun v tab h → (i : ℕ) (c : Cell) → Holds tab h i c → IsInside tab (kept_starts h) (done h) i c
 inside v tab h run i c holds =
-    let known = found (track_of tab i) _ holds in
+    let known = some-found (track_of tab i) _ holds in
     held_inside tab h i known.0 c known.1 (progress v tab h i known.0 known.1 run) known.2
 
 apart : (v : Version) (tab : Timetable) (h : History) → IsConflictFree tab → IsRun v tab h → (i j : ℕ) (c : Cell) → Holds tab h i c → Holds tab h j c → i ≡ j

@@ -7,8 +7,8 @@ use Rattle.grid.specs.Map.{Grid}
 use Rattle.model.specs.declared.plan_fault.PlanFault.{PlanFault}
 use Rattle.model.specs.declared.plan_fault.PlanFault.TheVariants.{BadStart, BadMove, Vertex, Swap, OutOfMemory}
 use Rattle.model.specs.Plan.{Position, position_of, Course, Plan, position_at, course_of, IsAt, HasPlanFault, Key, key_of, IsBefore, IsLeastFault, longest_of}
-use Rattle.model.proofs.Options.{found}
-use Rattle.model.proofs.PlaceLemmas.{same_place, position_after-end}
+use Rattle.model.specs.Laws.Options.{some-found}
+use Rattle.model.specs.Laws.Places.{same_place, position_after-end}
 use Rattle.model.proofs.laws.least_faults.Goals as goal
 
 -- ---- one fault for a key
@@ -95,8 +95,8 @@ at_end (Some course) most t place within past h =
 in_time : (m : Grid) (p : Plan) (f : PlanFault) → IsLeastFault m p f → (key_of f).time ≤ longest_of p.courses
 in_time m p (BadStart i) h = omega arith
 in_time m p (BadMove i step) h =
-    let course = found (course_of p i) _ h.has in
-    let act = found (slice_get course.0.acts step) _ course.2 in
+    let course = some-found (course_of p i) _ h.has in
+    let act = some-found (slice_get course.0.acts step) _ course.2 in
     let below = slice_get_within course.0.acts step act.0 act.1 in
     let most = longest-is p.courses i course.0 course.1 in
     omega (arith, below, most)

@@ -14,9 +14,9 @@ use Rattle.model.specs.Messages.{Message, number_told, message_said, bytes_said}
 use Rattle.model.specs.History.{Answer, said, refused, History, Happening, is_broken, done, is_said, messages_of, messages, known}
 use Rattle.model.specs.Rules.{say_answer, answer_by, answer, IsRun}
 use Rattle.model.specs.Speech.{HasFinished, WasSaid}
-use Rattle.model.proofs.EntryLemmas.{entries-own}
-use Rattle.model.proofs.HistoryLemmas.{number-within, known-done}
-use Rattle.model.proofs.RunLemmas.{progress}
+use Rattle.model.specs.Laws.Entries.{entries-own}
+use Rattle.model.specs.Laws.Histories.{number-within, known-done}
+use Rattle.model.specs.Laws.Runs.{progress}
 use Rattle.model.proofs.laws.messages_of_runs.Goals as goal
 
 -- ---- the last message, or one before

@@ -1,6 +1,6 @@
 use Rattle.model.specs.Timetable.{moves_before}
-use Rattle.model.proofs.WaitLemmas.{last-within, last-in_time}
-use Rattle.model.proofs.NeedLemmas.{up_to, last_stand-is, is_need, awaits}
+use Rattle.model.specs.Laws.Waits.{last-within, last-in_time}
+use Rattle.model.specs.Laws.Needs.{up_to, last_stand-is, is_need, awaits}
 use Rattle.model.proofs.laws.needs.Goals as goal
 
 pub returns-clause-last : goal.returns-clause-last

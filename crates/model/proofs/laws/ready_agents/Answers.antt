@@ -1,7 +1,7 @@
 use Rattle.std.proofs.Common.{refl}
 use Rattle.model.specs.History.{is_moving}
-use Rattle.model.proofs.RunLemmas.{in_step}
-use Rattle.model.proofs.ReadyLemmas.{comes_to_rest, moves_on, message, speaks_up, learns}
+use Rattle.model.specs.Laws.Runs.{in_step}
+use Rattle.model.specs.Laws.Ready.{comes_to_rest, moves_on, message, speaks_up, learns}
 use Rattle.model.proofs.laws.ready_agents.Goals as goal
 
 pub returns-clause-rest : goal.returns-clause-rest

@@ -1,4 +1,4 @@
-use Rattle.model.proofs.RotationLemmas.{never}
+use Rattle.model.specs.Laws.Rotations.{never}
 use Rattle.model.proofs.laws.rotations_never_begin.Goals as goal
 
 pub returns : goal.returns

@@ -13,8 +13,8 @@ use Rattle.model.specs.declared.plan_fault.PlanFault.TheVariants.{BadMove, Verte
 use Rattle.model.specs.Timetable.{Track, Timetable, cell_after, cell_at, track_of, Stands, IsConflictFree, IsSwapFree}
 use Rattle.model.specs.Costs.{EndsAtRest}
 use Rattle.model.specs.Plan.{Position, position_of, moved, Course, Plan, position_after, position_at, course_of, IsLegal, IsBadMove, IsValid, IsTrackOf, AreTracksOf, IsTimetableOf}
-use Rattle.model.proofs.PlaceLemmas.{same_place, position_after-end}
-use Rattle.model.proofs.NeedLemmas.{stands-track}
+use Rattle.model.specs.Laws.Places.{same_place, position_after-end}
+use Rattle.model.specs.Laws.Needs.{stands-track}
 use Rattle.model.proofs.CostLemmas.{Rests, cost-least, same_track, cells-trimmed, trimmed, trimmed-rests}
 use Rattle.model.proofs.laws.timetables.Goals as goal
 

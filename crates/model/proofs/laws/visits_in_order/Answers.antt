@@ -4,8 +4,8 @@ use Rattle.std.proofs.lemmas.Option.{same_Some}
 use Rattle.grid.specs.declared.cell.Cell.{Cell}
 use Rattle.model.specs.Timetable.{Timetable, cell_at, moves_before, track_of, Stands, IsConflictFree}
 use Rattle.model.specs.Dependency.{IsVisit}
-use Rattle.model.proofs.TrackLemmas.{moves-rise, moves-leave}
-use Rattle.model.proofs.NeedLemmas.{stands-from}
+use Rattle.model.specs.Laws.Tracks.{moves-rise, moves-leave}
+use Rattle.model.specs.Laws.Needs.{stands-from}
 use Rattle.model.proofs.laws.visits_in_order.Goals as goal
 
 stands-by_visit : (tab : Timetable) (i n t : ℕ) (c : Cell) → IsVisit tab i n t c → Stands tab i t c

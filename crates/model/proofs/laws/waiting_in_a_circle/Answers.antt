@@ -1,4 +1,4 @@
-use Rattle.model.proofs.WaitLemmas.{twice, rotation}
+use Rattle.model.specs.Laws.Waits.{twice, rotation}
 use Rattle.model.proofs.laws.waiting_in_a_circle.Goals as goal
 
 pub returns-clause-twice : goal.returns-clause-twice

@@ -3,7 +3,8 @@ use Rattle.std.proofs.Common.{ap, arith, refl, rules, subst, ◌∙◌}
 use Rattle.std.specs.Slice.Iter.{chunks_rest}
 use Rattle.std.proofs.lemmas.List.{nil_from_length}
 use Rattle.std.proofs.lemmas.Result.{err_from_is_err_and}
-use Rattle.scen.proofs.PutLemmas.{Leaves, Leaves-all, Leaves-less, Leaves-none, Leaves-broken}
+use Rattle.text_io.specs.Sink.{Leaves}
+use Rattle.text_io.specs.Laws.Putting.{Leaves-all, Leaves-less, Leaves-none, Leaves-broken}
 use Rattle.path_commands.proofs.CellLemmas.{text_of, text-append}
 use Rattle.path_commands.proofs.cell_text.put_cells.Goals as goal
 

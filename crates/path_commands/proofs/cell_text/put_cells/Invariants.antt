@@ -1,7 +1,7 @@
 -- The cells that follow are left.
 use Rattle.std.proofs.Common.{◌≡◌}
 use Rattle.std.specs.Slice.Iter.{chunks_rest, chunks_size}
-use Rattle.scen.proofs.PutLemmas.{Leaves}
+use Rattle.text_io.specs.Sink.{Leaves}
 use Rattle.path_commands.proofs.CellLemmas.{text_of}
 use Rattle.path_commands.proofs.cell_text.put_cells.Given as goal
 

@@ -1,8 +1,9 @@
 -- Each turn puts the first of the cells that are left.
 use Rattle.std.proofs.Common.{◌+◌, drop, subst, refl}
 use Rattle.std.proofs.lemmas.Result.{err_from_is_err_and}
-use Rattle.scen.proofs.PutLemmas.{Leaves, Leaves-less, Leaves-broken}
-use Rattle.grid.specs.Text.{spaced_numbers}
+use Rattle.text_io.specs.Sink.{Leaves}
+use Rattle.text_io.specs.Laws.Putting.{Leaves-less, Leaves-broken}
+use Rattle.text_io.specs.Text.{spaced_numbers}
 use Rattle.path_commands.specs.PathText.{numbers_of}
 use Rattle.path_commands.proofs.RowLemmas.{cells_next}
 use Rattle.path_commands.proofs.cell_text.put_far_cells.Goals as goal

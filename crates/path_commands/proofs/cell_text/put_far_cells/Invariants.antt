@@ -1,7 +1,7 @@
 -- The cells that follow are left.
 use Rattle.std.proofs.Common.{drop}
-use Rattle.grid.specs.Text.{spaced_numbers}
-use Rattle.scen.proofs.PutLemmas.{Leaves}
+use Rattle.text_io.specs.Text.{spaced_numbers}
+use Rattle.text_io.specs.Sink.{Leaves}
 use Rattle.path_commands.specs.PathText.{numbers_of}
 use Rattle.path_commands.proofs.cell_text.put_far_cells.Given as goal
 

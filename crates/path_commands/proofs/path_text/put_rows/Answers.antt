@@ -1,8 +1,9 @@
 -- Each turn puts the line of a time and takes the agents on, and the end hands on what is held back.
 use Rattle.std.proofs.Common.{◌≡◌, ◌+◌, ◌-◌, [], ◌∷◌, ◌++◌, ap, arith, refl, subst, ◌∙◌}
 use Rattle.std.proofs.lemmas.Result.{err_from_is_err_and}
-use Rattle.grid.specs.Text.{line_feed, ended}
-use Rattle.scen.proofs.PutLemmas.{Leaves, Leaves-all, Leaves-less, Leaves-broken, Puts-last, Breaks-last}
+use Rattle.text_io.specs.Text.{line_feed, ended}
+use Rattle.text_io.specs.Sink.{Leaves}
+use Rattle.text_io.specs.Laws.Putting.{Leaves-all, Leaves-less, Leaves-broken, Puts-last, Breaks-last}
 use Rattle.path_commands.specs.PathText.{count_of_times, path_line, path_lines}
 use Rattle.path_commands.specs.Code.Rows.{row_at, rows_from}
 use Rattle.path_commands.proofs.RowLemmas.{count_few, rows_next, rows_over, start_row}

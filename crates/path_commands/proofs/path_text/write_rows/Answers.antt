@@ -1,12 +1,12 @@
 use Rattle.std.proofs.Common.{rules}
-use Rattle.text_commands.proofs.SinkWritten.{same_writer, sink_written}
+use Rattle.text_io.specs.Laws.Putting.{same_writer, sink_written}
 use Rattle.path_commands.specs.PathText.{path_text}
-use Rattle.path_commands.specs.Code.Rows.{rows_of}
+use Rattle.path_commands.specs.Code.Rows.{rows_of_courses}
 use Rattle.path_commands.proofs.path_text.write_rows.Goals as goal
 
 pub returns : goal.returns
 returns g c =
-    let text = path_text (rows_of c.args.courses.now) in
+    let text = path_text (rows_of_courses c.args.courses.now) in
     let same = same_writer g.W.Write.contents c.new-sink.result c.put_rows.new.sink text c.put_rows.result c.put_rows.ensures.ok c.put_rows.ensures.err in
     let wrote = sink_written g.W.Write.contents c.new-sink.result c.put_rows.new.sink c.args.writer.now _ text c.put_rows.result
     c.new-sink.ensures.writer c.new-sink.ensures.held_back c.drop-sink.ensures

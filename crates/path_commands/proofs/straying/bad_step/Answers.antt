@@ -4,8 +4,8 @@ use Rattle.std.specs.Prelude.{slice_get}
 use Rattle.std.proofs.lemmas.Option.{slice_get-get_or}
 use Rattle.model.specs.Plan.{position_of}
 use Rattle.plan.specs.Code.Standing.{IsOnGrid}
-use Rattle.plan.proofs.StrayLemmas.{kept_none, kept_next, kept_always}
-use Rattle.plan.proofs.WalkingLemmas.{ahead-moved, bad-moved, on_map_from_terrain, position_at-start}
+use Rattle.plan.specs.Laws.Keeping.{kept_none, kept_next, kept_always}
+use Rattle.plan.specs.Laws.Walking.{ahead-moved, bad-moved, on_map_from_terrain, position_at-start}
 use Rattle.path_commands.proofs.StrayLemmas.{goes_its_way}
 use Rattle.path_commands.proofs.straying.bad_step.Goals as goal
 

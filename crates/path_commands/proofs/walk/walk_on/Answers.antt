@@ -1,7 +1,7 @@
 -- Each agent goes on by the act that was read.
 use Rattle.std.proofs.Common.{arith, refl, sym, ap₂, subst, ◌∙◌}
 use Rattle.plan.specs.Moving.{cell_by}
-use Rattle.path_commands.specs.Code.Walks.{IsInRange}
+use Rattle.path_commands.specs.Code.Walks.{IsCellInRange}
 use Rattle.path_commands.proofs.WalkLemmas.{led_more, read_act}
 use Rattle.path_commands.proofs.walk.walk_on.Goals as goal
 
@@ -19,7 +19,7 @@ next_cell-requires-clause-column c =
     let long = c.acts.ensures.count in
     let act = read_act stretches i step c.index-stretches-agent.result c.acts.result.now (omega (arith, less, end)) c.index-stretches-agent.is c.acts.ensures.value
     (omega (arith, within, long)) in
-    (subst IsInRange (sym (ap₂ cell_by act (c.loop-agent.invariant.rest i (omega arith)))) (c.requires.range i less)).column
+    (subst IsCellInRange (sym (ap₂ cell_by act (c.loop-agent.invariant.rest i (omega arith)))) (c.requires.range i less)).column
 
 pub next_cell-requires-clause-row : goal.next_cell-requires-clause-row
 next_cell-requires-clause-row c =
@@ -32,7 +32,7 @@ next_cell-requires-clause-row c =
     let long = c.acts.ensures.count in
     let act = read_act stretches i step c.index-stretches-agent.result c.acts.result.now (omega (arith, less, end)) c.index-stretches-agent.is c.acts.ensures.value
     (omega (arith, within, long)) in
-    (subst IsInRange (sym (ap₂ cell_by act (c.loop-agent.invariant.rest i (omega arith)))) (c.requires.range i less)).row
+    (subst IsCellInRange (sym (ap₂ cell_by act (c.loop-agent.invariant.rest i (omega arith)))) (c.requires.range i less)).row
 
 pub loop-agent-preserved : goal.loop-agent-preserved
 loop-agent-preserved c =

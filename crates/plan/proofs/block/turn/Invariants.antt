@@ -1,12 +1,12 @@
 use Rattle.std.proofs.Common.{◌-◌, ◌≤◌, length}
-use Rattle.plan.specs.Code.Blocks.{AreRows}
+use Rattle.plan.specs.Code.Blocks.{AreActRows}
 use Rattle.plan.proofs.RowLemmas.{AreTurnedTo}
 use Rattle.plan.proofs.block.turn.Given as goal
 
 abbrev pub invariant-loop-first : goal.invariant-loop-first
 invariant-loop-first l = record {
   within : l.first ≤ length l.walkers;
-  rows : AreRows (length l.courses) l.rows;
+  rows : AreActRows (length l.courses) l.rows;
   turned : AreTurnedTo l.courses l.step l.walkers l.rows l.first;
 }
 

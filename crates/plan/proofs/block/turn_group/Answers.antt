@@ -3,7 +3,7 @@ use Rattle.std.proofs.Common.{◌≡◌, [], length, get_or, rules, arith, refl,
 use Rattle.std.specs.Prelude.{slice_get}
 use Rattle.std.proofs.lemmas.List.{get_or-take, get_or_default, length-take-le}
 use Rattle.std.proofs.lemmas.Option.{slice_get_read}
-use Rattle.plan.specs.Code.Blocks.{row_at, IsStretch}
+use Rattle.plan.specs.Code.Blocks.{row_of_step, IsStretch}
 use Rattle.plan.specs.Code.Crowd.{walker_at, act_at}
 use Rattle.plan.proofs.RowLemmas.{stretches-none, stretches-more, fetched-more, put-more, group-turned}
 use Rattle.plan.proofs.block.turn_group.Goals as goal
@@ -39,7 +39,7 @@ loop-taken-preserved c =
     let same = c.loop-taken.auto.rows in
     let now = c.loop-taken.rows in
     let s = c.loop-taken.taken in
-    let row : get_or now s c.index-rows-taken.result ≡ row_at now s = get_or_default now s c.index-rows-taken.result [] (omega (arith, less, steps, same)) in
+    let row : get_or now s c.index-rows-taken.result ≡ row_of_step now s = get_or_default now s c.index-rows-taken.result [] (omega (arith, less, steps, same)) in
     let few = c.requires.size in
     let count = c.loop-member.invariant.are.count in
     let size = length-take-le (length c.args.group.now) c.loop-member.stretches (omega (arith, few, count)) in

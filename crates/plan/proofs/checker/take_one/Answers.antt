@@ -2,8 +2,8 @@
 use Rattle.std.proofs.Common.{◌+◌, ◌<◌, sym, subst, ◌∙◌}
 use Rattle.model.specs.Plan.{IsLeastFault}
 use Rattle.plan.specs.Code.Squares.{wide_of}
-use Rattle.plan.specs.Code.Crowd.{AreTurns, AreMarksOf, AreOldMarks}
-use Rattle.plan.specs.Code.Watching.{IsPast, IsSeen}
+use Rattle.plan.specs.Code.Crowd.{AreActTurns, AreMarksOf, AreOldMarks}
+use Rattle.plan.specs.Code.Watching.{IsCleanUpTo, IsSeen}
 use Rattle.plan.proofs.MarkLemmas.{first_mark-some, first_mark-again, old-before}
 use Rattle.plan.proofs.UnderWayLemmas.{if_past, seen-past, seen-allowed}
 use Rattle.plan.proofs.checker.take_one.Goals as goal
@@ -23,8 +23,8 @@ returns-then-take_step-clause-seen c =
     let p = c.args.plan.now in
     let step = c.args.step in
     let turns = c.new-turns.result in
-    let h : AreTurns (wide_of m) turns = subst (λ w. AreTurns (w + 2) turns) c.width.ensures.width c.new-turns.ensures.turns in
-    if_past c.fault_in_step.result (IsPast m p (step + 1)) (IsSeen m p (step + 1) c.take_step.new.walkers c.take_step.new.squares) (IsLeastFault m p)
+    let h : AreActTurns (wide_of m) turns = subst (λ w. AreActTurns (w + 2) turns) c.width.ensures.width c.new-turns.ensures.turns in
+    if_past c.fault_in_step.result (IsCleanUpTo m p (step + 1)) (IsSeen m p (step + 1) c.take_step.new.walkers c.take_step.new.squares) (IsLeastFault m p)
     (seen-past m p step turns c.args.acts.now c.args.walkers.now c.take_step.new.walkers c.args.squares.now c.take_step.new.squares c.width.ensures.map h
     c.requires.seen.under_way c.requires.acts c.take_step.ensures.led c.take_step.ensures.grounds
     (subst (λ n. AreMarksOf n c.take_step.new.walkers c.take_step.new.squares) (c.new-turns.ensures.first ∙ c.first_mark.ensures ∙ sym (first_mark-again step))
@@ -35,7 +35,7 @@ pub returns-else-take_step-clause-seen : goal.returns-else-take_step-clause-seen
 returns-else-take_step-clause-seen c =
     let m = c.args.map.now in
     let turns = c.new-turns.result in
-    let h : AreTurns (wide_of m) turns = subst (λ w. AreTurns (w + 2) turns) c.width.ensures.width c.new-turns.ensures.turns in
+    let h : AreActTurns (wide_of m) turns = subst (λ w. AreActTurns (w + 2) turns) c.width.ensures.width c.new-turns.ensures.turns in
     seen-allowed m c.args.plan.now c.args.step turns c.args.acts.now c.args.walkers.now c.take_step.new.walkers c.args.squares.now c.take_step.new.squares h
     c.requires.seen c.requires.acts c.take_step.ensures.led c.take_step.ensures.grounds
     (subst (λ n. AreMarksOf n c.take_step.new.walkers c.take_step.new.squares) (c.new-turns.ensures.first ∙ c.first_mark.ensures ∙ sym (first_mark-again c.args.step))

@@ -2,7 +2,7 @@
 use Rattle.std.proofs.Common.{◌+◌, ◌<◌, sym, subst, ◌∙◌}
 use Rattle.model.specs.Plan.{IsLeastFault}
 use Rattle.plan.specs.Code.Squares.{wide_of}
-use Rattle.plan.specs.Code.Crowd.{AreTurns, AreMarksOf, AreOldMarks, first_mark}
+use Rattle.plan.specs.Code.Crowd.{AreActTurns, AreMarksOf, AreOldMarks, first_mark}
 use Rattle.plan.specs.Code.UnderWay.{AreUnderWay}
 use Rattle.plan.specs.Code.Watching.{IsClean, IsSeen}
 use Rattle.plan.proofs.MarkLemmas.{first_mark-some, old-none}
@@ -27,7 +27,7 @@ returns-then-take_step-clause-seen c =
     let new = c.take_step.new.walkers in
     let squares = c.args.squares.now in
     let after = c.take_step.new.squares in
-    let h : AreTurns (wide_of m) turns = subst (λ w. AreTurns (w + 2) turns) c.width.ensures.width c.new-turns.ensures.turns in
+    let h : AreActTurns (wide_of m) turns = subst (λ w. AreActTurns (w + 2) turns) c.width.ensures.width c.new-turns.ensures.turns in
     let then : AreUnderWay m p.courses 0 new after = starts_wait m p.courses turns c.args.waits.now old new squares after h c.requires.waits
     (all_start m p.courses old squares c.requires.board c.requires.walkers c.requires.agents) c.take_step.ensures.led c.take_step.ensures.grounds in
     let marks : AreMarksOf (first_mark 1) new after = subst (λ n. AreMarksOf n new after) (c.new-turns.ensures.first ∙ c.first_mark.ensures) c.take_step.ensures.marks in
@@ -42,7 +42,7 @@ returns-else-take_step-clause-seen c =
     let new = c.take_step.new.walkers in
     let squares = c.args.squares.now in
     let after = c.take_step.new.squares in
-    let h : AreTurns (wide_of m) turns = subst (λ w. AreTurns (w + 2) turns) c.width.ensures.width c.new-turns.ensures.turns in
+    let h : AreActTurns (wide_of m) turns = subst (λ w. AreActTurns (w + 2) turns) c.width.ensures.width c.new-turns.ensures.turns in
     record {
       under_way = starts_wait m p.courses turns c.args.waits.now old new squares after h c.requires.waits
           (all_start m p.courses old squares c.requires.board c.requires.walkers c.requires.agents) c.take_step.ensures.led c.take_step.ensures.grounds;

@@ -3,7 +3,7 @@ use Rattle.std.proofs.Common.{◌≡◌, ◌<◌, ◌+◌, ℕ, false, eqb, leng
 use Rattle.std.specs.Prelude.{Option, MatchOption, is_some, vec_len}
 use Rattle.std.proofs.lemmas.Bool.{eqb-true, eqb-false, false≢true}
 use Rattle.std.proofs.lemmas.List.{nil_from_length, with_items_is}
-use Rattle.plan.specs.Code.Blocks.{block_steps, AreRows, IsHeld, IsLinedUp}
+use Rattle.plan.specs.Code.Blocks.{block_steps, AreActRows, HoldsSquares, IsLinedUp}
 use Rattle.plan.specs.Code.Crowd.{walker_at, first_mark}
 use Rattle.plan.specs.Code.UnderWay.{AreUnderWay}
 use Rattle.plan.specs.Code.Watching.{IsSeen, AreSameAgents}
@@ -45,8 +45,8 @@ take_block-requires-clause-seen c =
     let new = c.line_up.new.walkers.items in
     let courses = c.courses-courses.ensures.courses in
     let lined = subst (λ k. IsLinedUp k step old new) courses c.line_up.ensures in
-    let held = subst (λ k. IsHeld k step old c.loop-courses.squares c.hold.new.squares) courses
-    (subst (λ l. IsHeld c.courses-courses.result.now step l c.loop-courses.squares c.hold.new.squares) c.deref.ensures.value c.hold.ensures) in
+    let held = subst (λ k. HoldsSquares k step old c.loop-courses.squares c.hold.new.squares) courses
+    (subst (λ l. HoldsSquares c.courses-courses.result.now step l c.loop-courses.squares c.hold.new.squares) c.deref.ensures.value c.hold.ensures) in
     subst (λ l. IsSeen m p step l c.hold.new.squares) (sym c.deref_mut.ensures.value) (record {
       under_way = block-begun m p.courses step old new c.loop-courses.squares c.hold.new.squares c.loop-courses.invariant.seen.under_way held lined;
       clean = c.loop-courses.invariant.seen.clean;
@@ -91,7 +91,7 @@ loop-courses-preserved c =
     record {
       seen = subst (λ l. IsSeen m p (step + block_steps) l c.take_block.new.squares) (sym items)
           (none_from c.in_ok-fault.fault _ _ none c.in_ok-fault.ensures.seen);
-      rows = subst (λ k. AreRows (length k) c.turn.new.rows) courses c.turn.ensures.rows;
+      rows = subst (λ k. AreActRows (length k) c.turn.new.rows) courses c.turn.ensures.rows;
       room = (let size = ap length items in omega (arith, size, count, fewer, room));
       recent = subst (AreRecent p.courses (step + block_steps)) (sym items) (recent-after p.courses step old lined c.take_block.new.walkers up same);
     }

@@ -1,5 +1,5 @@
 use Rattle.std.proofs.Common.{◌+◌, ◌-◌, ◌≤◌, length}
-use Rattle.plan.specs.Code.Blocks.{block_steps, AreRows}
+use Rattle.plan.specs.Code.Blocks.{block_steps, AreActRows}
 use Rattle.plan.specs.Code.Watching.{IsSeen}
 use Rattle.plan.proofs.UnderWayLemmas.{AreRecent}
 use Rattle.plan.proofs.checker.watch.Given as goal
@@ -7,7 +7,7 @@ use Rattle.plan.proofs.checker.watch.Given as goal
 abbrev pub invariant-loop-courses : goal.invariant-loop-courses
 invariant-loop-courses l = record {
   seen : IsSeen l.map l.plan l.step l.walkers.items l.squares;
-  rows : AreRows (length l.plan.courses) l.rows;
+  rows : AreActRows (length l.plan.courses) l.rows;
   room : length l.walkers.items ≤ length l.plan.courses;
   recent : AreRecent l.plan.courses l.step l.walkers.items;
 }

@@ -1,7 +1,7 @@
 -- Each walker is led from where it was, since those before it changed only themselves.
 use Rattle.std.proofs.Common.{◌≡◌, length, inl, inr, arith, refl, sym, subst}
 use Rattle.std.proofs.lemmas.Bool.{or_parts, or_cases, false≢true}
-use Rattle.plan.specs.Code.Crowd.{walker_at, act_at, IsAllowed, IsRefused, IsMarked, IsInside}
+use Rattle.plan.specs.Code.Crowd.{walker_at, act_at, IsAllowed, IsActRefused, IsMarked, IsInside}
 use Rattle.plan.proofs.CrowdLemmas.{AreMarkedTo, passed-none, passed-more, keeps-then, led-more, marked-none, marked-more, marks-after, suspect-here}
 use Rattle.plan.proofs.crowd.take_step.Goals as goal
 
@@ -44,7 +44,7 @@ loop-place-preserved c =
       suspect = λ wrong. elim (or_cases c.loop-place.may_be_wrong c.lead-may_be_wrong.result wrong) [
         | inl earlier ↦ was.suspect earlier
         | inr now ↦ suspect-here turns acts walkers c.args.squares.now c.loop-place.squares k c.requires.marks c.requires.some was.grounds was.marked c.loop-place-test.true
-            (subst (λ w. IsRefused turns (act_at acts k) w c.loop-place.squares) same (did.refused now))
+            (subst (λ w. IsActRefused turns (act_at acts k) w c.loop-place.squares) same (did.refused now))
       ];
     }
 

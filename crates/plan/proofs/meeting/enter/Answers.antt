@@ -1,6 +1,6 @@
 -- At the end no agent is yet to come, so that all are sound.
 use Rattle.std.proofs.Common.{inl, inr, arith, sym, subst}
-use Rattle.plan.specs.Code.Standing.{IsSound}
+use Rattle.plan.specs.Code.Standing.{IsEntrySound}
 use Rattle.plan.proofs.MeetingLemmas.{Contains-more, Contains-none, least_together, table_of_sound}
 use Rattle.plan.proofs.meeting.enter.Goals as goal
 
@@ -12,7 +12,7 @@ loop-agent-preserved c =
       is_one = did.are_together now.is_one;
       each = λ i is. elim (now.each i is) [
         | inl comes ↦ elim (Contains-more c.args.agents.now c.loop-agent.agent-index i c.loop-agent-test.true comes) [
-          | inl own ↦ inr (subst (IsSound c.args.map.now.width c.args.cells.now c.put-best.new.table c.put-best.result) (sym own) did.own)
+          | inl own ↦ inr (subst (IsEntrySound c.args.map.now.width c.args.cells.now c.put-best.new.table c.put-best.result) (sym own) did.own)
           | inr later ↦ inl later
         ]
         | inr sound ↦ inr (did.others i is sound)

@@ -3,7 +3,7 @@ use Rattle.std.proofs.Common.{◌≡◌, IsTrue, get_or, arith, sym, ap, subst, 
 use Rattle.grid.specs.Map.{terrain_at, AreJoined}
 use Rattle.plan.specs.Code.Standing.{IsOnGrid}
 use Rattle.plan.specs.Code.Walking.{joins_by}
-use Rattle.plan.proofs.WalkingLemmas.{joined-characters}
+use Rattle.plan.specs.Laws.Walking.{joined-characters}
 use Rattle.plan.proofs.moving.are_joined.Goals as goal
 
 pub returns : goal.returns

@@ -1,7 +1,7 @@
 -- Where the terrain doesn't join, only a wait leads on.
 use Rattle.std.proofs.Common.{sym, ◌∙◌}
 use Rattle.std.proofs.lemmas.Bool.{false≢true}
-use Rattle.plan.proofs.WalkingLemmas.{leads-joined, leads-waiting, no_step}
+use Rattle.plan.specs.Laws.Walking.{leads-joined, leads-waiting, no_step}
 use Rattle.plan.proofs.moving.moved.Goals as goal
 
 pub returns-then-are_joined : goal.returns-then-are_joined

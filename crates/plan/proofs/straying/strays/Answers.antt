@@ -6,9 +6,10 @@ use Rattle.model.specs.declared.act.Act.{Act}
 use Rattle.model.specs.declared.act.Act.TheVariants.{N}
 use Rattle.plan.specs.declared.crowd.Turn.{Turn}
 use Rattle.plan.specs.Code.Squares.{wide_of, place_on, HasGround}
-use Rattle.plan.specs.Code.Crowd.{led_to, AreTurns}
-use Rattle.plan.proofs.StrayLemmas.{alone_at_start, alone_inside, alone_next, kept_alone, kept_always, kept_none}
-use Rattle.plan.proofs.WalkingLemmas.{on_map_from_terrain}
+use Rattle.plan.specs.Code.Crowd.{led_to, AreActTurns}
+use Rattle.plan.specs.Laws.Keeping.{kept_always, kept_none}
+use Rattle.plan.proofs.StrayLemmas.{alone_at_start, alone_inside, alone_next, kept_alone}
+use Rattle.plan.specs.Laws.Walking.{on_map_from_terrain}
 use Rattle.plan.proofs.straying.strays.Goals as goal
 
 pub loop-act-init : goal.loop-act-init
@@ -27,7 +28,7 @@ bounds-squares-place c =
     let place = c.loop-act.place in
     let turns = c.new-turns.result in
     let act : Act = get_or c.acts-act-items.result.now c.loop-act.act-index N in
-    let h : AreTurns (wide_of m) turns = subst (λ w. AreTurns (w + 2) turns) c.width.ensures.width c.new-turns.ensures.turns in
+    let h : AreActTurns (wide_of m) turns = subst (λ w. AreActTurns (w + 2) turns) c.width.ensures.width c.new-turns.ensures.turns in
     let within = (alone_inside m c.args.course.now c.loop-act.act-index turns c.args.squares.now place c.ground_at-ground.result c.width.ensures.map.size h c.requires.board
     c.loop-act.invariant.here).there act in
     let leads : place + c.of-turn.result.ahead - c.of-turn.result.back ≡ led_to turns act place =
@@ -44,7 +45,7 @@ loop-act-preserved c =
     let turns = c.new-turns.result in
     let to = place + c.of-turn.result.ahead - c.of-turn.result.back in
     let act : Act = get_or c.acts-act-items.result.now step N in
-    let h : AreTurns (wide_of m) turns = subst (λ w. AreTurns (w + 2) turns) c.width.ensures.width c.new-turns.ensures.turns in
+    let h : AreActTurns (wide_of m) turns = subst (λ w. AreActTurns (w + 2) turns) c.width.ensures.width c.new-turns.ensures.turns in
     let there : slice_get course.acts step ≡ Some act =
     ap (λ l. slice_get l step) (sym c.acts-act-items.ensures) ∙ slice_get-get_or c.acts-act-items.result.now step N c.loop-act-test.true in
     let leads : to ≡ led_to turns act place = ap (λ (t : Turn). place + t.ahead - t.back) c.of-turn.ensures in

@@ -1,4 +1,5 @@
-use Rattle.plan.proofs.StrayLemmas.{HasKept, IsAlone}
+use Rattle.plan.specs.Laws.Keeping.{HasKept}
+use Rattle.plan.proofs.StrayLemmas.{IsAlone}
 use Rattle.plan.proofs.straying.strays.Given as goal
 
 -- so far the agent kept to its ground, and is in the place

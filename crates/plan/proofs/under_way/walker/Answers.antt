@@ -1,5 +1,5 @@
 -- A start that is passable is on the map, and open.
-use Rattle.plan.proofs.WalkingLemmas.{on_map_from_terrain}
+use Rattle.plan.specs.Laws.Walking.{on_map_from_terrain}
 use Rattle.plan.proofs.UnderWayLemmas.{may_start}
 use Rattle.plan.proofs.under_way.walker.Goals as goal
 

@@ -5,7 +5,7 @@ use Rattle.std.proofs.lemmas.Option.{slice_get-get_or}
 use Rattle.std.specs.Prelude.{slice_get}
 use Rattle.model.specs.Plan.{IsPassable}
 use Rattle.plan.specs.Code.Squares.{place_on, HasGround}
-use Rattle.plan.proofs.WalkingLemmas.{no_course}
+use Rattle.plan.specs.Laws.Walking.{no_course}
 use Rattle.plan.proofs.UnderWayLemmas.{AreFirst, first-none, first-more, starts_as}
 use Rattle.plan.proofs.under_way.walkers.Goals as goal
 

@@ -3,14 +3,14 @@ use Rattle.std.proofs.Common.{length, get_or, arith, ap, subst}
 use Rattle.std.proofs.lemmas.Option.{slice_get-get_or}
 use Rattle.model.specs.declared.act.Act.TheVariants.{N}
 use Rattle.plan.specs.Code.Walking.{IsMoved}
-use Rattle.plan.proofs.WalkingLemmas.{after_act, ahead-past}
+use Rattle.plan.specs.Laws.Walking.{act-leads, ahead-past}
 use Rattle.plan.proofs.walking.after.Goals as goal
 
 pub returns-then-step-acts : goal.returns-then-step-acts
 returns-then-step-acts c =
     let acts = c.args.course.now.acts in
     let less = c.if-step-acts.true in
-    after_act c.args.map.now c.args.course.now c.args.step c.args.from (get_or acts c.args.step N) c.moved.result
+    act-leads c.args.map.now c.args.course.now c.args.step c.args.from (get_or acts c.args.step N) c.moved.result
     (slice_get-get_or acts c.args.step N (omega (arith, less, ap length c.acts-acts.ensures))) c.requires.at
     (subst (λ l. IsMoved c.args.map.now c.args.from (get_or l c.args.step N) c.moved.result) c.acts-acts.ensures c.moved.ensures)
 

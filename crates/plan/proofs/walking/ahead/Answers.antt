@@ -4,7 +4,7 @@ use Rattle.std.proofs.lemmas.Option.{slice_get-get_or}
 use Rattle.model.specs.declared.act.Act.TheVariants.{N}
 use Rattle.plan.specs.Moving.{cell_by}
 use Rattle.plan.specs.Code.Walking.{IsAhead}
-use Rattle.plan.proofs.WalkingLemmas.{goes_ahead, ahead-past}
+use Rattle.plan.specs.Laws.Walking.{goes_ahead, ahead-past}
 use Rattle.plan.proofs.walking.ahead.Goals as goal
 
 pub next_cell-requires-clause-column : goal.next_cell-requires-clause-column

@@ -2,7 +2,7 @@
 use Rattle.std.proofs.Common.{sym, ap, subst, ◌∙◌}
 use Rattle.model.specs.Plan.{position_of}
 use Rattle.plan.specs.Code.Standing.{IsOnGrid}
-use Rattle.plan.proofs.WalkingLemmas.{on_map_from_terrain, position_at-start}
+use Rattle.plan.specs.Laws.Walking.{on_map_from_terrain, position_at-start}
 use Rattle.plan.proofs.walking.cell_at.Goals as goal
 
 pub loop-taken-init : goal.loop-taken-init

@@ -1,7 +1,7 @@
 -- One more agent, where its course leads.
 use Rattle.std.proofs.Common.{◌+◌, arith, sym, subst}
 use Rattle.std.proofs.lemmas.Option.{slice_get_within}
-use Rattle.plan.proofs.WalkingLemmas.{bad_at}
+use Rattle.plan.specs.Laws.Walking.{bad_at}
 use Rattle.plan.proofs.AgentLemmas.{AreAtTo, course_there, at-none, at-more}
 use Rattle.plan.proofs.walking.cells_at.Goals as goal
 

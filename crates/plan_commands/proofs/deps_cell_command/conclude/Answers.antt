@@ -6,7 +6,7 @@ use Rattle.plan_commands.specs.DepsCellCommand.{EndsByVisits}
 use Rattle.text_commands.specs.declared.status.Status.TheVariants.{Done}
 use Rattle.text_commands.specs.Rewriting.{EndsWriting}
 use Rattle.text_commands.specs.Telling.{Tells}
-use Rattle.text_commands.proofs.Rewriting.{ends_writing}
+use Rattle.text_commands.specs.Laws.Ending.{ends_writing}
 use Rattle.plan_commands.proofs.deps_cell_command.conclude.Goals as goal
 
 pub returns-in-Ok : goal.returns-in-Ok

@@ -6,7 +6,7 @@ use Rattle.text_commands.specs.declared.status.Status.TheVariants.{Done}
 use Rattle.plan_commands.specs.DepsText.{deps_text}
 use Rattle.text_commands.specs.Rewriting.{EndsWriting}
 use Rattle.text_commands.specs.Telling.{Tells}
-use Rattle.text_commands.proofs.Rewriting.{ends_writing}
+use Rattle.text_commands.specs.Laws.Ending.{ends_writing}
 use Rattle.plan_commands.proofs.deps_command.conclude.Goals as goal
 
 pub returns-in-Ok : goal.returns-in-Ok

@@ -2,8 +2,9 @@
 use Rattle.std.proofs.Common.{◌+◌, drop, subst, refl}
 use Rattle.std.proofs.lemmas.List.{at_drop_more}
 use Rattle.std.proofs.lemmas.Result.{err_from_is_err_and}
-use Rattle.scen.proofs.PutLemmas.{Leaves, Leaves-less, Leaves-broken}
-use Rattle.grid.specs.Text.{spaced_numbers}
+use Rattle.text_io.specs.Sink.{Leaves}
+use Rattle.text_io.specs.Laws.Putting.{Leaves-less, Leaves-broken}
+use Rattle.text_io.specs.Text.{spaced_numbers}
 use Rattle.plan_commands.proofs.deps_text.put_agents.Goals as goal
 
 pub returns-in_err-put_number_after-clause-err : goal.returns-in_err-put_number_after-clause-err

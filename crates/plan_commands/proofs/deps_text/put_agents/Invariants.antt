@@ -1,7 +1,7 @@
 -- The agents that follow are left.
 use Rattle.std.proofs.Common.{drop}
-use Rattle.scen.proofs.PutLemmas.{Leaves}
-use Rattle.grid.specs.Text.{spaced_numbers}
+use Rattle.text_io.specs.Sink.{Leaves}
+use Rattle.text_io.specs.Text.{spaced_numbers}
 use Rattle.plan_commands.proofs.deps_text.put_agents.Given as goal
 
 abbrev pub invariant-loop-agent : goal.invariant-loop-agent

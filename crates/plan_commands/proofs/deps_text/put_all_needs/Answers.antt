@@ -1,8 +1,9 @@
 -- Each turn puts the lines of the first of the agents that are left.
 use Rattle.std.proofs.Common.{◌∙◌, ◌+◌, ◌<◌, length, drop, refl, sym, ap, subst, arith}
 use Rattle.std.proofs.lemmas.Result.{err_from_is_err_and}
-use Rattle.grid.specs.Text.{ended}
-use Rattle.scen.proofs.PutLemmas.{Leaves, Leaves-all, Leaves-less, Leaves-broken}
+use Rattle.text_io.specs.Text.{ended}
+use Rattle.text_io.specs.Sink.{Leaves}
+use Rattle.text_io.specs.Laws.Putting.{Leaves-all, Leaves-less, Leaves-broken}
 use Rattle.plan_commands.specs.DepsText.{all_need_lines, need_lines, needs_of}
 use Rattle.plan_commands.proofs.DepsLemmas.{ended-next, is-track_at, length-needs_of, track_at}
 use Rattle.plan_commands.proofs.deps_text.put_all_needs.Goals as goal

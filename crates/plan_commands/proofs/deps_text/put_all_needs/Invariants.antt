@@ -1,7 +1,7 @@
 -- The lines of the agents that follow are left.
 use Rattle.std.proofs.Common.{drop}
-use Rattle.grid.specs.Text.{ended}
-use Rattle.scen.proofs.PutLemmas.{Leaves}
+use Rattle.text_io.specs.Text.{ended}
+use Rattle.text_io.specs.Sink.{Leaves}
 use Rattle.plan_commands.specs.DepsText.{all_need_lines}
 use Rattle.plan_commands.proofs.deps_text.put_all_needs.Given as goal
 

@@ -5,7 +5,7 @@ use Rattle.std.proofs.lemmas.List.{length-map}
 use Rattle.std.proofs.lemmas.Result.{err_from_is_err_and}
 use Rattle.depgraph.specs.Rotations.{turns_of}
 use Rattle.model.specs.Timetable.{moves}
-use Rattle.scen.proofs.PutLemmas.{Leaves-all, Leaves-less, Leaves-broken, Puts-last, Breaks-last}
+use Rattle.text_io.specs.Laws.Putting.{Leaves-all, Leaves-less, Leaves-broken, Puts-last, Breaks-last}
 use Rattle.plan_commands.specs.DepsText.{all_need_lines}
 use Rattle.plan_commands.proofs.DepsPuts.{counts-same, deps-parts, first_part, needs_part, rotations_part}
 use Rattle.plan_commands.proofs.deps_text.put_deps.Goals as goal

@@ -2,8 +2,9 @@
 use Rattle.std.proofs.Common.{◌+◌, ◌<◌, None, drop, length, get_or, ap, ◌∙◌, subst, arith}
 use Rattle.std.specs.Prelude.{option_map}
 use Rattle.std.proofs.lemmas.Result.{err_from_is_err_and}
-use Rattle.grid.specs.Text.{ended}
-use Rattle.scen.proofs.PutLemmas.{Leaves, Leaves-less, Leaves-broken}
+use Rattle.text_io.specs.Text.{ended}
+use Rattle.text_io.specs.Sink.{Leaves}
+use Rattle.text_io.specs.Laws.Putting.{Leaves-less, Leaves-broken}
 use Rattle.depgraph.specs.Routes.{asked}
 use Rattle.plan_commands.specs.DepsText.{need_lines}
 use Rattle.plan_commands.specs.Code.Dependencies.{need_text}

@@ -1,7 +1,7 @@
 -- The lines of the moves that follow are left.
 use Rattle.std.proofs.Common.{drop}
-use Rattle.grid.specs.Text.{ended}
-use Rattle.scen.proofs.PutLemmas.{Leaves}
+use Rattle.text_io.specs.Text.{ended}
+use Rattle.text_io.specs.Sink.{Leaves}
 use Rattle.plan_commands.specs.DepsText.{need_lines}
 use Rattle.plan_commands.proofs.deps_text.put_needs.Given as goal
 

@@ -2,7 +2,7 @@
 use Rattle.std.proofs.Common.{◌++◌, append_assoc, refl, sym}
 use Rattle.std.specs.Prelude.{codes, decimal}
 use Rattle.std.proofs.lemmas.Result.{err_from_is_err_and}
-use Rattle.scen.proofs.PutLemmas.{Leaves-all, Leaves-less, Leaves-broken, Puts-last, Breaks-last}
+use Rattle.text_io.specs.Laws.Putting.{Leaves-all, Leaves-less, Leaves-broken, Puts-last, Breaks-last}
 use Rattle.plan_commands.proofs.deps_text.put_number.Goals as goal
 
 pub returns-in_err-put-clause-err : goal.returns-in_err-put-clause-err

@@ -2,10 +2,11 @@
 use Rattle.std.proofs.Common.{◌+◌, [], ◌∷◌, ◌++◌, drop, map, ap, ◌∙◌, subst}
 use Rattle.std.proofs.lemmas.List.{at_drop_more}
 use Rattle.std.proofs.lemmas.Result.{err_from_is_err_and}
-use Rattle.grid.specs.Text.{line_feed, ended}
+use Rattle.text_io.specs.Text.{line_feed, ended}
 use Rattle.depgraph.specs.Rotations.{turns_of}
 use Rattle.model.specs.declared.visit.Rotation.{Rotation}
-use Rattle.scen.proofs.PutLemmas.{Leaves, Leaves-less, Leaves-broken}
+use Rattle.text_io.specs.Sink.{Leaves}
+use Rattle.text_io.specs.Laws.Putting.{Leaves-less, Leaves-broken}
 use Rattle.plan_commands.specs.DepsText.{rotation_line}
 use Rattle.plan_commands.proofs.deps_text.put_rotations.Goals as goal
 

@@ -1,8 +1,8 @@
 -- The lines of the rotations that follow are left.
 use Rattle.std.proofs.Common.{drop, map}
-use Rattle.grid.specs.Text.{ended}
+use Rattle.text_io.specs.Text.{ended}
 use Rattle.depgraph.specs.Rotations.{turns_of}
-use Rattle.scen.proofs.PutLemmas.{Leaves}
+use Rattle.text_io.specs.Sink.{Leaves}
 use Rattle.plan_commands.specs.DepsText.{rotation_line}
 use Rattle.plan_commands.proofs.deps_text.put_rotations.Given as goal
 

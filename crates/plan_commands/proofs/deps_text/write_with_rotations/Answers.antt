@@ -1,6 +1,6 @@
 use Rattle.std.proofs.Common.{rules}
 use Rattle.depgraph.specs.Rotations.{turns_of}
-use Rattle.text_commands.proofs.SinkWritten.{same_writer, sink_written}
+use Rattle.text_io.specs.Laws.Putting.{same_writer, sink_written}
 use Rattle.plan_commands.specs.DepsText.{deps_text}
 use Rattle.plan_commands.proofs.deps_text.write_with_rotations.Goals as goal
 

@@ -4,7 +4,7 @@ use Rattle.grid.specs.declared.cell.Cell.{Cell}
 use Rattle.model.specs.declared.visit.Visit.{Visit}
 use Rattle.model.specs.Timetable.{Timetable}
 use Rattle.depgraph.specs.Visits.{AreVisitsTo}
-use Rattle.depgraph.proofs.RisingLemmas.{one_list}
+use Rattle.depgraph.specs.Laws.Rising.{one_list}
 use Rattle.plan_commands.specs.CellVisitsText.{AreCellVisits}
 use Rattle.plan_commands.proofs.VisitLines.{one_reading}
 use Rattle.plan_commands.proofs.laws.cell_visits.Goals as goal

@@ -3,7 +3,8 @@ use Rattle.std.proofs.Common.{◌+◌, ◌≤◌, [], drop, length, refl, subst,
 use Rattle.std.proofs.lemmas.List.{at_drop_more, at_drop_all}
 use Rattle.std.proofs.lemmas.Result.{err_from_is_err_and}
 use Rattle.model.specs.declared.visit.Visit.{Visit}
-use Rattle.scen.proofs.PutLemmas.{Leaves, Leaves-less, Leaves-broken, Puts-last, Breaks-last}
+use Rattle.text_io.specs.Sink.{Leaves}
+use Rattle.text_io.specs.Laws.Putting.{Leaves-less, Leaves-broken, Puts-last, Breaks-last}
 use Rattle.plan_commands.specs.CellVisitsText.{visits_text}
 use Rattle.plan_commands.proofs.visits_text.put_visits.Goals as goal
 

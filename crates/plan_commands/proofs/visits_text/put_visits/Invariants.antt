@@ -1,6 +1,6 @@
 -- The lines of the visits that follow are left.
 use Rattle.std.proofs.Common.{drop}
-use Rattle.scen.proofs.PutLemmas.{Leaves}
+use Rattle.text_io.specs.Sink.{Leaves}
 use Rattle.plan_commands.specs.CellVisitsText.{visits_text}
 use Rattle.plan_commands.proofs.visits_text.put_visits.Given as goal
 

@@ -1,5 +1,5 @@
 use Rattle.std.proofs.Common.{rules}
-use Rattle.text_commands.proofs.SinkWritten.{same_writer, sink_written}
+use Rattle.text_io.specs.Laws.Putting.{same_writer, sink_written}
 use Rattle.plan_commands.specs.CellVisitsText.{visits_text}
 use Rattle.plan_commands.proofs.visits_text.write_visits.Goals as goal
 

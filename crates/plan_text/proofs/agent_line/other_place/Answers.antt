@@ -3,7 +3,7 @@ use Rattle.std.specs.List.{list_all, prefix_len}
 use Rattle.std.proofs.lemmas.List.{length-take-le}
 use Rattle.plan_text.specs.PlanTextFault.{is_act}
 use Rattle.plan_text.proofs.JudgedLines.{others_fail}
-use Rattle.plan_text.proofs.PartLemmas.{about}
+use Rattle.text_io.specs.Laws.Parts.{about}
 use Rattle.plan_text.proofs.agent_line.other_place.Goals as goal
 
 pub returns-then-not-is_act : goal.returns-then-not-is_act

@@ -1,6 +1,6 @@
 -- What is said line by line is the one reading.
 use Rattle.std.proofs.Common.{◌⊎◌, inl, inr, sym, ◌∙◌}
-use Rattle.grid.specs.Reading.{by_line_feed, IsFirstFault}
+use Rattle.text_io.specs.Reading.{by_line_feed, IsFirstFault}
 use Rattle.model.specs.Plan.{Plan}
 use Rattle.plan_text.specs.declared.plan_text_fault.PlanTextFault.{PlanTextFault}
 use Rattle.plan_text.specs.PlanText.{PlanText}

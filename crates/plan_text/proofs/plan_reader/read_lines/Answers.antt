@@ -2,7 +2,7 @@
 use Rattle.std.proofs.Common.{◌≡◌, ◌++◌, ◌∷◌, [], take, ◌∙◌, arith, length-append, length-take}
 use Rattle.std.proofs.lemmas.Bool.Decides.{not_from_Decides}
 use Rattle.std.proofs.lemmas.Result.{err_from_is_err_and}
-use Rattle.grid.specs.Reading.{by_line_feed, line_number}
+use Rattle.text_io.specs.Reading.{by_line_feed, line_number}
 use Rattle.plan_text.specs.Code.PlanLines.{due_seen}
 use Rattle.plan_text.proofs.TextRead.{HasRead-push}
 use Rattle.plan_text.proofs.LinesRead.{refused_line, unfinished, long_line, failed, ended_plan, failed_after, text_after}

@@ -3,8 +3,8 @@ use Rattle.std.proofs.Common.{◌≡◌, ◌<◌, ◌++◌, length, take, drop, 
 use Rattle.std.proofs.lemmas.Bool.{eqb-false}
 use Rattle.std.proofs.lemmas.List.{take-append-drop, map-append, take_rest}
 use Rattle.std.proofs.lemmas.Result.{err_from_is_err_and}
-use Rattle.grid.specs.Sink.{Breaks}
-use Rattle.scen.proofs.PutLemmas.{Leaves, Leaves-less, Leaves-broken}
+use Rattle.text_io.specs.Sink.{Breaks, Leaves}
+use Rattle.text_io.specs.Laws.Putting.{Leaves-less, Leaves-broken}
 use Rattle.plan_text.specs.PlanText.{act_character}
 use Rattle.plan_text.proofs.SpellingLemmas.{acts_text-others}
 use Rattle.plan_text.proofs.plan_writer.put_acts.Goals as goal

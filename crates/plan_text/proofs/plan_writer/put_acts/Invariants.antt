@@ -1,6 +1,6 @@
 -- The characters of the acts that follow are left.
 use Rattle.std.proofs.Common.{length, map}
-use Rattle.scen.proofs.PutLemmas.{Leaves}
+use Rattle.text_io.specs.Sink.{Leaves}
 use Rattle.plan_text.specs.PlanText.{act_character}
 use Rattle.plan_text.proofs.plan_writer.put_acts.Given as goal
 

@@ -1,8 +1,8 @@
 -- The column, the row, the acts, and then the line's LF.
 use Rattle.std.proofs.Common.{[], ◌∷◌, refl, ap, ◌∙◌}
 use Rattle.std.proofs.lemmas.Result.{err_from_is_err_and}
-use Rattle.grid.specs.Text.{space, line_feed}
-use Rattle.scen.proofs.PutLemmas.{Leaves-broken, Puts-last, Breaks-last}
+use Rattle.text_io.specs.Text.{space, line_feed}
+use Rattle.text_io.specs.Laws.Putting.{Leaves-broken, Puts-last, Breaks-last}
 use Rattle.plan_text.specs.PlanText.{acts_text}
 use Rattle.plan_text.proofs.CoursePuts.{numbered, agent_x, from_y, from_acts, course-begins, x-put, y-put, acts-put}
 use Rattle.plan_text.proofs.plan_writer.put_course.Goals as goal

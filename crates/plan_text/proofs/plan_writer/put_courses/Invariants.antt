@@ -1,7 +1,7 @@
 -- The lines of the agents that follow are left.
 use Rattle.std.proofs.Common.{drop, map}
-use Rattle.grid.specs.Text.{ended}
-use Rattle.scen.proofs.PutLemmas.{Leaves}
+use Rattle.text_io.specs.Text.{ended}
+use Rattle.text_io.specs.Sink.{Leaves}
 use Rattle.plan_text.specs.PlanText.{course_line}
 use Rattle.plan_text.proofs.plan_writer.put_courses.Given as goal
 

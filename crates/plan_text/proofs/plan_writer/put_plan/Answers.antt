@@ -2,8 +2,8 @@
 use Rattle.std.proofs.Common.{[], ◌++◌, length, map, refl, ap}
 use Rattle.std.specs.Prelude.{codes}
 use Rattle.std.proofs.lemmas.Result.{err_from_is_err_and}
-use Rattle.grid.specs.Text.{ended}
-use Rattle.scen.proofs.PutLemmas.{Leaves-broken, Puts-last, Breaks-last}
+use Rattle.text_io.specs.Text.{ended}
+use Rattle.text_io.specs.Laws.Putting.{Leaves-broken, Puts-last, Breaks-last}
 use Rattle.plan_text.specs.PlanText.{course_line}
 use Rattle.plan_text.proofs.CoursePuts.{number_put, agents_put, from_courses, from_agents, from_number, plan-begins, header-put, number-put, agents-put, courses-put}
 use Rattle.plan_text.proofs.plan_writer.put_plan.Goals as goal

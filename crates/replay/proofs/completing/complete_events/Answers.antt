@@ -1,6 +1,6 @@
 -- The ending is put behind all replies.
 use Rattle.std.proofs.lemmas.Result.{err_from_is_err_and}
-use Rattle.grid.specs.Source.{source_reader}
+use Rattle.text_io.specs.Source.{source_reader}
 use Rattle.replay.proofs.EndingLemmas.{fault_among_events, put_behind}
 use Rattle.replay.proofs.completing.complete_events.Goals as goal
 

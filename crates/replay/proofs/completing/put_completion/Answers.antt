@@ -2,9 +2,10 @@
 use Rattle.std.proofs.Common.{◌+◌, ◌≤◌, [], ◌∷◌, ◌++◌, length, drop, refl, ap, subst, arith, codes}
 use Rattle.std.proofs.lemmas.List.{at_drop_more, drop_all}
 use Rattle.std.proofs.lemmas.Result.{err_from_is_err_and}
-use Rattle.grid.specs.Text.{line_feed}
+use Rattle.text_io.specs.Text.{line_feed}
 use Rattle.model.specs.declared.event.Event.TheVariants.{Start}
-use Rattle.scen.proofs.PutLemmas.{Leaves, Leaves-all, Leaves-less, Leaves-broken, Leaves-none}
+use Rattle.text_io.specs.Sink.{Leaves}
+use Rattle.text_io.specs.Laws.Putting.{Leaves-all, Leaves-less, Leaves-broken, Leaves-none}
 use Rattle.event_text.specs.EventLine.{event_lines_text}
 use Rattle.replay.specs.Completing.{numbered_line, completion_text}
 use Rattle.replay.proofs.completing.put_completion.Goals as goal

@@ -1,6 +1,6 @@
 -- The lines of the events that follow are left.
 use Rattle.std.proofs.Common.{drop}
-use Rattle.scen.proofs.PutLemmas.{Leaves}
+use Rattle.text_io.specs.Sink.{Leaves}
 use Rattle.event_text.specs.EventLine.{event_lines_text}
 use Rattle.replay.specs.Completing.{completion_text}
 use Rattle.replay.proofs.completing.put_completion.Given as goal

@@ -1,7 +1,7 @@
 -- What was put is handed on, and so written.
 use Rattle.std.proofs.Common.{ℕ, List, true, false}
-use Rattle.grid.specs.Sink.{Puts, Breaks}
-use Rattle.grid.specs.Source.{source_reader}
+use Rattle.text_io.specs.Sink.{Puts, Breaks}
+use Rattle.text_io.specs.Source.{source_reader}
 use Rattle.replay.specs.Replaying.{AnswersEvents}
 use Rattle.replay.proofs.HandingLemmas.{written}
 use Rattle.replay.proofs.ReplyLemmas.{Wrote, handed_on, not_handed_on, left_off}

@@ -1,13 +1,13 @@
 -- Each event is answered at the end of the run so far, and its reply is put behind those before it.
 use Rattle.std.proofs.Common.{◌∙◌, [], ◌∷◌, ◌++◌, None, Some, Ok, refl, sym, ap, subst}
 use Rattle.std.proofs.lemmas.Result.{err_from_is_err_and}
-use Rattle.grid.specs.Source.{source_reader}
-use Rattle.grid.specs.Sink.{Puts}
-use Rattle.grid.proofs.SinkLemmas.{Puts-same}
+use Rattle.text_io.specs.Source.{source_reader}
+use Rattle.text_io.specs.Sink.{Puts}
+use Rattle.text_io.specs.Laws.Putting.{Puts-same}
 use Rattle.event_text.specs.declared.header.Headers.TheVariants.{Either}
 use Rattle.event_text.specs.FirstEvents.{BeginsWithEvents}
 use Rattle.event_text.specs.Taking.{EventTaken}
-use Rattle.event_text.proofs.EventsRead.{stopped_as}
+use Rattle.event_text.specs.Laws.Stopping.{stopped_as}
 use Rattle.replay.proofs.AnswerLemmas.{SoFar, answered-by, answered-so-far, break-more, fewer, none-answered, none-so-far, put-more}
 use Rattle.replay.proofs.replaying.run_events.Goals as goal
 
@@ -37,7 +37,7 @@ returns-in_err-runner-clause-answers g c =
       consumed = read.0.taken.consumed;
       begins = subst (λ v. BeginsWithEvents Either v [] read.0.taken.delivered) read.1 read.0.begins;
       replies =
-          none-answered version c.args.graph.now (Puts g.W.Write.contents c.args.sink.now c.args.sink.now) c.in_err-runner.ensures.safe
+          none-answered version _ c.args.graph.now (Puts g.W.Write.contents c.args.sink.now c.args.sink.now) c.in_err-runner.ensures.safe
           (Puts-same g.W.Write.contents c.args.sink.now);
     })
 

@@ -1,6 +1,6 @@
 use Rattle.std.proofs.Common.{◌≡◌, Some, List}
-use Rattle.grid.specs.Sink.{Puts}
-use Rattle.grid.specs.Source.{source_reader, most_left}
+use Rattle.text_io.specs.Sink.{Puts}
+use Rattle.text_io.specs.Source.{source_reader, most_left}
 use Rattle.model.specs.declared.event.Event.{Event}
 use Rattle.event_text.specs.declared.header.Headers.TheVariants.{Either}
 use Rattle.event_text.specs.Taking.{HasReadEvents}

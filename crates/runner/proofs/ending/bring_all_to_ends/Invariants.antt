@@ -1,6 +1,6 @@
 use Rattle.std.proofs.Common.{◌≡◌, ℕ, ◌<◌, [], length}
 use Rattle.runner.specs.Code.Leading.{AreUnheard}
-use Rattle.runner.specs.Code.Waiting.{IsDone, LeadsFrom}
+use Rattle.runner.specs.Code.Waiting.{HasEndedMoves, LeadsFrom}
 use Rattle.runner.proofs.ending.bring_all_to_ends.Given as goal
 
 -- the agents before the next are at rest
@@ -20,6 +20,6 @@ invariant-ends l = record {
   agents : l.ending.agents ≡ l.agents;
   count : length l.ending.standings ≡ length l.agents;
   leads : LeadsFrom l.graph l.agents l.messages l.ending;
-  done : (i : ℕ) → i < l.id → IsDone l.ending i;
+  done : (i : ℕ) → i < l.id → HasEndedMoves l.ending i;
   none : l.waiting.items ≡ [];
 }

@@ -3,13 +3,13 @@ use Rattle.std.proofs.Common.{◌≡◌, None, subst, sym, ◌∙◌, arith, rul
 use Rattle.std.specs.Prelude.{MatchOption}
 use Rattle.model.specs.Timetable.{track_of}
 use Rattle.agent.specs.Opening.{IsOpened, IsRefused}
-use Rattle.agent.proofs.OwnLemmas.{told-most}
+use Rattle.depgraph.specs.Laws.AgentParts.{graphed-most}
 use Rattle.depgraph.specs.AgentParts.{IsPartOf}
 use Rattle.agent.specs.CountedTape.{counted_state, counted_reads}
 use Rattle.runner.proofs.runner.new_agent.Goals as goal
 
 pub new-tape-requires : goal.new-tape-requires
-new-tape-requires c = (let most = told-most _ _ c.unwrap-moves.result c.moves.ensures.within (sym c.unwrap-moves.ensures ∙ c.moves.ensures.moves) in omega (arith, most))
+new-tape-requires c = (let most = graphed-most _ _ c.unwrap-moves.result c.moves.ensures.within (sym c.unwrap-moves.ensures ∙ c.moves.ensures.moves) in omega (arith, most))
 
 pub unreachable-requires : goal.unreachable-requires
 unreachable-requires c =

@@ -2,8 +2,8 @@ use Rattle.std.proofs.Common.{◌≡◌, ℕ, ◌+◌, ◌<◌, List, [], ◌∷
 use Rattle.std.specs.Prelude.{reverse}
 use Rattle.std.proofs.lemmas.List.{take_all, take_more, map-append, reverse-append}
 use Rattle.model.specs.Replies.{answer_of}
-use Rattle.runner.specs.SafeRuns.{IsSafeRunAt}
-use Rattle.runner.proofs.SafeLemmas.{safe-run-at}
+use Rattle.runner.specs.SafeRuns.{IsSafeRun}
+use Rattle.runner.specs.Laws.Safe.{safe-run}
 use Rattle.runner.proofs.runs.run_with.Goals as goal
 
 -- the next of a list is the newest
@@ -32,6 +32,6 @@ returns c =
       history = kept.history;
       same_events = kept.same_events ∙ ap reverse (take_all c.events.event-index c.args.events.now c.events-test.false);
       same_answers = kept.same_answers;
-      safe = subst (λ table. IsSafeRunAt c.args.version table kept.history) kept.same_graph
-          (subst (λ v. IsSafeRunAt v c.events.runner.timetable kept.history) kept.same_version (safe-run-at c.every_run_is_safe.ensures c.rotations_never_begin.ensures _ kept.history kept.stands));
+      safe = subst (λ table. IsSafeRun c.args.version table kept.history) kept.same_graph
+          (subst (λ v. IsSafeRun v c.events.runner.timetable kept.history) kept.same_version (safe-run c.every_run_is_safe.ensures c.rotations_never_begin.ensures _ kept.history kept.stands));
     }

@@ -1,8 +1,8 @@
 -- What is found line by line is the one reading.
 use Rattle.std.proofs.Common.{◌≡◌, ◌⊎◌, List, inl, inr, None, Some, refl, sym, ◌∙◌}
 use Rattle.std.specs.Prelude.{Option}
-use Rattle.grid.specs.Text.{lines_of}
-use Rattle.grid.specs.Reading.{by_input, IsFirstFault}
+use Rattle.text_io.specs.Text.{lines_of}
+use Rattle.text_io.specs.Reading.{by_input, IsFirstFault}
 use Rattle.scen.specs.declared.scen_fault.ScenFault.{ScenFault}
 use Rattle.scen.specs.Query.{Query}
 use Rattle.scen.specs.ScenText.{ScenText}

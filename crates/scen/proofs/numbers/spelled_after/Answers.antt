@@ -6,7 +6,7 @@ use Rattle.std.proofs.lemmas.Bool.{cond-true}
 use Rattle.std.proofs.lemmas.List.{drop_all}
 use Rattle.std.proofs.lemmas.Grind.{common_steps}
 use Rattle.scen.specs.Code.Parsing.{most_told}
-use Rattle.scen.proofs.NumberLemmas.{value_after-digit}
+use Rattle.text_io.specs.Laws.Numerals.{value_after-digit}
 use Rattle.scen.proofs.numbers.spelled_after.Goals as goal
 
 pub loop-b-preserved : goal.loop-b-preserved

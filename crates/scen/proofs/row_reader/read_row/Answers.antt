@@ -4,7 +4,7 @@ use Rattle.std.proofs.lemmas.Result.{err_from_is_err_and}
 use Rattle.scen.specs.Query.{IsQuery}
 use Rattle.scen.specs.ScenText.{SpellsRow}
 use Rattle.scen.specs.ScenFault.{row_due, is_in_grid}
-use Rattle.scen.specs.Code.Parsing.{fields_seen, Refuses}
+use Rattle.scen.specs.Code.Parsing.{fields_seen, RefusesLine}
 use Rattle.scen.proofs.RowLemmas.{IsQuery-from_fields, SpellsRow-from_fields}
 use Rattle.scen.proofs.ReadRowLemmas.{in_grid-from_numbers, coordinates, row_read, row_line-from_content, faults-grid, faults-length, are_right}
 use Rattle.scen.proofs.row_reader.read_row.Goals as goal
@@ -12,7 +12,7 @@ use Rattle.scen.proofs.row_reader.read_row.Goals as goal
 pub returns-in_err-fields : goal.returns-in_err-fields
 returns-in_err-fields c =
     let p = err_from_is_err_and c.from_residual.result c.from_residual.ensures.1 in
-    rw p.1 (subst (Refuses row_due c.args.number c.args.line.now) (sym p.2)
+    rw p.1 (subst (RefusesLine row_due c.args.number c.args.line.now) (sym p.2)
     (c.in_err-fields.ensures c.args.line.now c.requires.line c.requires.short (sym c.content_of-content.ensures)
     (λ none. eqb-false _ 0 (sym c.is_empty.ensures ∙ c.if-is_empty.false) (ap length (c.content_of-content.ensures ∙ none)))))
 

@@ -1,9 +1,9 @@
 -- Each line as it was taken, and what the whole text is at its end.
 use Rattle.std.proofs.Common.{◌≡◌, ◌++◌, ◌∷◌, [], take, ◌∙◌, subst, arith, length-append, length-take}
 use Rattle.std.proofs.lemmas.Result.{err_from_is_err_and}
-use Rattle.grid.specs.Reading.{by_input, line_number}
-use Rattle.scen.specs.Code.Parsing.{due_after, Refuses}
-use Rattle.grid.specs.Source.{source_reader}
+use Rattle.text_io.specs.Reading.{by_input, line_number}
+use Rattle.scen.specs.Code.Parsing.{due_after, RefusesLine}
+use Rattle.text_io.specs.Source.{source_reader}
 use Rattle.scen.proofs.AtHandLemmas.{come_at_hand}
 use Rattle.scen.proofs.LinesRead.{one_at_hand, none_at_hand, reads_push, last_line, end_line, refused_line, refused_end, ended, ended_within, long_line, failed}
 use Rattle.scen.proofs.scen_reader.read_lines.Goals as goal
@@ -15,7 +15,7 @@ returns-in_err-add_line_at_hand-clause-reads g c =
     let at = c.in_err-add_line_at_hand.ensures in
     let come = come_at_hand g.R.Read.remaining (source_reader c.args.source.now) c.lines.source inv.0 at.1.0 inv.1 at.1.1 in
     rw (p.1, p.2, at.0) (refused_line g.R.Read.remaining _ _ inv.0 at.1.0 c.lines.progress.has_version c.lines.progress.rows.items c.in_err-add_line_at_hand.field-0.0
-    come inv.1.failures (inv.2, inv.3) (subst (λ n. Refuses (due_after c.lines.progress.has_version) n at.1.0 c.in_err-add_line_at_hand.field-0.0) inv.4 at.1.2))
+    come inv.1.failures (inv.2, inv.3) (subst (λ n. RefusesLine (due_after c.lines.progress.has_version) n at.1.0 c.in_err-add_line_at_hand.field-0.0) inv.4 at.1.2))
 
 pub lines-preserved-then-branch : goal.lines-preserved-then-branch
 lines-preserved-then-branch g c =
@@ -46,7 +46,7 @@ returns-in_err-add_line-in-WithLineFeed-clause-reads g c =
     let t = c.in-WithLineFeed.ensures.taken _ inv.0 inv.1 in
     rw (p.1, p.2) (refused_line g.R.Read.remaining _ _ inv.0 (take c.in-WithLineFeed.count c.take_line.new.room) c.add_line_at_hand.new.self.has_version c.add_line_at_hand.new.self.rows.items
     c.in_err-add_line-in-WithLineFeed.field-0.0 t.come t.failures (inv.2, inv.3)
-    (subst (λ n. Refuses (due_after c.add_line_at_hand.new.self.has_version) n (take c.in-WithLineFeed.count c.take_line.new.room) c.in_err-add_line-in-WithLineFeed.field-0.0)
+    (subst (λ n. RefusesLine (due_after c.add_line_at_hand.new.self.has_version) n (take c.in-WithLineFeed.count c.take_line.new.room) c.in_err-add_line-in-WithLineFeed.field-0.0)
     inv.4 c.in_err-add_line-in-WithLineFeed.ensures))
 
 pub lines-preserved : goal.lines-preserved
@@ -84,7 +84,7 @@ returns-in_err-add_line-in-AtEnd-clause-reads g c =
     let inv = none_at_hand g.R.Read.remaining c.args.source.now c.lines.source c.add_line_at_hand.new.source c.lines.progress c.add_line_at_hand.new.self c.lines.number _ c.in_ok-add_line_at_hand.ensures c.if-branch.false c.lines.invariant in
     rw (p.1, p.2) (refused_end g.R.Read.remaining _ _ inv.0 c.take_line.new.room c.in-AtEnd.count c.add_line_at_hand.new.self.has_version c.add_line_at_hand.new.self.rows.items
     c.in_err-add_line-in-AtEnd.field-0.0 (c.in-AtEnd.ensures.taken _ inv.0 inv.1) (inv.2, inv.3)
-    (subst (λ n. Refuses (due_after c.add_line_at_hand.new.self.has_version) n (take c.in-AtEnd.count c.take_line.new.room) c.in_err-add_line-in-AtEnd.field-0.0)
+    (subst (λ n. RefusesLine (due_after c.add_line_at_hand.new.self.has_version) n (take c.in-AtEnd.count c.take_line.new.room) c.in_err-add_line-in-AtEnd.field-0.0)
     inv.4 c.in_err-add_line-in-AtEnd.ensures))
 
 pub scenario-requires : goal.scenario-requires

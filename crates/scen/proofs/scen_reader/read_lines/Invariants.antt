@@ -1,5 +1,5 @@
 -- The lines so far were taken, are right, and have the rows so far.
-use Rattle.grid.specs.Source.{most_left}
+use Rattle.text_io.specs.Source.{most_left}
 use Rattle.scen.proofs.LinesRead.{HasReadLines}
 use Rattle.scen.proofs.scen_reader.read_lines.Given as goal
 

@@ -4,7 +4,7 @@ use Rattle.std.specs.Prelude.{decimal}
 use Rattle.std.proofs.lemmas.Result.{err_from_is_err_and}
 use Rattle.scen.specs.Query.{point, decimals_text, listed_text}
 use Rattle.scen.proofs.DigitLemmas.{marked-fits, scale-some, length-behind_one, decimals_behind_one}
-use Rattle.scen.proofs.PutLemmas.{Leaves-all, Leaves-broken, Puts-last, Breaks-last}
+use Rattle.text_io.specs.Laws.Putting.{Leaves-all, Leaves-broken, Puts-last, Breaks-last}
 use Rattle.scen.proofs.LinePuts.{whole-put}
 use Rattle.scen.proofs.scen_writer.put_listed.Goals as goal
 

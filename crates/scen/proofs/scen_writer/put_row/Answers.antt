@@ -2,9 +2,9 @@
 use Rattle.std.proofs.Common.{◌≡◌, [], ◌∷◌, refl, ap, ◌∙◌}
 use Rattle.std.specs.Prelude.{decimal}
 use Rattle.std.proofs.lemmas.Result.{err_from_is_err_and}
-use Rattle.grid.specs.Text.{tab, line_feed}
+use Rattle.text_io.specs.Text.{tab, line_feed}
 use Rattle.scen.specs.Query.{listed_text}
-use Rattle.scen.proofs.PutLemmas.{Leaves-broken, Puts-last, Breaks-last}
+use Rattle.text_io.specs.Laws.Putting.{Leaves-broken, Puts-last, Breaks-last}
 use Rattle.scen.proofs.LinePuts.{number_fields, sizes_and_cells, from_name, from_sizes, from_last_tab, from_listed, row-begins, bucket-put, name-put, sizes-put, tab-put, listed-put}
 use Rattle.scen.proofs.scen_writer.put_row.Goals as goal
 

@@ -1,8 +1,8 @@
 -- The lines of the rows that follow are left.
 use Rattle.std.proofs.Common.{drop, map}
-use Rattle.grid.specs.Text.{ended}
+use Rattle.text_io.specs.Text.{ended}
 use Rattle.scen.specs.Query.{row_line}
-use Rattle.scen.proofs.PutLemmas.{Leaves}
+use Rattle.text_io.specs.Sink.{Leaves}
 use Rattle.scen.proofs.scen_writer.put_rows.Given as goal
 
 abbrev pub invariant-loop-row : goal.invariant-loop-row

@@ -2,9 +2,9 @@
 use Rattle.std.proofs.Common.{[], ◌++◌, map, refl, ap, append-nil}
 use Rattle.std.specs.Prelude.{codes}
 use Rattle.std.proofs.lemmas.Result.{err_from_is_err_and}
-use Rattle.grid.specs.Text.{ended}
+use Rattle.text_io.specs.Text.{ended}
 use Rattle.scen.specs.Query.{row_line, canonical_scen_text}
-use Rattle.scen.proofs.PutLemmas.{Leaves-all, Leaves-less, Leaves-broken, Puts-last, Breaks-last}
+use Rattle.text_io.specs.Laws.Putting.{Leaves-all, Leaves-less, Leaves-broken, Puts-last, Breaks-last}
 use Rattle.scen.proofs.scen_writer.put_scenario.Goals as goal
 
 pub returns-in_err-put-clause-err : goal.returns-in_err-put-clause-err

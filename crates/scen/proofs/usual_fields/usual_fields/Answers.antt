@@ -2,7 +2,7 @@
 use Rattle.std.proofs.Common.{◌≡◌, [], ◌∷◌, length, refl, sym, ap, ◌∙◌, arith}
 use Rattle.std.proofs.lemmas.Bool.{eqb-true}
 use Rattle.std.proofs.lemmas.List.{nil_from_length}
-use Rattle.grid.specs.Text.{tab}
+use Rattle.text_io.specs.Text.{tab}
 use Rattle.scen.specs.Fields.{fields_between}
 use Rattle.scen.specs.ScenFault.{Fields}
 use Rattle.scen.specs.Code.Parsing.{most_told}

@@ -2,8 +2,8 @@
 use Rattle.std.proofs.Common.{◌∙◌, [], ◌∷◌, ap, refl}
 use Rattle.std.specs.Prelude.{codes}
 use Rattle.std.proofs.lemmas.Result.{err_from_is_err_and}
-use Rattle.grid.specs.Text.{line_feed, spaced_numbers}
-use Rattle.scen.proofs.PutLemmas.{Leaves-broken, Puts-last, Breaks-last}
+use Rattle.text_io.specs.Text.{line_feed, spaced_numbers}
+use Rattle.text_io.specs.Laws.Putting.{Leaves-broken, Puts-last, Breaks-last}
 use Rattle.text_commands.proofs.LineParts.{numbers_of, from_numbers, from_name, first-left, name-left, numbers-left, end-left, none-left}
 use Rattle.text_commands.proofs.fault_line.put_line.Goals as goal
 

@@ -1,7 +1,7 @@
 -- The numbers that follow are left.
 use Rattle.std.proofs.Common.{drop}
-use Rattle.grid.specs.Text.{spaced_numbers}
-use Rattle.scen.proofs.PutLemmas.{Leaves}
+use Rattle.text_io.specs.Text.{spaced_numbers}
+use Rattle.text_io.specs.Sink.{Leaves}
 use Rattle.text_commands.proofs.fault_line.put_numbers.Given as goal
 
 abbrev pub invariant-loop-number : goal.invariant-loop-number

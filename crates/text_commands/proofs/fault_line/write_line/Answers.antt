@@ -1,6 +1,6 @@
 use Rattle.std.proofs.Common.{rules}
-use Rattle.grid.specs.FaultWords.{words_of}
-use Rattle.text_commands.proofs.SinkWritten.{same_writer, sink_written}
+use Rattle.text_io.specs.FaultWords.{words_of}
+use Rattle.text_io.specs.Laws.Putting.{same_writer, sink_written}
 use Rattle.text_commands.specs.Telling.{fault_line}
 use Rattle.text_commands.proofs.fault_line.write_line.Goals as goal
 

@@ -1,6 +1,6 @@
 -- The line, and then what is held back.
 use Rattle.std.proofs.Common.{[], ◌++◌, refl, append-nil}
-use Rattle.scen.proofs.PutLemmas.{Leaves-all, Leaves-less, Puts-last, Breaks-last}
+use Rattle.text_io.specs.Laws.Putting.{Leaves-all, Leaves-less, Puts-last, Breaks-last}
 use Rattle.text_commands.specs.RowCommand.{row_verdict_text}
 use Rattle.text_commands.proofs.row_verdict.put_line.Goals as goal
 

@@ -1,5 +1,5 @@
 use Rattle.std.proofs.Common.{rules}
-use Rattle.text_commands.proofs.SinkWritten.{same_writer, sink_written}
+use Rattle.text_io.specs.Laws.Putting.{same_writer, sink_written}
 use Rattle.text_commands.specs.RowCommand.{row_verdict_text}
 use Rattle.text_commands.proofs.row_verdict.write_row_verdict.Goals as goal
 

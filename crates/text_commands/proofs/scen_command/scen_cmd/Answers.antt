@@ -1,10 +1,11 @@
 use Rattle.std.proofs.Common.{◌∙◌, List, ℕ, Err, Some, ap, subst}
+use Rattle.text_io.specs.FaultWords.{Words}
 use Rattle.scen.specs.FaultWords.{scen_fault_words}
 use Rattle.scen.specs.ScenFault.{scen_outcome}
-use Rattle.text_commands.specs.Status.{code_of}
+use Rattle.text_commands.specs.Status.{code_of, status_of}
 use Rattle.text_commands.specs.Telling.{Tells}
 use Rattle.text_commands.proofs.Refusals.{scen_refused}
-use Rattle.text_commands.proofs.Rewriting.{rewrites}
+use Rattle.text_commands.specs.Laws.Ending.{rewrites}
 use Rattle.text_commands.proofs.scen_command.scen_cmd.Goals as goal
 
 pub returns-in-Ok : goal.returns-in-Ok
@@ -12,10 +13,11 @@ returns-in-Ok g c = rewrites _ _ _ scen_fault_words _ _ (Tells g.E.Write.content
 
 pub returns-in-Err : goal.returns-in-Err
 returns-in-Err g c =
-    let Told = Tells g.E.Write.contents c.args.err.now c.report.new.err in
+    let Told = Tells g.E.Write.contents c.args.err.now c.give_up.new.err in
     record {
       outcome = scen_outcome (Err c.in-Err.fault);
       reads = c.in-Err.ensures;
-      ends = scen_refused g.W.Write.contents Told c.args.out.now c.code-in-Err.result c.in-Err.fault (c.code-in-Err.ensures ∙ ap code_of c.scen_fault_status.ensures)
-          (subst (λ (words : List (List ℕ)). Told (Some words)) c.words.ensures c.report.ensures);
+      ends = scen_refused g.W.Write.contents Told c.args.out.now c.give_up.result c.in-Err.fault
+          (c.give_up.ensures.code ∙ ap (λ (words : Words). code_of (status_of words)) c.words.ensures)
+          (subst (λ (words : Words). Told (Some words)) c.words.ensures c.give_up.ensures.told);
     }

@@ -1,6 +1,6 @@
 -- The text, and then what is held back.
 use Rattle.std.proofs.Common.{[], ◌++◌, refl, append-nil}
-use Rattle.scen.proofs.PutLemmas.{Leaves-all, Leaves-less, Breaks-last}
+use Rattle.text_io.specs.Laws.Putting.{Leaves-all, Leaves-less, Breaks-last}
 use Rattle.text_commands.proofs.writing.put_text.Goals as goal
 
 pub returns-clause-err : goal.returns-clause-err

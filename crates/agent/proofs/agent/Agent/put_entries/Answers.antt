@@ -2,11 +2,11 @@ use Rattle.std.proofs.Common.{length, sym, ap, ◌∙◌, arith}
 use Rattle.std.proofs.lemmas.Option.{slice_get_within}
 use Rattle.std.proofs.lemmas.Result.{on_ok_weaker}
 use Rattle.model.specs.Messages.{number_told}
-use Rattle.model.proofs.EntryLemmas.{entries-few}
+use Rattle.model.specs.Laws.Entries.{entries-few}
 use Rattle.agent.specs.Counters.{known_in}
 use Rattle.agent.proofs.PutLemmas.{few-more}
 use Rattle.agent.proofs.agent.Agent.put_entries.Goals as goal
-use Rattle.depgraph.proofs.AgentPartLemmas.{count-agents, few-agents}
+use Rattle.depgraph.specs.Laws.AgentParts.{count-agents, few-agents}
 
 pub returns-clause-few : goal.returns-clause-few
 returns-clause-few g c =

@@ -4,7 +4,7 @@ use Rattle.agent.specs.Counters.{AreWithin}
 use Rattle.agent.proofs.TakingLemmas.{raised-within, names-known}
 use Rattle.agent.proofs.agent.Agent.take_all.Goals as goal
 use Rattle.depgraph.specs.AgentParts.{IsPartOf}
-use Rattle.depgraph.proofs.AgentPartLemmas.{count-agents}
+use Rattle.depgraph.specs.Laws.AgentParts.{count-agents}
 
 pub invariant_of-self-2 : goal.invariant_of-self-2
 invariant_of-self-2 g c =

@@ -3,7 +3,7 @@ use Rattle.std.proofs.Common.{◌<◌, length, arith, sym, ap, subst}
 use Rattle.depgraph.specs.AgentParts.{IsPartOf}
 use Rattle.depgraph.specs.Code.Keeping.{AreKept}
 use Rattle.depgraph.specs.Code.Numbers.{cells_by}
-use Rattle.depgraph.specs.Code.Shares.{entries_of, part_by, HasShare}
+use Rattle.depgraph.specs.Code.Shares.{entries_among, part_by, HasShare}
 use Rattle.depgraph.proofs.KeptLemmas.{no_track_at}
 use Rattle.depgraph.proofs.ShareLemmas.{has_share, share-part, share-lent}
 use Rattle.depgraph.proofs.dependencies.Dependencies.part.Goals as goal
@@ -34,7 +34,7 @@ returns-then-from-len c =
     let i = c.args.agent in
     let within : i < length g.ends.items = omega (arith, less, asked, from, count) in
     let is = share-part tt g.names.items g.numbers.items g.times.items g.ends.items g.needs.items h.visits h.visit_ends h.kept i within g.number (ap (λ v. v.number) c.self.view_is) in
-    let lent = share-lent (λ names numbers needs ends. IsPartOf tt (part_by g.number i names (entries_of ends i numbers) (entries_of ends i needs) ends)) c.deref.ensures.value
+    let lent = share-lent (λ names numbers needs ends. IsPartOf tt (part_by g.number i names (entries_among ends i numbers) (entries_among ends i needs) ends)) c.deref.ensures.value
     c.deref-then-from-len.ensures.value c.deref-then-from-len-2.ensures.value c.deref-then-from-len-3.ensures.value is in
     (subst (IsPartOf tt) (sym c.among.ensures) lent, ap (λ p. p.agent) c.among.ensures)
 

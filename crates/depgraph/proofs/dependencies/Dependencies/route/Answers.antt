@@ -1,11 +1,10 @@
 -- The route of each agent that there is.
 use Rattle.std.proofs.Common.{◌≡◌, get_or, Some, None, arith, refl, sym, subst}
 use Rattle.depgraph.specs.Code.Numbers.{cells_by}
-use Rattle.depgraph.specs.Code.Keeping.{AreKept}
+use Rattle.depgraph.specs.Code.Keeping.{AreKept, route_in}
 use Rattle.std.specs.Prelude.{Option, MatchOption, IsSomeAnd}
 use Rattle.std.proofs.lemmas.Option.{slice_get-get_or}
 use Rattle.depgraph.specs.Routes.{Route, IsRouteOf}
-use Rattle.depgraph.specs.Code.Keeping.{route_in}
 use Rattle.depgraph.proofs.PathLemmas.{no_track}
 use Rattle.depgraph.proofs.KeptLemmas.{ends_count, kept_route, no_track_at}
 use Rattle.depgraph.proofs.dependencies.Dependencies.route.Goals as goal

@@ -5,7 +5,7 @@ use Rattle.std.specs.Map.{lookup}
 use Rattle.model.specs.declared.visit.Visit.{Visit}
 use Rattle.depgraph.specs.Visits.{IsVisitTo, AreVisitsTo}
 use Rattle.model.specs.Timetable.{same_cell}
-use Rattle.model.proofs.TrackLemmas.{same_cell-same, same_cell-true}
+use Rattle.model.specs.Laws.Tracks.{same_cell-same, same_cell-true}
 use Rattle.depgraph.specs.Code.Entries.{begin_in}
 use Rattle.depgraph.specs.Code.Keeping.{HasVisits}
 use Rattle.depgraph.specs.Code.Placing.{part_of}

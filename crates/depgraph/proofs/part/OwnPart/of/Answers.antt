@@ -1,6 +1,6 @@
 -- A path has few cells.
 use Rattle.std.proofs.Common.{arith}
-use Rattle.depgraph.proofs.AgentPartLemmas.{few-cells}
+use Rattle.depgraph.specs.Laws.AgentParts.{few-cells}
 use Rattle.depgraph.proofs.NumberLemmas.{length-cells_by}
 use Rattle.depgraph.proofs.part.OwnPart.of.Goals as goal
 

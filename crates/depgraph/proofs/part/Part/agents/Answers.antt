@@ -1,6 +1,6 @@
 -- Each agent has a number of moves, and a graph has few agents.
 use Rattle.std.proofs.Common.{length, arith, sym, ap, ◌∙◌}
-use Rattle.depgraph.proofs.AgentPartLemmas.{few-agents}
+use Rattle.depgraph.specs.Laws.AgentParts.{few-agents}
 use Rattle.depgraph.proofs.ShareLemmas.{length-counts}
 use Rattle.depgraph.proofs.part.Part.agents.Goals as goal
 

@@ -2,7 +2,7 @@
 use Rattle.std.proofs.Common.{◌-◌, slice_index_or, Some, arith, sym, ap, ◌∙◌}
 use Rattle.std.specs.Prelude.{slice_get}
 use Rattle.depgraph.specs.Code.Shares.{count_in}
-use Rattle.depgraph.proofs.AgentPartLemmas.{told-most}
+use Rattle.depgraph.specs.Laws.AgentParts.{told-most}
 use Rattle.depgraph.proofs.ShareLemmas.{count-told, no-count}
 use Rattle.depgraph.proofs.part.Part.moves.Goals as goal
 

@@ -1,6 +1,6 @@
 -- The line of an event is read behind the header, or there is none.
 use Rattle.std.proofs.lemmas.Result.{err_from_is_err_and}
-use Rattle.event_text.proofs.EventsRead.{stopped_as}
+use Rattle.event_text.specs.Laws.Stopping.{stopped_as}
 use Rattle.event_text.proofs.event_reader.EventReader.next_event.Goals as goal
 
 pub returns-in_err-_version-clause-next : goal.returns-in_err-_version-clause-next

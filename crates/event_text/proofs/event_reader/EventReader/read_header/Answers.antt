@@ -1,7 +1,7 @@
 -- The line is a header that is taken, or there is none.
 use Rattle.std.proofs.Common.{◌≡◌, ◌++◌, ◌∷◌, [], None, Some, refl, min, take, sym, ap, ◌∙◌, subst, arith}
-use Rattle.grid.specs.Reading.{line_number}
-use Rattle.event_text.specs.EventText.{Takes, IsHeader}
+use Rattle.text_io.specs.Reading.{line_number}
+use Rattle.event_text.specs.EventText.{TakesHeader, IsHeader}
 use Rattle.event_text.specs.Taking.{SayEvents}
 use Rattle.event_text.proofs.FirstLemmas.{begins-read}
 use Rattle.event_text.proofs.TextRead.{SayEvents-header}
@@ -17,7 +17,7 @@ returns-in_default-clause-taken g c headers first events h read =
     let all : min count 64 ≡ count = omega (arith, t.in_room, c.take_line.auto.room) in
     let line : c.taken.result.now ≡ take count room = c.taken.ensures ∙ ap (λ n. take n room) all in
     let other : IsHeader headers (take count room) → ⊥ =
-    λ k. c.in_default.ensures (k.0, subst (λ hs. Takes hs k.0) (sym h.takes) k.1, line ∙ k.2) in (
+    λ k. c.in_default.ensures (k.0, subst (λ hs. TakesHeader hs k.0) (sym h.takes) k.1, line ∙ k.2) in (
       other_line g.R.Read.remaining first _ headers None events h.lines room count c.args.self.now.number h.numbered (omega (arith, c.take_line.auto.room)) t
           said other,
       read,
@@ -48,7 +48,7 @@ returns-in-Some-clause-taken g c headers first events h read =
     let t = c.in-WithLineFeed.ensures.taken first h.lines h.taken in
     let all : min count 64 ≡ count = omega (arith, t.in_room, c.take_line.auto.room) in
     let line : c.taken.result.now ≡ take count room = c.taken.ensures ∙ ap (λ n. take n room) all in
-    let takes = subst (λ hs. Takes hs version) h.takes c.in-Some.ensures.0 in
+    let takes = subst (λ hs. TakesHeader hs version) h.takes c.in-Some.ensures.0 in
     let more = SayEvents-header headers version events h.lines (take count room) said takes (sym line ∙ c.in-Some.ensures.1) in (
       record {
         takes = h.takes;

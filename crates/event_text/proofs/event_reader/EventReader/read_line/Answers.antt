@@ -1,12 +1,12 @@
 -- The line at hand is that of the event, and was taken with its LF.
 use Rattle.std.proofs.Common.{◌++◌, ◌∷◌, [], Some, length, sym, ap, ◌∙◌, subst, arith, length-append}
-use Rattle.grid.specs.Source.{at_hand, Takes}
-use Rattle.grid.specs.Text.{line_feed}
+use Rattle.text_io.specs.Source.{at_hand, Takes}
+use Rattle.text_io.specs.Text.{line_feed}
 use Rattle.event_text.specs.FirstEvents.{BeginsWithEvents}
 use Rattle.event_text.specs.Taking.{SayEvents}
 use Rattle.event_text.specs.Code.EventLines.{BeginsWithEvent}
 use Rattle.event_text.proofs.FirstLemmas.{begins-read}
-use Rattle.scen.proofs.AtHandLemmas.{HasTaken-more}
+use Rattle.text_io.specs.Laws.Taking.{HasTaken-more}
 use Rattle.event_text.proofs.LeadingLemmas.{taken_event}
 use Rattle.event_text.proofs.LineLemmas.{event-short}
 use Rattle.event_text.proofs.TextRead.{SayEvents-push}

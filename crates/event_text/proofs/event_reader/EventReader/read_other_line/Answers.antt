@@ -6,7 +6,8 @@ use Rattle.event_text.specs.Code.EventLines.{event_of}
 use Rattle.event_text.proofs.EventLemmas.{event_of-says, none-spells}
 use Rattle.event_text.proofs.FirstLemmas.{begins-read}
 use Rattle.event_text.proofs.TextRead.{SayEvents-push}
-use Rattle.event_text.proofs.EventsRead.{other_line, long_line, failed, unfinished, ended_well, stopped_as}
+use Rattle.event_text.proofs.EventsRead.{other_line, long_line, failed, unfinished, ended_well}
+use Rattle.event_text.specs.Laws.Stopping.{stopped_as}
 use Rattle.event_text.proofs.event_reader.EventReader.read_other_line.Goals as goal
 
 pub returns-in_default-clause-next : goal.returns-in_default-clause-next

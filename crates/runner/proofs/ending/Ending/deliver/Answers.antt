@@ -4,7 +4,7 @@ use Rattle.std.proofs.lemmas.Option.{slice_get-get_or}
 use Rattle.model.specs.declared.event.Event.TheVariants.{Deliver}
 use Rattle.model.specs.Timetable.{Track}
 use Rattle.runner.specs.declared.ending.Heard.{Heard}
-use Rattle.runner.specs.Code.Leading.{told_in, Leads}
+use Rattle.runner.specs.Code.Leading.{told_in, LeadsThrough}
 use Rattle.runner.proofs.LeadLemmas.{told-is, each-set, deliver-on, deliver-knows}
 use Rattle.runner.proofs.ending.Ending.deliver.Goals as goal
 
@@ -17,7 +17,7 @@ put-at l slot i j told =
 
 pub returns-then-slot-len-clause-leads : goal.returns-then-slot-len-clause-leads
 returns-then-slot-len-clause-leads c version h begins was =
-    let was_in = subst (λ s. Leads version s h) (sym c.self.view_is) was in
+    let was_in = subst (λ s. LeadsThrough version s h) (sym c.self.view_is) was in
     let x = c.index.result.now in
     let index = c.from.ensures in
     let crew = ap (λ s. length s.agents) c.self.view_is in
@@ -38,7 +38,7 @@ returns-then-slot-len-clause-leads c version h begins was =
 
 pub returns-else-slot-len-clause-leads : goal.returns-else-slot-len-clause-leads
 returns-else-slot-len-clause-leads c version h begins was =
-    let was_in = subst (λ s. Leads version s h) (sym c.self.view_is) was in
+    let was_in = subst (λ s. LeadsThrough version s h) (sym c.self.view_is) was in
     let x = c.index.result.now in
     let index = c.from.ensures in
     let crew = ap (λ s. length s.agents) c.self.view_is in
@@ -59,7 +59,7 @@ returns-else-slot-len-clause-leads c version h begins was =
 
 pub returns-then-slot-len-clause-teaches : goal.returns-then-slot-len-clause-teaches
 returns-then-slot-len-clause-teaches c version h begins was =
-    let was_in = subst (λ s. Leads version s h) (sym c.self.view_is) was in
+    let was_in = subst (λ s. LeadsThrough version s h) (sym c.self.view_is) was in
     let x = c.index.result.now in
     let index = c.from.ensures in
     let crew = ap (λ s. length s.agents) c.self.view_is in
@@ -81,7 +81,7 @@ returns-then-slot-len-clause-teaches c version h begins was =
 
 pub returns-else-slot-len-clause-teaches : goal.returns-else-slot-len-clause-teaches
 returns-else-slot-len-clause-teaches c version h begins was =
-    let was_in = subst (λ s. Leads version s h) (sym c.self.view_is) was in
+    let was_in = subst (λ s. LeadsThrough version s h) (sym c.self.view_is) was in
     let x = c.index.result.now in
     let index = c.from.ensures in
     let crew = ap (λ s. length s.agents) c.self.view_is in

@@ -6,13 +6,13 @@ use Rattle.model.specs.Dependency.{IsMet, need}
 use Rattle.model.specs.History.{known}
 use Rattle.model.specs.Timetable.{moves, track_of}
 use Rattle.runner.specs.declared.ending.Standing.{Standing}
-use Rattle.runner.specs.Code.Leading.{finished_in, Leads, HasMoved}
+use Rattle.runner.specs.Code.Leading.{finished_in, LeadsThrough, HasMoved}
 use Rattle.runner.proofs.LeadLemmas.{finished-is, move-on, two-more, has-moved}
 use Rattle.runner.proofs.ending.Ending.make_move.Goals as goal
 
 pub returns-clause-leads : goal.returns-clause-leads
 returns-clause-leads c version h begins was track there met =
-    let was_in = subst (λ s. Leads version s h) (sym c.self.view_is) was in
+    let was_in = subst (λ s. LeadsThrough version s h) (sym c.self.view_is) was in
     let x = c.index_mut-standing.result.now in
     let y : Standing = record { done = x.done + 1; message = x.message; told = x.told; next = (x.next + 1) % 18446744073709551616 } in
     let index = c.from-5.ensures in

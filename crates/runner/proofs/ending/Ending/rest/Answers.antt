@@ -7,7 +7,7 @@ use Rattle.model.specs.Ready.{rest_events}
 use Rattle.model.specs.Timetable.{Track}
 use Rattle.agent.specs.CountedTape.{counted_state}
 use Rattle.std.proofs.lemmas.Option.{slice_get-get_or}
-use Rattle.runner.specs.Code.Leading.{is_opened_anew, Begins, Leads, AreUnheard}
+use Rattle.runner.specs.Code.Leading.{is_opened_anew, Begins, LeadsThrough, AreUnheard}
 use Rattle.runner.proofs.LeadLemmas.{one_if, rest-on}
 use Rattle.runner.proofs.ending.Ending.rest.Goals as goal
 
@@ -21,7 +21,7 @@ invariant_of-self c = (c.self.invariant.0, (let most = c.self.invariant.1 in let
 pub returns-clause-leads : goal.returns-clause-leads
 returns-clause-leads c version h begins was =
     let begins_in = subst (λ s. Begins version s.timetable s.agents h) (sym c.self.view_is) begins in
-    let was_in = subst (λ s. Leads version s h) (sym c.self.view_is) was in
+    let was_in = subst (λ s. LeadsThrough version s h) (sym c.self.view_is) was in
     let within : c.args.id < length c.self.inside.agents.now = (let less = c.requires.there in let same = ap (λ r. length r.agents) c.self.view_is in omega (arith, less, same)) in
     let a = get_or c.self.inside.agents.now c.args.id c.index-self-id.result in
     let there = slice_get-get_or c.self.inside.agents.now c.args.id c.index-self-id.result within in
@@ -32,5 +32,5 @@ returns-clause-leads c version h begins was =
     (c.in_ok-push_rest.ensures.put ∙ ap (λ b. c.self.inside.events.items ++ rest_events b c.is_moving-moving.result c.args.id) c.is_opened_anew.ensures
     ∙ ap (λ b. c.self.inside.events.items ++ rest_events (is_opened_anew a) b c.args.id) c.is_moving-moving.ensures)
     c.in_ok-push.ensures.items
-    (ap (λ n. n + c.from.result) c.done.ensures.done ∙ ap (λ n. states.done (state_of counted_state a) + n) (c.from.ensures ∙ as_number c.is_moving-moving.result ∙ ap one_if c.is_moving-moving.ensures))
+    (ap (λ n. n + c.from.result) c.done.ensures.finished_moves ∙ ap (λ n. states.finished_moves (state_of counted_state a) + n) (c.from.ensures ∙ as_number c.is_moving-moving.result ∙ ap one_if c.is_moving-moving.ensures))
     refl begins_in was_in

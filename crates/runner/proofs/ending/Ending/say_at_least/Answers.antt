@@ -3,13 +3,13 @@ use Rattle.std.proofs.lemmas.Option.{slice_get-get_or}
 use Rattle.model.specs.declared.event.Event.TheVariants.{Say}
 use Rattle.model.specs.Timetable.{Track}
 use Rattle.runner.specs.declared.ending.Standing.{Standing}
-use Rattle.runner.specs.Code.Leading.{finished_in, told_in, Leads}
+use Rattle.runner.specs.Code.Leading.{finished_in, told_in, LeadsThrough}
 use Rattle.runner.proofs.LeadLemmas.{finished-is, told-set, say-on}
 use Rattle.runner.proofs.ending.Ending.say_at_least.Goals as goal
 
 pub returns-clause-leads : goal.returns-clause-leads
 returns-clause-leads c version h begins was =
-    let was_in = subst (λ s. Leads version s h) (sym c.self.view_is) was in
+    let was_in = subst (λ s. LeadsThrough version s h) (sym c.self.view_is) was in
     let x = c.index_mut-standing.result.now in
     let y : Standing = record { done = x.done; message = c.self.inside.messages; told = x.done; next = x.next } in
     let index = c.from-index.ensures in

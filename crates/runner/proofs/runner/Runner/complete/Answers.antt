@@ -1,6 +1,6 @@
 use Rattle.std.proofs.Common.{length, sym, ap, subst, ◌∙◌}
-use Rattle.model.proofs.RotationLemmas.{never}
-use Rattle.model.proofs.RunLemmas.{in_step}
+use Rattle.model.specs.Laws.Rotations.{never}
+use Rattle.model.specs.Laws.Runs.{in_step}
 use Rattle.runner.specs.Code.Leading.{Begins}
 use Rattle.runner.specs.Endings.{IsBlockedBy, IsEndedBy}
 use Rattle.runner.specs.Standing.{StandsAt}

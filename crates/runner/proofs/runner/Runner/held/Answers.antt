@@ -5,7 +5,7 @@ use Rattle.model.specs.Safety.{held}
 use Rattle.model.specs.Timetable.{track_of}
 use Rattle.runner.specs.Standing.{StandsAt}
 use Rattle.runner.proofs.GoesLemmas.{held-on}
-use Rattle.runner.proofs.SafeLemmas.{safe-run}
+use Rattle.runner.specs.Laws.Safe.{safe-run}
 use Rattle.runner.proofs.runner.Runner.held.Goals as goal
 
 pub returns-clause-held : goal.returns-clause-held

@@ -4,7 +4,7 @@ use Rattle.std.proofs.lemmas.List.{length-append}
 use Rattle.model.specs.declared.version.Version.{Version}
 use Rattle.runner.specs.Standing.{IsMember}
 use Rattle.runner.proofs.CrewLemmas.{each-pushed}
-use Rattle.runner.proofs.SafeLemmas.{safe-by}
+use Rattle.runner.specs.Laws.Safe.{safe-by}
 use Rattle.runner.proofs.runner.Runner.over.Goals as goal
 
 pub agents-preserved : goal.agents-preserved
@@ -29,10 +29,10 @@ returns-clause-stands c = record {
 }
 
 pub returns-in_err-agents-clause-safe : goal.returns-in_err-agents-clause-safe
-returns-in_err-agents-clause-safe c = (c.args.version, safe-by c.every_run_is_safe.ensures c.rotations_never_begin.ensures c.args.version c.args.graph.now [] c.agents-count.ensures.within.conflict_free tt)
+returns-in_err-agents-clause-safe c = safe-by c.every_run_is_safe.ensures c.rotations_never_begin.ensures c.args.version c.args.graph.now [] c.agents-count.ensures.within.conflict_free tt
 
 pub returns-in_default-clause-safe : goal.returns-in_default-clause-safe
-returns-in_default-clause-safe c = (c.args.version, safe-by c.every_run_is_safe.ensures c.rotations_never_begin.ensures c.args.version c.args.graph.now [] c.agents-count.ensures.within.conflict_free tt)
+returns-in_default-clause-safe c = safe-by c.every_run_is_safe.ensures c.rotations_never_begin.ensures c.args.version c.args.graph.now [] c.agents-count.ensures.within.conflict_free tt
 
 pub returns-clause-safe : goal.returns-clause-safe
-returns-clause-safe c = (c.args.version, safe-by c.every_run_is_safe.ensures c.rotations_never_begin.ensures c.args.version c.args.graph.now [] c.agents-count.ensures.within.conflict_free tt)
+returns-clause-safe c = safe-by c.every_run_is_safe.ensures c.rotations_never_begin.ensures c.args.version c.args.graph.now [] c.agents-count.ensures.within.conflict_free tt

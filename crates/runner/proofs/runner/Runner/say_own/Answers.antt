@@ -28,8 +28,8 @@ returns-clause-said c h stands =
     let there = slice_get-get_or c.self.inside.agents.items c.args.agent c.index-sender.result.now within ∙ ap (λ a. Some a) (sym c.index-sender.ensures) in
     let version : c.self.inside.said.version ≡ One = ap (λ r. r.version) c.self.view_is ∙ c.requires.version in
     let bytes = c.in_ok-bytes.bytes.items in
-    let found = own-on _ h inside c.args.agent c.index-sender.result.now there c.args.agent c.done-done.result version (c.in-Ok.ensures.says _ (inside.members c.args.agent c.index-sender.result.now there).part).0 refl c.done-done.ensures.done in
-    let told = c.in_ok-bytes.ensures ∙ (c.in-Ok.ensures.says _ (inside.members c.args.agent c.index-sender.result.now there).part).1.spelled ∙ ap (message_bytes c.self.inside.graph.now.number c.index-sender.result.now.part.agent) (sym c.done-done.ensures.done) in
+    let found = own-on _ h inside c.args.agent c.index-sender.result.now there c.args.agent c.done-done.result version (c.in-Ok.ensures.says _ (inside.members c.args.agent c.index-sender.result.now there).part).0 refl c.done-done.ensures.finished_moves in
+    let told = c.in_ok-bytes.ensures ∙ (c.in-Ok.ensures.says _ (inside.members c.args.agent c.index-sender.result.now there).part).1.spelled ∙ ap (message_bytes c.self.inside.graph.now.number c.index-sender.result.now.part.agent) (sym c.done-done.ensures.finished_moves) in
     let answered = ap (λ n. said n bytes) c.count-number.ensures.count ∙ ap (said (length c.self.inside.said.messages)) told in
     subst (λ s. (said c.count-number.result bytes ≡ answer c.args.self.now.version c.args.self.now.timetable h (Say c.args.agent))
     × StandsAt (record { timetable = c.self.inside.graph.now; version = s.version; agents = c.self.inside.agents.items; messages = s.messages }) (record { event = Say c.args.agent; answer = said c.count-number.result bytes } ∷ h))

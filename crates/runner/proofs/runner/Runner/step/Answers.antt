@@ -1,4 +1,4 @@
-use Rattle.runner.proofs.SafeLemmas.{safe-run}
+use Rattle.runner.specs.Laws.Safe.{safe-run}
 use Rattle.runner.proofs.runner.Runner.step.Goals as goal
 
 pub returns-in_err-say-in-Say-clause-safe : goal.returns-in_err-say-in-Say-clause-safe

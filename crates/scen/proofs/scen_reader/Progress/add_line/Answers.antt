@@ -1,13 +1,13 @@
 use Rattle.std.proofs.Common.{true, inr, refl, sym, ap, ◌∙◌, subst}
 use Rattle.scen.specs.declared.scen_fault.ScenFault.TheVariants.{NoVersion}
 use Rattle.scen.specs.ScenText.{IsVersion}
-use Rattle.scen.specs.Code.Parsing.{due_after, Adds, Refuses, is_version}
+use Rattle.scen.specs.Code.Parsing.{due_after, Adds, RefusesLine, is_version}
 use Rattle.scen.proofs.VersionLemmas.{IsVersion-from_test, refuses-other}
 use Rattle.scen.proofs.scen_reader.Progress.add_line.Goals as goal
 
 pub returns-then-not-is_version : goal.returns-then-not-is_version
 returns-then-not-is_version c =
-    subst (λ has. Refuses (due_after has) c.args.number c.args.line.now NoVersion) (sym c.if-self.false)
+    subst (λ has. RefusesLine (due_after has) c.args.number c.args.line.now NoVersion) (sym c.if-self.false)
     (refuses-other c.args.number c.args.line.now c.content_of-content.result.now c.is_empty.result c.is_version.result c.requires.short
     c.content_of-content.ensures c.is_empty.ensures c.if-not-is_empty.true c.is_version.ensures c.if-not-is_version.true)
 

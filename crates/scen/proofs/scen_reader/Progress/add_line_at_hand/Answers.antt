@@ -2,9 +2,9 @@
 use Rattle.std.proofs.Common.{Some, take, refl, sym, subst, ◌∙◌}
 use Rattle.std.proofs.lemmas.Result.{err_from_is_err_and}
 use Rattle.memchr.specs.Find.{IsFirstByte, is_byte}
-use Rattle.grid.specs.Source.{at_hand, Takes}
-use Rattle.grid.specs.Text.{line_feed, IsLine}
-use Rattle.scen.specs.Code.Parsing.{due_after, Adds, Refuses}
+use Rattle.text_io.specs.Source.{at_hand, Takes}
+use Rattle.text_io.specs.Text.{line_feed, IsLine}
+use Rattle.scen.specs.Code.Parsing.{due_after, Adds, RefusesLine}
 use Rattle.scen.proofs.AtHandLemmas.{first_feed, line_and_feed}
 use Rattle.scen.proofs.scen_reader.Progress.add_line_at_hand.Goals as goal
 
@@ -20,7 +20,7 @@ returns-in_err-add_line-in-Some g c =
     let count = c.in-Some.count in
     let bytes = at_hand c.args.source.now in
     let found = subst (λ xs. IsFirstByte (is_byte line_feed) xs (Some count)) c.at_hand.ensures c.in-Some.ensures in
-    let refuses = subst (λ xs. Refuses (due_after c.args.self.now.has_version) c.args.number (take count xs) c.in_err-add_line-in-Some.field-0.0)
+    let refuses = subst (λ xs. RefusesLine (due_after c.args.self.now.has_version) c.args.number (take count xs) c.in_err-add_line-in-Some.field-0.0)
     c.at_hand-in-Some.ensures c.in_err-add_line-in-Some.ensures in
     rw (p.1, p.2) (refl, (take count bytes, first_feed bytes count found.0 found.1, refuses))
 

@@ -1,0 +1,3 @@
+-- What follows from the definitions.
+-- what is read piece by piece
+pub mod Pieces

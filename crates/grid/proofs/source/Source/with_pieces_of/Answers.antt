@@ -1,7 +1,0 @@
--- Nothing was read, and so nothing taken.
-use Rattle.std.proofs.Common.{refl}
-use Rattle.grid.proofs.LineTaking.{HasTaken-none}
-use Rattle.grid.proofs.source.Source.with_pieces_of.Goals as goal
-
-pub returns-clause-none_taken : goal.returns-clause-none_taken
-returns-clause-none_taken g c = HasTaken-none g.R.Read.remaining _ _ refl refl refl

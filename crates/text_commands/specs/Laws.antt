@@ -1,0 +1,3 @@
+-- What follows from the definitions.
+-- how a command ends that writes a text
+pub mod Ending

@@ -1,0 +1,5 @@
+-- Lemmas that several proofs share.
+mod SinkLemmas
+mod LineTaking
+mod PairLemmas
+mod NumeralLemmas
