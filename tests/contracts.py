@@ -25,7 +25,7 @@ In every run over a timetable without vertex conflicts, whatever""",
 Writes a record behind the whole records, over what stands there.
 
 ```rust
-fn write_at(&mut self, at: u32, bytes: &[u8; 10]) -> Result<(), TapeError>
+fn write_at(&mut self, at: u32, bytes: &[u8; RECORD_SIZE]) -> Result<(), TapeError>
     requires { MayWrite (state self.old) at }
     ensures { may_write self.old at bytes.now (is_ok result) self.new }
 ```

@@ -17,16 +17,15 @@ TESTS = {
     "agent_trials": ["a_hearer", "a_tape"],
     "dialogue_trials": ["a_dialogue"],
     "event_text_trials": ["events"],
-    "file_tape_trials": ["a_tape_file"],
-    "grid_trials": ["a_map"],
-    "no_memory_trials": [
-        *("a_plan_that_fits", "a_run_after_its_first_messages", "lengths_and_certificates", "steps_on_a_map", "ten_thousand_hearings"),
+    "memory_trials": [
+        *("a_plan_that_fits", "a_run_after_its_first_messages", "command_lines", "commands"),
+        *("lengths_and_certificates", "library_calls", "steps_on_a_map", "ten_thousand_hearings"),
         "what_takes_none",
     ],
     "plan_trials": ["a_check", "a_plan", "an_agent_of_a_plan"],
-    "refusal_trials": ["command_lines", "commands", "library_calls"],
     "runner_trials": ["a_message", "a_message_with_entries", "a_replay", "a_replay_to_the_end", "agents_that_turn"],
-    "scen_trials": ["a_scenario"],
+    "tape_trials": ["a_tape_file"],
+    "text_trials": ["a_map", "a_scenario"],
     "walk_trials": ["a_search"],
 }
 PREFIX = "memory_refused_to_"

@@ -14,7 +14,7 @@ import measuring
 from harness import ROOT, Ended, Harness, Outcome, compared, ended_as, side_by_side
 
 # Crates of tests, which are no part of the program.
-OF_TESTS = re.compile(r"fakes|fake_tapes|\w+_trials")
+OF_TESTS = re.compile(r"fakes|\w+_fixtures|\w+_trials")
 NAMES = re.compile(r"\b(?:OutOfMemory|AllocError)\b(?!::from)")
 FUNCTION = re.compile(r"^( *)(?:pub(?:\(\w+\))? )?(?:const )?fn (\w+)", re.MULTILINE)
 BLOCK = re.compile(r"^(?:impl|trait)\b(?:<[^{]*?>)? ?(.*?)(?: where .*)? \{$", re.MULTILINE)
@@ -48,13 +48,12 @@ MADE = {
     "mapf_cmd/unperformed.rt: refuse": "tells that there was no memory for a command line",
     "path_commands/path_command.rt: show": "was given an answer that there was no room for where agents are",
     "plan/checker.rt: check": "gives the plan back beside the want",
-    "plan_commands/check_command.rt: refuse": NO_TEXT,
+    "plan_commands/check_command.rt: reject": NO_TEXT,
     "plan_commands/check_command.rt: tell": NO_TEXT,
-    "plan_commands/check_fault.rt: From<OutOfMemory> for CheckFault: from": NAMED_ANEW,
-    "plan_commands/check_fault.rt: From<PlanFault> for CheckFault: from": NAMED_ANEW,
     "plan_text/plan.rt: From<AllocFailed<T>> for PushFault: from": NAMED_ANEW,
     "plan_text/plan_reader.rt: Progress: add_line": PASSED_ON,
     "plan_text/plan_text_fault.rt: From<AllocError> for PlanTextFault: from": NAMED_ANEW,
+    "planned/planned_fault.rt: From<OutOfMemory> for PlannedFault: from": NAMED_ANEW,
     "replay/completing.rt: put_ending": PASSED_ON,
     "replay/run_fault.rt: From<OutOfMemory> for RunFault: from": NAMED_ANEW,
     "runner/complete_fault.rt: From<AllocError> for CompleteFault: from": NAMED_ANEW,

@@ -14,7 +14,7 @@ use crate::message::{Message, read_message};
 use crate::opening::read_records;
 use crate::record::due_record;
 use crate::refusal::{HearFault, OpenFault, Refusal, TellFault};
-use crate::tape::{Scripted, Tape};
+use crate::tape::{RECORD_LENGTH, Scripted, Tape};
 use crate::telling::{put_told, tell};
 use depgraph::{Graph, Part};
 use grid::Cell;
@@ -80,10 +80,10 @@ impl<'g, T: Tape> Agent<'g, T> {
         ensures kept { IfErr result (λ e. IsKept (T.state tape) (T.state e.1)) }
     {
         let moves = own_moves(&part);
-        if tape.room() < 20 * moves {
+        if tape.room() < 2 * RECORD_LENGTH * moves {
             return Err((OpenFault::NoRoom, tape));
         }
-        let records = tape.len() / 10;
+        let records = tape.len() / RECORD_LENGTH;
         if records > 2 * moves {
             return Err((OpenFault::TooLong, tape));
         }
@@ -371,7 +371,7 @@ impl<'g, T: Tape> Agent<'g, T> {
         let number = self.records();
         let cell = self.path_cell(number / 2 + 1);
         let record = due_record(self.part.number(), self.id(), number);
-        if self.tape.write_at(10 * number, &record).is_err() {
+        if self.tape.write_at(RECORD_LENGTH * number, &record).is_err() {
             self.broken = true;
             return Err(Refusal::StoreFailed);
         }
@@ -383,7 +383,7 @@ impl<'g, T: Tape> Agent<'g, T> {
         ensures records { result ≡ whole_records (T.state self.now.tape) }
         ensures within { IsOwn self.now.part (T.state self.now.tape) }
     {
-        self.tape.len() / 10
+        self.tape.len() / RECORD_LENGTH
     }
 
     fn moves(&self) -> u32

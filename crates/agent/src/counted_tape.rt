@@ -6,7 +6,7 @@ ghost use Rattle.agent.specs.Records.{due_record};
 ghost use Rattle.agent.specs.Tape.{MayWrite, HasFailed};
 
 use crate::record::{due_record, is_due};
-use crate::tape::{Tape, TapeError};
+use crate::tape::{RECORD_LENGTH, RECORD_SIZE, Tape, TapeError};
 
 /// A tape that counts the records of one agent, of which the next write fails where it was armed.
 ///
@@ -44,7 +44,7 @@ impl CountedTape {
             agent,
             records: 0,
             torn: 0,
-            room: 20 * moves,
+            room: 2 * RECORD_LENGTH * moves,
             armed: None,
             failures: 0,
         }
@@ -72,16 +72,16 @@ impl CountedTape {
         requires { at < length (counted_state self.now).contents }
         ensures { result ≡ slice_index (counted_state self.now).contents at }
     {
-        due_record(self.plan, self.agent, at / 10)[(at % 10) as usize]
+        due_record(self.plan, self.agent, at / RECORD_LENGTH)[(at % RECORD_LENGTH) as usize]
     }
 
     /// Whether bytes are the record that is due, at its place.
     #[inline(always)]
-    fn is_due(&self, at: u32, bytes: &[u8; 10]) -> bool
+    fn is_due(&self, at: u32, bytes: &[u8; RECORD_SIZE]) -> bool
         requires { at + 10 ≤ self.now.room }
         ensures { IsTrue result ↔ ((at ≡ 10 * self.now.records) × (bytes.now ≡ due_record self.now.plan self.now.agent self.now.records)) }
     {
-        at == 10 * self.records && is_due(bytes, self.plan, self.agent, self.records)
+        at == RECORD_LENGTH * self.records && is_due(bytes, self.plan, self.agent, self.records)
     }
 
     /// Fails a write of other bytes than are due: what it would have stood over is gone.
@@ -94,8 +94,8 @@ impl CountedTape {
         ensures whose { CountsFor self.old.plan self.old.agent self.new }
     {
         self.failures = self.failures.saturating_add(1);
-        self.records = at / 10;
-        self.torn = (at % 10) as u8;
+        self.records = at / RECORD_LENGTH;
+        self.torn = (at % RECORD_LENGTH) as u8;
     }
 
     /// Fails the write of the record that is due, of which so many bytes are stored.
@@ -109,8 +109,8 @@ impl CountedTape {
         ensures failed { HasFailed (counted_state self.old).failures (counted_state self.new).failures }
         ensures whose { CountsFor self.old.plan self.old.agent self.new }
     {
-        self.torn = stored % 10;
-        self.records += u32::from(stored / 10);
+        self.torn = stored % RECORD_LENGTH as u8;
+        self.records += u32::from(stored) / RECORD_LENGTH;
         self.armed = None;
         self.failures = self.failures.saturating_add(1);
     }
@@ -130,18 +130,18 @@ impl Tape for CountedTape {
     }
 
     fn len(&self) -> u32 {
-        10 * self.records + u32::from(self.torn)
+        RECORD_LENGTH * self.records + u32::from(self.torn)
     }
 
-    fn read_at(&mut self, at: u32, out: &mut [u8; 10]) -> Result<(), TapeError> {
-        for i in 0..10 {
+    fn read_at(&mut self, at: u32, out: &mut [u8; RECORD_SIZE]) -> Result<(), TapeError> {
+        for i in 0..RECORD_SIZE {
             out[i] = self.byte(at + i as u32);
         }
         Ok(())
     }
 
     #[inline(always)]
-    fn write_at(&mut self, at: u32, bytes: &[u8; 10]) -> Result<(), TapeError> {
+    fn write_at(&mut self, at: u32, bytes: &[u8; RECORD_SIZE]) -> Result<(), TapeError> {
         if !self.is_due(at, bytes) {
             self.refuse(at);
             return Err(TapeError);

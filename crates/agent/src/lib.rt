@@ -23,4 +23,4 @@ pub use mem_tape::{MemTape, TapeMakeFault};
 pub use message::{Message, Told, read_message};
 pub use model::{Entry, Held, MsgFault};
 pub use refusal::{HearFault, OpenFault, Refusal, TellFault};
-pub use tape::{Scripted, Tape, TapeError};
+pub use tape::{RECORD_LENGTH, RECORD_SIZE, Scripted, Tape, TapeError};

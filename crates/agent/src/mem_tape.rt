@@ -4,7 +4,7 @@ ghost use Rattle.agent.specs.declared.mem_tape.TapeMakeFault.TheVariants.{OutOfM
 ghost use Rattle.text_io.specs.FaultWords.{words_of, words_text};
 ghost use Rattle.agent.specs.FaultWords.{tape_make_fault_words};
 
-use crate::tape::{Tape, TapeError};
+use crate::tape::{RECORD_SIZE, Tape, TapeError};
 use std::alloc::Global;
 use std::fmt;
 use text_io::{Failure, FaultWords, OutOfMemory};
@@ -108,12 +108,12 @@ fn put(all: &mut [u8], at: usize, bytes: &[u8])
 
 /// Puts a record at a place, byte by byte: a copy would wait for bytes that were only just made.
 #[inline(always)]
-fn put_record(all: &mut [u8], at: usize, record: &[u8; 10])
+fn put_record(all: &mut [u8], at: usize, record: &[u8; RECORD_SIZE])
     requires { at + 10 ≤ length all.old }
     ensures length { length all.new ≡ length all.old }
     ensures bytes { take (at + 10) all.new ≡ take at all.old ++ record.now }
 {
-    for i in 0..10 {
+    for i in 0..RECORD_SIZE {
         all[at + i] = record[i];
     }
 }
@@ -135,15 +135,15 @@ impl Tape for MemTape {
         self.len as u32
     }
 
-    fn read_at(&mut self, at: u32, out: &mut [u8; 10]) -> Result<(), TapeError> {
+    fn read_at(&mut self, at: u32, out: &mut [u8; RECORD_SIZE]) -> Result<(), TapeError> {
         let at = at as usize;
-        out.copy_from_slice(&self.bytes()[at..at + 10]);
+        out.copy_from_slice(&self.bytes()[at..at + RECORD_SIZE]);
         Ok(())
     }
 
-    fn write_at(&mut self, at: u32, bytes: &[u8; 10]) -> Result<(), TapeError> {
+    fn write_at(&mut self, at: u32, bytes: &[u8; RECORD_SIZE]) -> Result<(), TapeError> {
         put_record(&mut self.bytes, at as usize, bytes);
-        self.len = at as usize + 10;
+        self.len = at as usize + RECORD_SIZE;
         Ok(())
     }
 

@@ -8,7 +8,7 @@ ghost use Rattle.agent.specs.Code.Stops.{StopsAtRecord};
 
 use crate::record::{Difference, compare, due_record};
 use crate::refusal::OpenFault;
-use crate::tape::Tape;
+use crate::tape::{RECORD_LENGTH, RECORD_SIZE, Tape};
 
 /// Reads the first records, up to one that is not the one due.
 pub(crate) fn read_records<T: Tape>(
@@ -39,8 +39,8 @@ fn check_record<T: Tape>(tape: &mut T, plan: u32, agent: u16, number: u32) -> Re
     ensures fault { IfErr result (IsRecordFault T.may_read (due_record plan agent number) (record_at (T.state tape.old).contents number) number tape.old tape.new) }
     ensures kept { IsKept (T.state tape.old) (T.state tape.new) }
 {
-    let mut bytes = [0u8; 10];
-    if tape.read_at(10 * number, &mut bytes).is_err() {
+    let mut bytes = [0u8; RECORD_SIZE];
+    if tape.read_at(RECORD_LENGTH * number, &mut bytes).is_err() {
         return Err(OpenFault::TapeFailed);
     }
     match compare(&bytes, &due_record(plan, agent, number)) {

@@ -3,6 +3,8 @@ ghost use Rattle.std.specs.Prelude.{◌≡◌, ◌*◌, ◌<◌, ◌↔◌, IsTr
 ghost use Rattle.agent.specs.Records.{due_record, SaysDue};
 ghost use Rattle.agent.specs.Code.Differences.{IsDifference};
 
+use crate::tape::RECORD_SIZE;
+
 /// What a record says else than the one that is due, by the first difference that matters.
 #[derive(Clone, Copy, Debug, PartialEq, Eq)]
 pub(crate) enum Difference {
@@ -12,7 +14,7 @@ pub(crate) enum Difference {
 }
 
 /// The record with a number.
-pub(crate) fn due_record(plan: u32, agent: u16, number: u32) -> [u8; 10]
+pub(crate) fn due_record(plan: u32, agent: u16, number: u32) -> [u8; RECORD_SIZE]
     requires { number < 2 * 65535 }
     ensures { result ≡ due_record plan agent number }
 {
@@ -25,7 +27,7 @@ pub(crate) fn due_record(plan: u32, agent: u16, number: u32) -> [u8; 10]
 /// Whether bytes are the record with a number. Its parts are compared as numbers: where an agent has only just spelled them, they are not
 /// put into memory.
 #[inline(always)]
-pub(crate) fn is_due(bytes: &[u8; 10], plan: u32, agent: u16, number: u32) -> bool
+pub(crate) fn is_due(bytes: &[u8; RECORD_SIZE], plan: u32, agent: u16, number: u32) -> bool
     requires { number < 2 * 65535 }
     ensures { IsTrue result ↔ (bytes.now ≡ due_record plan agent number) }
 {
@@ -39,7 +41,7 @@ pub(crate) fn is_due(bytes: &[u8; 10], plan: u32, agent: u16, number: u32) -> bo
 }
 
 /// How a record differs from the one that is due.
-pub(crate) fn compare(bytes: &[u8; 10], due: &[u8; 10]) -> Option<Difference>
+pub(crate) fn compare(bytes: &[u8; RECORD_SIZE], due: &[u8; RECORD_SIZE]) -> Option<Difference>
     ensures { MatchOption result (bytes.now ≡ due.now) (λ found. IsDifference due.now bytes.now found) }
 {
     if !says_due(bytes, due) {
@@ -54,7 +56,7 @@ pub(crate) fn compare(bytes: &[u8; 10], due: &[u8; 10]) -> Option<Difference>
 }
 
 /// Whether the first byte, the kind and the number of moves are the ones that are due.
-fn says_due(bytes: &[u8; 10], due: &[u8; 10]) -> bool
+fn says_due(bytes: &[u8; RECORD_SIZE], due: &[u8; RECORD_SIZE]) -> bool
     ensures { IsTrue result ↔ SaysDue due.now bytes.now }
 {
     same(&bytes[..2], &due[..2]) && same(&bytes[8..10], &due[8..10])

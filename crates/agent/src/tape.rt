@@ -9,6 +9,12 @@ use std::fmt;
 use text_io::{Failure, FaultWords};
 use thiserror::Error;
 
+/// How many bytes a record of a tape has.
+pub const RECORD_LENGTH: u32 = 10;
+
+/// The same, for arrays.
+pub const RECORD_SIZE: usize = RECORD_LENGTH as usize;
+
 /// A read or a write of a tape failed.
 #[derive(Clone, Copy, Debug, PartialEq, Eq, Error)]
 pub struct TapeError;
@@ -49,12 +55,12 @@ pub trait Tape {
         ensures { result ≡ length (state self.now).contents };
 
     /// Reads the record at a place.
-    fn read_at(&mut self, at: u32, out: &mut [u8; 10]) -> Result<(), TapeError>
+    fn read_at(&mut self, at: u32, out: &mut [u8; RECORD_SIZE]) -> Result<(), TapeError>
         requires { MayRead (state self.old) at }
         ensures { may_read self.old at (is_ok result) out.new self.new };
 
     /// Writes a record behind the whole records, over what stands there.
-    fn write_at(&mut self, at: u32, bytes: &[u8; 10]) -> Result<(), TapeError>
+    fn write_at(&mut self, at: u32, bytes: &[u8; RECORD_SIZE]) -> Result<(), TapeError>
         requires { MayWrite (state self.old) at }
         ensures { may_write self.old at bytes.now (is_ok result) self.new };
 

@@ -1,34 +1,14 @@
-//! A plan of two agents, the records of one, and calls of `mapf agent` over a disk, that the tests share.
-use agent_commands::{agent_claim_cmd, agent_cmd};
-use fakes::{DiskFiles, FakeDisk, Keeper};
-use std::alloc::{AllocError, Global};
+//! Calls of `mapf agent` over a disk, that the tests share.
+use agent_commands::{Seat, agent_cmd, agent_command};
+use fakes::{BEHIND, DiskFiles, FakeDisk, Keeper, LANE};
+use std::alloc::Global;
 use std::io::Write;
 use tape_claim::TapeClaim;
+use text_commands::conclude;
 use text_io::Counted;
-
-/// A map of a row of three free cells.
-pub const LANE: &str = "type octile\nheight 1\nwidth 3\nmap\n...\n";
-
-/// Two agents that go one cell east, behind one another.
-pub const BEHIND: &str = "mapf-plan 1\nnumber 7\nagents 2\nagent 1 0 e-\nagent 0 0 e\n";
 
 /// The name of the tape file.
 pub const TAPE: &str = "robot.tape";
-
-/// The records of the move of agent 0.
-pub const MOVING: [u8; 10] = [0x50, 1, 0, 0, 0, 7, 0, 0, 0, 0];
-
-pub const STANDING: [u8; 10] = [0x50, 2, 0, 0, 0, 7, 0, 0, 0, 1];
-
-/// Bytes of no record.
-pub const NOISE: [u8; 10] = [0xff; 10];
-
-/// The bytes of a tape file: records, and a tail.
-pub fn bytes_of(alloc: Global, records: &[[u8; 10]], tail: &[u8]) -> Result<Vec<u8>, AllocError> {
-    let mut bytes = records.concat(alloc)?;
-    bytes.extend_from_slice(tail)?;
-    Ok(bytes)
-}
 
 /// Answers for an agent of a plan by the tape file of a disk, and says with which status.
 pub fn answer<W: Write, E: Write>(
@@ -62,17 +42,19 @@ pub fn claims(
 ) -> bool {
     let disks = [(TAPE, disk)];
     let (mut out, mut err) = (Keeper::of_size(256), Keeper::of_size(256));
-    let ended = agent_claim_cmd(
+    let ending = agent_command::perform(
         &DiskFiles::new(alloc, &disks),
         &mut Counted::new(LANE.as_bytes()),
         &mut Counted::new(BEHIND.as_bytes()),
-        0,
-        TAPE,
-        claim,
+        Seat {
+            id: 0,
+            path: TAPE,
+            claim,
+        },
         &mut Counted::new(b"".as_slice()),
         &mut Counted::new(&mut out),
-        &mut Counted::new(&mut err),
     );
+    let ended = conclude(ending, &mut Counted::new(&mut err));
     let is_said = out.kept() == answers.as_bytes() && err.kept() == fault.as_bytes();
     ended == status && is_said && disk.is_untouched() && disk.was_used_as_expected()
 }

@@ -1,6 +1,6 @@
 //! Tapes that have to be new, or kept, that another process holds, or that are no files like others.
-use crate::calls::{MOVING, NOISE, bytes_of, claims};
-use fakes::{Call, FakeDisk};
+use crate::calls::claims;
+use fakes::{Call, FakeDisk, MOVING, NOISE, bytes_of};
 use std::alloc::{AllocError, Global};
 use std::test::Fail;
 use tape_claim::TapeClaim;

@@ -1,6 +1,6 @@
 //! `mapf agent` over a disk that fails at each of its calls, and after power cuts.
-use crate::calls::{BEHIND, LANE, MOVING, NOISE, STANDING, answer, bytes_of, ends};
-use fakes::{Call, FakeDisk, Keeper};
+use crate::calls::{answer, ends};
+use fakes::{BEHIND, Call, FakeDisk, Keeper, LANE, MOVING, NOISE, STANDING, bytes_of};
 use std::alloc::{AllocError, Global};
 use std::test::Fail;
 

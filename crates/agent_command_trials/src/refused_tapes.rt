@@ -1,6 +1,6 @@
 //! Tapes that are refused, and stay as they are.
-use crate::calls::{MOVING, NOISE, STANDING, bytes_of, ends};
-use fakes::{Call, FakeDisk};
+use crate::calls::ends;
+use fakes::{Call, FakeDisk, MOVING, NOISE, STANDING, bytes_of};
 use std::alloc::{AllocError, Global};
 use std::test::Fail;
 

@@ -12,7 +12,7 @@ use Rattle.tape_claim.specs.declared.TapeClaim.{TapeClaim}
 use Rattle.agent_commands.specs.AgentCommand.{IsClaimed, IsNoTape, IsTapeOf}
 use Rattle.agent_commands.specs.Code.Parts.{IsNotTaken, IsSameTape}
 use Rattle.agent_commands.specs.declared.agent_fault.AgentFault.{AgentFault}
-use Rattle.agent_commands.specs.declared.agent_fault.AgentFault.TheVariants.{Texts, OpenFailed, TapeExists, NoTape, File, Tape, Dialogue}
+use Rattle.agent_commands.specs.declared.agent_fault.AgentFault.TheVariants.{Planned, OpenFailed, TapeExists, NoTape, File, Tape, Dialogue}
 
 -- an agent that has moves has a track
 pub has_track : (o : Option Track) (n : ℕ) → Some n ≡ option_map moves o → (track : Track) × (o ≡ Some track) × (n ≡ moves track)
@@ -60,6 +60,6 @@ take_ends remaining claim table i t (Err (File InUse)) of ok err = absurd err
 take_ends remaining claim table i t (Err (File OutOfMemory)) of ok err = absurd err
 take_ends remaining claim table i t (Err OpenFailed) of ok err = absurd err
 take_ends remaining claim table i t (Err NoTape) of ok err = absurd err
-take_ends remaining claim table i t (Err (Texts f)) of ok err = absurd err
+take_ends remaining claim table i t (Err (Planned f)) of ok err = absurd err
 take_ends remaining claim table i t (Err (Tape f)) of ok err = absurd err
 take_ends remaining claim table i t (Err (Dialogue f)) of ok err = absurd err

@@ -1,6 +1,5 @@
 -- What `mapf agent` does and answers.
 use Rattle.std.specs.Prelude.{◌≡◌, ℕ, ◌+◌, ◌*◌, ◌<◌, ◌≤◌, ◌⊎◌, true, List, length, Option, None, Some, IfSome, Result, Ok, Err, MatchResult}
-use Rattle.text_io.specs.FaultWords.{Words}
 use Rattle.text_io.specs.declared.counted.Counted.{Counted}
 use Rattle.model.specs.History.{record_length}
 use Rattle.model.specs.Timetable.{Track, Timetable, moves, track_of}
@@ -11,18 +10,19 @@ use Rattle.agent.specs.Opening.{IsOpened, IsRefused}
 use Rattle.agent.specs.Tape.{IsKept}
 use Rattle.dialogue.specs.Dialogue.{Talks}
 use Rattle.dialogue.specs.declared.talk_fault.TalkFault.{TalkFault}
+use Rattle.dialogue.specs.declared.talk_fault.TalkFault.TheVariants.{StoreFailed}
 use Rattle.file_tape.specs.FileTape.{IsImage, IsFileRead, file_state}
 use Rattle.file_tape.specs.declared.file_tape.FileTape.{FileTape}
 use Rattle.file_tape.specs.declared.file_tape.FileTapeFault.TheVariants.{TooLong}
-use Rattle.plan_commands.specs.DepsCommand.{ReadsTimetable}
-use Rattle.plan_commands.specs.declared.check_fault.CheckFault.{CheckFault}
+use Rattle.planned.specs.Planned.{ReadsTimetable}
+use Rattle.planned.specs.declared.planned_fault.PlannedFault.{PlannedFault}
 use Rattle.tape_claim.specs.declared.TapeClaim.{TapeClaim}
 use Rattle.tape_claim.specs.declared.TapeClaim.TheVariants.{New, Kept}
-use Rattle.text_commands.specs.Status.{code_of}
-use Rattle.agent_commands.specs.AgentStatus.{agent_status}
-use Rattle.agent_commands.specs.FaultWords.{told_of_agent}
+use Rattle.text_commands.specs.declared.status.Status.TheVariants.{Done, Failure}
+use Rattle.text_commands.specs.Ending.{End, answered_with, gave_up}
+use Rattle.agent_commands.specs.FaultWords.{agent_fault_words}
 use Rattle.agent_commands.specs.declared.agent_fault.AgentFault.{AgentFault}
-use Rattle.agent_commands.specs.declared.agent_fault.AgentFault.TheVariants.{Texts, OpenFailed, TapeExists, NoTape, File, Tape, Dialogue}
+use Rattle.agent_commands.specs.declared.agent_fault.AgentFault.TheVariants.{Planned, OpenFailed, TapeExists, NoTape, File, Tape, Dialogue}
 
 -- how long a tape file of an agent may be: two records a move
 abbrev pub room_of : Track → ℕ
@@ -96,18 +96,23 @@ pub record Serves
     {F M P I W : Type 0} (remaining : F → Option (List ℕ)) (map_left : M → Option (List ℕ)) (plan_left : P → Option (List ℕ))
     (input_left : I → Option (List ℕ)) (contents : W → Option (List ℕ)) (claim : TapeClaim) (i : ℕ) (old_map new_map : Counted M) (old_plan new_plan : Counted P)
     (old_in new_in : Counted I) (old_out new_out : Counted W) (result : Result Unit AgentFault) : Type 0 where
-  pub read : Result Timetable CheckFault
+  pub read : Result Timetable PlannedFault
   pub reads : ReadsTimetable map_left plan_left old_map new_map old_plan new_plan read
   pub ends : MatchResult read
       (λ tt. Converses remaining input_left contents claim tt i old_in new_in old_out new_out result)
-      (λ fault. (result ≡ Err (Texts fault)) × (new_in ≡ old_in) × (new_out ≡ old_out))
+      (λ fault. (result ≡ Err (Planned fault)) × (new_in ≡ old_in) × (new_out ≡ old_out))
 
--- The texts were read and the agent answered, and the status and the fault that was told are by what that came to.
+-- How the command ends by what it came to: where the tape failed in the dialogue, the last answer said it.
+abbrev pub end_of_agent : Result Unit AgentFault → End
+end_of_agent (Ok done) = answered_with Done
+end_of_agent (Err (Dialogue StoreFailed)) = answered_with Failure
+end_of_agent (Err fault) = gave_up (agent_fault_words fault)
+
+-- The texts were read and the agent answered, and the command ended by what that came to.
 pub record AnswersAgent
     {F M P I W : Type 0} (remaining : F → Option (List ℕ)) (map_left : M → Option (List ℕ)) (plan_left : P → Option (List ℕ))
-    (input_left : I → Option (List ℕ)) (contents : W → Option (List ℕ)) (Told : Option Words → Type 0) (claim : TapeClaim) (i : ℕ)
-    (old_map new_map : Counted M) (old_plan new_plan : Counted P) (old_in new_in : Counted I) (old_out new_out : Counted W) (code : ℕ) : Type 0 where
+    (input_left : I → Option (List ℕ)) (contents : W → Option (List ℕ)) (claim : TapeClaim) (i : ℕ)
+    (old_map new_map : Counted M) (old_plan new_plan : Counted P) (old_in new_in : Counted I) (old_out new_out : Counted W) (end : End) : Type 0 where
   pub answer : Result Unit AgentFault
   pub serves : Serves remaining map_left plan_left input_left contents claim i old_map new_map old_plan new_plan old_in new_in old_out new_out answer
-  pub is_code : code ≡ code_of (agent_status answer)
-  pub tells : Told (told_of_agent answer)
+  pub ends : end ≡ end_of_agent answer

@@ -1,8 +1,6 @@
 -- What has to be believed, in the order in which to read it: each promise of the crate is made in these words, and in those of the crates
 -- below.
 
--- which exit status an agent ends with
-pub mod AgentStatus
 -- the words of why an agent does not answer its input to the end
 pub mod FaultWords
 -- what `mapf agent` does and answers

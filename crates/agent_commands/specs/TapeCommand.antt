@@ -1,7 +1,6 @@
 -- What `mapf tape` does and answers.
 use Rattle.std.specs.Prelude.{◌≡◌, ℕ, ◌+◌, ◌-◌, ◌*◌, ◌≤◌, List, [], ◌∷◌, ◌++◌, length, take, codes, decimal, Option, None, Some, Result, Ok, Err, MatchResult}
 use Rattle.std.specs.Io.KnownBytes.{Consumes, IsAtEnd}
-use Rattle.text_io.specs.FaultWords.{Words}
 use Rattle.text_io.specs.declared.counted.Counted.{Counted}
 use Rattle.text_io.specs.Counted.{counted_inner, failures_of, Rises}
 use Rattle.text_io.specs.Text.{ended}
@@ -16,15 +15,15 @@ use Rattle.agent.specs.States.{State}
 use Rattle.agent.specs.Tape.{TapeState}
 use Rattle.dialogue.specs.Turns.{state_line}
 use Rattle.file_tape.specs.declared.file_tape.FileTapeFault.TheVariants.{TooLong, TapeFailed, OutOfMemory}
-use Rattle.plan_commands.specs.DepsCommand.{ReadsTimetable}
-use Rattle.plan_commands.specs.declared.check_fault.CheckFault.{CheckFault}
+use Rattle.planned.specs.Planned.{ReadsTimetable}
+use Rattle.planned.specs.declared.planned_fault.PlannedFault.{PlannedFault}
 use Rattle.text_commands.specs.declared.status.Status.TheVariants.{Done}
+use Rattle.text_commands.specs.Ending.{End, answered_with, gave_up}
 use Rattle.text_commands.specs.Rewriting.{EndsWriting}
-use Rattle.text_commands.specs.Status.{code_of, status_of}
 use Rattle.agent_commands.specs.AgentCommand.{HasAgent, room_of}
 use Rattle.agent_commands.specs.FaultWords.{agent_fault_words}
 use Rattle.agent_commands.specs.declared.agent_fault.AgentFault.{AgentFault}
-use Rattle.agent_commands.specs.declared.agent_fault.AgentFault.TheVariants.{Texts, NoTape, File, Tape}
+use Rattle.agent_commands.specs.declared.agent_fault.AgentFault.TheVariants.{Planned, NoTape, File, Tape}
 
 -- the tape that an agent finds in a file of these bytes: what stands past its room, fewer than ten bytes, is left out
 abbrev pub tape_of_bytes : ℕ → List ℕ → TapeState
@@ -89,28 +88,26 @@ IsNotShown remaining tt i old new _ = ⊥
 pub record Inspects
     {M P T : Type 0} (map_left : M → Option (List ℕ)) (plan_left : P → Option (List ℕ)) (tape_left : T → Option (List ℕ)) (i : ℕ)
     (old_map new_map : Counted M) (old_plan new_plan : Counted P) (old_tape new_tape : Counted T) (result : Result (List ℕ) AgentFault) : Type 0 where
-  pub read : Result Timetable CheckFault
+  pub read : Result Timetable PlannedFault
   pub reads : ReadsTimetable map_left plan_left old_map new_map old_plan new_plan read
   pub ends : MatchResult read
       (λ tt. MatchResult result (IsShown tape_left tt i old_tape new_tape) (IsNotShown tape_left tt i old_tape new_tape))
-      (λ fault. (result ≡ Err (Texts fault)) × (new_tape ≡ old_tape))
+      (λ fault. (result ≡ Err (Planned fault)) × (new_tape ≡ old_tape))
 
--- the exit status, what the output got and which fault was told
-abbrev pub EndsByTape
-    : {W : Type 0} → (W → Option (List ℕ)) → (Told : Option Words → Type 0) → Counted W → Counted W → ℕ → Result (List ℕ) AgentFault → Type 0
-EndsByTape contents Told old new code (Ok text) = EndsWriting contents Told old new code Done text
-EndsByTape contents Told old new code (Err fault) =
-    (code ≡ code_of (status_of (agent_fault_words fault))) × (new ≡ old) × Told (Some (agent_fault_words fault))
+-- what the output got and how the command ended
+abbrev pub EndsByTape : {W : Type 0} → (W → Option (List ℕ)) → Counted W → Counted W → End → Result (List ℕ) AgentFault → Type 0
+EndsByTape contents old new end (Ok text) = EndsWriting contents old new (answered_with Done) end text
+EndsByTape contents old new end (Err fault) = (end ≡ gave_up (agent_fault_words fault)) × (new ≡ old)
 
--- there is no file of the tape: that was told, and nothing was read
-abbrev pub EndsWithoutTape : {W : Type 0} → (W → Option (List ℕ)) → (Told : Option Words → Type 0) → Counted W → Counted W → ℕ → Type 0
-EndsWithoutTape contents Told old new code = EndsByTape contents Told old new code (Err NoTape)
+-- how the command ends where there is no file of the tape: nothing is read or written
+abbrev pub EndsWithoutTape : End → Type 0
+EndsWithoutTape end = end ≡ gave_up (agent_fault_words NoTape)
 
 -- the texts and the tape were read, and the command ended by that
 pub record AnswersTape
     {M P T W : Type 0} (map_left : M → Option (List ℕ)) (plan_left : P → Option (List ℕ)) (tape_left : T → Option (List ℕ)) (contents : W → Option (List ℕ))
-    (Told : Option Words → Type 0) (i : ℕ) (old_map new_map : Counted M) (old_plan new_plan : Counted P) (old_tape new_tape : Counted T)
-    (old_out new_out : Counted W) (code : ℕ) : Type 0 where
+    (i : ℕ) (old_map new_map : Counted M) (old_plan new_plan : Counted P) (old_tape new_tape : Counted T)
+    (old_out new_out : Counted W) (end : End) : Type 0 where
   pub answer : Result (List ℕ) AgentFault
   pub inspects : Inspects map_left plan_left tape_left i old_map new_map old_plan new_plan old_tape new_tape answer
-  pub ends : EndsByTape contents Told old_out new_out code answer
+  pub ends : EndsByTape contents old_out new_out end answer

@@ -2,9 +2,7 @@
 ghost use Rattle.std.specs.Prelude.{◌≡◌, IfErr, IfOk, MatchResult};
 ghost use Rattle.model.specs.Timetable.{Timetable};
 ghost use Rattle.depgraph.specs.AgentParts.{IsPartOf};
-ghost use Rattle.text_commands.specs.Telling.{Tells};
-ghost use Rattle.agent_commands.specs.AgentStatus.{agent_status};
-ghost use Rattle.agent_commands.specs.FaultWords.{told_of_agent};
+ghost use Rattle.text_commands.specs.Ending.{EndsAndTells, end_of};
 ghost use Rattle.agent_commands.specs.AgentCommand.{AnswersAgent, Converses, IsClaimed, IsNoTape, IsNotOnTape, IsOnTape, IsTapeOf, Serves};
 ghost use Rattle.agent_commands.specs.declared.agent_fault.AgentFault.TheVariants.{File};
 ghost use Rattle.file_tape.specs.declared.file_tape.FileTapeFault.TheVariants.{TapeFailed};
@@ -12,22 +10,19 @@ ghost use Rattle.agent_commands.specs.Code.Parts.{IsNotOpened, IsNotTaken, IsSam
 
 use crate::agent_fault::AgentFault;
 use crate::agent_part::{moves_of, read_part};
-use agent::{Agent, OpenFault, Tape};
+use agent::{Agent, OpenFault, RECORD_LENGTH, Tape};
 use depgraph::Part;
-use dialogue::talk;
+use dialogue::{TalkFault, talk};
 use file_tape::{FileTape, FileTapeFault};
 use std::fs::{self, OpenFile, OpenOptions};
 use std::io::{ErrorKind, Read, Write};
 use std::rt::Files;
 use tape_claim::{LockFile, TapeClaim};
-use text_commands::{Status, report};
+use text_commands::{Ending, Status, conclude};
 use text_io::Counted;
 
-/// Reads a map from `map` and a plan from `plan`, checks the plan on the map, and opens the tape file at `path` for the agent with
-/// this number. Then it answers the lines of `input` on `out`, each before the next is waited for. A fault's line goes to `err`, but
-/// none where the tape failed in the dialogue, which that answered. The tape file is made where there is none, and is not touched before
-/// the plan is known to have the agent. It is held until the end, and no other process may hold it. The answer is the exit status, which
-/// stays where `err` fails.
+/// As `perform` on any tape, with a fault's line on `err`. The answer is the exit status, which stays
+/// where `err` fails.
 pub fn agent_cmd<R: Files + AllocGlobal, M: Read, P: Read, I: Read, W: Write, E: Write>(
     rt: &R,
     map: &mut Counted<M>,
@@ -40,32 +35,50 @@ pub fn agent_cmd<R: Files + AllocGlobal, M: Read, P: Read, I: Read, W: Write, E:
 ) -> u8
 where
     R::File: LockFile,
-    ensures { AnswersAgent R.File.remaining M.remaining P.remaining I.remaining W.contents (Tells E.contents err.old err.new) TapeClaim.Any id map.old map.new
-        plan.old plan.new input.old input.new out.old out.new result }
+    ensures { EndsAndTells (AnswersAgent R.File.remaining M.remaining P.remaining I.remaining W.contents TapeClaim.Any id map.old map.new plan.old plan.new
+        input.old input.new out.old out.new) E.contents err.old err.new result }
 {
-    agent_claim_cmd(rt, map, plan, id, path, TapeClaim::Any, input, out, err)
+    let seat = Seat {
+        id,
+        path,
+        claim: TapeClaim::Any,
+    };
+    conclude(perform(rt, map, plan, seat, input, out), err)
 }
 
-/// The same on a tape of which something is claimed. A new one was made, and synced with its folder, before the first answer is out; a file
-/// that has a whole record is refused. Of one that was kept no file is made.
-pub fn agent_claim_cmd<R: Files + AllocGlobal, M: Read, P: Read, I: Read, W: Write, E: Write>(
+/// An agent by its number, with the path of its tape's file and what is claimed of that.
+#[derive(Clone, Copy, Debug)]
+pub struct Seat<'a> {
+    pub id: u16,
+    pub path: &'a str,
+    pub claim: TapeClaim,
+}
+
+/// Reads a map from `map` and a plan from `plan`, checks the plan on the map, and opens the tape
+/// file of the agent. Then it answers the lines of `input` on `out`, each before the next is waited
+/// for. The tape file is not touched before the plan is known to have the agent. It is held until
+/// the end, and no other process may hold it. A new one was made, and synced with its folder, before
+/// the first answer is out; a file that has a whole record is refused. Of one that was kept no file
+/// is made.
+pub fn perform<R: Files + AllocGlobal, M: Read, P: Read, I: Read, W: Write>(
     rt: &R,
     map: &mut Counted<M>,
     plan: &mut Counted<P>,
-    id: u16,
-    path: &str,
-    claim: TapeClaim,
+    seat: Seat<'_>,
     input: &mut Counted<I>,
     out: &mut Counted<W>,
-    err: &mut Counted<E>,
-) -> u8
+) -> Ending
 where
     R::File: LockFile,
-    ensures { AnswersAgent R.File.remaining M.remaining P.remaining I.remaining W.contents (Tells E.contents err.old err.new) claim id map.old map.new
-        plan.old plan.new input.old input.new out.old out.new result }
+    ensures { AnswersAgent R.File.remaining M.remaining P.remaining I.remaining W.contents seat.entry.claim seat.entry.id map.old map.new
+        plan.old plan.new input.old input.new out.old out.new (end_of result) }
 {
-    let answer = serve(rt, map, plan, id, path, claim, input, out);
-    conclude(answer, err).code()
+    match serve(rt, map, plan, seat, input, out) {
+        Ok(()) => Ending::answered_with(Status::Done),
+        // The last answer said it.
+        Err(AgentFault::Dialogue(TalkFault::StoreFailed)) => Ending::answered_with(Status::Failure),
+        Err(fault) => Ending::gave_up(fault.words()),
+    }
 }
 
 /// Reads the map and the plan, and answers for the agent, by its part of the plan alone.
@@ -73,37 +86,34 @@ fn serve<R: Files + AllocGlobal, M: Read, P: Read, I: Read, W: Write>(
     rt: &R,
     map: &mut Counted<M>,
     plan: &mut Counted<P>,
-    id: u16,
-    path: &str,
-    claim: TapeClaim,
+    seat: Seat<'_>,
     input: &mut Counted<I>,
     out: &mut Counted<W>,
 ) -> Result<(), AgentFault>
 where
     R::File: LockFile,
-    ensures { Serves R.File.remaining M.remaining P.remaining I.remaining W.contents claim id map.old map.new plan.old plan.new input.old input.new out.old out.new
+    ensures { Serves R.File.remaining M.remaining P.remaining I.remaining W.contents seat.entry.claim seat.entry.id map.old map.new plan.old plan.new input.old input.new out.old out.new
         result }
 {
-    let Some(own) = read_part(rt.alloc(), map, plan, id)? else {
+    let Some(own) = read_part(rt.alloc(), map, plan, seat.id)? else {
         return Err(AgentFault::Tape(OpenFault::NoSuchAgent));
     };
-    converse(rt, own.part(), path, claim, input, out)
+    converse(rt, own.part(), seat, input, out)
 }
 
 /// Answers for an agent.
 fn converse<R: Files + AllocGlobal, I: Read, W: Write>(
     rt: &R,
     part: Part<'_>,
-    path: &str,
-    claim: TapeClaim,
+    seat: Seat<'_>,
     input: &mut Counted<I>,
     out: &mut Counted<W>,
 ) -> Result<(), AgentFault>
 where
     R::File: LockFile,
-    ensures { (tt : Timetable) → IsPartOf tt part.entry → Converses R.File.remaining I.remaining W.contents claim tt part.entry.agent input.old input.new out.old out.new result }
+    ensures { (tt : Timetable) → IsPartOf tt part.entry → Converses R.File.remaining I.remaining W.contents seat.entry.claim tt part.entry.agent input.old input.new out.old out.new result }
 {
-    let mut agent = open_agent(rt, part, path, claim)?;
+    let mut agent = open_agent(rt, part, seat.path, seat.claim)?;
     talk(rt.alloc(), &mut agent, input, out)?;
     Ok(())
 }
@@ -142,7 +152,7 @@ where
 {
     let moves = moves_of(part);
     let file = open_file(rt, path, claim)?;
-    let tape = FileTape::open(rt.alloc(), file, 20 * moves)?;
+    let tape = FileTape::open(rt.alloc(), file, 2 * RECORD_LENGTH * moves)?;
     take_tape(rt, path, tape, claim)
 }
 
@@ -196,7 +206,7 @@ fn take_new_tape<R: Files>(
     ensures ok { IfOk result (λ taken. IsSameTape tape taken × IsClaimed TapeClaim.New taken) }
     ensures err { IfErr result (IsNotTaken TapeClaim.New tape) }
 {
-    if tape.len() >= 10 {
+    if tape.len() >= RECORD_LENGTH {
         return Err(AgentFault::TapeExists);
     }
     tape.sync()?;
@@ -214,7 +224,7 @@ fn take_any_tape<R: Files>(
     ensures ok { IfOk result (λ taken. taken ≡ tape) }
     ensures err { IfErr result (λ fault. fault ≡ File TapeFailed) }
 {
-    if tape.len() < 10 {
+    if tape.len() < RECORD_LENGTH {
         keep_name(rt, path)?;
     }
     Ok(tape)
@@ -235,21 +245,5 @@ fn folder_of(path: &str) -> &str {
         Some((folder, _)) if folder.is_empty() => "/",
         Some((folder, _)) => folder,
         None => ".",
-    }
-}
-
-/// Says why the input was not answered to its end, if it wasn't.
-fn conclude<E: Write>(answer: Result<(), AgentFault>, err: &mut Counted<E>) -> Status
-    ensures status { result ≡ agent_status answer }
-    ensures told { Tells E.contents err.old err.new (told_of_agent answer) }
-{
-    match answer {
-        Ok(()) => Status::Done,
-        Err(fault) if fault.is_answered() => Status::of_fault(&fault.words()),
-        Err(fault) => {
-            let words = fault.words();
-            report(err, words);
-            Status::of_fault(&words)
-        }
     }
 }

@@ -1,13 +1,13 @@
 //! Why an agent does not answer its input to the end.
 ghost use Rattle.std.specs.Prelude.{◌≡◌, Some};
 ghost use Rattle.text_io.specs.FaultWords.{words_of, words_text};
-ghost use Rattle.agent_commands.specs.FaultWords.{agent_fault_words, is_answered};
+ghost use Rattle.agent_commands.specs.FaultWords.{agent_fault_words};
 ghost use Rattle.agent_commands.specs.declared.agent_fault.AgentFault.TheVariants as agent_fault;
 
 use agent::OpenFault;
 use dialogue::TalkFault;
 use file_tape::FileTapeFault;
-use plan_commands::CheckFault;
+use planned::PlannedFault;
 use std::fmt;
 use text_io::{Failure, FaultWords};
 use thiserror::Error;
@@ -15,8 +15,8 @@ use thiserror::Error;
 /// Why an agent does not answer its input to the end.
 #[derive(Clone, Copy, Debug, PartialEq, Eq, Error)]
 pub(crate) enum AgentFault {
-    /// The map or the plan could not be read, or the plan is rejected.
-    Texts(CheckFault),
+    /// The map or the plan could not be read, or the plan is not valid.
+    Planned(PlannedFault),
     /// The tape file could not be opened or made, or is no file like others.
     OpenFailed,
     /// A tape was to be new, and has a record.
@@ -32,19 +32,12 @@ pub(crate) enum AgentFault {
 }
 
 impl AgentFault {
-    /// Whether the last answer of the dialogue said it.
-    pub(crate) fn is_answered(self) -> bool
-        ensures { result ≡ is_answered self }
-    {
-        matches!(self, AgentFault::Dialogue(TalkFault::StoreFailed))
-    }
-
     /// The words in which it is told.
     pub(crate) fn words(self) -> FaultWords
         ensures { words_of result ≡ agent_fault_words self }
     {
         match self {
-            AgentFault::Texts(fault) => fault.words(),
+            AgentFault::Planned(fault) => fault.words(),
             AgentFault::OpenFailed => Failure::OpenFailed.words(),
             AgentFault::TapeExists => FaultWords::new("TapeExists", &[]),
             AgentFault::NoTape => FaultWords::new("NoTape", &[]),
@@ -63,11 +56,11 @@ impl fmt::Display for AgentFault {
     }
 }
 
-impl From<CheckFault> for AgentFault {
-    ghost from_gives = { λ e f. f ≡ agent_fault.Texts e };
+impl From<PlannedFault> for AgentFault {
+    ghost from_gives = { λ e f. f ≡ agent_fault.Planned e };
 
-    fn from(e: CheckFault) -> AgentFault {
-        AgentFault::Texts(e)
+    fn from(e: PlannedFault) -> AgentFault {
+        AgentFault::Planned(e)
     }
 }
 

@@ -5,7 +5,7 @@ ghost use Rattle.depgraph.specs.AgentParts.{IsPartOf};
 ghost use Rattle.agent_commands.specs.Code.Reading.{ReadsPart};
 
 use depgraph::{OwnPart, Part};
-use plan_commands::{CheckFault, read_dependencies};
+use planned::{PlannedFault, read_dependencies};
 use std::alloc::Global;
 use std::io::Read;
 use text_io::Counted;
@@ -17,7 +17,7 @@ pub(crate) fn read_part<M: Read, P: Read>(
     map: &mut Counted<M>,
     plan: &mut Counted<P>,
     id: u16,
-) -> Result<Option<OwnPart>, CheckFault>
+) -> Result<Option<OwnPart>, PlannedFault>
     ensures { ReadsPart M.remaining P.remaining id map.old map.new plan.old plan.new result }
 {
     let dependencies = read_dependencies(alloc, map, plan)?;

@@ -1,6 +1,6 @@
 //! `mapf tape`: says what the tape of an agent keeps.
 ghost use Rattle.std.specs.Prelude.{◌≡◌, MatchResult};
-ghost use Rattle.text_commands.specs.Telling.{Tells};
+ghost use Rattle.text_commands.specs.Ending.{EndsAndTells, end_of};
 ghost use Rattle.agent_commands.specs.TapeCommand.{AnswersTape, EndsByTape, EndsWithoutTape, Inspects};
 ghost use Rattle.agent_commands.specs.Code.Reports.{IsReported, outcome_of};
 
@@ -10,12 +10,11 @@ use crate::tape_report::{TapeReport, read_report, write_report};
 use agent::OpenFault;
 use std::alloc::Global;
 use std::io::{Read, Write};
-use text_commands::{Status, finish, give_up};
+use text_commands::{Ending, Status, conclude, finish};
 use text_io::Counted;
 
-/// Reads a map from `map` and a plan from `plan`, checks the plan on the map, and then reads the file of a tape from `tape`. It writes to `out` where
-/// the agent with this number is by it, and how many whole records it has, as `agent_cmd` would find them. A fault's line goes to `err`. Nothing is
-/// locked or written, so it may be asked beside an agent that holds the file. The answer is the exit status, which stays where `err` fails.
+/// As `perform`, with a fault's line on `err`. The answer is the exit status, which stays where
+/// `err` fails.
 pub fn tape_cmd<M: Read, P: Read, T: Read, W: Write, E: Write>(
     alloc: Global,
     map: &mut Counted<M>,
@@ -25,18 +24,35 @@ pub fn tape_cmd<M: Read, P: Read, T: Read, W: Write, E: Write>(
     out: &mut Counted<W>,
     err: &mut Counted<E>,
 ) -> u8
-    ensures { AnswersTape M.remaining P.remaining T.remaining W.contents (Tells E.contents err.old err.new) id map.old map.new plan.old plan.new
-        tape.old tape.new out.old out.new result }
+    ensures { EndsAndTells (AnswersTape M.remaining P.remaining T.remaining W.contents id map.old map.new plan.old plan.new tape.old tape.new out.old out.new)
+        E.contents err.old err.new result }
 {
-    let answer = inspect(alloc, map, plan, id, tape);
-    conclude(answer, out, err)
+    conclude(perform(alloc, map, plan, id, tape, out), err)
 }
 
-/// The same where there is no file of the tape: nothing is read, and only that is said.
-pub fn no_tape_cmd<W: Write, E: Write>(out: &mut Counted<W>, err: &mut Counted<E>) -> u8
-    ensures { EndsWithoutTape W.contents (Tells E.contents err.old err.new) out.old out.new result }
+/// Reads a map from `map` and a plan from `plan`, checks the plan on the map, and then reads the
+/// file of a tape from `tape`. It writes to `out` where the agent with this number is by it, and how
+/// many whole records it has, as `agent_cmd` would find them. Nothing is locked or written, so it
+/// may be asked beside an agent that holds the file.
+pub fn perform<M: Read, P: Read, T: Read, W: Write>(
+    alloc: Global,
+    map: &mut Counted<M>,
+    plan: &mut Counted<P>,
+    id: u16,
+    tape: &mut Counted<T>,
+    out: &mut Counted<W>,
+) -> Ending
+    ensures { AnswersTape M.remaining P.remaining T.remaining W.contents id map.old map.new plan.old plan.new tape.old tape.new out.old out.new (end_of result) }
 {
-    conclude(Err(AgentFault::NoTape), out, err)
+    let answer = inspect(alloc, map, plan, id, tape);
+    show(answer, out)
+}
+
+/// How it ends where there is no file of the tape: nothing is read, and only that is said.
+pub fn without_tape() -> Ending
+    ensures { EndsWithoutTape (end_of result) }
+{
+    Ending::gave_up(AgentFault::NoTape.words())
 }
 
 /// Reads the map, the plan and the tape.
@@ -55,19 +71,15 @@ fn inspect<M: Read, P: Read, T: Read>(
     read_report(alloc, own.part(), tape)
 }
 
-/// Writes what the tape keeps, or says why it can't be shown. The answer is the exit status.
-fn conclude<W: Write, E: Write>(
-    answer: Result<TapeReport, AgentFault>,
-    out: &mut Counted<W>,
-    err: &mut Counted<E>,
-) -> u8
-    ensures { EndsByTape W.contents (Tells E.contents err.old err.new) out.old out.new result (outcome_of answer) }
+/// Writes what the tape keeps.
+fn show<W: Write>(answer: Result<TapeReport, AgentFault>, out: &mut Counted<W>) -> Ending
+    ensures { EndsByTape W.contents out.old out.new (end_of result) (outcome_of answer) }
 {
     match answer {
         Ok(kept) => {
             let written = write_report(kept, out);
-            finish(written, Status::Done, out, err).code()
+            finish(written, Ending::answered_with(Status::Done), out)
         }
-        Err(fault) => give_up(fault.words(), err),
+        Err(fault) => Ending::gave_up(fault.words()),
     }
 }

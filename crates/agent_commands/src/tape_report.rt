@@ -14,17 +14,17 @@ ghost use Rattle.agent_commands.specs.Code.Reports.{IsReported, IsImageOf, IsNoI
 use crate::agent_fault::AgentFault;
 use crate::agent_part::moves_of;
 use agent::replies::reply_to_restart;
-use agent::{Agent, Held, MemTape, Tape};
+use agent::{Agent, Held, MemTape, RECORD_LENGTH, RECORD_SIZE, Tape};
 use depgraph::Part;
 use event_text::put_reply;
 use file_tape::FileTapeFault;
-use plan_commands::put_number;
 use std::alloc::Global;
 use std::io::{Read, Write};
+use text_commands::put_number;
 use text_io::{Counted, Sink, WriteFault};
 
 /// How many bytes at the most stand behind the whole records of a file.
-const TAIL: usize = 9;
+const TAIL: usize = RECORD_SIZE - 1;
 
 /// Where an agent is by its tape, and how many whole records the file has, and bytes behind them.
 #[derive(Clone, Copy, Debug)]
@@ -51,7 +51,7 @@ pub(crate) fn read_report<T: Read>(
     ensures { (tt : Timetable) → IsPartOf tt part.entry
         → MatchResult result (IsReported T.remaining tt part.entry.agent file.old file.new) (IsNotShown T.remaining tt part.entry.agent file.old file.new) }
 {
-    let image = read_image(alloc, file, 20 * moves_of(&part))?;
+    let image = read_image(alloc, file, 2 * RECORD_LENGTH * moves_of(&part))?;
     let TapeImage { tape, len } = image;
     match Agent::open_part(alloc, part, tape) {
         Ok(agent) => Ok(report_of(&agent, len)),
@@ -104,12 +104,12 @@ fn read_up_to<T: Read>(file: &mut Counted<T>, bytes: &mut [u8]) -> Result<usize,
 fn report_of(agent: &Agent<'_, MemTape>, len: u32) -> TapeReport
     ensures { (tt : Timetable) → IsPartOf tt agent.now.part → IsReportOf tt agent.now len result }
 {
-    let records = agent.tape().len() / 10;
+    let records = agent.tape().len() / RECORD_LENGTH;
     TapeReport {
         held: agent.held(),
         done: agent.done(),
         records,
-        torn: len.saturating_sub(10 * records),
+        torn: len.saturating_sub(RECORD_LENGTH * records),
     }
 }
 

@@ -1,6 +1,7 @@
 //! Agents that hear of many others.
-use crate::many_agents::{new_agent, telling, tells, wide_graph};
+use crate::many_agents::{telling, tells, wide_graph};
 use agent::{Agent, Finished, HearFault, MemTape, Message, MsgFault, encode, read_message};
+use agent_fixtures::new_agent;
 use depgraph::{Graph, OutOfMemory};
 use std::alloc::{AllocError, Global};
 

@@ -1,8 +1,9 @@
 //! An agent without its graph, and tapes that fail where more failures than can be counted have been before.
 use crate::many_agents::wide_graph;
 use agent::{Agent, Finished, Held, MemTape, OpenFault, Refusal, Tape};
+use agent_fixtures::FailTape;
 use depgraph::{Graph, OutOfMemory, OwnPart, Part};
-use fake_tapes::FailTape;
+use fakes::MOVED;
 use grid::Cell;
 use std::alloc::Global;
 use std::test::Fail;
@@ -65,12 +66,7 @@ fn an_agent_without_its_graph(rt: HostRuntime) {
     assert!(rt; goes_alone(rt.alloc()) == Ok(true));
 }
 
-/// The tape of agent 0 behind its move.
-const MOVED: [u8; 20] = [
-    0x50, 1, 0, 0, 0, 7, 0, 0, 0, 0, 0x50, 2, 0, 0, 0, 7, 0, 0, 0, 1,
-];
-
-/// A tape of so many of these bytes, of which a call fails, and a write then stores 9 bytes.
+/// The tape of agent 0 behind its move, or so many of its bytes, of which a call fails, and a write then stores 9 bytes.
 fn failing(alloc: Global, stored: usize, calls: u32) -> Result<FailTape, OutOfMemory> {
     let bytes = &MOVED[..stored.min(20)];
     let tape = MemTape::from_bytes(alloc, bytes, 20).map_err(|_| OutOfMemory)?;

@@ -1,11 +1,10 @@
 //! Tapes that are made while memory may be refused, as `./test --prove` refuses each allocation of these tests in turn: at the most one in a run.
 use agent::{MemTape, Tape, TapeMakeFault};
 use depgraph::OutOfMemory;
+use fakes::MOVING;
 use std::alloc::Global;
 use std::process::Abort;
 use std::test::Fail;
-
-const RECORD: [u8; 10] = [0x50, 1, 0, 0, 0, 7, 0, 0, 0, 0];
 
 /// A tape without bytes; nothing but memory is lacking.
 fn make_empty(rt: &impl Abort, alloc: Global) -> Result<(), OutOfMemory> {
@@ -16,10 +15,10 @@ fn make_empty(rt: &impl Abort, alloc: Global) -> Result<(), OutOfMemory> {
 
 /// A tape of a record.
 fn make_of_record(rt: &impl Abort, alloc: Global) -> Result<(), TapeMakeFault> {
-    match MemTape::from_bytes(alloc, &RECORD, 20) {
+    match MemTape::from_bytes(alloc, &MOVING, 20) {
         Ok(mut tape) => {
             let mut record = [0; 10];
-            let is_read = tape.read_at(0, &mut record).is_ok() && record == RECORD;
+            let is_read = tape.read_at(0, &mut record).is_ok() && record == MOVING;
             assert!(rt; is_read && tape.len() == 10 && tape.room() == 20);
             Ok(())
         }

@@ -1,6 +1,7 @@
 //! An agent that hears and tells while memory may be refused, as `./test --prove` refuses each allocation of these tests in turn: at the most one in a run.
-use crate::many_agents::{new_agent, telling, tells, wide_graph};
+use crate::many_agents::{telling, tells, wide_graph};
 use agent::{Agent, Finished, HearFault, MemTape, TellFault, encode};
+use agent_fixtures::new_agent;
 use depgraph::{Graph, OutOfMemory};
 use std::alloc::Global;
 use std::process::Abort;

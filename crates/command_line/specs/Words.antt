@@ -10,6 +10,7 @@ use Rattle.clap.specs.declared.error.kind.ErrorKind.{ErrorKind}
 use Rattle.clap.specs.declared.error.kind.ErrorKind.TheVariants as kind
 use Rattle.tape_claim.specs.declared.TapeClaim.{TapeClaim}
 use Rattle.tape_claim.specs.declared.TapeClaim.TheVariants.{Any, New, Kept}
+use Rattle.command_line.specs.declared.command_line.Asked.{Asked}
 use Rattle.command_line.specs.declared.command_line.Line.{Line}
 use Rattle.command_line.specs.declared.command_line.Line.TheVariants.{Map, Scen, Row as row_line, Check, Deps, Path, Run, Agent, Tape}
 use Rattle.command_line.specs.declared.command_line.LineFault.{LineFault}
@@ -220,39 +221,43 @@ AsksToExplain rows explain = explain ≡ true ↔ IsFlagGiven explain_flag rows
 
 -- the line is the command with this name, and its words have the values that the rows give
 abbrev pub IsCommand : Text → List Row → Line → Type 0
-IsCommand name rows (Map file explain) =
-    (name ≡ codes "map") × (first_of (codes "file") rows ≡ Some (string_bytes file)) × AsksToExplain rows explain
-IsCommand name rows (Scen file explain) =
-    (name ≡ codes "scen") × (first_of (codes "file") rows ≡ Some (string_bytes file)) × AsksToExplain rows explain
-IsCommand name rows (row_line map_file scen_file row explain) =
+IsCommand name rows (Map file) =
+    (name ≡ codes "map") × (first_of (codes "file") rows ≡ Some (string_bytes file))
+IsCommand name rows (Scen file) =
+    (name ≡ codes "scen") × (first_of (codes "file") rows ≡ Some (string_bytes file))
+IsCommand name rows (row_line map_file scen_file row) =
     (name ≡ codes "row") × (first_of (codes "map") rows ≡ Some (string_bytes map_file))
-    × (first_of (codes "scen") rows ≡ Some (string_bytes scen_file)) × GivesNumber (codes "row") rows row × AsksToExplain rows explain
-IsCommand name rows (Check map_file plan_file scen_file agents json explain) =
+    × (first_of (codes "scen") rows ≡ Some (string_bytes scen_file)) × GivesNumber (codes "row") rows row
+IsCommand name rows (Check map_file plan_file scen_file agents json) =
     (name ≡ codes "check") × (first_of (codes "map") rows ≡ Some (string_bytes map_file))
     × (first_of (codes "plan") rows ≡ Some (string_bytes plan_file)) × (first_of (codes "scen") rows ≡ option_map string_bytes scen_file)
-    × MayGiveNumber (codes "agents") rows agents × (json ≡ true ↔ IsFlagGiven (codes "json") rows) × AsksToExplain rows explain
-IsCommand name rows (Deps map_file plan_file cell explain) =
+    × MayGiveNumber (codes "agents") rows agents × (json ≡ true ↔ IsFlagGiven (codes "json") rows)
+IsCommand name rows (Deps map_file plan_file cell) =
     (name ≡ codes "deps") × (first_of (codes "map") rows ≡ Some (string_bytes map_file))
-    × (first_of (codes "plan") rows ≡ Some (string_bytes plan_file)) × MayGiveCell (codes "cell") rows cell × AsksToExplain rows explain
-IsCommand name rows (Path map_file plan_file agent explain) =
+    × (first_of (codes "plan") rows ≡ Some (string_bytes plan_file)) × MayGiveCell (codes "cell") rows cell
+IsCommand name rows (Path map_file plan_file agent) =
     (name ≡ codes "path") × (first_of (codes "map") rows ≡ Some (string_bytes map_file))
-    × (first_of (codes "plan") rows ≡ Some (string_bytes plan_file)) × MayGiveNumber (codes "agent") rows agent × AsksToExplain rows explain
-IsCommand name rows (Run map_file plan_file events_file complete explain) =
+    × (first_of (codes "plan") rows ≡ Some (string_bytes plan_file)) × MayGiveNumber (codes "agent") rows agent
+IsCommand name rows (Run map_file plan_file events_file complete) =
     (name ≡ codes "run") × (first_of (codes "map") rows ≡ Some (string_bytes map_file))
     × (first_of (codes "plan") rows ≡ Some (string_bytes plan_file)) × (first_of (codes "events") rows ≡ Some (string_bytes events_file))
-    × (complete ≡ true ↔ IsFlagGiven (codes "complete") rows) × AsksToExplain rows explain
-IsCommand name rows (Agent map_file plan_file id tape_file claim explain) =
+    × (complete ≡ true ↔ IsFlagGiven (codes "complete") rows)
+IsCommand name rows (Agent map_file plan_file id tape_file claim) =
     (name ≡ codes "agent") × (first_of (codes "map") rows ≡ Some (string_bytes map_file))
     × (first_of (codes "plan") rows ≡ Some (string_bytes plan_file)) × GivesNumber (codes "id") rows id
-    × (first_of (codes "file") rows ≡ Some (string_bytes tape_file)) × MakesClaim (codes "tape") rows claim × AsksToExplain rows explain
-IsCommand name rows (Tape map_file plan_file id tape_file explain) =
+    × (first_of (codes "file") rows ≡ Some (string_bytes tape_file)) × MakesClaim (codes "tape") rows claim
+IsCommand name rows (Tape map_file plan_file id tape_file) =
     (name ≡ codes "tape") × (first_of (codes "map") rows ≡ Some (string_bytes map_file))
     × (first_of (codes "plan") rows ≡ Some (string_bytes plan_file)) × GivesNumber (codes "id") rows id
-    × (first_of (codes "file") rows ≡ Some (string_bytes tape_file)) × AsksToExplain rows explain
+    × (first_of (codes "file") rows ≡ Some (string_bytes tape_file))
 
--- the line is the command that clap's definition of the program gives for the words
-abbrev pub IsLineOf : List Text → Line → Type 0
-IsLineOf words line = (name : Text) × (rows : List Row) × (subcommand_of program_app words ≡ Some (name, rows)) × IsCommand name rows line
+-- the command with this name is asked for, and an explanation of its fault too, or not
+abbrev pub IsAskedBy : Text → List Row → Asked → Type 0
+IsAskedBy name rows asked = IsCommand name rows asked.line × AsksToExplain rows asked.explain
+
+-- what is asked for is the command that clap's definition of the program gives for the words
+abbrev pub IsLineOf : List Text → Asked → Type 0
+IsLineOf words asked = (name : Text) × (rows : List Row) × (subcommand_of program_app words ≡ Some (name, rows)) × IsAskedBy name rows asked
 
 -- Why the words are no command: memory was refused; or clap refuses them, and this is what its kind of refusal comes to; or it takes
 -- them, and a number is none, or a claim.

@@ -11,25 +11,22 @@ use std::alloc::{AllocError, Global};
 use tape_claim::TapeClaim;
 use thiserror::Error;
 
-/// A command with what its words say. Each has `explain`, which asks for more about a fault than its line.
+/// A command with what its words say.
 #[derive(Debug, Drop, PartialEq, Eq)]
 pub enum Line {
     /// Reads a map and writes it in canonical form.
     Map {
         file: String,
-        explain: bool,
     },
     /// Reads a scenario and writes it in canonical form.
     Scen {
         file: String,
-        explain: bool,
     },
     /// Judges the listed length of a scenario's row, counted from 0, on a map.
     Row {
         map: String,
         scen: String,
         row: u32,
-        explain: bool,
     },
     /// Checks a plan on a map, and perhaps that it solves the first rows of a scenario, or has so many agents; `json` asks for the answer as
     /// JSON.
@@ -39,21 +36,18 @@ pub enum Line {
         scen: Option<String>,
         agents: Option<u16>,
         json: bool,
-        explain: bool,
     },
     /// Says which moves of a plan wait for which, or, of a cell, who comes into it.
     Deps {
         map: String,
         plan: String,
         cell: Option<Cell>,
-        explain: bool,
     },
     /// Writes where the agents of a plan are at each time, or where one of them is.
     Path {
         map: String,
         plan: String,
         agent: Option<u16>,
-        explain: bool,
     },
     /// Runs a plan on the events of a text; `complete` asks for how the run ends too.
     Run {
@@ -61,7 +55,6 @@ pub enum Line {
         plan: String,
         events: String,
         complete: bool,
-        explain: bool,
     },
     /// Answers for one agent of a plan, by its tape, of which something may be claimed.
     Agent {
@@ -70,7 +63,6 @@ pub enum Line {
         id: u16,
         tape: String,
         claim: TapeClaim,
-        explain: bool,
     },
     /// Says what the tape of an agent of a plan keeps.
     Tape {
@@ -78,8 +70,14 @@ pub enum Line {
         plan: String,
         id: u16,
         tape: String,
-        explain: bool,
     },
+}
+
+/// What is asked for: a command, and whether more is to be said of its fault than one line.
+#[derive(Debug, Drop, PartialEq, Eq)]
+pub struct Asked {
+    pub line: Line,
+    pub explain: bool,
 }
 
 /// Why the words are no command, with the text that the user is shown. Each text ends with an LF.

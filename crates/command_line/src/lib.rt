@@ -6,5 +6,5 @@ mod help;
 mod refusal;
 mod words;
 
-pub use command_line::{Line, LineFault};
+pub use command_line::{Asked, Line, LineFault};
 pub use words::line;

@@ -6,20 +6,20 @@ ghost use Rattle.clap.specs.Words.{app_of, with_subcommand, first_of, found_of, 
 ghost use Rattle.grid.specs.declared.cell.Cell.{Cell};
 ghost use Rattle.text_io.specs.Text.{SpellsNumber};
 ghost use Rattle.tape_claim.specs.declared.TapeClaim.{TapeClaim};
-ghost use Rattle.command_line.specs.Words.{program_app, AsksToExplain, IsFlagGiven, HasValues, GivesNumber, GivesNumberBelow, GiveValues, SpellsCell, MayGiveCell, GivesCells, GivesClaim, MakesClaim, SaysClaim, MayGiveNumber, GivesNumbers, IsCommand, IsLineOf, IsFaultOf};
+ghost use Rattle.command_line.specs.Words.{program_app, AsksToExplain, IsFlagGiven, HasValues, GivesNumber, GivesNumberBelow, GiveValues, SpellsCell, MayGiveCell, GivesCells, GivesClaim, MakesClaim, SaysClaim, MayGiveNumber, GivesNumbers, IsCommand, IsAskedBy, IsLineOf, IsFaultOf};
 ghost use Rattle.command_line.specs.Code.Parts.{HasWords, IsRefusal, rule_of_word, shape_of_text};
 
 use crate::command_line::refused;
 use crate::help::{self, CommandText, NumberText, Word};
 use crate::refusal::shown;
-use crate::{Line, LineFault};
+use crate::{Asked, Line, LineFault};
 use clap::{Arg, ArgAction, ArgMatches, Command};
 use grid::Cell;
 use std::alloc::{AllocError, Global};
 use tape_claim::TapeClaim;
 
 /// Reads the words of the command line, the program's name first.
-pub fn line(alloc: Global, words: &[String]) -> Result<Line, LineFault>
+pub fn line(alloc: Global, words: &[String]) -> Result<Asked, LineFault>
     ensures command { IfOk result (IsLineOf (map string_bytes words.now)) }
     ensures taken { OnOk result (fault_of program_app (map string_bytes words.now) ≡ []) }
     ensures refused { IfErr result (λ e. takes program_app (map string_bytes words.now) ≡ true
@@ -32,9 +32,22 @@ pub fn line(alloc: Global, words: &[String]) -> Result<Line, LineFault>
         Err(error) => return Err(refused(alloc, words, &error)),
     };
     match matches.subcommand() {
-        Some((name, given)) => read_command(alloc, name, given),
+        Some((name, given)) => read_asked(alloc, name, given),
         None => Err(no_command(alloc)),
     }
+}
+
+/// Reads the command with this name, by the words that it was given, and whether more is asked for.
+fn read_asked(alloc: Global, name: &str, given: &ArgMatches<'_>) -> Result<Asked, LineFault>
+    ensures ok { IfOk result (IsAskedBy name.now (rows_of (found_of given.now))) }
+    ensures err { IfErr result (λ e. HasWords name.now (rows_of (found_of given.now)) → HasValues name.now (rows_of (found_of given.now))
+        → e ≡ LineFault.OutOfMemory) }
+    ensures refusal { IfErr result IsRefusal }
+{
+    Ok(Asked {
+        line: read_command(alloc, name, given)?,
+        explain: asks_to_explain(given),
+    })
 }
 
 /// All commands, as `clap` takes them.
@@ -104,11 +117,9 @@ fn read_command(alloc: Global, name: &str, given: &ArgMatches<'_>) -> Result<Lin
     match name {
         "map" => Ok(Line::Map {
             file: word(alloc, given, "file")?,
-            explain: asks_to_explain(given),
         }),
         "scen" => Ok(Line::Scen {
             file: word(alloc, given, "file")?,
-            explain: asks_to_explain(given),
         }),
         "row" => read_row(alloc, given),
         "check" => read_check(alloc, given),
@@ -132,7 +143,6 @@ fn read_row(alloc: Global, given: &ArgMatches<'_>) -> Result<Line, LineFault>
         map: word(alloc, given, "map")?,
         scen: word(alloc, given, "scen")?,
         row: row_number(alloc, given)?,
-        explain: asks_to_explain(given),
     })
 }
 
@@ -149,7 +159,6 @@ fn read_check(alloc: Global, given: &ArgMatches<'_>) -> Result<Line, LineFault>
         scen: optional_word(alloc, given, "scen")?,
         agents: optional_number(alloc, given, "agents", help::NO_AGENT_COUNT)?,
         json: has_flag(given, "json"),
-        explain: asks_to_explain(given),
     })
 }
 
@@ -164,7 +173,6 @@ fn read_deps(alloc: Global, given: &ArgMatches<'_>) -> Result<Line, LineFault>
         map: word(alloc, given, "map")?,
         plan: word(alloc, given, "plan")?,
         cell: optional_cell(alloc, given)?,
-        explain: asks_to_explain(given),
     })
 }
 
@@ -179,7 +187,6 @@ fn read_path(alloc: Global, given: &ArgMatches<'_>) -> Result<Line, LineFault>
         map: word(alloc, given, "map")?,
         plan: word(alloc, given, "plan")?,
         agent: optional_number(alloc, given, "agent", help::NO_AGENT_NUMBER)?,
-        explain: asks_to_explain(given),
     })
 }
 
@@ -194,7 +201,6 @@ fn read_run(alloc: Global, given: &ArgMatches<'_>) -> Result<Line, LineFault>
         plan: word(alloc, given, "plan")?,
         events: word(alloc, given, "events")?,
         complete: has_flag(given, "complete"),
-        explain: asks_to_explain(given),
     })
 }
 
@@ -211,7 +217,6 @@ fn read_agent(alloc: Global, given: &ArgMatches<'_>) -> Result<Line, LineFault>
         id: agent_id(alloc, given, &help::AGENT_ID)?,
         tape: word(alloc, given, "file")?,
         claim: tape_claim(alloc, given)?,
-        explain: asks_to_explain(given),
     })
 }
 
@@ -227,7 +232,6 @@ fn read_tape(alloc: Global, given: &ArgMatches<'_>) -> Result<Line, LineFault>
         plan: word(alloc, given, "plan")?,
         id: agent_id(alloc, given, &help::TAPE_ID)?,
         tape: word(alloc, given, "file")?,
-        explain: asks_to_explain(given),
     })
 }
 

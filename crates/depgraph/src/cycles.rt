@@ -14,9 +14,9 @@ const NO_ENTRY: u32 = u32::MAX;
 /// What leads from the entry of a move to that of the move that it waits for, if both are made in one step.
 #[derive(Debug, Drop)]
 pub(crate) struct Links<'a> {
-    times: &'a [u16],
-    ends: &'a [usize],
-    waits: &'a [Wait],
+    pub(crate) times: &'a [u16],
+    pub(crate) ends: &'a [usize],
+    pub(crate) waits: &'a [Wait],
     /// The entries whose links were taken away.
     taken: Vec<bool>,
 }
@@ -30,6 +30,9 @@ impl<'a> Links<'a> {
         waits: &'a [Wait],
     ) -> Result<Links<'a>, AllocError>
         requires { AreBound times.now ends.now waits.now }
+        ensures times { IfOk result (λ l. l.times.now ≡ times.now) }
+        ensures ends { IfOk result (λ l. l.ends.now ≡ ends.now) }
+        ensures waits { IfOk result (λ l. l.waits.now ≡ waits.now) }
         ensures links { IfOk result (λ l. links_in l ≡ all_links times.now ends.now waits.now) }
         ensures whole { IfOk result (λ l. AreLinksIn l) }
     {

@@ -11,7 +11,7 @@ ghost use Rattle.depgraph.specs.Code.Laying.{AreFound};
 use crate::entries::{begin_in, entry_at};
 use crate::laying::{Found, find};
 use crate::numbering::cell_at;
-use crate::part::Part;
+use crate::part::{AllParts, Part};
 use crate::paths::Paths;
 use crate::rotations::find_rotations;
 use crate::waiting::Wait;
@@ -144,14 +144,14 @@ impl Dependencies {
         ensures { MatchOption result (track_of self.now agent ≡ None) (λ part. IsPartOf self.now part × (part.agent ≡ agent)) }
     {
         if usize::from(agent) < self.ends.len() {
-            Some(Part::among(
-                self.number,
-                agent,
-                &self.names,
-                &self.numbers,
-                &self.needs,
-                &self.ends,
-            ))
+            let all = AllParts {
+                number: self.number,
+                names: &self.names,
+                numbers: &self.numbers,
+                needs: &self.needs,
+                ends: &self.ends,
+            };
+            Some(Part::among(&all, agent))
         } else {
             None
         }

@@ -36,7 +36,6 @@ pub(crate) fn lay_out(alloc: Global, plan: &CheckedPlan) -> Result<Laid, AllocEr
     } = find(alloc, plan)?;
     let placed = place_visits(
         alloc,
-        plan,
         &paths.times,
         &paths.ends,
         &paths.numbers,

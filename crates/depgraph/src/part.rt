@@ -13,6 +13,21 @@ use std::alloc::{AllocError, Global};
 use std::marker::Model;
 use text_io::OutOfMemory;
 
+/// What all agents need of a graph, one agent's behind another's.
+#[derive(Clone, Copy, Debug)]
+pub(crate) struct AllParts<'g> {
+    /// The plan's number.
+    pub(crate) number: u32,
+    /// The cell with each number.
+    pub(crate) names: &'g [Cell],
+    /// The numbers of the cells of all paths.
+    pub(crate) numbers: &'g [u32],
+    /// What the move into each of them waits for.
+    pub(crate) needs: &'g [Wait],
+    /// Where the path of each agent ends.
+    pub(crate) ends: &'g [usize],
+}
+
 /// What one agent needs of a graph: its path, what its moves wait for, how many moves each agent makes, and the plan's number.
 #[derive(Debug, Drop)]
 pub struct Part<'g> {
@@ -40,27 +55,21 @@ impl<'g> Model for Part<'g> {
 }
 
 impl<'g> Part<'g> {
-    /// The part of an agent, by the lists of all agents.
-    pub(crate) fn among(
-        number: u32,
-        agent: u16,
-        names: &'g [Cell],
-        numbers: &'g [u32],
-        needs: &'g [Wait],
-        ends: &'g [usize],
-    ) -> Part<'g>
-        requires { HasShare number agent names.now numbers.now needs.now ends.now }
-        ensures { result ≡ part_by number agent names.now (entries_among ends.now agent numbers.now) (entries_among ends.now agent needs.now) ends.now }
+    /// The part of an agent among those of all.
+    pub(crate) fn among(all: &AllParts<'g>, agent: u16) -> Part<'g>
+        requires { HasShare all.now.number agent all.now.names.now all.now.numbers.now all.now.needs.now all.now.ends.now }
+        ensures { result ≡ part_by all.now.number agent all.now.names.now (entries_among all.now.ends.now agent all.now.numbers.now)
+            (entries_among all.now.ends.now agent all.now.needs.now) all.now.ends.now }
     {
-        let begin = begin_in(ends, usize::from(agent));
-        let end = ends[usize::from(agent)];
+        let begin = begin_in(all.ends, usize::from(agent));
+        let end = all.ends[usize::from(agent)];
         Part {
-            number,
+            number: all.number,
             agent,
-            names,
-            numbers: &numbers[begin..end],
-            needs: &needs[begin..end],
-            ends,
+            names: all.names,
+            numbers: &all.numbers[begin..end],
+            needs: &all.needs[begin..end],
+            ends: all.ends,
         }
     }
 

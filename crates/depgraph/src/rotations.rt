@@ -25,7 +25,7 @@ pub(crate) fn find_rotations(
     ensures { IfOk result (λ v. AreRotations plan.now.timetable (turns_of v.items)) }
 {
     let mut links = Links::new(alloc, times, ends, waits)?;
-    let mut rotations = rotations_by_agent(alloc, plan, times, ends, waits, &mut links)?;
+    let mut rotations = rotations_by_agent(alloc, plan, &mut links)?;
     rotations.sort_unstable_by_key(key_of);
     Ok(rotations)
 }
@@ -35,16 +35,16 @@ pub(crate) fn find_rotations(
 fn rotations_by_agent(
     alloc: Global,
     plan: &CheckedPlan,
-    times: &[u16],
-    ends: &[usize],
-    waits: &[Wait],
     links: &mut Links<'_>,
 ) -> Result<Vec<Rotation>, AllocError>
-    requires times { times.now ≡ all_times plan.now.timetable.tracks }
+    requires times { links.old.times.now ≡ all_times plan.now.timetable.tracks }
     requires whole { AreLinksIn links.old }
-    requires laid { AreLaid plan.now.timetable ends.now waits.now (links_in links.old) }
+    requires laid { AreLaid plan.now.timetable links.old.ends.now links.old.waits.now (links_in links.old) }
     ensures { IfOk result (λ v. AreAllRotations plan.now.timetable (turns_of v.items)) }
 {
+    let times = links.times;
+    let ends = links.ends;
+    let waits = links.waits;
     let mut trail = Vec::new(alloc);
     let mut rotations = Vec::new(alloc);
     let mut entry = 0;

@@ -1,22 +1,10 @@
 //! Plans at users' sizes.
-use crate::texts::map_of;
-use depgraph::{Graph, Route};
-use grid::{Cell, Map};
-use plan::{Act, CheckedPlan, Plan, check};
+use depgraph::{Graph, OutOfMemory, Route};
+use grid::Cell;
+use plan::{Act, CheckedPlan};
+use plan_fixtures::crowd;
 use std::alloc::{AllocError, Global};
 use std::test::Fail;
-
-/// A map of 200 by 100 passable cells.
-fn wide_map(alloc: Global) -> Result<Map, Fail> {
-    let mut text = String::from_str(alloc, "type octile\nheight 100\nwidth 200\nmap\n")?;
-    for _ in 0..100 {
-        for _ in 0..200 {
-            text.push('.')?;
-        }
-        text.push('\n')?;
-    }
-    Ok(map_of(alloc, text.as_str())?)
-}
 
 /// To and fro, 800 times.
 fn to_and_fro(alloc: Global) -> Result<Vec<Act>, AllocError> {
@@ -29,15 +17,9 @@ fn to_and_fro(alloc: Global) -> Result<Vec<Act>, AllocError> {
 }
 
 /// Each of 10,000 agents goes to and fro between two cells of its own, and never waits.
-fn wide_plan(alloc: Global) -> Result<CheckedPlan, Fail> {
-    let map = wide_map(alloc)?;
-    let mut plan = Plan::new(alloc, 7);
-    for y in 0..100 {
-        for x in 0..100 {
-            plan.push(Cell { x: 2 * x, y }, to_and_fro(alloc)?)?;
-        }
-    }
-    Ok(check(alloc, &map, plan).map_err(|rejected| rejected.fault)?)
+fn wide_plan(alloc: Global) -> Result<CheckedPlan, OutOfMemory> {
+    let acts = to_and_fro(alloc)?;
+    crowd(alloc, 100, &acts, &acts)
 }
 
 /// Where a route ends, and the step and the need of its last move, of 1,600.

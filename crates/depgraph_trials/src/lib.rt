@@ -9,5 +9,3 @@ mod large_plans;
 mod plain_builder;
 #[cfg(test)]
 mod small_graphs;
-#[cfg(test)]
-mod texts;

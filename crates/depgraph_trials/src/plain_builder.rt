@@ -1,10 +1,8 @@
 //! A plain builder: it finds each need by looking back through all positions, and each rotation from each of its agents.
-use depgraph::{Graph, Visit};
+use depgraph::{Graph, OutOfMemory, Route, Visit};
 use grid::Cell;
 use plan::CheckedPlan;
-use std::alloc::Global;
-use std::process::Abort;
-use std::test::Fail;
+use std::alloc::{AllocError, Global};
 
 fn after(time: u32) -> u32 {
     time.saturating_add(1)
@@ -55,7 +53,7 @@ fn need(plan: &CheckedPlan, agent: u32, step: u32) -> Option<(u16, u32)> {
 }
 
 /// The visits of a cell, by time.
-fn visits(alloc: Global, plan: &CheckedPlan, cell: Cell) -> Result<Vec<Visit>, Fail> {
+fn visits(alloc: Global, plan: &CheckedPlan, cell: Cell) -> Result<Vec<Visit>, AllocError> {
     let mut visits = Vec::new(alloc);
     for time in 0..after(plan.makespan()) {
         for agent in 0..plan.agents() {
@@ -74,7 +72,7 @@ fn visits(alloc: Global, plan: &CheckedPlan, cell: Cell) -> Result<Vec<Visit>, F
 }
 
 /// The cells in order of first visit.
-fn visited(alloc: Global, plan: &CheckedPlan) -> Result<Vec<Cell>, Fail> {
+fn visited(alloc: Global, plan: &CheckedPlan) -> Result<Vec<Cell>, AllocError> {
     let mut cells: Vec<Cell> = Vec::new(alloc);
     for time in 0..after(plan.makespan()) {
         for agent in 0..plan.agents() {
@@ -94,7 +92,7 @@ fn rotation(
     plan: &CheckedPlan,
     step: u32,
     first: u32,
-) -> Result<Option<Vec<u16>>, Fail> {
+) -> Result<Option<Vec<u16>>, AllocError> {
     let mut agents = Vec::new(alloc);
     let mut agent = first;
     for _ in 0..plan.agents() {
@@ -112,79 +110,85 @@ fn rotation(
     Ok(None)
 }
 
-/// Compares a plan's graph with what is found so.
-pub fn compare(rt: &impl Abort, alloc: Global, plan: &CheckedPlan) -> Result<(), Fail> {
+/// Whether a plan's graph is what is found so.
+pub fn is_same(alloc: Global, plan: &CheckedPlan) -> Result<bool, OutOfMemory> {
     let graph = Graph::build(alloc, plan)?;
-    assert_eq!(rt;
-        (graph.number(), graph.agents()),
-        (plan.number(), plan.agents())
-    );
-    for agent in 0..plan.agents() {
-        compare_route(rt, plan, &graph, agent)?;
-    }
-    assert_eq!(rt; graph.moves(plan.agents()), None);
-    assert!(rt; graph.route(plan.agents()).is_none());
-    compare_visits(rt, alloc, plan, &graph)?;
-    compare_rotations(rt, alloc, plan, &graph)
+    has_all(alloc, plan, &graph)
 }
 
-fn compare_route(
-    rt: &impl Abort,
-    plan: &CheckedPlan,
-    graph: &Graph,
-    agent: u32,
-) -> Result<(), Fail> {
-    let route = graph.route(agent).ok_or("a route is missing")?;
-    assert_eq!(rt; route.cell(0), plan.position(agent, 0));
+fn has_all(alloc: Global, plan: &CheckedPlan, graph: &Graph) -> Result<bool, OutOfMemory> {
+    let has_counts = graph.number() == plan.number() && graph.agents() == plan.agents();
+    let has_visits = has_cells(alloc, plan, graph)?;
+    let has_rotations = has_rotations(alloc, plan, graph)?;
+    Ok(has_counts && has_routes(plan, graph) && has_visits && has_rotations)
+}
+
+fn has_routes(plan: &CheckedPlan, graph: &Graph) -> bool {
+    let agents = plan.agents();
+    let mut are_same = graph.moves(agents) == None && graph.route(agents).is_none();
+    for agent in 0..agents {
+        are_same = are_same && has_route(plan, graph, agent);
+    }
+    are_same
+}
+
+fn has_route(plan: &CheckedPlan, graph: &Graph, agent: u32) -> bool {
+    match graph.route(agent) {
+        Some(route) => graph.moves(agent) == moves_on(plan, &route, agent),
+        None => false,
+    }
+}
+
+/// How many moves a route of an agent has; `None` where one is another than is found.
+fn moves_on(plan: &CheckedPlan, route: &Route<'_>, agent: u32) -> Option<u32> {
+    let mut is_same = route.cell(0) == plan.position(agent, 0);
     let mut k = 0u32;
     for step in 0..plan.makespan() {
         if moves(plan, agent, step) {
-            let own = (route.cell(after(k)), route.step(k), route.need(k));
             let cell = plan.position(agent, after(step));
-            let found = (cell, Some(step), need(plan, agent, step));
-            assert_eq!(rt; own, found, "agent {agent}, move {k}");
+            let is_there = route.cell(after(k)) == cell && route.step(k) == Some(step);
+            is_same = is_same && is_there && route.need(k) == need(plan, agent, step);
             k = after(k);
         }
     }
-    assert_eq!(rt; graph.moves(agent), Some(k));
-    let past = (route.cell(after(k)), route.step(k), route.need(k));
-    assert_eq!(rt; past, (None, None, None));
-    Ok(())
+    let is_end = route.cell(after(k)) == None && route.step(k) == None && route.need(k) == None;
+    if is_same && is_end { Some(k) } else { None }
 }
 
-fn compare_visits(
-    rt: &impl Abort,
-    alloc: Global,
-    plan: &CheckedPlan,
-    graph: &Graph,
-) -> Result<(), Fail> {
+/// Whether a graph has the cells in order of first visit, each with its visits.
+fn has_cells(alloc: Global, plan: &CheckedPlan, graph: &Graph) -> Result<bool, AllocError> {
     let cells = visited(alloc, plan)?;
-    assert_eq!(rt; graph.cell_count() as usize, cells.len());
-    for (n, cell) in (0..graph.cell_count()).zip(cells.iter()) {
-        let visits = visits(alloc, plan, *cell)?;
-        assert_eq!(rt; graph.visits(n), Some((*cell, visits.as_slice())));
+    let count = graph.cell_count();
+    let mut are_same = count as usize == cells.len() && graph.visits(count).is_none();
+    for (n, cell) in (0..count).zip(cells.iter()) {
+        are_same = has_visits(alloc, plan, graph, n, *cell)? && are_same;
     }
-    assert!(rt; graph.visits(graph.cell_count()).is_none());
-    Ok(())
+    Ok(are_same)
 }
 
-fn compare_rotations(
-    rt: &impl Abort,
+fn has_visits(
     alloc: Global,
     plan: &CheckedPlan,
     graph: &Graph,
-) -> Result<(), Fail> {
+    n: u32,
+    cell: Cell,
+) -> Result<bool, AllocError> {
+    let visits = visits(alloc, plan, cell)?;
+    Ok(graph.visits(n) == Some((cell, visits.as_slice())))
+}
+
+fn has_rotations(alloc: Global, plan: &CheckedPlan, graph: &Graph) -> Result<bool, AllocError> {
     let mut rotations = graph.rotations().iter();
+    let mut are_same = true;
     for step in 0..plan.makespan() {
         for first in 0..plan.agents() {
             if let Some(agents) = rotation(alloc, plan, step, first)? {
                 let own = rotations
                     .next()
                     .map(|own| (own.step, own.agents.as_slice()));
-                assert_eq!(rt; own, Some((step, agents.as_slice())));
+                are_same = are_same && own == Some((step, agents.as_slice()));
             }
         }
     }
-    assert!(rt; rotations.next().is_none());
-    Ok(())
+    Ok(are_same && rotations.next().is_none())
 }

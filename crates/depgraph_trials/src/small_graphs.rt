@@ -1,13 +1,18 @@
 //! Small plans, and who waits for whom in them.
-use crate::texts::{ROW, graph_of};
 use depgraph::{Graph, OwnPart, Visit};
+use fakes::{BEHIND, LANE};
 use grid::Cell;
+use plan_fixtures::checked;
 use std::alloc::Global;
 use std::process::Abort;
 use std::test::Fail;
 
 /// Four by two passable cells.
 const HALL: &str = "type octile\nheight 2\nwidth 4\nmap\n....\n....\n";
+
+/// The agents of two rotations, listed in turn.
+const TURNING: &str =
+    "mapf-plan 1\nnumber 7\nagents 8\nagent 2 1 n\nagent 0 0 e\nagent 3 1 w\nagent 1 0 s\nagent 3 0 s\nagent 1 1 w\nagent 2 0 e\nagent 0 1 n\n";
 
 /// What an agent's moves wait for, in order.
 fn expect_needs(
@@ -37,7 +42,7 @@ fn expect_rotations(rt: &impl Abort, graph: &Graph, rotations: &[(u32, &[u16])])
 
 #[test]
 fn one_behind_another(rt: HostRuntime) -> Result<(), Fail> {
-    let graph = graph_of(rt.alloc(), ROW, 2, "agent 1 0 e-\nagent 0 0 e\n")?;
+    let graph = Graph::build(rt.alloc(), &checked(rt.alloc(), LANE, BEHIND)?)?;
     expect_needs(&rt, &graph, 0, &[None])?;
     expect_needs(&rt, &graph, 1, &[Some((0, 1))])?;
     expect_rotations(&rt, &graph, &[]);
@@ -48,7 +53,7 @@ fn one_behind_another(rt: HostRuntime) -> Result<(), Fail> {
 
 /// What an agent needs of the same graph, which is gone.
 fn part_alone(alloc: Global, agent: u16) -> Result<OwnPart, Fail> {
-    let graph = graph_of(alloc, ROW, 2, "agent 1 0 e-\nagent 0 0 e\n")?;
+    let graph = Graph::build(alloc, &checked(alloc, LANE, BEHIND)?)?;
     let part = graph.part(agent).ok_or("a part is missing")?;
     Ok(OwnPart::of(alloc, &part)?)
 }
@@ -96,13 +101,8 @@ fn expect_visits_one_behind_another(rt: &impl Abort, graph: &Graph) {
 
 #[test]
 fn two_rotations_in_a_step(rt: HostRuntime) -> Result<(), Fail> {
-    // The agents of both are listed in turn, and the second rotation is the one of the least agent.
-    let graph = graph_of(
-        rt.alloc(),
-        HALL,
-        8,
-        "agent 2 1 n\nagent 0 0 e\nagent 3 1 w\nagent 1 0 s\nagent 3 0 s\nagent 1 1 w\nagent 2 0 e\nagent 0 1 n\n",
-    )?;
+    // The second rotation is the one of the least agent.
+    let graph = Graph::build(rt.alloc(), &checked(rt.alloc(), HALL, TURNING)?)?;
     expect_rotations(&rt, &graph, &[(0, &[0, 6, 4, 2]), (0, &[1, 3, 5, 7])]);
     Ok(())
 }

@@ -1,16 +1,11 @@
 //! A dialogue with an agent: its lines and what comes of them.
 use agent::{Agent, MemTape, Tape};
+use agent_fixtures::{FailTape, graph_of, new_agent};
 use depgraph::{Graph, OutOfMemory};
 use dialogue::talk;
-use fake_tapes::FailTape;
-use fakes::{Keeper, Record};
-use grid::{Map, read_map};
-use plan::{Plan, check, read_plan};
+use fakes::{BEHIND, Keeper, LANE, MOVED, Record};
 use std::alloc::{AllocError, Global};
 use text_io::Counted;
-
-/// Two agents in a row of three cells: the one from the middle to the right, and the other behind it.
-pub const BEHIND: &str = "mapf-plan 1\nnumber 7\nagents 2\nagent 1 0 e-\nagent 0 0 e\n";
 
 /// Lines for agent 0.
 pub const LINES: &[u8] =
@@ -26,11 +21,6 @@ pub const COUNT: usize = 11;
 /// What is read, written and flushed, in order; the end of the input is read too.
 const NOTED: &[u8] =
     b"at 1 0 done 0\n|<start\nmoving 2 0\n|<say\nsaid 460100000000000700000000\n|<finish\narrived 2 0\n|<say\nsaid 460100000000000700000001\n|<held\nat 2 0 done 1\n|<start\nrefused AtEnd\n|<hear 4601\nrefused BadLength\n|<hear 4\nrefused BadLine\n|<hear 460100000000000700000002\nrefused TooMany\n|<hear 460100000000000800000001\nrefused WrongPlan\n|<hear 460100090000000700000001\nrefused NoSuchAgent\n|<";
-
-/// The tape of agent 0 behind its move.
-const MOVED: [u8; 20] = [
-    0x50, 1, 0, 0, 0, 7, 0, 0, 0, 0, 0x50, 2, 0, 0, 0, 7, 0, 0, 0, 1,
-];
 
 /// Whether the tape has what agent 0 stores in so many of its lines.
 pub fn has_stored(tape: &MemTape, lines: usize) -> bool {
@@ -52,30 +42,6 @@ pub fn first_lines(text: &[u8], count: usize) -> &[u8] {
         lines = lines.saturating_add(usize::from(byte == b'\n'));
     }
     text
-}
-
-fn map_of(alloc: Global) -> Result<Map, OutOfMemory> {
-    let row = "type octile\nheight 1\nwidth 3\nmap\n...\n";
-    read_map(alloc, &mut Counted::new(row.as_bytes())).map_err(|_| OutOfMemory)
-}
-
-fn plan_of(alloc: Global, plan: &str) -> Result<Plan, OutOfMemory> {
-    read_plan(alloc, &mut Counted::new(plan.as_bytes())).map_err(|_| OutOfMemory)
-}
-
-/// The graph of a plan on a row of three cells; nothing but memory can be lacking.
-pub fn graph_of(alloc: Global, plan: &str) -> Result<Graph, OutOfMemory> {
-    let map = map_of(alloc)?;
-    match check(alloc, &map, plan_of(alloc, plan)?) {
-        Ok(plan) => Graph::build(alloc, &plan),
-        Err(_) => Err(OutOfMemory),
-    }
-}
-
-/// The agent with this number over a new tape.
-pub fn new_agent(alloc: Global, graph: &Graph, id: u16) -> Result<Agent<'_, MemTape>, OutOfMemory> {
-    let tape = MemTape::new(alloc, 20)?;
-    Agent::open(alloc, graph, id, tape).map_err(|_| OutOfMemory)
 }
 
 /// Agent 0 over a tape with room for two moves, of which the write with this number stores so many bytes and fails.
@@ -141,7 +107,7 @@ fn are_in_order(alloc: Global, graph: &Graph) -> Result<bool, OutOfMemory> {
 }
 
 fn all_on_graph(alloc: Global) -> Result<[Result<bool, OutOfMemory>; 3], OutOfMemory> {
-    let graph = graph_of(alloc, BEHIND)?;
+    let graph = graph_of(alloc, LANE, BEHIND)?;
     Ok([
         are_in_order(alloc, &graph),
         knows_what_was_heard(alloc, &graph),

@@ -1,10 +1,10 @@
 //! Dialogues with agents whose tapes fail.
-use crate::dialogues::{graph_of, torn_agent};
+use crate::dialogues::torn_agent;
 use agent::Agent;
+use agent_fixtures::{FailTape, graph_of};
 use depgraph::{Graph, OutOfMemory};
 use dialogue::{TalkFault, talk};
-use fake_tapes::FailTape;
-use fakes::Record;
+use fakes::{LANE, Record};
 use std::alloc::Global;
 use text_io::Counted;
 
@@ -69,7 +69,7 @@ fn wrong_tear(alloc: Global, graph: &Graph) -> Result<Option<(u32, u8)>, OutOfMe
 }
 
 fn wrong_on_graph(alloc: Global) -> Result<Option<(u32, u8)>, OutOfMemory> {
-    let graph = graph_of(alloc, ALONG)?;
+    let graph = graph_of(alloc, LANE, ALONG)?;
     wrong_tear(alloc, &graph)
 }
 

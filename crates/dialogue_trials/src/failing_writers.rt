@@ -1,11 +1,10 @@
 //! Dialogues whose writer is slow or fails.
-use crate::dialogues::{
-    ANSWERS, BEHIND, COUNT, LINES, first_lines, graph_of, has_stored, new_agent,
-};
+use crate::dialogues::{ANSWERS, COUNT, LINES, first_lines, has_stored};
 use agent::{Agent, MemTape};
+use agent_fixtures::{graph_of, new_agent};
 use depgraph::{Graph, OutOfMemory};
 use dialogue::{TalkFault, talk};
-use fakes::{Keeper, Record, Trouble};
+use fakes::{BEHIND, Keeper, LANE, Record, TROUBLES};
 use std::alloc::Global;
 use text_io::Counted;
 
@@ -51,11 +50,7 @@ fn ends_at(
 ) -> Result<bool, OutOfMemory> {
     let due = (Err(TalkFault::WriteFailed), taken, lines);
     let mut has_ended = true;
-    for trouble in [
-        Trouble::Failure,
-        Trouble::Interrupted,
-        Trouble::NothingTaken,
-    ] {
+    for trouble in TROUBLES {
         let out = Keeper::of_size(1).in_trouble_at(call, trouble);
         has_ended = ends(alloc, graph, out, due)? && has_ended;
     }
@@ -99,7 +94,7 @@ fn are_slow(alloc: Global, graph: &Graph) -> Result<bool, OutOfMemory> {
 type Found = (Result<Option<u64>, OutOfMemory>, Result<bool, OutOfMemory>);
 
 fn found(alloc: Global) -> Result<Found, OutOfMemory> {
-    let graph = graph_of(alloc, BEHIND)?;
+    let graph = graph_of(alloc, LANE, BEHIND)?;
     Ok((calls_that_fail(alloc, &graph), are_slow(alloc, &graph)))
 }
 

@@ -1,9 +1,9 @@
 //! Dialogues while memory may be refused, as `./test --prove` refuses each allocation of these tests in turn: at the most one in a run.
-use crate::dialogues::{BEHIND, graph_of, new_agent};
 use agent::{Agent, MemTape};
+use agent_fixtures::{graph_of, new_agent};
 use depgraph::{Graph, OutOfMemory};
 use dialogue::{TalkFault, talk};
-use fakes::Keeper;
+use fakes::{BEHIND, Keeper, LANE};
 use std::alloc::Global;
 use std::process::Abort;
 use std::test::Fail;
@@ -84,7 +84,7 @@ fn lead_all(rt: &impl Abort, alloc: Global, graph: &Graph) -> Result<(), OutOfMe
 }
 
 fn on_graph(rt: &impl Abort, alloc: Global) -> Result<(), OutOfMemory> {
-    let graph = graph_of(alloc, BEHIND)?;
+    let graph = graph_of(alloc, LANE, BEHIND)?;
     lead_all(rt, alloc, &graph)
 }
 

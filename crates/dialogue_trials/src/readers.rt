@@ -1,11 +1,10 @@
 //! Dialogues whose lines come in pieces, and whose reader fails.
-use crate::dialogues::{
-    ANSWERS, BEHIND, COUNT, LINES, first_lines, graph_of, has_stored, new_agent,
-};
+use crate::dialogues::{ANSWERS, COUNT, LINES, first_lines, has_stored};
 use agent::{Agent, MemTape};
+use agent_fixtures::{graph_of, new_agent};
 use depgraph::{Graph, OutOfMemory};
 use dialogue::{TalkFault, talk};
-use fakes::{Keeper, Pieces};
+use fakes::{BEHIND, Keeper, LANE, Pieces};
 use std::alloc::{AllocError, Global};
 use std::io::ErrorKind;
 use text_io::Counted;
@@ -152,7 +151,7 @@ fn wrong_line(alloc: Global, graph: &Graph) -> Result<Option<usize>, OutOfMemory
 
 /// What is wrong with lines that come in pieces, the last of which is ended or isn't; behind failures; and inside long lines.
 fn wrong(alloc: Global) -> Result<[Result<Option<usize>, OutOfMemory>; 4], OutOfMemory> {
-    let graph = graph_of(alloc, BEHIND)?;
+    let graph = graph_of(alloc, LANE, BEHIND)?;
     Ok([
         wrong_cut(alloc, &graph, LINES),
         wrong_cut(alloc, &graph, LINES.strip_suffix(b"\n").unwrap_or(b"")),

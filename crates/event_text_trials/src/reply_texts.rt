@@ -1,6 +1,6 @@
 //! The lines of replies, and writers that fail.
 use event_text::{put_reply, write_replies};
-use fakes::{Keeper, Trouble};
+use fakes::{Keeper, TROUBLES};
 use grid::Cell;
 use model::{Reply, Why};
 use std::alloc::{AllocError, Global};
@@ -97,11 +97,7 @@ fn writer_fails_at_each_call(rt: HostRuntime) -> Result<(), Fail> {
     let replies = replies(rt.alloc())?;
     let want = LINES.as_bytes();
     for call in 1..=want.len() as u64 {
-        for trouble in [
-            Trouble::Failure,
-            Trouble::Interrupted,
-            Trouble::NothingTaken,
-        ] {
+        for trouble in TROUBLES {
             let mut keeper = Keeper::of_size(1).in_trouble_at(call, trouble);
             let mut writer = Counted::new(&mut keeper);
             assert_eq!(rt;

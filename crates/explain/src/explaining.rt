@@ -16,24 +16,22 @@ use crate::told::Told;
 use std::alloc::Global;
 use std::io::Write;
 use std::rt::Files;
-use text_io::{Counted, Sink, WriteFault};
+use text_io::{Counted, FaultWords, Sink, WriteFault};
 
-/// Writes for people what a fault means, behind the line that told it: `told` is that line, and `files` are those that the command names, in the order
-/// in which it opens them; `-` alone is standard input. They are read once more, and what isn't there any more is left out. Any other line is
-/// explained by nothing.
+/// Writes for people what a fault with these words means, behind the line that told it: `files` are
+/// those that the command names, in the order in which it opens them; `-` alone is standard input.
+/// They are read once more, and what isn't there any more is left out.
 pub fn explain<R: Files + AllocGlobal, E: Write>(
     rt: &R,
     files: &[NamedFile<'_>],
-    told: &[u8],
+    words: FaultWords,
     style: Style,
     err: &mut Counted<E>,
 )
     ensures { AddsMore (E.contents (counted_inner err.old)) (E.contents (counted_inner err.new)) }
 {
     let mut page = Page::new(style);
-    if let Some(told) = Told::read(told) {
-        put_explanation(rt, rt.alloc(), files, &told, &mut page);
-    }
+    put_explanation(rt, rt.alloc(), files, &Told::of(&words), &mut page);
     let _ = write_page(page.as_bytes(), err);
 }
 

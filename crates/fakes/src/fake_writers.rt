@@ -18,6 +18,13 @@ pub enum Trouble {
     NothingTaken,
 }
 
+/// All that may happen there.
+pub const TROUBLES: [Trouble; 3] = [
+    Trouble::Failure,
+    Trouble::Interrupted,
+    Trouble::NothingTaken,
+];
+
 /// Keeps what it takes, some bytes at a time, and goes wrong at one of its calls.
 pub struct Keeper {
     kept: [u8; ROOM],

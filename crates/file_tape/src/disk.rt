@@ -3,6 +3,7 @@ ghost use Rattle.std.specs.Prelude.{◌≡◌, ◌<◌, ◌≤◌, false, true, 
 ghost use Rattle.std.specs.Io.KnownBytes.{Consumes, IsAtEnd, Keeps};
 ghost use Rattle.file_tape.specs.Stored.{TakesAt};
 
+use agent::RECORD_SIZE;
 use std::fs::OpenFile;
 use std::io;
 use std::io::{Read, Seek, SeekFrom, Write};
@@ -29,7 +30,7 @@ impl<F> Disk<F> {
 
 impl<F: Write + Seek + OpenFile> Disk<F> {
     /// Writes a record at a place, and syncs it.
-    pub(crate) fn store(&mut self, at: u32, bytes: &[u8; 10]) -> io::Result<()>
+    pub(crate) fn store(&mut self, at: u32, bytes: &[u8; RECORD_SIZE]) -> io::Result<()>
         ensures takes { OnOk result (TakesAt F.stream_position F.contents self.old.file at bytes.now self.new.file) }
         ensures synced { self.new.synced ≡ is_ok result }
     {
@@ -54,7 +55,7 @@ impl<F: Write + OpenFile> Disk<F> {
 }
 
 /// Writes a record at a place, all of it.
-fn write_at<F: Write + Seek>(file: &mut F, at: u32, bytes: &[u8; 10]) -> io::Result<()>
+fn write_at<F: Write + Seek>(file: &mut F, at: u32, bytes: &[u8; RECORD_SIZE]) -> io::Result<()>
     ensures { OnOk result (TakesAt F.stream_position F.contents file.old at bytes.now file.new) }
 {
     file.seek(SeekFrom::Start(u64::from(at)))?;

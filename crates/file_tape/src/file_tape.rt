@@ -6,7 +6,7 @@ ghost use Rattle.file_tape.specs.declared.file_tape.FileTapeFault.TheVariants.{T
 ghost use Rattle.file_tape.specs.FileTape.{file_fault_of};
 
 use crate::disk::{Disk, read_up_to};
-use agent::{MemTape, Tape, TapeError, TapeMakeFault};
+use agent::{MemTape, RECORD_LENGTH, RECORD_SIZE, Tape, TapeError, TapeMakeFault};
 use std::alloc::{AllocError, Global};
 use std::fs::{OpenFile, TryLockError};
 use std::io::{Read, Seek, Write};
@@ -16,7 +16,7 @@ use text_io::{Failure, FaultWords};
 use thiserror::Error;
 
 /// How many bytes at the most stand behind the whole records of a file.
-const TAIL: usize = 9;
+const TAIL: usize = RECORD_SIZE - 1;
 
 /// Why a file was not opened as a tape.
 #[derive(Clone, Copy, Debug, PartialEq, Eq, Error)]
@@ -111,7 +111,7 @@ impl<F: Read + Write + Seek + OpenFile + LockFile + Drop> FileTape<F> {
         let image = MemTape::from_bytes(alloc, &bytes[..room_len.min(len)], room)?;
         let mut disk = Disk::new(file);
         // Whole records are relied on from here on, and a program that was stopped may have left them unsynced.
-        let has_record = image.len() >= 10;
+        let has_record = image.len() >= RECORD_LENGTH;
         if has_record {
             disk.sync()?;
         }
@@ -165,11 +165,11 @@ impl<F: Read + Write + Seek + OpenFile> Tape for FileTape<F> {
         self.image.len()
     }
 
-    fn read_at(&mut self, at: u32, out: &mut [u8; 10]) -> Result<(), TapeError> {
+    fn read_at(&mut self, at: u32, out: &mut [u8; RECORD_SIZE]) -> Result<(), TapeError> {
         self.image.read_at(at, out)
     }
 
-    fn write_at(&mut self, at: u32, bytes: &[u8; 10]) -> Result<(), TapeError> {
+    fn write_at(&mut self, at: u32, bytes: &[u8; RECORD_SIZE]) -> Result<(), TapeError> {
         if self.disk.store(at, bytes).is_err() {
             self.failures = self.failures.saturating_add(1);
             return Err(TapeError);

@@ -1,7 +1,7 @@
 //! The program `mapf`: gives the words of the command line to `mapf_cmd`, with the files and streams of the system.
 #![tactic(auto)]
 
-use mapf_cmd::{LineFault, Remembering, Style, refuse, run};
+use mapf_cmd::{LineFault, Style, refuse, run};
 use std::alloc::Global;
 use std::env::VarError;
 use std::io::{ErrorKind, IsTerminal};
@@ -14,8 +14,8 @@ const NOT_TEXT: &str =
 
 fn main(rt: HostRuntime) -> ExitCode {
     let mut input = Counted::new(rt.stdin());
-    let mut out = Counted::new(Remembering::new(rt.stdout()));
-    let mut err = Counted::new(Remembering::new(rt.stderr()));
+    let mut out = Counted::new(rt.stdout());
+    let mut err = Counted::new(rt.stderr());
     let status = match words(&rt) {
         Ok(words) => run(
             &rt,

@@ -1,91 +1,138 @@
 -- What the program does with the words of its command line.
-use Rattle.std.specs.Prelude.{◌≡◌, ℕ, ◌⊎◌, Bool, true, false, List, [], ◌∷◌, Option, Some, codes, string_bytes}
+use Rattle.std.specs.Prelude.{◌≡◌, ℕ, ◌⊎◌, Bool, true, false, List, [], ◌∷◌, Option, None, Some, codes, string_bytes}
 use Rattle.text_io.specs.declared.failure.Failure.TheVariants as failure
 use Rattle.text_io.specs.FaultWords.{Words, failed}
 use Rattle.text_io.specs.declared.counted.Counted.{Counted}
 use Rattle.text_io.specs.Counted.{counted_inner, failures_of}
 use Rattle.text_io.specs.Writing.{WritesText}
 use Rattle.clap.specs.Words.{Text}
+use Rattle.grid.specs.declared.cell.Cell.{Cell}
+use Rattle.command_line.specs.declared.command_line.Asked.{Asked}
 use Rattle.command_line.specs.declared.command_line.Line.{Line}
 use Rattle.command_line.specs.declared.command_line.Line.TheVariants.{Map, Scen, Row, Check, Deps, Path, Run, Agent, Tape}
 use Rattle.command_line.specs.declared.command_line.LineFault.{LineFault}
 use Rattle.command_line.specs.declared.command_line.LineFault.TheVariants.{Help, BadCommand, OutOfMemory}
+use Rattle.command_line.specs.Words.{IsLineOf, IsFaultOf}
 use Rattle.text_commands.specs.declared.status.Status.TheVariants as status
+use Rattle.text_commands.specs.Ending.{End, EndsAndTells, answered_with, gave_up, Concludes}
 use Rattle.text_commands.specs.Rewriting.{EndsWriting}
 use Rattle.text_commands.specs.Status.{code_of}
-use Rattle.text_commands.specs.Telling.{Tells}
-use Rattle.command_line.specs.Words.{IsLineOf, IsFaultOf}
+use Rattle.text_commands.specs.MapCommand.{RewritesMap}
+use Rattle.text_commands.specs.RowCommand.{AnswersRow}
+use Rattle.text_commands.specs.ScenCommand.{RewritesScen}
+use Rattle.plan_commands.specs.CheckCommand.{AnswersCheck, AnswersCheckFit}
+use Rattle.plan_commands.specs.DepsCellCommand.{AnswersDepsCell}
+use Rattle.plan_commands.specs.DepsCommand.{AnswersDeps}
+use Rattle.path_commands.specs.PathCommand.{AnswersPath}
+use Rattle.run_commands.specs.RunCommand.{AnswersRun}
+use Rattle.agent_commands.specs.AgentCommand.{AnswersAgent}
+use Rattle.agent_commands.specs.TapeCommand.{AnswersTape, EndsWithoutTape}
 use Rattle.explain.specs.Explaining.{AddsMore}
-use Rattle.mapf_cmd.specs.OnFiles.{AgentOnFiles, CheckOn, DepsOn, MapOn, PathOn, RowOn, RunOn, ScenOn, TapeOn}
+
+-- ---- files, each as it was opened and as it was left: which file was opened for which word no clause can say
+
+abbrev pub OnFile : {F : Type 0} → (Counted F → Counted F → Type 0) → Type 0
+OnFile {F} Does = (a b : Counted F) × Does a b
+
+abbrev pub OnTwoFiles : {F : Type 0} → (Counted F → Counted F → Counted F → Counted F → Type 0) → Type 0
+OnTwoFiles {F} Does = (a b c d : Counted F) × Does a b c d
+
+abbrev pub OnThreeFiles : {F : Type 0} → (Counted F → Counted F → Counted F → Counted F → Counted F → Counted F → Type 0) → Type 0
+OnThreeFiles {F} Does = (a b c d e f : Counted F) × Does a b c d e f
+
+-- the name that stands for the standard input
+abbrev pub input_name : Text
+input_name = codes "-"
+
+-- the input was read where the one file of a command is `-`, and else the file, and no input
+abbrev pub OnFileOrInput : {F I : Type 0} → Text → (Counted I → Counted I → Type 0) → (Counted F → Counted F → Type 0) → Counted I → Counted I → Type 0
+OnFileOrInput file DoesInput DoesFile old_in new_in =
+    ((file ≡ input_name) × DoesInput old_in new_in) ⊎ ((file ≡ input_name → ⊥) × OnFile DoesFile × (new_in ≡ old_in))
+
+-- ---- commands
+
+-- `check` read a map and a plan, and a scenario where one is named
+abbrev pub CheckOn
+    : {F W S : Type 0} → (F → Option (List ℕ)) → (W → Option (List ℕ)) → Option S → Option ℕ → Bool → Counted W → Counted W → End → Type 0
+CheckOn remaining contents None due json old new end =
+    OnTwoFiles (λ a b c d. AnswersCheck remaining remaining contents a b c d due json old new end)
+CheckOn remaining contents (Some scen) due json old new end =
+    OnThreeFiles (λ a b c d e f. AnswersCheckFit remaining remaining remaining contents a b c d e f due json old new end)
+
+-- `deps` read a map and a plan, of which it told all, or who comes into a cell
+abbrev pub DepsOn : {F W : Type 0} → (F → Option (List ℕ)) → (W → Option (List ℕ)) → Option Cell → Counted W → Counted W → End → Type 0
+DepsOn remaining contents None old new end = OnTwoFiles (λ a b c d. AnswersDeps remaining remaining contents a b c d old new end)
+DepsOn remaining contents (Some cell) old new end =
+    OnTwoFiles (λ a b c d. AnswersDepsCell remaining remaining contents cell a b c d old new end)
 
 -- The command ended by what it read of its files. Only an agent reads the input, and a command whose one file is it.
 abbrev pub PerformsOn
-    : {F I W : Type 0} → (F → Option (List ℕ)) → (I → Option (List ℕ)) → (W → Option (List ℕ)) → (Told : Option Words → Type 0) → Line
-    → Counted I → Counted I → Counted W → Counted W → ℕ → Type 0
-PerformsOn remaining input_left contents Told (Map file explain) old_in new_in old new code =
-    MapOn remaining input_left contents Told (string_bytes file) old_in new_in old new code
-PerformsOn remaining input_left contents Told (Scen file explain) old_in new_in old new code =
-    ScenOn remaining input_left contents Told (string_bytes file) old_in new_in old new code
-PerformsOn remaining input_left contents Told (Row map_file scen_file row explain) old_in new_in old new code =
-    RowOn remaining contents Told row old new code × (new_in ≡ old_in)
-PerformsOn remaining input_left contents Told (Check map_file plan_file scen_file agents json explain) old_in new_in old new code =
-    CheckOn remaining contents Told scen_file agents json old new code × (new_in ≡ old_in)
-PerformsOn remaining input_left contents Told (Deps map_file plan_file cell explain) old_in new_in old new code =
-    DepsOn remaining contents Told cell old new code × (new_in ≡ old_in)
-PerformsOn remaining input_left contents Told (Path map_file plan_file agent explain) old_in new_in old new code =
-    PathOn remaining contents Told agent old new code × (new_in ≡ old_in)
-PerformsOn remaining input_left contents Told (Run map_file plan_file events_file complete explain) old_in new_in old new code =
-    RunOn remaining contents Told complete old new code × (new_in ≡ old_in)
-PerformsOn remaining input_left contents Told (Agent map_file plan_file id tape_file claim explain) old_in new_in old new code =
-    AgentOnFiles remaining input_left contents Told id claim old_in new_in old new code
-PerformsOn remaining input_left contents Told (Tape map_file plan_file id tape_file explain) old_in new_in old new code =
-    TapeOn remaining contents Told id old new code × (new_in ≡ old_in)
+    : {F I W : Type 0} → (F → Option (List ℕ)) → (I → Option (List ℕ)) → (W → Option (List ℕ)) → Line
+    → Counted I → Counted I → Counted W → Counted W → End → Type 0
+PerformsOn remaining input_left contents (Map file) old_in new_in old new end =
+    OnFileOrInput (string_bytes file) (λ a b. RewritesMap input_left contents a b old new end) (λ a b. RewritesMap remaining contents a b old new end)
+    old_in new_in
+PerformsOn remaining input_left contents (Scen file) old_in new_in old new end =
+    OnFileOrInput (string_bytes file) (λ a b. RewritesScen input_left contents a b old new end) (λ a b. RewritesScen remaining contents a b old new end)
+    old_in new_in
+PerformsOn remaining input_left contents (Row map_file scen_file row) old_in new_in old new end =
+    OnTwoFiles (λ a b c d. AnswersRow remaining remaining contents a b c d row old new end) × (new_in ≡ old_in)
+PerformsOn remaining input_left contents (Check map_file plan_file scen_file agents json) old_in new_in old new end =
+    CheckOn remaining contents scen_file agents json old new end × (new_in ≡ old_in)
+PerformsOn remaining input_left contents (Deps map_file plan_file cell) old_in new_in old new end =
+    DepsOn remaining contents cell old new end × (new_in ≡ old_in)
+PerformsOn remaining input_left contents (Path map_file plan_file agent) old_in new_in old new end =
+    OnTwoFiles (λ a b c d. AnswersPath remaining remaining contents agent a b c d old new end) × (new_in ≡ old_in)
+PerformsOn remaining input_left contents (Run map_file plan_file events_file complete) old_in new_in old new end =
+    OnThreeFiles (λ a b c d e f. AnswersRun remaining remaining remaining contents a b c d e f complete old new end) × (new_in ≡ old_in)
+PerformsOn remaining input_left contents (Agent map_file plan_file id tape_file claim) old_in new_in old new end =
+    OnTwoFiles (λ a b c d. AnswersAgent remaining remaining remaining input_left contents claim id a b c d old_in new_in old new end)
+PerformsOn remaining input_left contents (Tape map_file plan_file id tape_file) old_in new_in old new end =
+    (OnThreeFiles (λ a b c d e f. AnswersTape remaining remaining remaining contents id a b c d e f old new end) ⊎ (EndsWithoutTape end × (new ≡ old)))
+    × (new_in ≡ old_in)
 
--- the command was performed, or a file of it could not be opened, and nothing was read or written but that
+-- the command was performed, or a file of it could not be opened, and nothing was read or written
 abbrev pub Performs
-    : {F I W : Type 0} → (F → Option (List ℕ)) → (I → Option (List ℕ)) → (W → Option (List ℕ)) → (Told : Option Words → Type 0) → Line
-    → Counted I → Counted I → Counted W → Counted W → ℕ → Type 0
-Performs remaining input_left contents Told line old_in new_in old new code =
-    PerformsOn remaining input_left contents Told line old_in new_in old new code
-    ⊎ ((code ≡ code_of status.Failure) × (new_in ≡ old_in) × (new ≡ old) × Told (Some (failed failure.OpenFailed)))
+    : {F I W : Type 0} → (F → Option (List ℕ)) → (I → Option (List ℕ)) → (W → Option (List ℕ)) → Line
+    → Counted I → Counted I → Counted W → Counted W → End → Type 0
+Performs remaining input_left contents line old_in new_in old new end =
+    PerformsOn remaining input_left contents line old_in new_in old new end
+    ⊎ ((end ≡ gave_up (failed failure.OpenFailed)) × (new_in ≡ old_in) × (new ≡ old))
+
+-- the fault that is explained: that of the command, where this is asked for
+abbrev pub explained_of : Bool → End → Option Words
+explained_of true end = end.explained
+explained_of false end = None
+
+-- an explanation goes behind what the error output has; where there is none, that is left alone
+abbrev pub Explains : {E : Type 0} → (E → Option (List ℕ)) → Option Words → Counted E → Counted E → Type 0
+Explains told None old new = new ≡ old
+Explains told (Some words) old new = AddsMore (told (counted_inner old)) (told (counted_inner new))
+
+-- The command was performed, what is told of its ending left the error output so, and an explanation is behind that, where one is asked
+-- for.
+pub record AnswersLine
+    {F I W E : Type 0} (remaining : F → Option (List ℕ)) (input_left : I → Option (List ℕ)) (contents : W → Option (List ℕ))
+    (told : E → Option (List ℕ)) (asked : Asked) (old_in new_in : Counted I) (old new : Counted W) (old_err new_err : Counted E) (code : ℕ) : Type 0 where
+  pub end : End
+  pub performs : Performs remaining input_left contents asked.line old_in new_in old new end
+  pub so_far : Counted E
+  pub concludes : Concludes told old_err so_far code end
+  pub explains : Explains told (explained_of asked.explain end) so_far new_err
+
+-- ---- words that are no command
 
 -- How the program ends that has no command: it shows its help on the output; or it writes to the error output what is wrong with its
 -- words, or a beginning of that where the error output failed.
 abbrev pub EndsRefused
     : {W E : Type 0} → (W → Option (List ℕ)) → (E → Option (List ℕ)) → LineFault → Counted W → Counted W → Counted E → Counted E → ℕ → Type 0
 EndsRefused contents told (Help text) old new old_err new_err code =
-    EndsWriting contents (Tells told old_err new_err) old new code status.Done (string_bytes text)
+    EndsAndTells (λ end. EndsWriting contents old new (answered_with status.Done) end (string_bytes text)) told old_err new_err code
 EndsRefused contents told (BadCommand text) old new old_err new_err code =
     (code ≡ code_of status.BadCommand) × (new ≡ old)
     × ((ok : Bool) × WritesText ok (told (counted_inner old_err)) (told (counted_inner new_err)) (failures_of old_err) (failures_of new_err) (string_bytes text))
 EndsRefused contents told OutOfMemory old new old_err new_err code =
-    (code ≡ code_of status.Failure) × (new ≡ old) × Tells told old_err new_err (Some (failed failure.OutOfMemory))
-
--- an explanation is asked for
-abbrev pub is_explained : Line → Bool
-is_explained (Map file explain) = explain
-is_explained (Scen file explain) = explain
-is_explained (Row map_file scen_file row explain) = explain
-is_explained (Check map_file plan_file scen_file agents json explain) = explain
-is_explained (Deps map_file plan_file cell explain) = explain
-is_explained (Path map_file plan_file agent explain) = explain
-is_explained (Run map_file plan_file events_file complete explain) = explain
-is_explained (Agent map_file plan_file id tape_file claim explain) = explain
-is_explained (Tape map_file plan_file id tape_file explain) = explain
-
--- what an explanation does, where one is asked for: the error output goes on behind what it has; and else it is left alone
-abbrev pub Explains : {E : Type 0} → (E → Option (List ℕ)) → Bool → Counted E → Counted E → Type 0
-Explains told true old new = AddsMore (told (counted_inner old)) (told (counted_inner new))
-Explains told false old new = new ≡ old
-
--- The command was performed, which left the error output so, and then explained, where that is asked for. So its status, its input and its
--- output are those of the command, and what it tells is followed by the explanation.
-abbrev pub AnswersLine
-    : {F I W E : Type 0} → (F → Option (List ℕ)) → (I → Option (List ℕ)) → (W → Option (List ℕ)) → (E → Option (List ℕ)) → Line
-    → Counted I → Counted I → Counted W → Counted W → Counted E → Counted E → ℕ → Type 0
-AnswersLine {E = E} remaining input_left contents told line old_in new_in old new old_err new_err code =
-    (so_far : Counted E) × Performs remaining input_left contents (Tells told old_err so_far) line old_in new_in old new code
-    × Explains told (is_explained line) so_far new_err
+    EndsAndTells (λ end. (end ≡ gave_up (failed failure.OutOfMemory)) × (new ≡ old)) told old_err new_err code
 
 -- the words, which are a bad command line to clap, ask for help on something that is no command
 abbrev pub AsksForFaultHelp : List Text → LineFault → Type 0
@@ -98,7 +145,7 @@ abbrev pub EndsUnperformed
     → Counted W → Counted W → Counted E → Counted E → ℕ → Type 0
 EndsUnperformed contents told words fault old new old_err new_err code =
     (AsksForFaultHelp words fault
-    × ((text : List ℕ) × EndsWriting contents (Tells told old_err new_err) old new code status.Done text))
+    × ((text : List ℕ) × EndsAndTells (λ end. EndsWriting contents old new (answered_with status.Done) end text) told old_err new_err code))
     ⊎ EndsRefused contents told fault old new old_err new_err code
 
 -- the words are a command, which was performed, or none, and then nothing was read
@@ -106,5 +153,5 @@ abbrev pub AnswersWords
     : {F I W E : Type 0} → (F → Option (List ℕ)) → (I → Option (List ℕ)) → (W → Option (List ℕ)) → (E → Option (List ℕ)) → List Text
     → Counted I → Counted I → Counted W → Counted W → Counted E → Counted E → ℕ → Type 0
 AnswersWords remaining input_left contents told words old_in new_in old new old_err new_err code =
-    ((line : Line) × IsLineOf words line × AnswersLine remaining input_left contents told line old_in new_in old new old_err new_err code)
+    ((asked : Asked) × IsLineOf words asked × AnswersLine remaining input_left contents told asked old_in new_in old new old_err new_err code)
     ⊎ ((fault : LineFault) × IsFaultOf words fault × EndsUnperformed contents told words fault old new old_err new_err code × (new_in ≡ old_in))

@@ -1,20 +1,17 @@
 //! The program `mapf` over its words. Its command line and its commands stand in crates below.
 #![tactic(auto)]
 
-mod fault_line;
 mod on_files;
 mod program;
-mod remembering;
 mod unperformed;
 
-pub use agent_commands::{agent_claim_cmd, agent_cmd, tape_cmd};
-pub use command_line::{Line, LineFault, line};
+pub use agent_commands::{Seat, agent_cmd, tape_cmd};
+pub use command_line::{Asked, Line, LineFault, line};
 pub use explain::Style;
 pub use path_commands::path_cmd;
 pub use plan_commands::{Verdict, check_cmd, check_fit_cmd, deps_cell_cmd, deps_cmd, verdict_json};
 pub use program::run;
-pub use remembering::Remembering;
 pub use run_commands::run_cmd;
 pub use tape_claim::{LockFile, TapeClaim};
-pub use text_commands::{Status, map_cmd, report, row_cmd, scen_cmd};
+pub use text_commands::{Ending, Status, conclude, map_cmd, row_cmd, scen_cmd};
 pub use unperformed::refuse;

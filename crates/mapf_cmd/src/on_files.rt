@@ -1,37 +1,101 @@
 //! Each command on its files, which are opened in the order of its words. An error is that of a file that can't be opened.
-ghost use Rattle.std.specs.Prelude.{◌≡◌, MatchResult};
-ghost use Rattle.text_commands.specs.Telling.{Tells};
-ghost use Rattle.mapf_cmd.specs.OnFiles.{AgentOnFiles, CheckOn, DepsOn, MapOn, PathOn, RowOn, RunOn, ScenOn, TapeOn};
+ghost use Rattle.std.specs.Prelude.{◌≡◌, ◌⊎◌, MatchBool, MatchOption, MatchResult, string_bytes};
+ghost use Rattle.text_commands.specs.Ending.{end_of};
+ghost use Rattle.text_commands.specs.MapCommand.{RewritesMap};
+ghost use Rattle.text_commands.specs.RowCommand.{AnswersRow};
+ghost use Rattle.text_commands.specs.ScenCommand.{RewritesScen};
+ghost use Rattle.path_commands.specs.PathCommand.{AnswersPath};
+ghost use Rattle.run_commands.specs.RunCommand.{AnswersRun};
+ghost use Rattle.agent_commands.specs.AgentCommand.{AnswersAgent};
+ghost use Rattle.agent_commands.specs.TapeCommand.{AnswersTape, EndsWithoutTape};
+ghost use Rattle.mapf_cmd.specs.Program.{CheckOn, DepsOn, OnFileOrInput, OnTwoFiles, OnThreeFiles, PerformsOn};
 
-use agent_commands::{agent_claim_cmd, no_tape_cmd, tape_cmd};
+use agent_commands::{Seat, agent_command, tape_command};
+use command_line::Line;
+use explain::{FileKind, NamedFile};
 use grid::Cell;
-use path_commands::path_cmd;
-use plan_commands::{check_cmd, check_fit_cmd, deps_cell_cmd, deps_cmd};
-use run_commands::run_cmd;
+use path_commands::path_command;
+use plan_commands::{check_command, deps_cell_command, deps_command};
+use run_commands::run_command;
 use std::io::{ErrorKind, Read, Write};
 use std::rt::Files;
 use std::{fs, io};
-use tape_claim::{LockFile, TapeClaim};
-use text_commands::{map_cmd, row_cmd, scen_cmd};
+use tape_claim::LockFile;
+use text_commands::{Ending, map_command, row_command, scen_command};
 use text_io::Counted;
+
+/// Performs a command on its files.
+pub(crate) fn perform_on_files<R: Files + AllocGlobal, I: Read, W: Write>(
+    rt: &R,
+    line: &Line,
+    input: &mut Counted<I>,
+    out: &mut Counted<W>,
+) -> io::Result<Ending>
+where
+    R::File: LockFile,
+    ensures { MatchResult result (λ ending. PerformsOn R.File.remaining I.remaining W.contents line.now input.old input.new out.old out.new (end_of ending))
+        (λ _. (input.new ≡ input.old) × (out.new ≡ out.old)) }
+{
+    match line {
+        Line::Map { file } => map_on_file(rt, file, input, out),
+        Line::Scen { file } => scen_on_file(rt, file, input, out),
+        Line::Row { map, scen, row } => row_on_files(rt, map, scen, *row, out),
+        Line::Check {
+            map,
+            plan,
+            scen,
+            agents,
+            json,
+        } => check_on_files(rt, [map, plan], scen, *agents, *json, out),
+        Line::Deps { map, plan, cell } => deps_on_files(rt, map, plan, *cell, out),
+        Line::Path { map, plan, agent } => path_on_files(rt, map, plan, *agent, out),
+        Line::Run {
+            map,
+            plan,
+            events,
+            complete,
+        } => run_on_files(rt, [map, plan, events], *complete, out),
+        Line::Agent {
+            map,
+            plan,
+            id,
+            tape,
+            claim,
+        } => {
+            let seat = Seat {
+                id: *id,
+                path: tape,
+                claim: *claim,
+            };
+            agent_on_files(rt, [map, plan], seat, input, out)
+        }
+        Line::Tape {
+            map,
+            plan,
+            id,
+            tape,
+        } => tape_on_files(rt, [map, plan, tape], *id, out),
+    }
+}
 
 /// Performs `map` on its file, or on the input where that is `-`.
 // Compiled by itself, for its room on the stack.
 #[inline(never)]
-pub(crate) fn map_on_file<R: Files + AllocGlobal, I: Read, W: Write, E: Write>(
+fn map_on_file<R: Files + AllocGlobal, I: Read, W: Write>(
     rt: &R,
     file: &str,
     input: &mut Counted<I>,
     out: &mut Counted<W>,
-    err: &mut Counted<E>,
-) -> io::Result<u8>
-    ensures { MatchResult result (MapOn R.File.remaining I.remaining W.contents (Tells E.contents err.old err.new) file.now input.old input.new out.old out.new) (λ _. (input.new ≡ input.old) × (out.new ≡ out.old) × (err.new ≡ err.old)) }
+) -> io::Result<Ending>
+    ensures { MatchResult result (λ ending. OnFileOrInput file.now (λ a b. RewritesMap I.remaining W.contents a b out.old out.new (end_of ending))
+        (λ a b. RewritesMap R.File.remaining W.contents a b out.old out.new (end_of ending)) input.old input.new)
+        (λ _. (input.new ≡ input.old) × (out.new ≡ out.old)) }
 {
     match file {
-        "-" => Ok(map_cmd(rt.alloc(), input, out, err)),
+        "-" => Ok(map_command::perform(rt.alloc(), input, out)),
         _ => {
             let mut map = Counted::new(fs::open(rt, file)?);
-            Ok(map_cmd(rt.alloc(), &mut map, out, err))
+            Ok(map_command::perform(rt.alloc(), &mut map, out))
         }
     }
 }
@@ -39,60 +103,58 @@ pub(crate) fn map_on_file<R: Files + AllocGlobal, I: Read, W: Write, E: Write>(
 /// Performs `scen` on its file, or on the input where that is `-`.
 // Compiled by itself, for its room on the stack.
 #[inline(never)]
-pub(crate) fn scen_on_file<R: Files + AllocGlobal, I: Read, W: Write, E: Write>(
+fn scen_on_file<R: Files + AllocGlobal, I: Read, W: Write>(
     rt: &R,
     file: &str,
     input: &mut Counted<I>,
     out: &mut Counted<W>,
-    err: &mut Counted<E>,
-) -> io::Result<u8>
-    ensures { MatchResult result (ScenOn R.File.remaining I.remaining W.contents (Tells E.contents err.old err.new) file.now input.old input.new out.old out.new) (λ _. (input.new ≡ input.old) × (out.new ≡ out.old) × (err.new ≡ err.old)) }
+) -> io::Result<Ending>
+    ensures { MatchResult result (λ ending. OnFileOrInput file.now (λ a b. RewritesScen I.remaining W.contents a b out.old out.new (end_of ending))
+        (λ a b. RewritesScen R.File.remaining W.contents a b out.old out.new (end_of ending)) input.old input.new)
+        (λ _. (input.new ≡ input.old) × (out.new ≡ out.old)) }
 {
     match file {
-        "-" => Ok(scen_cmd(rt.alloc(), input, out, err)),
+        "-" => Ok(scen_command::perform(rt.alloc(), input, out)),
         _ => {
             let mut scen = Counted::new(fs::open(rt, file)?);
-            Ok(scen_cmd(rt.alloc(), &mut scen, out, err))
+            Ok(scen_command::perform(rt.alloc(), &mut scen, out))
         }
     }
 }
 
-/// Performs `row` on its files.
-pub(crate) fn row_on_files<R: Files + AllocGlobal, W: Write, E: Write>(
+fn row_on_files<R: Files + AllocGlobal, W: Write>(
     rt: &R,
     map: &str,
     scen: &str,
     row: u32,
     out: &mut Counted<W>,
-    err: &mut Counted<E>,
-) -> io::Result<u8>
-    ensures { MatchResult result (RowOn R.File.remaining W.contents (Tells E.contents err.old err.new) row out.old out.new) (λ _. (out.new ≡ out.old) × (err.new ≡ err.old)) }
+) -> io::Result<Ending>
+    ensures { MatchResult result (λ ending. OnTwoFiles (λ a b c d. AnswersRow R.File.remaining R.File.remaining W.contents a b c d row out.old out.new (end_of ending)))
+        (λ _. out.new ≡ out.old) }
 {
     let mut map = Counted::new(fs::open(rt, map)?);
     let mut scen = Counted::new(fs::open(rt, scen)?);
-    Ok(row_cmd(rt.alloc(), &mut map, &mut scen, row, out, err))
+    Ok(row_command::perform(rt.alloc(), &mut map, &mut scen, row, out))
 }
 
-/// Performs `check` on its files.
-pub(crate) fn check_on_files<R: Files + AllocGlobal, W: Write, E: Write>(
+fn check_on_files<R: Files + AllocGlobal, W: Write>(
     rt: &R,
-    map: &str,
-    plan: &str,
+    paths: [&str; 2],
     scen: &Option<String>,
     due: Option<u16>,
     json: bool,
     out: &mut Counted<W>,
-    err: &mut Counted<E>,
-) -> io::Result<u8>
-    ensures { MatchResult result (CheckOn R.File.remaining W.contents (Tells E.contents err.old err.new) scen.now due json out.old out.new) (λ _. (out.new ≡ out.old) × (err.new ≡ err.old)) }
+) -> io::Result<Ending>
+    ensures { MatchResult result (λ ending. CheckOn R.File.remaining W.contents scen.now due json out.old out.new (end_of ending)) (λ _. out.new ≡ out.old) }
 {
+    let [map, plan] = paths;
     let mut map = Counted::new(fs::open(rt, map)?);
     let mut plan = Counted::new(fs::open(rt, plan)?);
     match scen {
-        None => Ok(check_cmd(rt.alloc(), &mut map, &mut plan, due, json, out, err)),
+        None => Ok(check_command::perform(rt.alloc(), &mut map, &mut plan, due, json, out)),
         Some(scen) => {
             let mut scen = Counted::new(fs::open(rt, scen)?);
-            Ok(check_fit_cmd(
+            Ok(check_command::perform_fit(
                 rt.alloc(),
                 &mut map,
                 &mut plan,
@@ -100,114 +162,97 @@ pub(crate) fn check_on_files<R: Files + AllocGlobal, W: Write, E: Write>(
                 due,
                 json,
                 out,
-                err,
             ))
         }
     }
 }
 
-/// Performs `deps` on its files.
-pub(crate) fn deps_on_files<R: Files + AllocGlobal, W: Write, E: Write>(
+fn deps_on_files<R: Files + AllocGlobal, W: Write>(
     rt: &R,
     map: &str,
     plan: &str,
     cell: Option<Cell>,
     out: &mut Counted<W>,
-    err: &mut Counted<E>,
-) -> io::Result<u8>
-    ensures { MatchResult result (DepsOn R.File.remaining W.contents (Tells E.contents err.old err.new) cell out.old out.new) (λ _. (out.new ≡ out.old) × (err.new ≡ err.old)) }
+) -> io::Result<Ending>
+    ensures { MatchResult result (λ ending. DepsOn R.File.remaining W.contents cell out.old out.new (end_of ending)) (λ _. out.new ≡ out.old) }
 {
     let mut map = Counted::new(fs::open(rt, map)?);
     let mut plan = Counted::new(fs::open(rt, plan)?);
     match cell {
-        None => Ok(deps_cmd(rt.alloc(), &mut map, &mut plan, out, err)),
-        Some(cell) => Ok(deps_cell_cmd(rt.alloc(), &mut map, &mut plan, cell, out, err)),
+        None => Ok(deps_command::perform(rt.alloc(), &mut map, &mut plan, out)),
+        Some(cell) => Ok(deps_cell_command::perform(rt.alloc(), &mut map, &mut plan, cell, out)),
     }
 }
 
-/// Performs `path` on its files.
-pub(crate) fn path_on_files<R: Files + AllocGlobal, W: Write, E: Write>(
+fn path_on_files<R: Files + AllocGlobal, W: Write>(
     rt: &R,
     map: &str,
     plan: &str,
     agent: Option<u16>,
     out: &mut Counted<W>,
-    err: &mut Counted<E>,
-) -> io::Result<u8>
-    ensures { MatchResult result (PathOn R.File.remaining W.contents (Tells E.contents err.old err.new) agent out.old out.new) (λ _. (out.new ≡ out.old) × (err.new ≡ err.old)) }
+) -> io::Result<Ending>
+    ensures { MatchResult result (λ ending. OnTwoFiles (λ a b c d. AnswersPath R.File.remaining R.File.remaining W.contents agent a b c d out.old out.new (end_of ending)))
+        (λ _. out.new ≡ out.old) }
 {
     let mut map = Counted::new(fs::open(rt, map)?);
     let mut plan = Counted::new(fs::open(rt, plan)?);
-    Ok(path_cmd(rt.alloc(), &mut map, &mut plan, agent, out, err))
+    Ok(path_command::perform(rt.alloc(), &mut map, &mut plan, agent, out))
 }
 
-/// Performs `run` on its files.
-pub(crate) fn run_on_files<R: Files + AllocGlobal, W: Write, E: Write>(
+fn run_on_files<R: Files + AllocGlobal, W: Write>(
     rt: &R,
-    map: &str,
-    plan: &str,
-    events: &str,
+    paths: [&str; 3],
     complete: bool,
     out: &mut Counted<W>,
-    err: &mut Counted<E>,
-) -> io::Result<u8>
-    ensures { MatchResult result (RunOn R.File.remaining W.contents (Tells E.contents err.old err.new) complete out.old out.new) (λ _. (out.new ≡ out.old) × (err.new ≡ err.old)) }
+) -> io::Result<Ending>
+    ensures { MatchResult result (λ ending. OnThreeFiles (λ a b c d e f. AnswersRun R.File.remaining R.File.remaining R.File.remaining W.contents a b c d e f complete out.old out.new (end_of ending)))
+        (λ _. out.new ≡ out.old) }
 {
+    let [map, plan, events] = paths;
     let mut map = Counted::new(fs::open(rt, map)?);
     let mut plan = Counted::new(fs::open(rt, plan)?);
     let mut events = Counted::new(fs::open(rt, events)?);
-    Ok(run_cmd(
-        rt.alloc(),
-        &mut map,
-        &mut plan,
-        &mut events,
-        complete,
-        out,
-        err,
-    ))
+    Ok(run_command::perform(rt.alloc(), &mut map, &mut plan, &mut events, complete, out))
 }
 
-/// Performs `agent` on its files. The tape is opened once the plan is read.
-pub(crate) fn agent_on_files<R: Files + AllocGlobal, I: Read, W: Write, E: Write>(
+/// The tape is opened once the plan is read.
+fn agent_on_files<R: Files + AllocGlobal, I: Read, W: Write>(
     rt: &R,
-    map: &str,
-    plan: &str,
-    id: u16,
-    tape: &str,
-    claim: TapeClaim,
+    paths: [&str; 2],
+    seat: Seat<'_>,
     input: &mut Counted<I>,
     out: &mut Counted<W>,
-    err: &mut Counted<E>,
-) -> io::Result<u8>
+) -> io::Result<Ending>
 where
     R::File: LockFile,
-    ensures { MatchResult result (AgentOnFiles R.File.remaining I.remaining W.contents (Tells E.contents err.old err.new) id claim input.old input.new out.old out.new) (λ _. (input.new ≡ input.old) × (out.new ≡ out.old) × (err.new ≡ err.old)) }
+    ensures { MatchResult result (λ ending. OnTwoFiles (λ a b c d. AnswersAgent R.File.remaining R.File.remaining R.File.remaining I.remaining W.contents seat.entry.claim seat.entry.id a b c d input.old input.new out.old out.new (end_of ending)))
+        (λ _. (input.new ≡ input.old) × (out.new ≡ out.old)) }
 {
+    let [map, plan] = paths;
     let mut map = Counted::new(fs::open(rt, map)?);
     let mut plan = Counted::new(fs::open(rt, plan)?);
-    Ok(agent_claim_cmd(rt, &mut map, &mut plan, id, tape, claim, input, out, err))
+    Ok(agent_command::perform(rt, &mut map, &mut plan, seat, input, out))
 }
 
-/// Performs `tape` on its files, of which it writes none. That the tape has none is a fault of its own.
-pub(crate) fn tape_on_files<R: Files + AllocGlobal, W: Write, E: Write>(
+/// No file is written. That the tape has none is a fault of its own.
+fn tape_on_files<R: Files + AllocGlobal, W: Write>(
     rt: &R,
-    map: &str,
-    plan: &str,
+    paths: [&str; 3],
     id: u16,
-    tape: &str,
     out: &mut Counted<W>,
-    err: &mut Counted<E>,
-) -> io::Result<u8>
-    ensures { MatchResult result (TapeOn R.File.remaining W.contents (Tells E.contents err.old err.new) id out.old out.new) (λ _. (out.new ≡ out.old) × (err.new ≡ err.old)) }
+) -> io::Result<Ending>
+    ensures { MatchResult result (λ ending. OnThreeFiles (λ a b c d e f. AnswersTape R.File.remaining R.File.remaining R.File.remaining W.contents id a b c d e f out.old out.new (end_of ending))
+        ⊎ (EndsWithoutTape (end_of ending) × (out.new ≡ out.old))) (λ _. out.new ≡ out.old) }
 {
+    let [map, plan, tape] = paths;
     let mut map = Counted::new(fs::open(rt, map)?);
     let mut plan = Counted::new(fs::open(rt, plan)?);
     match open_if_there(rt, tape)? {
         Some(file) => {
             let mut tape = Counted::new(file);
-            Ok(tape_cmd(rt.alloc(), &mut map, &mut plan, id, &mut tape, out, err))
+            Ok(tape_command::perform(rt.alloc(), &mut map, &mut plan, id, &mut tape, out))
         }
-        None => Ok(no_tape_cmd(out, err)),
+        None => Ok(tape_command::without_tape()),
     }
 }
 
@@ -218,4 +263,59 @@ fn open_if_there<R: Files>(rt: &R, path: &str) -> io::Result<Option<R::File>> {
         Err(error) if error.kind() == ErrorKind::NotFound => Ok(None),
         Err(error) => Err(error),
     }
+}
+
+/// The files that a command names, up to three, in the order in which it opens them.
+pub(crate) fn files_of(
+    line: &Line,
+) -> (NamedFile<'_>, Option<NamedFile<'_>>, Option<NamedFile<'_>>) {
+    use FileKind::{Events, Map, Plan, Scenario, Tape};
+    match line {
+        Line::Map { file } => (file_of(Map, file), None, None),
+        Line::Scen { file } => (file_of(Scenario, file), None, None),
+        Line::Row { map, scen, .. } => (file_of(Map, map), Some(file_of(Scenario, scen)), None),
+        Line::Check {
+            map,
+            plan,
+            scen,
+            ..
+        } => (
+            file_of(Map, map),
+            Some(file_of(Plan, plan)),
+            scen.as_ref().map(|scen| file_of(Scenario, scen)),
+        ),
+        Line::Deps { map, plan, .. } | Line::Path { map, plan, .. } => {
+            (file_of(Map, map), Some(file_of(Plan, plan)), None)
+        }
+        Line::Run {
+            map,
+            plan,
+            events,
+            ..
+        } => (
+            file_of(Map, map),
+            Some(file_of(Plan, plan)),
+            Some(file_of(Events, events)),
+        ),
+        Line::Agent {
+            map,
+            plan,
+            tape,
+            ..
+        }
+        | Line::Tape {
+            map,
+            plan,
+            tape,
+            ..
+        } => (
+            file_of(Map, map),
+            Some(file_of(Plan, plan)),
+            Some(file_of(Tape, tape)),
+        ),
+    }
+}
+
+fn file_of(kind: FileKind, path: &str) -> NamedFile<'_> {
+    NamedFile { kind, path }
 }

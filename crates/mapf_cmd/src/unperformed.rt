@@ -1,11 +1,13 @@
 //! How the program ends where its words are no command.
 ghost use Rattle.std.specs.Prelude.{◌≡◌, IfSome, map, string_bytes};
+ghost use Rattle.text_commands.specs.Ending.{EndsAndTells, answered_with};
+ghost use Rattle.text_commands.specs.Rewriting.{EndsWriting};
 ghost use Rattle.mapf_cmd.specs.Program.{AsksForFaultHelp, EndsRefused, EndsUnperformed};
 
 use command_line::LineFault;
 use explain::{FaultHelp, fault_help};
 use std::io::Write;
-use text_commands::{Status, finish, give_up, write_text};
+use text_commands::{Ending, Status, conclude, finish, write_text};
 use text_io::{Counted, Failure};
 
 /// Shows help on a fault, where the words ask for that, and else what `refuse` does. The answer is the exit status.
@@ -20,10 +22,7 @@ pub(crate) fn end_unperformed<W: Write, E: Write>(
     ensures { EndsUnperformed W.contents E.contents (map string_bytes words.now) fault out.old out.new err.old err.new result }
 {
     match fault_help_of(words, &fault) {
-        Some(help) => {
-            let written = write_text(help.as_bytes(), out);
-            finish(written, Status::Done, out, err).code()
-        }
+        Some(help) => show(help.as_bytes(), out, err),
         None => refuse(fault, out, err),
     }
 }
@@ -50,14 +49,22 @@ pub fn refuse<W: Write, E: Write>(
     ensures { EndsRefused W.contents E.contents fault out.old out.new err.old err.new result }
 {
     match fault {
-        LineFault::Help(text) => {
-            let written = write_text(text.as_bytes(), out);
-            finish(written, Status::Done, out, err).code()
-        }
+        LineFault::Help(text) => show(text.as_bytes(), out, err),
         LineFault::BadCommand(text) => {
             let _ = write_text(text.as_bytes(), err);
             Status::BadCommand.code()
         }
-        LineFault::OutOfMemory => give_up(Failure::OutOfMemory.words(), err),
+        LineFault::OutOfMemory => conclude(Ending::gave_up(Failure::OutOfMemory.words()), err),
     }
+}
+
+/// Shows a text on the output.
+fn show<W: Write, E: Write>(text: &[u8], out: &mut Counted<W>, err: &mut Counted<E>) -> u8
+    ensures { EndsAndTells (λ end. EndsWriting W.contents out.old out.new (answered_with Status.Done) end text.now) E.contents err.old err.new result }
+{
+    let written = write_text(text, out);
+    conclude(
+        finish(written, Ending::answered_with(Status::Done), out),
+        err,
+    )
 }

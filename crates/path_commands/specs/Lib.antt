@@ -1,5 +1,5 @@
 -- What has to be believed, in the order in which to read it: each promise of the crate is made in these words, and in those of
--- `model`, `text_commands` and `plan_commands`.
+-- `model`, `planned` and `text_commands`.
 
 -- which plans can be walked, agent by agent, and what is wrong with the others
 pub mod Walkable

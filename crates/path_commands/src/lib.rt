@@ -4,7 +4,7 @@
 mod cell_text;
 pub mod laws;
 mod numerals;
-mod path_command;
+pub mod path_command;
 mod path_fault;
 mod path_text;
 mod straying;

@@ -1,6 +1,6 @@
 //! `mapf path`: writes where the agents of a plan are, time by time.
 ghost use Rattle.std.specs.Prelude.{◌≡◌, IfOk, MatchOption, Some};
-ghost use Rattle.text_commands.specs.Telling.{Tells};
+ghost use Rattle.text_commands.specs.Ending.{EndsAndTells, end_of};
 ghost use Rattle.path_commands.specs.PathCommand.{AnswersPath, ReadsWalkable};
 ghost use Rattle.path_commands.specs.PathText.{AreAsked};
 ghost use Rattle.plan.specs.Code.Walking.{start_cells};
@@ -15,15 +15,15 @@ use crate::straying::fault_of_one_agent;
 use crate::walk::{first_stretches, starts};
 use grid::{Cell, read_map};
 use plan::{Plan, Stretch, read_plan};
-use plan_commands::{CheckFault, Rejection};
 use plan_text::Course;
+use planned::PlannedFault;
 use std::alloc::{AllocError, Global};
 use std::io::{Read, Write};
-use text_commands::{Status, finish, give_up};
+use text_commands::{Ending, Status, conclude, finish};
 use text_io::Counted;
 
-/// Reads a map from `map` and a plan from `plan`, and writes where its agents are at each time to `out`, or where one of them is, with
-/// a fault's line on `err`, also one of a start or a move. Agents may meet. The answer is the exit status, which stays where `err` fails.
+/// As `perform`, with a fault's line on `err`. The answer is the exit status, which stays where
+/// `err` fails.
 pub fn path_cmd<M: Read, P: Read, W: Write, E: Write>(
     alloc: Global,
     map: &mut Counted<M>,
@@ -32,11 +32,26 @@ pub fn path_cmd<M: Read, P: Read, W: Write, E: Write>(
     out: &mut Counted<W>,
     err: &mut Counted<E>,
 ) -> u8
-    ensures { AnswersPath M.remaining P.remaining W.contents (Tells E.contents err.old err.new) agent map.old map.new plan.old plan.new out.old out.new result }
+    ensures { EndsAndTells (AnswersPath M.remaining P.remaining W.contents agent map.old map.new plan.old plan.new out.old out.new)
+        E.contents err.old err.new result }
+{
+    conclude(perform(alloc, map, plan, agent, out), err)
+}
+
+/// Reads a map from `map` and a plan from `plan`, and writes where its agents are at each time to
+/// `out`, or where one of them is. A bad start or move is a fault; agents may meet.
+pub fn perform<M: Read, P: Read, W: Write>(
+    alloc: Global,
+    map: &mut Counted<M>,
+    plan: &mut Counted<P>,
+    agent: Option<u16>,
+    out: &mut Counted<W>,
+) -> Ending
+    ensures { AnswersPath M.remaining P.remaining W.contents agent map.old map.new plan.old plan.new out.old out.new (end_of result) }
 {
     match read_walkable(alloc, map, plan) {
-        Ok(plan) => show(alloc, &plan, agent, out, err),
-        Err(fault) => give_up(PathFault::Texts(fault).words(), err),
+        Ok(plan) => show(alloc, &plan, agent, out),
+        Err(fault) => Ending::gave_up(PathFault::Planned(fault).words()),
     }
 }
 
@@ -45,7 +60,7 @@ fn read_walkable<M: Read, P: Read>(
     alloc: Global,
     map: &mut Counted<M>,
     plan: &mut Counted<P>,
-) -> Result<Plan, CheckFault>
+) -> Result<Plan, PlannedFault>
     ensures reads { ReadsWalkable M.remaining P.remaining map.old map.new plan.old plan.new result }
     ensures walked { IfOk result (λ p. AllWalked p.courses) }
 {
@@ -53,23 +68,17 @@ fn read_walkable<M: Read, P: Read>(
     let plan = read_plan(alloc, plan)?;
     match fault_of_one_agent(alloc, &map, &plan) {
         None => Ok(plan),
-        Some(fault) => Err(CheckFault::Rejected(Rejection::Invalid(fault))),
+        Some(fault) => Err(PlannedFault::Plan(fault)),
     }
 }
 
-/// Writes the rows of all agents, or those of one, or says why there are none. The answer is the exit status.
-fn show<W: Write, E: Write>(
-    alloc: Global,
-    plan: &Plan,
-    agent: Option<u16>,
-    out: &mut Counted<W>,
-    err: &mut Counted<E>,
-) -> u8
+/// Writes the rows of all agents, or those of one.
+fn show<W: Write>(alloc: Global, plan: &Plan, agent: Option<u16>, out: &mut Counted<W>) -> Ending
     requires { AllWalked plan.now.courses }
-    ensures { EndsByRows W.contents (Tells E.contents err.old err.new) plan.now agent out.old out.new result }
+    ensures { EndsByRows W.contents plan.now agent out.old out.new (end_of result) }
 {
     let Some(courses) = asked(plan, agent) else {
-        return give_up(PathFault::NoSuchAgent.words(), err);
+        return Ending::gave_up(PathFault::NoSuchAgent.words());
     };
     match prepare(alloc, courses) {
         Ok(mut prepared) => {
@@ -80,9 +89,9 @@ fn show<W: Write, E: Write>(
                 &prepared.numerals,
                 out,
             );
-            finish(written, Status::Done, out, err).code()
+            finish(written, Ending::answered_with(Status::Done), out)
         }
-        Err(_) => give_up(PathFault::Texts(CheckFault::OutOfMemory).words(), err),
+        Err(_) => Ending::gave_up(PathFault::OutOfMemory.words()),
     }
 }
 

@@ -3,18 +3,20 @@ ghost use Rattle.std.specs.Prelude.{◌≡◌, Some};
 ghost use Rattle.text_io.specs.FaultWords.{words_of, words_text};
 ghost use Rattle.path_commands.specs.FaultWords.{path_fault_words};
 
-use plan_commands::CheckFault;
+use planned::PlannedFault;
 use std::fmt;
-use text_io::FaultWords;
+use text_io::{Failure, FaultWords};
 use thiserror::Error;
 
 /// Why no positions of a plan are written.
 #[derive(Clone, Copy, Debug, PartialEq, Eq, Error)]
 pub(crate) enum PathFault {
-    /// The map or the plan could not be read, memory was refused, or an agent has a bad start or move.
-    Texts(CheckFault),
+    /// The map or the plan could not be read, or an agent has a bad start or move.
+    Planned(PlannedFault),
     /// The plan has no agent with the number that was given.
     NoSuchAgent,
+    /// Memory was refused for where the agents are.
+    OutOfMemory,
 }
 
 impl PathFault {
@@ -23,8 +25,9 @@ impl PathFault {
         ensures { words_of result ≡ path_fault_words self }
     {
         match self {
-            PathFault::Texts(fault) => fault.words(),
+            PathFault::Planned(fault) => fault.words(),
             PathFault::NoSuchAgent => FaultWords::new("NoSuchAgent", &[]),
+            PathFault::OutOfMemory => Failure::OutOfMemory.words(),
         }
     }
 }

@@ -57,150 +57,143 @@ fn find_fault(alloc: Global, map: &Map, plan: &Plan) -> Result<Option<PlanFault>
     let mut squares = board(alloc, map)?;
     let mut walkers = walkers(alloc, map, courses)?;
     let mut rows = rows(alloc, courses.len())?;
-    look_through(alloc, map, plan, &mut rows, &mut walkers, &mut squares)
+    let checker = Checker { alloc, map, plan };
+    checker.look_through(&mut rows, &mut walkers, &mut squares)
 }
 
-/// The least fault of the plan but for a bad start, if it has one.
-fn look_through(
+/// A plan that is checked, its map, and where what the check needs is allocated.
+#[derive(Clone, Copy)]
+struct Checker<'a> {
     alloc: Global,
-    map: &Map,
-    plan: &Plan,
-    rows: &mut [ActRow],
-    walkers: &mut Vec<Walker>,
-    squares: &mut [Square],
-) -> Result<Option<PlanFault>, AllocError>
-    requires starts { ArePassable map.now plan.now.courses }
-    requires board { IsBoard map.now squares.old }
-    requires unmarked { AreUnmarked squares.old }
-    requires walkers { AreWalkers map.now plan.now.courses 0 walkers.old.items }
-    requires agents { AreAllAgents (length plan.now.courses) walkers.old.items }
-    requires rows { AreActRows (length plan.now.courses) rows.old }
-    requires waits { (k : ℕ) → k < length plan.now.courses → act_at (row_of_step rows.old 0) k ≡ wait }
-    ensures { IfOk result (IsVerdict map.now plan.now) }
-{
-    let fault = take_starts(alloc, map, plan, rows[0].acts(), walkers, squares)?;
-    if fault.is_some() {
-        return Ok(fault);
-    }
-    watch(alloc, map, plan, rows, walkers, squares)
+    map: &'a Map,
+    plan: &'a Plan,
 }
 
-/// Goes on, block by block, until all acts are over.
-fn watch(
-    alloc: Global,
-    map: &Map,
-    plan: &Plan,
-    rows: &mut [ActRow],
-    walkers: &mut Vec<Walker>,
-    squares: &mut [Square],
-) -> Result<Option<PlanFault>, AllocError>
-    requires starts { ArePassable map.now plan.now.courses }
-    requires seen { IsSeen map.now plan.now 0 walkers.old.items squares.old }
-    requires rows { AreActRows (length plan.now.courses) rows.old }
-    requires room { length walkers.old.items ≤ length plan.now.courses }
-    ensures { IfOk result (IsVerdict map.now plan.now) }
-{
-    let courses = plan.courses();
-    let mut step = 0;
-    while !walkers.is_empty() {
-        hold(courses, step, walkers, squares);
-        line_up(courses, step, walkers);
-        turn(courses, step, walkers, rows);
-        let fault = take_block(alloc, map, plan, step, rows, walkers, squares)?;
+impl Checker<'_> {
+    /// The least fault of the plan but for a bad start, if it has one.
+    fn look_through(
+        &self,
+        rows: &mut [ActRow],
+        walkers: &mut Vec<Walker>,
+        squares: &mut [Square],
+    ) -> Result<Option<PlanFault>, AllocError>
+        requires starts { ArePassable self.now.map.now self.now.plan.now.courses }
+        requires board { IsBoard self.now.map.now squares.old }
+        requires unmarked { AreUnmarked squares.old }
+        requires walkers { AreWalkers self.now.map.now self.now.plan.now.courses 0 walkers.old.items }
+        requires agents { AreAllAgents (length self.now.plan.now.courses) walkers.old.items }
+        requires rows { AreActRows (length self.now.plan.now.courses) rows.old }
+        requires waits { (k : ℕ) → k < length self.now.plan.now.courses → act_at (row_of_step rows.old 0) k ≡ wait }
+        ensures { IfOk result (IsVerdict self.now.map.now self.now.plan.now) }
+    {
+        let fault = self.take_starts(rows[0].acts(), walkers, squares)?;
         if fault.is_some() {
             return Ok(fault);
         }
-        step += BLOCK as u32;
+        self.watch(rows, walkers, squares)
     }
-    Ok(None)
-}
 
-/// Takes the agents through a block, and answers the least fault of its steps.
-fn take_block(
-    alloc: Global,
-    map: &Map,
-    plan: &Plan,
-    step: u32,
-    rows: &[ActRow],
-    walkers: &mut [Walker],
-    squares: &mut [Square],
-) -> Result<Option<PlanFault>, AllocError>
-    requires step { step < 2 ^ 31 }
-    requires starts { ArePassable map.now plan.now.courses }
-    requires seen { IsSeen map.now plan.now step walkers.old squares.old }
-    requires rows { AreActRows (length plan.now.courses) rows.now }
-    requires room { length walkers.old ≤ length plan.now.courses }
-    requires acts { AreBlockActs plan.now.courses step walkers.old rows.now }
-    ensures seen { IfOk result (IsSeenAt map.now plan.now (step + block_steps) walkers.new squares.new) }
-    ensures agents { AreSameAgents walkers.old walkers.new }
-{
-    for taken in 0..BLOCK {
-        let fault = take_one(
-            alloc,
-            map,
-            plan,
-            step + taken as u32,
-            rows[taken].acts(),
-            walkers,
-            squares,
-        )?;
-        if fault.is_some() {
-            return Ok(fault);
+    /// Goes on, block by block, until all acts are over.
+    fn watch(
+        &self,
+        rows: &mut [ActRow],
+        walkers: &mut Vec<Walker>,
+        squares: &mut [Square],
+    ) -> Result<Option<PlanFault>, AllocError>
+        requires starts { ArePassable self.now.map.now self.now.plan.now.courses }
+        requires seen { IsSeen self.now.map.now self.now.plan.now 0 walkers.old.items squares.old }
+        requires rows { AreActRows (length self.now.plan.now.courses) rows.old }
+        requires room { length walkers.old.items ≤ length self.now.plan.now.courses }
+        ensures { IfOk result (IsVerdict self.now.map.now self.now.plan.now) }
+    {
+        let courses = self.plan.courses();
+        let mut step = 0;
+        while !walkers.is_empty() {
+            hold(courses, step, walkers, squares);
+            line_up(courses, step, walkers);
+            turn(courses, step, walkers, rows);
+            let fault = self.take_block(step, rows, walkers, squares)?;
+            if fault.is_some() {
+                return Ok(fault);
+            }
+            step += BLOCK as u32;
+        }
+        Ok(None)
+    }
+
+    /// Takes the agents through a block, and answers the least fault of its steps.
+    fn take_block(
+        &self,
+        step: u32,
+        rows: &[ActRow],
+        walkers: &mut [Walker],
+        squares: &mut [Square],
+    ) -> Result<Option<PlanFault>, AllocError>
+        requires step { step < 2 ^ 31 }
+        requires starts { ArePassable self.now.map.now self.now.plan.now.courses }
+        requires seen { IsSeen self.now.map.now self.now.plan.now step walkers.old squares.old }
+        requires rows { AreActRows (length self.now.plan.now.courses) rows.now }
+        requires room { length walkers.old ≤ length self.now.plan.now.courses }
+        requires acts { AreBlockActs self.now.plan.now.courses step walkers.old rows.now }
+        ensures seen { IfOk result (IsSeenAt self.now.map.now self.now.plan.now (step + block_steps) walkers.new squares.new) }
+        ensures agents { AreSameAgents walkers.old walkers.new }
+    {
+        for taken in 0..BLOCK {
+            let fault = self.take_one(step + taken as u32, rows[taken].acts(), walkers, squares)?;
+            if fault.is_some() {
+                return Ok(fault);
+            }
+        }
+        Ok(None)
+    }
+
+    /// Takes the agents one step on, and answers the least fault of the step. It is looked for only where there may be one.
+    fn take_one(
+        &self,
+        step: u32,
+        acts: &[Act],
+        walkers: &mut [Walker],
+        squares: &mut [Square],
+    ) -> Result<Option<PlanFault>, AllocError>
+        requires step { step + 1 < 2 ^ 32 }
+        requires starts { ArePassable self.now.map.now self.now.plan.now.courses }
+        requires seen { IsSeen self.now.map.now self.now.plan.now step walkers.old squares.old }
+        requires room { length walkers.old ≤ length acts.now }
+        requires acts { AreActs self.now.plan.now.courses step walkers.old acts.now }
+        ensures seen { IfOk result (IsSeenAt self.now.map.now self.now.plan.now (step + 1) walkers.new squares.new) }
+        ensures agents { AreSameAgents walkers.old walkers.new }
+    {
+        let turns = Turns::new(self.map.width() + 2, first_mark(step));
+        if take_step(&turns, acts, walkers, squares) {
+            fault_in_step(self.alloc, self.map, self.plan, step)
+        } else {
+            Ok(None)
         }
     }
-    Ok(None)
-}
 
-/// Takes the agents one step on, and answers the least fault of the step. It is looked for only where there may be one.
-fn take_one(
-    alloc: Global,
-    map: &Map,
-    plan: &Plan,
-    step: u32,
-    acts: &[Act],
-    walkers: &mut [Walker],
-    squares: &mut [Square],
-) -> Result<Option<PlanFault>, AllocError>
-    requires step { step + 1 < 2 ^ 32 }
-    requires starts { ArePassable map.now plan.now.courses }
-    requires seen { IsSeen map.now plan.now step walkers.old squares.old }
-    requires room { length walkers.old ≤ length acts.now }
-    requires acts { AreActs plan.now.courses step walkers.old acts.now }
-    ensures seen { IfOk result (IsSeenAt map.now plan.now (step + 1) walkers.new squares.new) }
-    ensures agents { AreSameAgents walkers.old walkers.new }
-{
-    let turns = Turns::new(map.width() + 2, first_mark(step));
-    if take_step(&turns, acts, walkers, squares) {
-        fault_in_step(alloc, map, plan, step)
-    } else {
-        Ok(None)
-    }
-}
-
-/// Lets all agents wait at their starts, so that two that share one are seen as any that come to one square.
-fn take_starts(
-    alloc: Global,
-    map: &Map,
-    plan: &Plan,
-    waits: &[Act],
-    walkers: &mut [Walker],
-    squares: &mut [Square],
-) -> Result<Option<PlanFault>, AllocError>
-    requires starts { ArePassable map.now plan.now.courses }
-    requires board { IsBoard map.now squares.old }
-    requires unmarked { AreUnmarked squares.old }
-    requires walkers { AreWalkers map.now plan.now.courses 0 walkers.old }
-    requires agents { AreAllAgents (length plan.now.courses) walkers.old }
-    requires room { length walkers.old ≤ length waits.now }
-    requires waits { (k : ℕ) → k < length walkers.old → act_at waits.now k ≡ wait }
-    ensures seen { IfOk result (IsSeenAt map.now plan.now 0 walkers.new squares.new) }
-    ensures count { length walkers.new ≡ length walkers.old }
-{
-    let turns = Turns::new(map.width() + 2, first_mark(1));
-    if take_step(&turns, waits, walkers, squares) {
-        fault_at_start(alloc, map, plan)
-    } else {
-        Ok(None)
+    /// Lets all agents wait at their starts, so that two that share one are seen as any that come to one square.
+    fn take_starts(
+        &self,
+        waits: &[Act],
+        walkers: &mut [Walker],
+        squares: &mut [Square],
+    ) -> Result<Option<PlanFault>, AllocError>
+        requires starts { ArePassable self.now.map.now self.now.plan.now.courses }
+        requires board { IsBoard self.now.map.now squares.old }
+        requires unmarked { AreUnmarked squares.old }
+        requires walkers { AreWalkers self.now.map.now self.now.plan.now.courses 0 walkers.old }
+        requires agents { AreAllAgents (length self.now.plan.now.courses) walkers.old }
+        requires room { length walkers.old ≤ length waits.now }
+        requires waits { (k : ℕ) → k < length walkers.old → act_at waits.now k ≡ wait }
+        ensures seen { IfOk result (IsSeenAt self.now.map.now self.now.plan.now 0 walkers.new squares.new) }
+        ensures count { length walkers.new ≡ length walkers.old }
+    {
+        let turns = Turns::new(self.map.width() + 2, first_mark(1));
+        if take_step(&turns, waits, walkers, squares) {
+            fault_at_start(self.alloc, self.map, self.plan)
+        } else {
+            Ok(None)
+        }
     }
 }
 

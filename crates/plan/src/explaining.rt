@@ -6,7 +6,7 @@ ghost use Rattle.plan.specs.Code.Standing.{cell_in};
 ghost use Rattle.plan.specs.Code.Walking.{ArePassable, IsAdvanced, start_cells};
 ghost use Rattle.plan.specs.Code.Watching.{IsClean, IsCleanUpTo, IsWatched, IsWatchedAt};
 
-use crate::meeting::{Pair, enter, find_swap};
+use crate::meeting::{Pair, Step, enter, find_swap};
 use crate::walking::{advance, cells_at};
 use grid::{Cell, Map};
 use model::PlanFault;
@@ -55,35 +55,42 @@ pub(crate) fn fault_in_step(
     if let Some(pair) = enter(map, &now, &agents, &mut table) {
         return Ok(Some(vertex(pair, step, &now)));
     }
-    Ok(take_step(map, plan, step, &agents, &now, &next, &mut table))
+    let step = Step {
+        number: step,
+        before: &now,
+        after: &next,
+    };
+    Ok(take_step(map, plan, &step, &agents, &mut table))
 }
 
 /// Takes the agents one step on, and answers the least fault of that step.
 fn take_step(
     map: &Map,
     plan: &Plan,
-    step: u32,
+    step: &Step<'_>,
     agents: &[u16],
-    now: &[Cell],
-    next: &[Cell],
     table: &mut [u16],
 ) -> Option<PlanFault>
-    requires step { step + 1 < 2 ^ 32 }
+    requires step { step.now.number + 1 < 2 ^ 32 }
     requires plan { IsPlan plan.now }
-    requires watched { IsWatched map.now plan.now step now.now table.old }
-    requires count { length next.now ≡ length now.now }
-    requires next { IsAdvanced map.now plan.now.courses step next.now }
-    requires agents { All (λ i. i < length now.now) agents.now }
-    requires all { (i : ℕ) → i < length now.now → Contains agents.now i }
-    ensures { IsWatchedAt map.now plan.now (step + 1) next.now table.new result }
+    requires watched { IsWatched map.now plan.now step.now.number step.now.before.now table.old }
+    requires count { length step.now.after.now ≡ length step.now.before.now }
+    requires next { IsAdvanced map.now plan.now.courses step.now.number step.now.after.now }
+    requires agents { All (λ i. i < length step.now.before.now) agents.now }
+    requires all { (i : ℕ) → i < length step.now.before.now → Contains agents.now i }
+    ensures { IsWatchedAt map.now plan.now (step.now.number + 1) step.now.after.now table.new result }
 {
     // Before the table is changed.
-    let swap = find_swap(map, now, next, agents, table);
-    if let Some(pair) = enter(map, next, agents, table) {
-        return Some(vertex(pair, step + 1, next));
+    let swap = find_swap(map, step, agents, table);
+    if let Some(pair) = enter(map, step.after, agents, table) {
+        return Some(vertex(pair, step.number + 1, step.after));
     }
     match swap {
-        Some(pair) => Some(PlanFault::Swap(u32::from(pair.first), u32::from(pair.second), step)),
+        Some(pair) => Some(PlanFault::Swap(
+            u32::from(pair.first),
+            u32::from(pair.second),
+            step.number,
+        )),
         None => None,
     }
 }

@@ -11,6 +11,14 @@ pub(crate) struct Pair {
     pub(crate) second: u16,
 }
 
+/// A step: its number, and the cells of all agents before and after it.
+#[derive(Clone, Copy, Debug)]
+pub(crate) struct Step<'a> {
+    pub(crate) number: u32,
+    pub(crate) before: &'a [Cell],
+    pub(crate) after: &'a [Cell],
+}
+
 /// Puts the agents into the table, each in its cell, and answers the least pair of all agents in one cell. An entry is the agent that
 /// was last put there; whether it is there is looked up.
 pub(crate) fn enter(map: &Map, cells: &[Cell], agents: &[u16], table: &mut [u16]) -> Option<Pair>
@@ -50,51 +58,38 @@ fn put(map: &Map, cells: &[Cell], agent: u16, table: &mut [u16], best: Option<Pa
 }
 
 /// The least pair of agents that exchange cells in the step; the table has the cells before it.
-pub(crate) fn find_swap(
-    map: &Map,
-    now: &[Cell],
-    next: &[Cell],
-    agents: &[u16],
-    table: &[u16],
-) -> Option<Pair>
-    requires cells { AreOnGrid map.now next.now }
+pub(crate) fn find_swap(map: &Map, step: &Step<'_>, agents: &[u16], table: &[u16]) -> Option<Pair>
+    requires cells { AreOnGrid map.now step.now.after.now }
     requires size { length table.now ≡ map.now.width * map.now.height }
-    requires count { length next.now ≡ length now.now }
-    requires agents { All (λ i. i < length now.now) agents.now }
-    requires others { (i : ℕ) → i < length now.now → Contains agents.now i ⊎ cell_in next.now i ≡ cell_in now.now i }
-    requires table { IsStandingTable map.now.width now.now table.now }
-    ensures { IsLeastPair (AreSwapped now.now next.now) result }
+    requires count { length step.now.after.now ≡ length step.now.before.now }
+    requires agents { All (λ i. i < length step.now.before.now) agents.now }
+    requires others { (i : ℕ) → i < length step.now.before.now → Contains agents.now i ⊎ cell_in step.now.after.now i ≡ cell_in step.now.before.now i }
+    requires table { IsStandingTable map.now.width step.now.before.now table.now }
+    ensures { IsLeastPair (AreSwapped step.now.before.now step.now.after.now) result }
 {
     let mut best = None;
     for agent in agents {
-        best = cross(map, now, next, *agent, table, best);
+        best = cross(map, step, *agent, table, best);
     }
     best
 }
 
 /// The lesser of the pair so far and that of the agent and the one with which it exchanges cells.
-fn cross(
-    map: &Map,
-    now: &[Cell],
-    next: &[Cell],
-    agent: u16,
-    table: &[u16],
-    best: Option<Pair>,
-) -> Option<Pair>
-    requires cells { AreOnGrid map.now next.now }
+fn cross(map: &Map, step: &Step<'_>, agent: u16, table: &[u16], best: Option<Pair>) -> Option<Pair>
+    requires cells { AreOnGrid map.now step.now.after.now }
     requires size { length table.now ≡ map.now.width * map.now.height }
-    requires count { length next.now ≡ length now.now }
-    requires agent { agent < length now.now }
-    requires table { IsStandingTable map.now.width now.now table.now }
+    requires count { length step.now.after.now ≡ length step.now.before.now }
+    requires agent { agent < length step.now.before.now }
+    requires table { IsStandingTable map.now.width step.now.before.now table.now }
     ensures kept { (i j : ℕ) → NoLater best i j → NoLater result i j }
-    ensures first { (j : ℕ) → AreSwapped now.now next.now agent j → NoLater result agent j }
-    ensures second { (j : ℕ) → AreSwapped now.now next.now j agent → NoLater result j agent }
-    ensures are_swapped { IfSome best (λ p. AreSwapped now.now next.now p.first p.second) → IfSome result (λ p. AreSwapped now.now next.now p.first p.second) }
+    ensures first { (j : ℕ) → AreSwapped step.now.before.now step.now.after.now agent j → NoLater result agent j }
+    ensures second { (j : ℕ) → AreSwapped step.now.before.now step.now.after.now j agent → NoLater result j agent }
+    ensures are_swapped { IfSome best (λ p. AreSwapped step.now.before.now step.now.after.now p.first p.second) → IfSome result (λ p. AreSwapped step.now.before.now step.now.after.now p.first p.second) }
 {
-    let from = now[usize::from(agent)];
-    let to = next[usize::from(agent)];
+    let from = step.before[usize::from(agent)];
+    let to = step.after[usize::from(agent)];
     let other = table[place_of(map, to)];
-    if other != agent && is_in(now, other, to) && is_in(next, other, from) {
+    if other != agent && is_in(step.before, other, to) && is_in(step.after, other, from) {
         lesser(best, other, agent)
     } else {
         best

@@ -1,5 +1,4 @@
 -- Lemmas on what is written for plans.
-mod CheckAnswers
 mod PlainText
 mod DepsLemmas
 mod DepsPuts

@@ -17,11 +17,13 @@ use Rattle.model.specs.declared.plan_fault.PlanFault.{PlanFault}
 use Rattle.model.specs.declared.plan_fault.PlanFault.TheVariants.{BadStart, BadMove, Vertex, Swap, OutOfMemory}
 use Rattle.plan.specs.declared.fit_fault.FitFault.{FitFault}
 use Rattle.plan.specs.declared.fit_fault.FitFault.TheVariants.{TooFewRows, AgentCount, StartDiffers, GoalDiffers, SizeDiffers}
-use Rattle.plan_commands.specs.declared.rejection.Rejection.{Rejection}
-use Rattle.plan_commands.specs.declared.rejection.Rejection.TheVariants.{Invalid, Unfit}
+use Rattle.planned.specs.declared.planned_fault.PlannedFault.TheVariants as planned_fault
+use Rattle.plan_commands.specs.declared.check_fault.CheckFault.{CheckFault}
+use Rattle.plan_commands.specs.declared.check_fault.CheckFault.TheVariants.{Planned, Scen, Unfit}
 use Rattle.model.specs.FaultWords.{plan_fault_words}
 use Rattle.plan.specs.FaultWords.{fit_fault_words}
-use Rattle.plan_commands.specs.FaultWords.{rejection_text}
+use Rattle.text_io.specs.FaultWords.{words_text}
+use Rattle.plan_commands.specs.FaultWords.{check_fault_words, is_rejection}
 use Rattle.plan_commands.specs.Code.Verdicts.{rejected_data}
 use Rattle.plan_commands.specs.VerdictText.{is_plain_byte, IsPlainText, rejected_json}
 
@@ -81,9 +83,13 @@ fit_words_are_plain (GoalDiffers agent) = (refl, (decimal_is_plain agent, tt))
 fit_words_are_plain (SizeDiffers row) = (refl, (decimal_is_plain row, tt))
 
 -- why a plan is rejected is told in letters, digits and spaces
-pub rejection_is_plain : (rejection : Rejection) → IsPlainText (rejection_text rejection)
-rejection_is_plain (Invalid fault) = parts_are_plain (plan_fault_words fault).parts (plan_words_are_plain fault)
-rejection_is_plain (Unfit fault) = parts_are_plain (fit_fault_words fault).parts (fit_words_are_plain fault)
+pub rejection_is_plain : (fault : CheckFault) → is_rejection fault ≡ true → IsPlainText (words_text (check_fault_words fault))
+rejection_is_plain (Planned (planned_fault.Plan fault)) is = parts_are_plain (plan_fault_words fault).parts (plan_words_are_plain fault)
+rejection_is_plain (Unfit fault) is = parts_are_plain (fit_fault_words fault).parts (fit_words_are_plain fault)
+rejection_is_plain (Planned (planned_fault.Map fault)) is = cc
+rejection_is_plain (Planned (planned_fault.PlanText fault)) is = cc
+rejection_is_plain (Planned planned_fault.OutOfMemory) is = cc
+rejection_is_plain (Scen fault) is = cc
 
 -- ---- JSON
 

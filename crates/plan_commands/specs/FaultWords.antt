@@ -1,29 +1,23 @@
 -- The words of why a plan is not accepted.
-use Rattle.std.specs.Prelude.{ℕ, List}
-use Rattle.text_io.specs.declared.failure.Failure.TheVariants as failure
-use Rattle.text_io.specs.FaultWords.{Words, failed, words_text}
-use Rattle.grid.specs.MapFault.{map_fault_words}
-use Rattle.model.specs.FaultWords.{plan_fault_words}
+use Rattle.std.specs.Prelude.{Bool, true, false}
+use Rattle.text_io.specs.FaultWords.{Words}
+use Rattle.model.specs.declared.plan_fault.PlanFault.TheVariants as plan_fault
 use Rattle.plan.specs.FaultWords.{fit_fault_words}
-use Rattle.plan_text.specs.FaultWords.{plan_text_fault_words}
+use Rattle.planned.specs.FaultWords.{planned_fault_words}
+use Rattle.planned.specs.declared.planned_fault.PlannedFault.TheVariants as planned_fault
 use Rattle.scen.specs.FaultWords.{scen_fault_words}
 use Rattle.plan_commands.specs.declared.check_fault.CheckFault.{CheckFault}
 use Rattle.plan_commands.specs.declared.check_fault.CheckFault.TheVariants as check_fault
-use Rattle.plan_commands.specs.declared.rejection.Rejection.{Rejection}
-use Rattle.plan_commands.specs.declared.rejection.Rejection.TheVariants.{Invalid, Unfit}
 
--- the words and the text of why a plan is rejected
-abbrev pub rejection_words : Rejection → Words
-rejection_words (Invalid fault) = plan_fault_words fault
-rejection_words (Unfit fault) = fit_fault_words fault
-
-abbrev pub rejection_text : Rejection → List ℕ
-rejection_text rejection = words_text (rejection_words rejection)
-
--- the words of why a plan is not accepted: those of the fault that a text has, or of the rejection
+-- those of the fault that a text or the plan has
 abbrev pub check_fault_words : CheckFault → Words
-check_fault_words (check_fault.Map fault) = map_fault_words fault
-check_fault_words (check_fault.Plan fault) = plan_text_fault_words fault
+check_fault_words (check_fault.Planned fault) = planned_fault_words fault
 check_fault_words (check_fault.Scen fault) = scen_fault_words fault
-check_fault_words check_fault.OutOfMemory = failed failure.OutOfMemory
-check_fault_words (check_fault.Rejected rejection) = rejection_words rejection
+check_fault_words (check_fault.Unfit fault) = fit_fault_words fault
+
+-- whether the plan is rejected: all that is due could be read, and it was checked
+abbrev pub is_rejection : CheckFault → Bool
+is_rejection (check_fault.Planned (planned_fault.Plan plan_fault.OutOfMemory)) = false
+is_rejection (check_fault.Planned (planned_fault.Plan fault)) = true
+is_rejection (check_fault.Unfit fault) = true
+is_rejection _ = false

@@ -1,32 +1,27 @@
 //! Why a plan is not accepted.
-ghost use Rattle.std.specs.Prelude.{◌≡◌, Some};
+ghost use Rattle.std.specs.Prelude.{◌≡◌, IfOk, Some, string_bytes, true};
 ghost use Rattle.text_io.specs.FaultWords.{words_of, words_text};
-ghost use Rattle.plan_commands.specs.FaultWords.{check_fault_words};
-ghost use Rattle.plan_commands.specs.Code.Verdicts.{check_fault_of};
+ghost use Rattle.plan_commands.specs.FaultWords.{check_fault_words, is_rejection};
+ghost use Rattle.plan_commands.specs.VerdictText.{IsPlainText};
 ghost use Rattle.plan_commands.specs.declared.check_fault.CheckFault.TheVariants as check_fault;
-ghost use Rattle.plan_commands.specs.declared.rejection.Rejection.TheVariants as rejection;
 
-use crate::rejection::Rejection;
-use grid::MapFault;
-use plan::{FitFault, PlanFault, PlanTextFault};
+use plan::{FitFault, PlanFault};
+use planned::PlannedFault;
 use scen::ScenFault;
+use std::alloc::{AllocError, Global};
 use std::fmt;
-use text_io::{Failure, FaultWords, OutOfMemory};
+use text_io::FaultWords;
 use thiserror::Error;
 
 /// Why a plan is not accepted.
 #[derive(Clone, Copy, Debug, PartialEq, Eq, Error)]
 pub enum CheckFault {
-    /// The map could not be read.
-    Map(MapFault),
-    /// The plan could not be read.
-    Plan(PlanTextFault),
+    /// The map or the plan could not be read, or the plan is not valid, or could not be checked.
+    Planned(PlannedFault),
     /// The scenario could not be read.
     Scen(ScenFault),
-    /// The checker was refused memory, or the text of a verdict or a graph was.
-    OutOfMemory,
-    /// All was read, and the plan is rejected.
-    Rejected(Rejection),
+    /// The plan is valid, and doesn't have what is asked for.
+    Unfit(FitFault),
 }
 
 impl CheckFault {
@@ -35,11 +30,29 @@ impl CheckFault {
         ensures { words_of result ≡ check_fault_words self }
     {
         match self {
-            CheckFault::Map(fault) => fault.words(),
-            CheckFault::Plan(fault) => fault.words(),
+            CheckFault::Planned(fault) => fault.words(),
             CheckFault::Scen(fault) => fault.words(),
-            CheckFault::OutOfMemory => Failure::OutOfMemory.words(),
-            CheckFault::Rejected(rejection) => rejection.words(),
+            CheckFault::Unfit(fault) => fault.words(),
+        }
+    }
+
+    /// The text of why a plan is rejected.
+    pub(crate) fn text(self, alloc: Global) -> Result<String, AllocError>
+        requires { is_rejection self ≡ true }
+        ensures text { IfOk result (λ text. string_bytes text ≡ words_text (check_fault_words self)) }
+        ensures plain { IfOk result (λ text. IsPlainText (string_bytes text)) }
+    {
+        self.to_string(alloc)
+    }
+
+    /// Whether the plan is rejected: all that is due could be read, and it was checked.
+    pub(crate) fn is_rejection(self) -> bool
+        ensures { result ≡ is_rejection self }
+    {
+        match self {
+            CheckFault::Planned(PlannedFault::Plan(PlanFault::OutOfMemory)) => false,
+            CheckFault::Planned(PlannedFault::Plan(_)) | CheckFault::Unfit(_) => true,
+            _ => false,
         }
     }
 }
@@ -52,19 +65,11 @@ impl fmt::Display for CheckFault {
     }
 }
 
-impl From<MapFault> for CheckFault {
-    ghost from_gives = { λ e f. f ≡ check_fault.Map e };
+impl From<PlannedFault> for CheckFault {
+    ghost from_gives = { λ e f. f ≡ check_fault.Planned e };
 
-    fn from(e: MapFault) -> CheckFault {
-        CheckFault::Map(e)
-    }
-}
-
-impl From<PlanTextFault> for CheckFault {
-    ghost from_gives = { λ e f. f ≡ check_fault.Plan e };
-
-    fn from(e: PlanTextFault) -> CheckFault {
-        CheckFault::Plan(e)
+    fn from(e: PlannedFault) -> CheckFault {
+        CheckFault::Planned(e)
     }
 }
 
@@ -77,28 +82,9 @@ impl From<ScenFault> for CheckFault {
 }
 
 impl From<FitFault> for CheckFault {
-    ghost from_gives = { λ e f. f ≡ check_fault.Rejected (rejection.Unfit e) };
+    ghost from_gives = { λ e f. f ≡ check_fault.Unfit e };
 
     fn from(e: FitFault) -> CheckFault {
-        CheckFault::Rejected(Rejection::Unfit(e))
-    }
-}
-
-impl From<OutOfMemory> for CheckFault {
-    ghost from_gives = { λ _ f. f ≡ check_fault.OutOfMemory };
-
-    fn from(_e: OutOfMemory) -> CheckFault {
-        CheckFault::OutOfMemory
-    }
-}
-
-impl From<PlanFault> for CheckFault {
-    ghost from_gives = { λ e f. f ≡ check_fault_of e };
-
-    fn from(e: PlanFault) -> CheckFault {
-        match e {
-            PlanFault::OutOfMemory => CheckFault::OutOfMemory,
-            _ => CheckFault::Rejected(Rejection::Invalid(e)),
-        }
+        CheckFault::Unfit(e)
     }
 }

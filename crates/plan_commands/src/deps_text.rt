@@ -11,6 +11,7 @@ ghost use Rattle.plan_commands.specs.Code.Dependencies.{HasNeedsOf, need_text};
 
 use depgraph::{Dependencies, Part, Rotation};
 use std::io::Write;
+use text_commands::put_number;
 use text_io::{Counted, Sink, WriteFault};
 
 /// Writes what the moves of a plan wait for, and its rotations. The writer is not flushed.
@@ -206,18 +207,4 @@ fn put_agents<W: Write>(sink: &mut Sink<'_, W>, agents: &[u16]) -> Result<(), Wr
         sink.put_number_after(b' ', *agent as u64)?;
     }
     Ok(())
-}
-
-/// Puts a word, and a number behind a space.
-#[inline(always)]
-pub fn put_number<W: Write>(
-    sink: &mut Sink<'_, W>,
-    word: &[u8],
-    number: u64,
-) -> Result<(), WriteFault>
-    ensures ok { OnOk result (Puts W.contents sink.old sink.new (word.now ++ codes " " ++ decimal number)) }
-    ensures err { OnErr result (Breaks W.contents sink.old sink.new (word.now ++ codes " " ++ decimal number)) }
-{
-    sink.put(word)?;
-    sink.put_number_after(b' ', number)
 }

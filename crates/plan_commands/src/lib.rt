@@ -1,20 +1,17 @@
 //! The commands over plans.
 #![tactic(auto)]
 
-mod check_command;
+pub mod check_command;
 mod check_fault;
-mod deps_cell_command;
-mod deps_command;
+pub mod deps_cell_command;
+pub mod deps_command;
 mod deps_text;
 pub mod laws;
-mod rejection;
 mod verdict;
 mod visits_text;
 
 pub use check_command::{check_cmd, check_fit_cmd};
 pub use check_fault::CheckFault;
 pub use deps_cell_command::deps_cell_cmd;
-pub use deps_command::{deps_cmd, read_dependencies};
-pub use deps_text::put_number;
-pub use rejection::Rejection;
+pub use deps_command::deps_cmd;
 pub use verdict::{Verdict, verdict_json};

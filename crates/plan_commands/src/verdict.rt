@@ -2,13 +2,12 @@
 ghost use Rattle.std.specs.Prelude.{◌≡◌, length, string_bytes, IfOk};
 ghost use Rattle.model.specs.Costs.{sum_of_costs, makespan};
 ghost use Rattle.serde_json.specs.View.{view};
-ghost use Rattle.plan_commands.specs.Code.Verdicts.{accepted_data, rejected_data, verdict_line, verdict_status};
+ghost use Rattle.plan_commands.specs.Code.Verdicts.{accepted_data, rejected_data, verdict_line};
 ghost use Rattle.plan_commands.specs.VerdictText.{IsPlain, IsPlainText, accepted_json, rejected_json, verdict_json_text};
 
 use plan::CheckedPlan;
 use serde_json::{Value, json};
 use std::alloc::{AllocError, Global};
-use text_commands::Status;
 
 /// What a plan comes to.
 #[derive(Clone, Copy, Debug, PartialEq, Eq)]
@@ -32,16 +31,6 @@ impl Verdict<'_> {
             agents: plan.agents(),
             cost: plan.sum_of_costs(),
             makespan: plan.makespan(),
-        }
-    }
-
-    /// The status that it ends with.
-    pub(crate) fn status(&self) -> Status
-        ensures { result ≡ verdict_status self.now }
-    {
-        match self {
-            Verdict::Accepted { .. } => Status::Done,
-            Verdict::Rejected(_) => Status::Fault,
         }
     }
 }

@@ -1,26 +1,12 @@
 //! What a checked plan tells, and which rows of a scenario it solves.
-use crate::texts::{FOLLOWING, ROW, map_of, plan_of};
-use grid::{Cell, Map};
-use plan::{CheckedPlan, FitFault, PlanFault, check, fits};
+use fakes::{BEHIND, LANE, TASKS};
+use grid::Cell;
+use plan::{CheckedPlan, FitFault, fits};
+use plan_fixtures::checked;
 use scen::{Scenario, read_scen};
 use std::alloc::Global;
 use std::test::Fail;
 use text_io::Counted;
-
-/// The plan of a text, checked on the row.
-fn checked(alloc: Global, text: &str) -> Result<CheckedPlan, PlanFault> {
-    let Ok(map) = map_of(alloc, ROW) else {
-        return Err(PlanFault::OutOfMemory);
-    };
-    check_on(alloc, &map, text)
-}
-
-fn check_on(alloc: Global, map: &Map, text: &str) -> Result<CheckedPlan, PlanFault> {
-    match plan_of(alloc, text) {
-        Ok(plan) => check(alloc, map, plan).map_err(|rejected| rejected.fault),
-        Err(_) => Err(PlanFault::OutOfMemory),
-    }
-}
 
 /// An agent that waits now and then.
 const WAITING: &str = "mapf-plan 1\nnumber 7\nagents 1\nagent 0 0 -e-e-\n";
@@ -54,18 +40,14 @@ fn has_cells(plan: &CheckedPlan) -> bool {
 
 #[test]
 fn positions(rt: HostRuntime) -> Result<(), Fail> {
-    let plan = checked(rt.alloc(), WAITING)?;
+    let plan = checked(rt.alloc(), LANE, WAITING)?;
     assert!(rt; has_positions(&plan) && has_cells(&plan));
     Ok(())
 }
 
 /// Texts of scenarios, how many rows are asked for, and what is wrong with them.
 static FITS: [(&str, u32, Option<FitFault>); 9] = [
-    (
-        "version 1\n0 m.map 3 1 1 0 2 0 1\n0 m.map 3 1 0 0 1 0 1\n",
-        2,
-        None,
-    ),
+    (TASKS, 2, None),
     (
         "version 1\n0 m.map 3 1 1 0 2 0 1\n0 m.map 3 1 0 0 1 0 1\n0 m.map 3 1 1 0 2 0 1\n",
         2,
@@ -86,16 +68,8 @@ static FITS: [(&str, u32, Option<FitFault>); 9] = [
         3,
         Some(FitFault::AgentCount),
     ),
-    (
-        "version 1\n0 m.map 3 1 1 0 2 0 1\n0 m.map 3 1 0 0 1 0 1\n",
-        1,
-        Some(FitFault::AgentCount),
-    ),
-    (
-        "version 1\n0 m.map 3 1 1 0 2 0 1\n0 m.map 3 1 0 0 1 0 1\n",
-        0,
-        Some(FitFault::AgentCount),
-    ),
+    (TASKS, 1, Some(FitFault::AgentCount)),
+    (TASKS, 0, Some(FitFault::AgentCount)),
     (
         "version 1\n0 m.map 3 1 1 0 2 0 1\n0 m.map 3 2 0 0 1 0 1\n",
         2,
@@ -129,7 +103,7 @@ fn fits_so(
 
 #[test]
 fn fitting(rt: HostRuntime) -> Result<(), Fail> {
-    let plan = checked(rt.alloc(), FOLLOWING)?;
+    let plan = checked(rt.alloc(), LANE, BEHIND)?;
     for &(text, count, fault) in &FITS {
         assert!(rt;
             fits_so(rt.alloc(), &plan, text, count, fault),

@@ -15,5 +15,3 @@ mod plan_texts;
 mod plan_trouble;
 #[cfg(test)]
 mod refused_memory;
-#[cfg(test)]
-mod texts;

@@ -1,29 +1,26 @@
 //! A plain checker: it compares every pair of agents at every time up to the end of the longest course.
 use grid::{Cell, Map, Terrain, step4};
 use plan::{Act, PlanFault};
-
-/// An agent's start and its acts.
-#[derive(Drop)]
-pub struct Agent {
-    pub start: Cell,
-    pub acts: Vec<Act>,
-}
+use plan_text::Course;
 
 /// Where an agent stands, perhaps off the map.
 type Place = (i32, i32);
 
-impl Agent {
-    fn place(&self, time: u32) -> Place {
-        let mut place = (i32::from(self.start.x), i32::from(self.start.y));
-        for act in self.acts.iter().take(time as usize) {
-            place = moved(place, *act);
-        }
-        place
+fn place_at(course: &Course, time: u32) -> Place {
+    let start = course.start();
+    let mut place = (i32::from(start.x), i32::from(start.y));
+    for act in course.acts().iter().take(time as usize) {
+        place = moved(place, *act);
     }
+    place
+}
 
-    fn act(&self, step: u32) -> Act {
-        self.acts.get(step as usize).copied().unwrap_or(Act::Wait)
-    }
+fn act_at(course: &Course, step: u32) -> Act {
+    course
+        .acts()
+        .get(step as usize)
+        .copied()
+        .unwrap_or(Act::Wait)
 }
 
 fn moved((x, y): Place, act: Act) -> Place {
@@ -49,15 +46,15 @@ fn number(n: usize) -> u32 {
 }
 
 /// The first fault by time, then its kind, then the agents.
-pub fn first_fault(map: &Map, agents: &[Agent]) -> Option<PlanFault> {
+pub fn first_fault(map: &Map, courses: &[Course]) -> Option<PlanFault> {
     let mut longest = 0u32;
-    for agent in agents {
-        longest = longest.max(number(agent.acts.len()));
+    for course in courses {
+        longest = longest.max(number(course.acts().len()));
     }
     for time in 0..longest.saturating_add(1) {
-        let fault = bad_step(map, agents, time)
-            .or(vertex_conflict(agents, time))
-            .or(swap(agents, time));
+        let fault = bad_step(map, courses, time)
+            .or(vertex_conflict(courses, time))
+            .or(swap(courses, time));
         if fault.is_some() {
             return fault;
         }
@@ -65,17 +62,17 @@ pub fn first_fault(map: &Map, agents: &[Agent]) -> Option<PlanFault> {
     None
 }
 
-fn bad_step(map: &Map, agents: &[Agent], time: u32) -> Option<PlanFault> {
-    for (i, agent) in agents.iter().enumerate() {
+fn bad_step(map: &Map, courses: &[Course], time: u32) -> Option<PlanFault> {
+    for (i, course) in courses.iter().enumerate() {
         let i = number(i);
         if time == 0 {
-            if !is_free(map, agent.start) {
+            if !is_free(map, course.start()) {
                 return Some(PlanFault::BadStart(i));
             }
         } else {
             let step = time - 1;
-            if agent.act(step) != Act::Wait
-                && !is_legal(map, agent.place(step), agent.place(time))
+            if act_at(course, step) != Act::Wait
+                && !is_legal(map, place_at(course, step), place_at(course, time))
             {
                 return Some(PlanFault::BadMove(i, step));
             }
@@ -98,11 +95,11 @@ fn is_legal(map: &Map, from: Place, to: Place) -> bool {
     }
 }
 
-fn vertex_conflict(agents: &[Agent], time: u32) -> Option<PlanFault> {
-    for (i, first) in agents.iter().enumerate() {
-        for (j, second) in agents.iter().enumerate() {
-            if i < j && first.place(time) == second.place(time) {
-                let at = cell(first.place(time))?;
+fn vertex_conflict(courses: &[Course], time: u32) -> Option<PlanFault> {
+    for (i, first) in courses.iter().enumerate() {
+        for (j, second) in courses.iter().enumerate() {
+            if i < j && place_at(first, time) == place_at(second, time) {
+                let at = cell(place_at(first, time))?;
                 return Some(PlanFault::Vertex(number(i), number(j), time, at));
             }
         }
@@ -110,15 +107,19 @@ fn vertex_conflict(agents: &[Agent], time: u32) -> Option<PlanFault> {
     None
 }
 
-fn swap(agents: &[Agent], time: u32) -> Option<PlanFault> {
+fn swap(courses: &[Course], time: u32) -> Option<PlanFault> {
     if time == 0 {
         return None;
     }
     let step = time - 1;
-    for (i, first) in agents.iter().enumerate() {
-        for (j, second) in agents.iter().enumerate() {
-            let (from, to) = (first.place(step), first.place(time));
-            if i < j && from != to && second.place(step) == to && second.place(time) == from {
+    for (i, first) in courses.iter().enumerate() {
+        for (j, second) in courses.iter().enumerate() {
+            let (from, to) = (place_at(first, step), place_at(first, time));
+            if i < j
+                && from != to
+                && place_at(second, step) == to
+                && place_at(second, time) == from
+            {
                 return Some(PlanFault::Swap(number(i), number(j), step));
             }
         }

@@ -1,13 +1,12 @@
 //! Plans' texts: what is read and written.
-use crate::texts::FOLLOWING;
-use fakes::{Keeper, Pieces};
+use fakes::{BEHIND, Keeper, Pieces};
 use plan::{PlanTextFault, read_plan, write_plan};
 use std::alloc::Global;
 use std::test::Fail;
 use text_io::Counted;
 
 static TEXTS: [&str; 4] = [
-    FOLLOWING,
+    BEHIND,
     "mapf-plan 1\nnumber 0\nagents 0\n",
     "mapf-plan 1\nnumber 4294967295\nagents 1\nagent 65535 0 =\n",
     "mapf-plan 1\nnumber 10\nagents 1\nagent 0 65535 nesw-\n",

@@ -1,7 +1,7 @@
 //! Readers and writers of plans' texts that fail.
-use crate::texts::{FOLLOWING, plan_of};
-use fakes::{Keeper, Pieces, Trouble};
+use fakes::{BEHIND, Keeper, Pieces, Trouble};
 use plan::{Plan, PlanTextFault, read_plan, write_plan};
+use plan_fixtures::plan_of;
 use std::alloc::Global;
 use std::io::ErrorKind;
 use std::test::Fail;
@@ -18,10 +18,7 @@ fn fault_of(alloc: Global, reader: Pieces<'_>) -> (Option<PlanTextFault>, u64) {
 fn failing_reader(rt: HostRuntime) {
     // The text has 55 bytes, which come one at a time, and then its end.
     for call in 1..=56 {
-        let reader = Pieces::of_size(FOLLOWING.as_bytes(), 1).failing_at(
-            call,
-            ErrorKind::Interrupted,
-        );
+        let reader = Pieces::of_size(BEHIND.as_bytes(), 1).failing_at(call, ErrorKind::Interrupted);
         let found = fault_of(rt.alloc(), reader);
         assert!(rt;
             found == (Some(PlanTextFault::ReadFailed), 1),
@@ -51,13 +48,13 @@ fn fails_at(plan: &Plan, before: usize) -> bool {
     let mut writer = Counted::new(&mut keeper);
     let is_failed = write_plan(plan, &mut writer) == Err(WriteFault::WriteFailed);
     let is_told = is_failed && writer.failures() == 1;
-    is_told && Some(keeper.kept()) == FOLLOWING.as_bytes().get(..before)
+    is_told && Some(keeper.kept()) == BEHIND.as_bytes().get(..before)
 }
 
 #[test]
 fn failing_writer(rt: HostRuntime) -> Result<(), Fail> {
-    let plan = plan_of(rt.alloc(), FOLLOWING)?;
-    for before in 0..FOLLOWING.len() {
+    let plan = plan_of(rt.alloc(), BEHIND)?;
+    for before in 0..BEHIND.len() {
         assert!(rt; fails_at(&plan, before), "after {before} bytes");
     }
     Ok(())

@@ -1,8 +1,8 @@
 //! Plans that are read, put together and checked while memory may be refused, as `./test --prove` refuses each allocation of these tests in turn: at the most one in a run.
-use crate::texts::{FOLLOWING, ROW, map_of, plan_of};
-use fakes::Keeper;
+use fakes::{BEHIND, Keeper, LANE};
 use grid::{Cell, MapFault};
 use plan::{Act, Plan, PlanFault, PlanTextFault, PushFault, check, write_plan};
+use plan_fixtures::{map_of, plan_of};
 use std::alloc::Global;
 use std::process::Abort;
 use std::test::Fail;
@@ -20,9 +20,9 @@ fn is_written(plan: &Plan, text: &str) -> bool {
 
 /// Reads a plan; nothing but memory is lacking.
 fn read(rt: &impl Abort, alloc: Global) -> Result<Plan, PlanTextFault> {
-    let read = plan_of(alloc, FOLLOWING);
+    let read = plan_of(alloc, BEHIND);
     match &read {
-        Ok(plan) => assert!(rt; is_written(plan, FOLLOWING)),
+        Ok(plan) => assert!(rt; is_written(plan, BEHIND)),
         Err(fault) => assert_eq!(rt; *fault, PlanTextFault::OutOfMemory),
     }
     read
@@ -58,7 +58,7 @@ fn memory_refused_to_an_agent_of_a_plan(rt: HostRuntime) -> Result<(), Fail> {
     let mut plan = Plan::new(rt.alloc(), 7);
     for (agent, texts) in [
         ((1, [Act::E, Act::Wait].as_slice()), (EMPTY, ONE)),
-        ((0, [Act::E].as_slice()), (ONE, FOLLOWING)),
+        ((0, [Act::E].as_slice()), (ONE, BEHIND)),
     ] {
         if push(&rt, rt.alloc(), &mut plan, agent, texts).is_err() {
             push(&rt, rt.alloc(), &mut plan, agent, texts)?;
@@ -69,7 +69,7 @@ fn memory_refused_to_an_agent_of_a_plan(rt: HostRuntime) -> Result<(), Fail> {
 
 /// Checks a plan; where memory is refused for that, the plan is handed back.
 fn check_it(rt: &impl Abort, alloc: Global) -> Result<(), PlanFault> {
-    let Ok(map) = map_of(alloc, ROW) else {
+    let Ok(map) = map_of(alloc, LANE) else {
         return Err(PlanFault::OutOfMemory);
     };
     let Ok(plan) = read(rt, alloc) else {
@@ -85,7 +85,7 @@ fn check_it(rt: &impl Abort, alloc: Global) -> Result<(), PlanFault> {
         }
         Err(rejected) => {
             assert_eq!(rt; rejected.fault, PlanFault::OutOfMemory);
-            assert!(rt; is_written(&rejected.plan, FOLLOWING));
+            assert!(rt; is_written(&rejected.plan, BEHIND));
             Err(rejected.fault)
         }
     }

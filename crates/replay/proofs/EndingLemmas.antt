@@ -47,9 +47,7 @@ module _ {E : Type 0} (events_left : E → Option (List ℕ)) (tt : Timetable) (
       handed_on events_left tt old new Whole Broken MoreOf Other (Err (run_fault.Events fault)) well a on
   all_handed_on MoreOf Other (Err run_fault.OutOfMemory) well a on = some_on events_left tt old new Whole MoreOf a on
   all_handed_on MoreOf Other (Err run_fault.WriteFailed) well a on = let bad : false ≡ true = well in cc
-  all_handed_on MoreOf Other (Err (run_fault.Map fault)) well a on = absurd a
-  all_handed_on MoreOf Other (Err (run_fault.PlanText fault)) well a on = absurd a
-  all_handed_on MoreOf Other (Err (run_fault.Plan fault)) well a on = absurd a
+  all_handed_on MoreOf Other (Err (run_fault.Planned fault)) well a on = absurd a
 
   -- the last of it could not be handed on
   pub not_all_handed_on : (Other MoreOf : List ℕ → Type 0) (answer : Result Completion RunFault) → was_written answer ≡ true → Ends answer
@@ -59,9 +57,7 @@ module _ {E : Type 0} (events_left : E → Option (List ℕ)) (tt : Timetable) (
       inl (not_handed_on events_left tt old new Whole Broken MoreOf (Err (run_fault.Events fault)) well a on)
   not_all_handed_on Other MoreOf (Err run_fault.OutOfMemory) well a on = inl (some_on events_left tt old new Whole MoreOf a on)
   not_all_handed_on Other MoreOf (Err run_fault.WriteFailed) well a on = let bad : false ≡ true = well in absurd (cc)
-  not_all_handed_on Other MoreOf (Err (run_fault.Map fault)) well a on = absurd a
-  not_all_handed_on Other MoreOf (Err (run_fault.PlanText fault)) well a on = absurd a
-  not_all_handed_on Other MoreOf (Err (run_fault.Plan fault)) well a on = absurd a
+  not_all_handed_on Other MoreOf (Err (run_fault.Planned fault)) well a on = absurd a
 
   -- it was broken off before
   pub broken_off : (Other MoreOf : List ℕ → Type 0) (answer : Result Completion RunFault) → was_written answer ≡ false → Ends answer
@@ -72,18 +68,14 @@ module _ {E : Type 0} (events_left : E → Option (List ℕ)) (tt : Timetable) (
   broken_off Other MoreOf (Err run_fault.WriteFailed) off (inl a) on = inl (some_on events_left tt old new Broken MoreOf a on)
   broken_off Other MoreOf (Err run_fault.WriteFailed) off (inr (completion, a)) on =
       inr (completion, concluded_on events_left tt old new completion Broken MoreOf a on)
-  broken_off Other MoreOf (Err (run_fault.Map fault)) off a on = absurd a
-  broken_off Other MoreOf (Err (run_fault.PlanText fault)) off a on = absurd a
-  broken_off Other MoreOf (Err (run_fault.Plan fault)) off a on = absurd a
+  broken_off Other MoreOf (Err (run_fault.Planned fault)) off a on = absurd a
 
   -- a fault among the events is one of the whole
   pub fault_among_events : (fault : RunFault) → AnswersEvents events_left tt old new Whole Broken (Err fault) → Ends (Err fault)
   fault_among_events run_fault.WriteFailed a = inl a
   fault_among_events run_fault.OutOfMemory a = a
   fault_among_events (run_fault.Events fault) a = a
-  fault_among_events (run_fault.Map fault) a = a
-  fault_among_events (run_fault.PlanText fault) a = a
-  fault_among_events (run_fault.Plan fault) a = a
+  fault_among_events (run_fault.Planned fault) a = a
 
 -- ---- the runner's ending
 
@@ -136,7 +128,5 @@ module _
         (without_runner events_left tt old new r (Puts contents first mid) all)
         (λ text puts. subst (Puts contents first last) (append-nil text)
         (Puts-trans contents first mid last text [] puts (ends all.replies.answered.history all.replies.stands)))
-    put_behind (Err (run_fault.Map fault)) ends = absurd (ends all.replies.answered.history all.replies.stands)
-    put_behind (Err (run_fault.PlanText fault)) ends = absurd (ends all.replies.answered.history all.replies.stands)
-    put_behind (Err (run_fault.Plan fault)) ends = absurd (ends all.replies.answered.history all.replies.stands)
+    put_behind (Err (run_fault.Planned fault)) ends = absurd (ends all.replies.answered.history all.replies.stands)
     put_behind (Err (run_fault.Events fault)) ends = absurd (ends all.replies.answered.history all.replies.stands)

@@ -81,9 +81,7 @@ module _ {E : Type 0} (events_left : E → Option (List ℕ)) (tt : Timetable) (
       record { version = a.version; events = a.events; read = a.read; replies = came_on a.version tt a.events Whole MoreOf a.replies on }
   handed_on MoreOf Other (Err run_fault.OutOfMemory) well a on = some_on events_left tt old new Whole MoreOf a on
   handed_on MoreOf Other (Err run_fault.WriteFailed) well a on = let bad : false ≡ true = well in cc
-  handed_on MoreOf Other (Err (run_fault.Map fault)) well a on = absurd a
-  handed_on MoreOf Other (Err (run_fault.PlanText fault)) well a on = absurd a
-  handed_on MoreOf Other (Err (run_fault.Plan fault)) well a on = absurd a
+  handed_on MoreOf Other (Err (run_fault.Planned fault)) well a on = absurd a
 
   -- the last of it could not be handed on
   pub not_handed_on : (MoreOf : List ℕ → Type 0) (answer : Result Unit RunFault) → was_written answer ≡ true → Ends answer
@@ -92,9 +90,7 @@ module _ {E : Type 0} (events_left : E → Option (List ℕ)) (tt : Timetable) (
   not_handed_on MoreOf (Err (run_fault.Events fault)) well a on = all_some events_left tt old new _ Whole MoreOf a on
   not_handed_on MoreOf (Err run_fault.OutOfMemory) well a on = some_on events_left tt old new Whole MoreOf a on
   not_handed_on MoreOf (Err run_fault.WriteFailed) well a on = let bad : false ≡ true = well in cc
-  not_handed_on MoreOf (Err (run_fault.Map fault)) well a on = absurd a
-  not_handed_on MoreOf (Err (run_fault.PlanText fault)) well a on = absurd a
-  not_handed_on MoreOf (Err (run_fault.Plan fault)) well a on = absurd a
+  not_handed_on MoreOf (Err (run_fault.Planned fault)) well a on = absurd a
 
   -- it was broken off before
   pub left_off : (Other MoreOf : List ℕ → Type 0) (answer : Result Unit RunFault) → was_written answer ≡ false → Ends answer
@@ -103,6 +99,4 @@ module _ {E : Type 0} (events_left : E → Option (List ℕ)) (tt : Timetable) (
   left_off Other MoreOf (Err (run_fault.Events fault)) off a on = let bad : true ≡ false = off in cc
   left_off Other MoreOf (Err run_fault.OutOfMemory) off a on = let bad : true ≡ false = off in cc
   left_off Other MoreOf (Err run_fault.WriteFailed) off a on = some_on events_left tt old new Broken MoreOf a on
-  left_off Other MoreOf (Err (run_fault.Map fault)) off a on = absurd a
-  left_off Other MoreOf (Err (run_fault.PlanText fault)) off a on = absurd a
-  left_off Other MoreOf (Err (run_fault.Plan fault)) off a on = absurd a
+  left_off Other MoreOf (Err (run_fault.Planned fault)) off a on = absurd a

@@ -14,13 +14,15 @@ use Rattle.event_text.specs.declared.header.Headers.TheVariants.{Either}
 use Rattle.event_text.specs.EventLine.{event_line}
 use Rattle.event_text.specs.ReplyText.{replies_text}
 use Rattle.event_text.specs.Taking.{NoMoreEvents}
+use Rattle.planned.specs.Planned.{ReadsTimetable}
+use Rattle.planned.specs.declared.planned_fault.PlannedFault.{PlannedFault}
 use Rattle.runner.specs.Endings.{IsBlockedBy, IsEndedBy}
 use Rattle.runner.specs.SafeRuns.{AreAnsweredAt}
 use Rattle.replay.specs.declared.completion.Completion.{Completion}
 use Rattle.replay.specs.declared.completion.Completion.TheVariants.{Ends, Blocked}
 use Rattle.replay.specs.declared.run_fault.RunFault.{RunFault}
 use Rattle.replay.specs.declared.run_fault.RunFault.TheVariants as run_fault
-use Rattle.replay.specs.Replaying.{ReadsRunTimetable, AnswersEvents}
+use Rattle.replay.specs.Replaying.{AnswersEvents}
 
 -- a word and a number, with a space between them
 abbrev pub numbered_line : List ℕ → ℕ → List ℕ
@@ -85,7 +87,7 @@ pub record CompletesText
     {M P E W : Type 0} (map_left : M → Option (List ℕ)) (plan_left : P → Option (List ℕ)) (events_left : E → Option (List ℕ))
     (contents : W → Option (List ℕ)) (old_map new_map : Counted M) (old_plan new_plan : Counted P) (old_events new_events : Counted E)
     (old_out new_out : Counted W) (result : Result Completion RunFault) : Type 0 where
-  pub answer : Result Timetable RunFault
-  pub reads : ReadsRunTimetable map_left plan_left old_map new_map old_plan new_plan answer
+  pub answer : Result Timetable PlannedFault
+  pub reads : ReadsTimetable map_left plan_left old_map new_map old_plan new_plan answer
   pub ends : MatchResult answer (λ tt. Completes events_left contents tt old_events new_events old_out new_out result)
-      (λ fault. (result ≡ Err fault) × (new_events ≡ old_events) × (new_out ≡ old_out))
+      (λ fault. (result ≡ Err (run_fault.Planned fault)) × (new_events ≡ old_events) × (new_out ≡ old_out))

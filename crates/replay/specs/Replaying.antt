@@ -3,17 +3,14 @@ use Rattle.std.specs.Prelude.{◌≡◌, ℕ, Bool, true, false, List, [], Optio
 use Rattle.std.specs.Io.KnownBytes.{Consumes}
 use Rattle.text_io.specs.declared.counted.Counted.{Counted}
 use Rattle.text_io.specs.Counted.{counted_inner, failures_of}
-use Rattle.grid.specs.Map.{Grid}
-use Rattle.grid.specs.MapFault.{ReadsMap}
 use Rattle.text_io.specs.Reading.{Outcome, is_value}
 use Rattle.text_io.specs.Writing.{WritesText}
 use Rattle.model.specs.declared.event.Event.{Event}
 use Rattle.model.specs.declared.version.Version.{Version}
 use Rattle.model.specs.History.{Answer}
-use Rattle.model.specs.Plan.{Plan, IsValid, IsTimetableOf}
 use Rattle.model.specs.Timetable.{Timetable}
-use Rattle.plan_text.specs.PlanTextFault.{ReadsPlan, ReadsMapAndPlan}
-use Rattle.plan.specs.Checking.{IsRefusedFor}
+use Rattle.planned.specs.Planned.{ReadsTimetable}
+use Rattle.planned.specs.declared.planned_fault.PlannedFault.{PlannedFault}
 use Rattle.event_text.specs.declared.event_fault.EventFault.{EventFault}
 use Rattle.event_text.specs.declared.header.Headers.TheVariants.{Either}
 use Rattle.event_text.specs.EventFault.{event_outcome}
@@ -23,24 +20,6 @@ use Rattle.event_text.specs.Taking.{NoMoreEvents}
 use Rattle.runner.specs.SafeRuns.{AreAnsweredAt}
 use Rattle.replay.specs.declared.run_fault.RunFault.{RunFault}
 use Rattle.replay.specs.declared.run_fault.RunFault.TheVariants as run_fault
-
--- The map was read and then the plan, the plan is valid on the map, and this is its timetable. Else the first fault is answered, the
--- least of a plan that is not valid, or that memory was refused for the graph of a valid one.
-abbrev pub ReadsRunTimetable
-    : {M P : Type 0} → (M → Option (List ℕ)) → (P → Option (List ℕ)) → Counted M → Counted M → Counted P → Counted P
-    → Result Timetable RunFault → Type 0
-ReadsRunTimetable map_left plan_left old_map new_map old_plan new_plan (Ok tt) =
-    (m : Grid) × (p : Plan) × ReadsMapAndPlan map_left plan_left old_map new_map old_plan new_plan m p × IsValid m p × IsTimetableOf p tt
-ReadsRunTimetable map_left plan_left old_map new_map old_plan new_plan (Err (run_fault.Map fault)) =
-    ReadsMap map_left old_map new_map (Err fault) × (new_plan ≡ old_plan)
-ReadsRunTimetable map_left plan_left old_map new_map old_plan new_plan (Err (run_fault.PlanText fault)) =
-    (m : Grid) × ReadsMap map_left old_map new_map (Ok m) × ReadsPlan plan_left old_plan new_plan (Err fault)
-ReadsRunTimetable map_left plan_left old_map new_map old_plan new_plan (Err (run_fault.Plan fault)) =
-    (m : Grid) × (p : Plan) × ReadsMapAndPlan map_left plan_left old_map new_map old_plan new_plan m p × IsRefusedFor m p fault
-ReadsRunTimetable map_left plan_left old_map new_map old_plan new_plan (Err run_fault.OutOfMemory) =
-    (m : Grid) × (p : Plan) × ReadsMapAndPlan map_left plan_left old_map new_map old_plan new_plan m p × IsValid m p
-ReadsRunTimetable map_left plan_left old_map new_map old_plan new_plan (Err (run_fault.Events fault)) = ⊥
-ReadsRunTimetable map_left plan_left old_map new_map old_plan new_plan (Err run_fault.WriteFailed) = ⊥
 
 -- Events are answered in a safe run of the version, and this is what came of the text of their replies.
 pub record Answered (version : Version) (tt : Timetable) (events : List Event) (CameOf : List ℕ → Type 0) : Type 0 where
@@ -82,9 +61,7 @@ AnswersEvents events_left tt old new Whole Broken (Err (run_fault.Events fault))
     AnswersAll events_left tt old new (λ events. event_outcome (Err fault)) Whole
 AnswersEvents events_left tt old new Whole Broken (Err run_fault.WriteFailed) = AnswersSome events_left tt old new Broken
 AnswersEvents events_left tt old new Whole Broken (Err run_fault.OutOfMemory) = AnswersSome events_left tt old new Whole
-AnswersEvents events_left tt old new Whole Broken (Err (run_fault.Map fault)) = ⊥
-AnswersEvents events_left tt old new Whole Broken (Err (run_fault.PlanText fault)) = ⊥
-AnswersEvents events_left tt old new Whole Broken (Err (run_fault.Plan fault)) = ⊥
+AnswersEvents events_left tt old new Whole Broken (Err (run_fault.Planned fault)) = ⊥
 
 -- whether no write failed
 abbrev pub was_written : {V : Type 0} → Result V RunFault → Bool
@@ -105,7 +82,7 @@ pub record RunsText
     {M P E W : Type 0} (map_left : M → Option (List ℕ)) (plan_left : P → Option (List ℕ)) (events_left : E → Option (List ℕ))
     (contents : W → Option (List ℕ)) (old_map new_map : Counted M) (old_plan new_plan : Counted P) (old_events new_events : Counted E)
     (old_out new_out : Counted W) (result : Result Unit RunFault) : Type 0 where
-  pub answer : Result Timetable RunFault
-  pub reads : ReadsRunTimetable map_left plan_left old_map new_map old_plan new_plan answer
+  pub answer : Result Timetable PlannedFault
+  pub reads : ReadsTimetable map_left plan_left old_map new_map old_plan new_plan answer
   pub ends : MatchResult answer (λ tt. Replays events_left contents tt old_events new_events old_out new_out result)
-      (λ fault. (result ≡ Err fault) × (new_events ≡ old_events) × (new_out ≡ old_out))
+      (λ fault. (result ≡ Err (run_fault.Planned fault)) × (new_events ≡ old_events) × (new_out ≡ old_out))

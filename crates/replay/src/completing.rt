@@ -9,11 +9,12 @@ ghost use Rattle.runner.specs.Standing.{StandsAt};
 ghost use Rattle.replay.specs.Completing.{numbered_line, completion_text, blocked_text, CompletesEvents, Completes, CompletesText};
 ghost use Rattle.replay.specs.Code.Ending.{PutsEnding};
 
-use crate::replaying::{hand_on, read_dependencies, run_events};
+use crate::replaying::{hand_on, run_events};
 use crate::{Completion, RunFault};
 use depgraph::Dependencies;
 use event_text::put_event;
 use model::Event;
+use planned::read_dependencies;
 use runner::{CompleteFault, Runner};
 use std::alloc::Global;
 use std::io::{Read, Write};

@@ -3,15 +3,14 @@ ghost use Rattle.std.specs.Prelude.{◌≡◌, []};
 ghost use Rattle.text_io.specs.Lines.{HasTaken};
 ghost use Rattle.text_io.specs.Sink.{held_back, sink_writer, Puts, Breaks};
 ghost use Rattle.text_io.specs.Source.{source_reader};
-ghost use Rattle.replay.specs.Replaying.{ReadsRunTimetable, AnswersEvents, Replays, RunsText, was_written};
+ghost use Rattle.replay.specs.Replaying.{AnswersEvents, Replays, RunsText, was_written};
 ghost use Rattle.replay.specs.Code.HandingOn.{IsHandedOn};
 ghost use Rattle.replay.specs.Code.Standing.{AnswersBy};
 
 use crate::RunFault;
 use depgraph::Dependencies;
 use event_text::{EventReader, put_reply};
-use grid::read_map;
-use plan::{check, read_plan};
+use planned::read_dependencies;
 use runner::Runner;
 use std::alloc::Global;
 use std::io::{Read, Write};
@@ -31,22 +30,6 @@ pub fn run_text<M: Read, P: Read, E: Read, W: Write>(
 {
     let graph = read_dependencies(alloc, map, plan)?;
     replay(alloc, &graph, events, out)
-}
-
-/// Reads the map and then the plan, checks the plan, and tells which of its moves wait for which.
-pub(crate) fn read_dependencies<M: Read, P: Read>(
-    alloc: Global,
-    map: &mut Counted<M>,
-    plan: &mut Counted<P>,
-) -> Result<Dependencies, RunFault>
-    ensures { ReadsRunTimetable M.remaining P.remaining map.old map.new plan.old plan.new result }
-{
-    let map = read_map(alloc, map)?;
-    let plan = read_plan(alloc, plan)?;
-    match check(alloc, &map, plan) {
-        Ok(checked) => Ok(Dependencies::build(alloc, &checked)?),
-        Err(rejected) => Err(RunFault::Plan(rejected.fault)),
-    }
 }
 
 /// Answers the events on the graph.

@@ -5,8 +5,7 @@ ghost use Rattle.replay.specs.FaultWords.{run_fault_words};
 ghost use Rattle.replay.specs.declared.run_fault.RunFault.TheVariants as run_fault;
 
 use event_text::EventFault;
-use grid::MapFault;
-use plan::{PlanFault, PlanTextFault};
+use planned::PlannedFault;
 use std::fmt;
 use text_io::{Failure, FaultWords, OutOfMemory, WriteFault};
 use thiserror::Error;
@@ -14,16 +13,13 @@ use thiserror::Error;
 /// Why a run is not replayed to its end.
 #[derive(Clone, Copy, Debug, PartialEq, Eq, Error)]
 pub enum RunFault {
-    /// The map could not be read.
-    Map(MapFault),
-    /// The plan could not be read.
-    PlanText(PlanTextFault),
-    /// The plan is not valid, or its check was refused memory.
-    Plan(PlanFault),
+    /// The map or the plan could not be read, or the plan is not valid, or nobody knows what its moves
+    /// wait for: nothing was answered.
+    Planned(PlannedFault),
     /// The events could not be read further.
     Events(EventFault),
     WriteFailed,
-    /// The graph was refused memory, or an agent was.
+    /// An agent was refused memory.
     OutOfMemory,
 }
 
@@ -33,9 +29,7 @@ impl RunFault {
         ensures { words_of result ≡ run_fault_words self }
     {
         match self {
-            RunFault::Map(fault) => fault.words(),
-            RunFault::PlanText(fault) => fault.words(),
-            RunFault::Plan(fault) => fault.words(),
+            RunFault::Planned(fault) => fault.words(),
             RunFault::Events(fault) => fault.words(),
             RunFault::WriteFailed => Failure::WriteFailed.words(),
             RunFault::OutOfMemory => Failure::OutOfMemory.words(),
@@ -51,19 +45,11 @@ impl fmt::Display for RunFault {
     }
 }
 
-impl From<MapFault> for RunFault {
-    ghost from_gives = { λ e f. f ≡ run_fault.Map e };
+impl From<PlannedFault> for RunFault {
+    ghost from_gives = { λ e f. f ≡ run_fault.Planned e };
 
-    fn from(e: MapFault) -> RunFault {
-        RunFault::Map(e)
-    }
-}
-
-impl From<PlanTextFault> for RunFault {
-    ghost from_gives = { λ e f. f ≡ run_fault.PlanText e };
-
-    fn from(e: PlanTextFault) -> RunFault {
-        RunFault::PlanText(e)
+    fn from(e: PlannedFault) -> RunFault {
+        RunFault::Planned(e)
     }
 }
 

@@ -1,19 +1,16 @@
 -- What `mapf run` does and answers.
 use Rattle.std.specs.Prelude.{◌≡◌, ℕ, Bool, true, false, List, MatchBool, Option, Some, Result, Ok, Err}
-use Rattle.text_io.specs.FaultWords.{Words}
 use Rattle.text_io.specs.declared.counted.Counted.{Counted}
 use Rattle.replay.specs.declared.completion.Completion.{Completion}
 use Rattle.replay.specs.declared.completion.Completion.TheVariants.{Ends, Blocked}
 use Rattle.replay.specs.declared.run_fault.RunFault.{RunFault}
-use Rattle.replay.specs.declared.run_fault.RunFault.TheVariants.{Map, PlanText, Plan, WriteFailed}
+use Rattle.replay.specs.declared.run_fault.RunFault.TheVariants.{Planned, WriteFailed}
 use Rattle.replay.specs.Completing.{CompletesText}
 use Rattle.replay.specs.Replaying.{RunsText}
-use Rattle.text_commands.specs.declared.status.Status.{Status}
+use Rattle.text_commands.specs.declared.status.Status.TheVariants.{Done, Fault}
+use Rattle.text_commands.specs.Ending.{End, answered_with, gave_up}
 use Rattle.text_commands.specs.Finishing.{FinishesWriting}
-use Rattle.text_commands.specs.Status.{code_of}
 use Rattle.replay.specs.FaultWords.{run_fault_words}
-use Rattle.run_commands.specs.FaultWords.{told_of_run}
-use Rattle.run_commands.specs.RunStatus.{run_status}
 
 -- The texts were read and the events were answered; where it was asked for, and there alone, it was also said how their run ends.
 abbrev pub RunsOrCompletes
@@ -29,29 +26,29 @@ RunsOrCompletes map_left plan_left events_left contents old_map new_map old_plan
 
 -- whether the map and the plan were good, so that events were answered, and no write failed
 abbrev pub needs_flush : Result Completion RunFault → Bool
-needs_flush (Err (Map f)) = false
-needs_flush (Err (PlanText f)) = false
-needs_flush (Err (Plan f)) = false
+needs_flush (Err (Planned f)) = false
 needs_flush (Err WriteFailed) = false
 needs_flush _ = true
 
+-- how a run ends that came to this: that a rotation blocks it is told by the status alone
+abbrev pub end_of_run : Result Completion RunFault → End
+end_of_run (Ok Ends) = answered_with Done
+end_of_run (Ok (Blocked n)) = answered_with Fault
+end_of_run (Err fault) = gave_up (run_fault_words fault)
+
 -- How a run ends that came to an answer: where events were answered the output is flushed, unless it had failed, and else it is left
--- alone. Where nothing failed, the status is that of the answer, and `Passed` is what was said on the error output; where the flush
--- failed, `Failed` is.
-abbrev pub EndsRun : {W : Type 0} → (W → Option (List ℕ)) → (Passed Failed : Type 0) → Result Completion RunFault → Counted W → Counted W → Status → Type 0
-EndsRun contents Passed Failed answer old new status =
-    MatchBool (needs_flush answer) (FinishesWriting contents Passed Failed true (run_status answer) old new status)
-    ((status ≡ run_status answer) × (new ≡ old) × Passed)
+-- alone.
+abbrev pub EndsByRun : {W : Type 0} → (W → Option (List ℕ)) → Counted W → Counted W → End → Result Completion RunFault → Type 0
+EndsByRun contents old new end answer =
+    MatchBool (needs_flush answer) (FinishesWriting contents true (end_of_run answer) old new end) ((end ≡ end_of_run answer) × (new ≡ old))
 
 -- The texts were read, the events were answered, and the ending was said where it was asked for, and the run ended by what they came to.
 pub record AnswersRun
     {M P V W : Type 0} (map_left : M → Option (List ℕ)) (plan_left : P → Option (List ℕ)) (events_left : V → Option (List ℕ))
-    (contents : W → Option (List ℕ)) (Told : Option Words → Type 0) (old_map new_map : Counted M) (old_plan new_plan : Counted P)
-    (old_events new_events : Counted V) (complete : Bool) (old_out new_out : Counted W) (code : ℕ) : Type 0 where
+    (contents : W → Option (List ℕ)) (old_map new_map : Counted M) (old_plan new_plan : Counted P)
+    (old_events new_events : Counted V) (complete : Bool) (old_out new_out : Counted W) (end : End) : Type 0 where
   pub answer : Result Completion RunFault
   pub written : Counted W
   pub runs : RunsOrCompletes map_left plan_left events_left contents old_map new_map old_plan new_plan old_events new_events complete old_out written
       answer
-  pub status : Status
-  pub ends : EndsRun contents (Told (told_of_run answer)) (Told (Some (run_fault_words WriteFailed))) answer written new_out status
-  pub is_code : code ≡ code_of status
+  pub ends : EndsByRun contents written new_out end answer

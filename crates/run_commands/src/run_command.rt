@@ -1,21 +1,16 @@
 //! `mapf run`: answers the events of a run, one after another, and says how it ends.
 ghost use Rattle.std.specs.Prelude.{◌≡◌};
-ghost use Rattle.run_commands.specs.FaultWords.{told_of_run};
-ghost use Rattle.run_commands.specs.RunCommand.{RunsOrCompletes, needs_flush, AnswersRun};
-ghost use Rattle.run_commands.specs.RunStatus.{run_status};
-ghost use Rattle.run_commands.specs.Code.Concluding.{IsFlushed};
-ghost use Rattle.text_commands.specs.Telling.{Tells};
+ghost use Rattle.text_commands.specs.Ending.{EndsAndTells, end_of};
+ghost use Rattle.run_commands.specs.RunCommand.{RunsOrCompletes, needs_flush, end_of_run, AnswersRun};
 
 use replay::{Completion, RunFault, complete_text, run_text};
 use std::alloc::Global;
 use std::io::{Read, Write};
-use text_commands::{Status, report};
+use text_commands::{Ending, Status, conclude, finish};
 use text_io::Counted;
 
-/// Reads a map from `map` and a plan from `plan`, checks the plan on the map, and answers one event of `events` after another on
-/// `out`; where `complete` is set it then says there how the run ends. A fault's line goes to `err` after all that was written before
-/// it; that a rotation blocks the run is told by the status alone. `out` is left alone where the map or the plan has a fault. The answer
-/// is the exit status, which stays where `err` fails.
+/// As `perform`, with a fault's line on `err`, after all that was written before it. The answer is
+/// the exit status, which stays where `err` fails.
 pub fn run_cmd<M: Read, P: Read, V: Read, W: Write, E: Write>(
     alloc: Global,
     map: &mut Counted<M>,
@@ -25,11 +20,31 @@ pub fn run_cmd<M: Read, P: Read, V: Read, W: Write, E: Write>(
     out: &mut Counted<W>,
     err: &mut Counted<E>,
 ) -> u8
-    ensures { AnswersRun M.remaining P.remaining V.remaining W.contents (Tells E.contents err.old err.new) map.old map.new plan.old plan.new events.old events.new complete out.old out.new result }
+    ensures { EndsAndTells (AnswersRun M.remaining P.remaining V.remaining W.contents map.old map.new plan.old plan.new events.old events.new complete out.old out.new)
+        E.contents err.old err.new result }
+{
+    conclude(perform(alloc, map, plan, events, complete, out), err)
+}
+
+/// Reads a map from `map` and a plan from `plan`, checks the plan on the map, and answers one event
+/// of `events` after another on `out`; where `complete` is set it then says there how the run ends.
+/// `out` is left alone where the map or the plan has a fault.
+pub fn perform<M: Read, P: Read, V: Read, W: Write>(
+    alloc: Global,
+    map: &mut Counted<M>,
+    plan: &mut Counted<P>,
+    events: &mut Counted<V>,
+    complete: bool,
+    out: &mut Counted<W>,
+) -> Ending
+    ensures { AnswersRun M.remaining P.remaining V.remaining W.contents map.old map.new plan.old plan.new events.old events.new complete out.old out.new (end_of result) }
 {
     let answer = answer_run(alloc, map, plan, events, complete, out);
-    let answer = flush(answer, out);
-    conclude(answer, err).code()
+    if needs_flush(&answer) {
+        finish(Ok(()), ending_of(answer), out)
+    } else {
+        ending_of(answer)
+    }
 }
 
 /// Answers the events, and says how their run ends where that is asked for.
@@ -50,41 +65,20 @@ fn answer_run<M: Read, P: Read, V: Read, W: Write>(
     Ok(Completion::Ends)
 }
 
-/// Flushes what was written of events that were answered, unless a write failed.
-fn flush<W: Write>(
-    answer: Result<Completion, RunFault>,
-    out: &mut Counted<W>,
-) -> Result<Completion, RunFault>
-    ensures { IsFlushed W.contents answer out.old out.new result }
-{
-    if needs_flush(&answer) && out.flush().is_err() {
-        return Err(RunFault::WriteFailed);
-    }
-    answer
-}
-
 /// Whether the map and the plan were good, so that events were answered, and no write failed.
 fn needs_flush(answer: &Result<Completion, RunFault>) -> bool
     ensures { result ≡ needs_flush answer.now }
 {
-    !matches!(
-        answer,
-        Err(RunFault::Map(_) | RunFault::PlanText(_) | RunFault::Plan(_) | RunFault::WriteFailed)
-    )
+    !matches!(answer, Err(RunFault::Planned(_) | RunFault::WriteFailed))
 }
 
-/// Says why the run was not replayed to its end, if it wasn't.
-fn conclude<E: Write>(answer: Result<Completion, RunFault>, err: &mut Counted<E>) -> Status
-    ensures status { result ≡ run_status answer }
-    ensures told { Tells E.contents err.old err.new (told_of_run answer) }
+/// How a run ends that came to this: that a rotation blocks it is told by the status alone.
+fn ending_of(answer: Result<Completion, RunFault>) -> Ending
+    ensures { end_of result ≡ end_of_run answer }
 {
     match answer {
-        Ok(Completion::Ends) => Status::Done,
-        Ok(Completion::Blocked(_)) => Status::Fault,
-        Err(fault) => {
-            let words = fault.words();
-            report(err, words);
-            Status::of_fault(&words)
-        }
+        Ok(Completion::Ends) => Ending::answered_with(Status::Done),
+        Ok(Completion::Blocked(_)) => Ending::answered_with(Status::Fault),
+        Err(fault) => Ending::gave_up(fault.words()),
     }
 }

@@ -1,19 +1,18 @@
 -- What each of the events does to where all of them lead.
-use Rattle.std.proofs.Common.{◌≡◌, ℕ, zero, suc, ◌+◌, ◌<◌, ◌≤◌, Bool, true, false, List, [], ◌∷◌, ◌++◌, length, get_or, set, Some, None, Result, Ok, Err, inl, inr, arith, refl, sym, ap, subst, ◌∙◌}
-use Rattle.std.specs.Prelude.{OnOk, ◌⊎◌, ◌||◌, ◌==◌, if◌then◌else◌, Option, MatchOption, IfSome, ⊤, is_some, option_map, unwrap_or, slice_get}
-use Rattle.std.proofs.lemmas.Bool.{cases_lt, cases_eq, eqb-true, eqb-false, ne_eqb, true≢false}
+use Rattle.std.proofs.Common.{◌≡◌, ℕ, zero, suc, ◌+◌, ◌<◌, ◌≤◌, Bool, true, false, List, [], ◌∷◌, ◌++◌, length, set, Some, None, Result, Ok, Err, inl, inr, arith, refl, sym, ap, subst, ◌∙◌}
+use Rattle.std.specs.Prelude.{OnOk, ◌⊎◌, ◌||◌, ◌==◌, if◌then◌else◌, Option, is_some, option_map, unwrap_or, slice_get}
+use Rattle.std.proofs.lemmas.Bool.{cases_lt, cases_eq, eqb-true, eqb-false, true≢false}
 use Rattle.std.proofs.lemmas.List.{length-append, length-set}
-use Rattle.std.proofs.lemmas.Option.{same_Some, none-some, slice_get-get_or, slice_get_within}
+use Rattle.std.proofs.lemmas.Option.{same_Some, slice_get_within}
 use Rattle.model.specs.declared.event.Event.{Event}
 use Rattle.model.specs.declared.event.Event.TheVariants.{Start, Finish, Say, Deliver}
 use Rattle.model.specs.declared.version.Version.{Version}
-use Rattle.model.specs.Completion.{history_after, AreAccepted, IsCompletion}
-use Rattle.depgraph.specs.Routes.{Route, IsRouteOf, asked, asked_by, need_at}
-use Rattle.model.specs.Dependency.{Need, IsMet, WaitsFor, need}
+use Rattle.model.specs.Completion.{history_after, AreAccepted}
+use Rattle.model.specs.Dependency.{IsMet, need}
 use Rattle.model.specs.History.{History, armed_of, is_broken, kept_starts, done, is_moving, messages, known}
 use Rattle.model.specs.Messages.{Message, told}
 use Rattle.model.specs.Ready.{IsReady, rest_events, ComesToRest, MovesOn, SpeaksUp, Learns}
-use Rattle.model.specs.Timetable.{Track, Timetable, moves, track_of, IsConflictFree}
+use Rattle.model.specs.Timetable.{Track, Timetable, moves, track_of}
 use Rattle.agent.specs.Agents.{AgentOn, state_of}
 use Rattle.agent.specs.States as states
 use Rattle.runner.specs.declared.ending.Heard.{Heard}
@@ -21,16 +20,14 @@ use Rattle.runner.specs.declared.ending.Standing.{Standing}
 use Rattle.agent.specs.declared.counted_tape.CountedTape.{CountedTape}
 use Rattle.agent.specs.CountedTape.{counted_state, counted_armed}
 use Rattle.runner.specs.Standing.{IsMember}
-use Rattle.runner.specs.Code.Leading.{EndingState, finished_in, told_in, is_opened_anew, Begins, HasTold, StandsThere, IsUntouched, LeadsThroughTo, LeadsThrough, LeadsOn, IsOf, HasStayed, Teaches, TeachesNeed, LeadsOnceKnown, HasLeft, NeedsNext, Awaits, HasMoved, AreUnheard, HasSameStandings}
-use Rattle.model.specs.Laws.After.{history-more, accepted-more, run-more}
-use Rattle.model.specs.Laws.Needs.{awaits}
+use Rattle.runner.specs.Code.Leading.{EndingState, finished_in, told_in, is_opened_anew, Begins, HasTold, StandsThere, IsUntouched, LeadsThroughTo, LeadsThrough, LeadsOn, IsOf, HasStayed, TeachesNeed, LeadsOnceKnown, HasLeft, HasMoved, AreUnheard}
+use Rattle.model.specs.Laws.After.{history-more, accepted-more}
 use Rattle.model.specs.Laws.Ready.{others-ready, comes_to_rest, moves_on, message, speaks_up, learns}
-use Rattle.model.specs.Laws.Runs.{in_step, progress}
+use Rattle.model.specs.Laws.Runs.{in_step}
 use Rattle.runner.proofs.CrewLemmas.{each-pushed}
 use Rattle.runner.proofs.GoesLemmas.{set-at, set-other}
 use Rattle.runner.proofs.RuleLemmas.{done-is, moving-is}
-
--- ---- lists
+use Rattle.runner.proofs.NeedLemmas.{finished-is, told-is}
 
 pub get-front : {X : Type 0} (xs ys : List X) (i : ℕ) → i < length xs → slice_get (xs ++ ys) i ≡ slice_get xs i
 get-front [] ys i less = absurd (omega (arith, less))
@@ -192,85 +189,6 @@ rest-on v h old new i a track x at there its table crew same_messages none_heard
             (comes.known (ap is_opened_anew (sym its_own) ∙ none) j)
         | inr apart ↦ comes.others.known k j apart
       ]
-
--- ---- needs
-
--- a need is of an agent that there is, and asks for at least one move, all of which it has
-pub need-there : (tab : Timetable) (i k : ℕ) (track : Track) (n : Need) → IsConflictFree tab → track_of tab i ≡ Some track → k < moves track → need tab i track k ≡ Some n
-    → (n.agent < length tab.tracks) × (0 < n.count)
-need-there tab i k track n free there less asks =
-    let a = awaits tab i track k n free there less asks in
-    (slice_get_within tab.tracks n.agent a.to a.is_to, (let count = a.count in omega (arith, count)))
-
--- what a route says of a need is the need
-pub need-known : (tab : Timetable) (i k : ℕ) (track : Track) (route : Route) → IsRouteOf tab i track route → k < moves track
-    → need_at route k ≡ option_map asked (need tab i track k)
-need-known tab i k track route is less = ap asked_by (is.needs k less)
-
-pub asked-some : (o : Option Need) (j n : ℕ) → option_map asked o ≡ Some (j, n) → o ≡ Some (record { agent = j; count = n })
-asked-some None j n e = absurd (none-some (j, n) e)
-asked-some (Some m) j n e =
-    let same = same_Some (asked m) (j, n) e in
-    ap {A = ℕ} {B = Option Need} (λ k. Some (record { agent = k; count = m.count })) (ap (λ p. p.0) same)
-    ∙ ap {A = ℕ} {B = Option Need} (λ k. Some (record { agent = j; count = k })) (ap (λ p. p.1) same)
-
-pub asked-none : (o : Option Need) → option_map asked o ≡ None → o ≡ None
-asked-none None e = refl
-asked-none (Some m) e = absurd (none-some (asked m) (sym e))
-
--- how many moves one has finished that stands there
-pub finished-is : (standings : List Standing) (i : ℕ) (x : Standing) → slice_get standings i ≡ Some x → finished_in standings i ≡ x.done
-finished-is standings i x there = ap (λ o. unwrap_or (option_map (λ s. s.done) o) 0) there
-
-pub told-is : (standings : List Standing) (i : ℕ) (x : Standing) → slice_get standings i ≡ Some x → told_in standings i ≡ x.told
-told-is standings i x there = ap (λ o. unwrap_or (option_map (λ s. s.told) o) 0) there
-
--- whoever is asked by a need is there, for at least one move
-pub asked-there : (s : EndingState) (i : ℕ) (o : Option (ℕ × ℕ)) → IsConflictFree s.timetable → length s.agents ≡ length s.timetable.tracks → NeedsNext s i o
-    → IfSome o (λ pair. (pair.0 < length s.agents) × (0 < pair.1))
-asked-there s i None free count needs = tt
-asked-there s i (Some pair) free count needs =
-    let asks = asked-some (need s.timetable i needs.0 (finished_in s.standings i)) pair.0 pair.1 (sym needs.3) in
-    let there = need-there s.timetable i (finished_in s.standings i) needs.0 _ free needs.1 needs.2 asks in
-    let within = there.0 in
-    (omega (arith, within, count), there.1)
-
--- a need that isn't met, and one that is
-pub waits-from : (s : EndingState) (i j n : ℕ) → NeedsNext s i (Some (j, n)) → finished_in s.standings j < n → WaitsFor s.timetable (finished_in s.standings) i j
-waits-from s i j n needs unmet = record {
-  track = needs.0;
-  count = n;
-  is_track = needs.1;
-  left = needs.2;
-  asks = asked-some (need s.timetable i needs.0 (finished_in s.standings i)) j n (sym needs.3);
-  unmet = unmet;
-}
-
-pub met-from : (s : EndingState) (i : ℕ) (o : Option (ℕ × ℕ)) → NeedsNext s i o → MatchOption o ⊤ (λ pair. pair.1 ≤ finished_in s.standings pair.0) → Awaits s i None
-met-from s i None needs met track there =
-    let same = same_Some needs.0 track (sym needs.1 ∙ there) in
-    let none = asked-none (need s.timetable i needs.0 (finished_in s.standings i)) (sym needs.3) in
-    subst (λ t. IsMet (finished_in s.standings) (need s.timetable i t (finished_in s.standings i))) same (subst (IsMet (finished_in s.standings)) (sym none) tt)
-met-from s i (Some pair) needs met track there =
-    let same = same_Some needs.0 track (sym needs.1 ∙ there) in
-    let some = asked-some (need s.timetable i needs.0 (finished_in s.standings i)) pair.0 pair.1 (sym needs.3) in
-    subst (λ t. IsMet (finished_in s.standings) (need s.timetable i t (finished_in s.standings i))) same (subst (IsMet (finished_in s.standings)) (sym some) met)
-
-pub met-is : (s : EndingState) (i j n : ℕ) → NeedsNext s i (Some (j, n)) → Awaits s i None → n ≤ finished_in s.standings j
-met-is s i j n needs met =
-    subst (IsMet (finished_in s.standings)) (asked-some (need s.timetable i needs.0 (finished_in s.standings i)) j n (sym needs.3)) (met needs.0 needs.1)
-
--- an agent that is told what its next move needs
-pub teaches-need : (s t : EndingState) (i : ℕ) (o : Option (ℕ × ℕ)) → NeedsNext s i o → MatchOption o ⊤ (λ pair. Teaches s t i pair.0 pair.1) → TeachesNeed s t i
-teaches-need s t i o needs teaches v h begins was track there =
-    let same = same_Some needs.0 track (sym needs.1 ∙ there) in
-    subst (λ x. IsMet (known v t.timetable (history_after v t.timetable h t.events) i) (need s.timetable i x (finished_in s.standings i))) same
-    (by_pair (need s.timetable i needs.0 (finished_in s.standings i)) o needs.3 teaches)
-  where
-    by_pair : (m : Option Need) (p : Option (ℕ × ℕ)) → p ≡ option_map asked m → MatchOption p ⊤ (λ pair. Teaches s t i pair.0 pair.1)
-        → IsMet (known v t.timetable (history_after v t.timetable h t.events) i) m
-    by_pair None p f k = tt
-    by_pair (Some n) p f k = (subst (λ x. MatchOption x ⊤ (λ pair. Teaches s t i pair.0 pair.1)) f k) v h begins was
 
 -- ---- one step after another
 
@@ -529,63 +447,3 @@ known-then old mid new i stayed first teaches left onward v h begins was =
     onward v h begins_mid (first v h begins was) left.0 (ap (λ t. track_of t i) table ∙ left.1)
     (subst (λ k. IsMet (known v mid.timetable (history_after v mid.timetable h mid.events) i) (need mid.timetable i left.0 k)) (sym (stayed.finished i))
     (subst (λ t. IsMet (known v mid.timetable (history_after v mid.timetable h mid.events) i) (need t i left.0 (finished_in old.standings i))) (sym table) taught))
-
--- ---- the beginning and the end
-
--- no event leads anywhere else
-pub leads-nowhere : (v : Version) (h : History) (s : EndingState) → s.events ≡ [] → s.standings ≡ [] → s.heard ≡ [] → Begins v s.timetable s.agents h
-    → length (messages v s.timetable h) ≡ s.messages → LeadsThrough v s h
-leads-nowhere v h s no_events nobody nothing begins said =
-    subst (LeadsThroughTo v s h) (sym (ap (history_after v s.timetable h) no_events)) (record {
-      accepted = subst (AreAccepted v s.timetable h) (sym no_events) tt;
-      said = said;
-      stand = λ i x there. absurd (none-some x (sym (ap (λ l. slice_get l i) nobody) ∙ there));
-      others = λ i past less. record { broken = refl; armed = refl; begun = refl; finished = refl };
-      knows = λ i a there none j. (let same = (begins.members i a there).heard j in omega (arith, same));
-      heard = λ n x there. absurd (none-some x (sym (ap (λ l. slice_get l n) nothing) ∙ there));
-    })
-
--- other places change nothing of where the events lead
-pub leads-same : (v : Version) (h : History) (old new : EndingState) → HasSameStandings old new → AreUnheard new.heard → LeadsThrough v old h → LeadsThrough v new h
-leads-same v h old new same none_heard was =
-    let table = same.same.timetable in
-    let after : history_after v new.timetable h new.events ≡ history_after v old.timetable h old.events
-    = ap (λ t. history_after v t h new.events) table ∙ ap (history_after v old.timetable h) same.events in
-    subst (LeadsThroughTo v new h) (sym after) (record {
-      accepted = subst (λ t. AreAccepted v t h new.events) (sym table) (subst (AreAccepted v old.timetable h) (sym same.events) was.accepted);
-      said = ap (λ t. length (messages v t (history_after v old.timetable h old.events))) table ∙ was.said ∙ sym same.messages;
-      stand = λ i x there. subst (λ t. StandsThere v t (history_after v old.timetable h old.events) i x) (sym table) (was.stand i x (ap (λ l. slice_get l i) (sym same.standings) ∙ there));
-      others = λ i past less. was.others i (subst (λ l. length l ≤ i) same.standings past) (subst (λ l. i < length l) same.same.agents less);
-      knows = λ i a there none j. (
-          let before = was.knows i a (ap (λ l. slice_get l i) (sym same.same.agents) ∙ there) none j in
-          let now = ap (λ t. known v t (history_after v old.timetable h old.events) i j) table in
-          omega (arith, before, now));
-      heard = λ n x there. (let zero_heard = none_heard n x there in omega (arith, zero_heard));
-    })
-
--- where everybody has made all its moves, the events complete the run
-pub completes-on : (v : Version) (h : History) (s : EndingState) → Begins v s.timetable s.agents h → length s.standings ≡ length s.timetable.tracks
-    → ((i : ℕ) → i < length s.standings → (track : Track) → track_of s.timetable i ≡ Some track → moves track ≤ finished_in s.standings i)
-    → LeadsThrough v s h → IsCompletion v s.timetable h s.events
-completes-on v h s begins count all was = record {
-  accepted = was.accepted;
-  arrived = λ i track there.
-      let within = slice_get_within s.timetable.tracks i track there in
-      let none : Standing = record { done = 0; message = 0; told = 0; next = 0 } in
-      let at = slice_get-get_or s.standings i none (omega (arith, within, count)) in
-      let stands = was.stand i (get_or s.standings i none) at in
-      let so_far = stands.finished in
-      let number = finished-is s.standings i (get_or s.standings i none) at in
-      let most = all i (omega (arith, within, count)) track there in
-      let went = progress v s.timetable (history_after v s.timetable h s.events) i track there (run-more v s.timetable h s.events begins.run) in
-      let low = went.low in
-      let limit = went.limit in
-      let still = stands.ready.still in
-      record {
-        all = omega (arith, so_far, number, most, low, limit);
-        still = ne_eqb (kept_starts (history_after v s.timetable h s.events) i) (done (history_after v s.timetable h s.events) i + 1) (λ e. omega (arith, e, still));
-      };
-}
-
-pub unheard-more : (l : List Heard) (x : Heard) → AreUnheard l → x.number ≡ 0 → AreUnheard (l ++ x ∷ [])
-unheard-more l x was none = each-pushed (λ n z. z.number ≡ 0) l x was none

@@ -11,6 +11,8 @@ pub mod DeliverLemmas
 pub mod CrewLemmas
 pub mod SaidLemmas
 pub mod BlockLemmas
+pub mod NeedLemmas
 pub mod LeadLemmas
+pub mod EndingLemmas
 pub mod ChainLemmas
 pub mod ArrivalLemmas

@@ -1,9 +1,10 @@
 //! Events that bring every agent of a run to its end.
-ghost use Rattle.std.specs.Prelude.{◌≡◌, ◌<◌, ◌≤◌, ◌+◌, ◌^◌, [], ◌∷◌, ◌++◌, ◌↔◌, length, true, None, Some, IfSome, IfNone, IfOk, OnOk, slice_get};
+ghost use Rattle.std.specs.Prelude.{◌≡◌, ◌<◌, ◌≤◌, ◌+◌, ◌^◌, [], ◌∷◌, ◌++◌, length, None, Some, IfSome, IfNone, IfOk, OnOk, slice_get};
 ghost use Rattle.model.specs.Ready.{rest_events};
 ghost use Rattle.runner.specs.Code.Leading.{is_opened_anew};
-ghost use Rattle.runner.specs.Code.Waiting.{HasNoRotation, CompletesFrom, HasStopped, TellsArrival};
+ghost use Rattle.runner.specs.Code.Waiting.{HasNoRotation, CompletesFrom};
 
+use crate::arrival::have_arrived;
 use agent::{Agent, CountedTape};
 use depgraph::{Dependencies, Route};
 use model::Event;
@@ -437,30 +438,6 @@ fn is_opened_anew(agent: &Agent<'_, CountedTape>) -> bool
     ensures { result ≡ is_opened_anew agent.now }
 {
     agent.is_broken() || agent.tape().armed().is_some()
-}
-
-/// Whether an agent has finished all its moves, and stands.
-fn has_arrived(graph: &Dependencies, agent: &Agent<'_, CountedTape>, id: u32) -> bool
-    ensures { result ≡ true ↔ HasStopped graph.now id agent.now }
-{
-    match graph.moves(id) {
-        Some(moves) => agent.done() == moves && !agent.is_moving(),
-        None => true,
-    }
-}
-
-/// Whether every agent has.
-fn have_arrived(graph: &Dependencies, agents: &[Agent<'_, CountedTape>]) -> bool
-    requires count { length agents.now ≡ length graph.now.tracks }
-    requires few { length agents.now ≤ 10000 }
-    ensures { TellsArrival graph.now agents.now result }
-{
-    for id in 0..agents.len() {
-        if !has_arrived(graph, &agents[id], id as u32) {
-            return false;
-        }
-    }
-    true
 }
 
 /// Events that bring all agents of a graph to their ends, from where a run left them after so many messages.

@@ -1,6 +1,7 @@
 //! Whole runs: all agents of a graph over tapes that tear, and every message that was said.
 #![tactic(auto)]
 
+mod arrival;
 mod complete_fault;
 mod ending;
 pub mod laws;

@@ -14,7 +14,7 @@ use crate::ending::bring_all_to_ends;
 use crate::replies::{reply_to_delivery, reply_to_finish, reply_to_start};
 use crate::said::Said;
 use agent::replies::{reply_to_restart, why_of};
-use agent::{Agent, CountedTape, Finished, TellFault};
+use agent::{Agent, CountedTape, Finished, RECORD_LENGTH, TellFault};
 use depgraph::{Dependencies, Graph};
 use model::{Entry, Event, Held, Reply, Version, Why};
 use std::alloc::{AllocError, Global};
@@ -322,7 +322,7 @@ impl<'g> Runner<'g> {
         if index >= self.agents.len() {
             return Reply::Refused(Why::NoSuchAgent);
         }
-        if stored > 10 {
+        if stored > RECORD_LENGTH {
             return Reply::Refused(Why::BadTear);
         }
         self.agents[index].tear(stored as u8);

@@ -2,7 +2,7 @@
 ghost use Rattle.std.specs.Prelude.{◌≡◌, ◌≤◌, [], None, IfOk};
 ghost use Rattle.std.specs.Option.{ForSome};
 
-use agent::{MemTape, Scripted, Tape, TapeError};
+use agent::{MemTape, RECORD_SIZE, Scripted, Tape, TapeError};
 use std::alloc::Global;
 use text_io::OutOfMemory;
 
@@ -55,11 +55,11 @@ impl Tape for SimTape {
         self.tape.len()
     }
 
-    fn read_at(&mut self, at: u32, out: &mut [u8; 10]) -> Result<(), TapeError> {
+    fn read_at(&mut self, at: u32, out: &mut [u8; RECORD_SIZE]) -> Result<(), TapeError> {
         self.tape.read_at(at, out)
     }
 
-    fn write_at(&mut self, at: u32, bytes: &[u8; 10]) -> Result<(), TapeError> {
+    fn write_at(&mut self, at: u32, bytes: &[u8; RECORD_SIZE]) -> Result<(), TapeError> {
         let Some(stored) = self.armed else {
             return self.tape.write_at(at, bytes);
         };

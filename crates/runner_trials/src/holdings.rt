@@ -1,6 +1,7 @@
 //! What the agents of a run hold.
-use crate::texts::{ONE_BEHIND, ROW, graph_of};
+use agent_fixtures::graph_of;
 use depgraph::{Graph, OutOfMemory};
+use fakes::{BEHIND, LANE};
 use grid::Cell;
 use model::Held;
 use runner::{Event, Runner};
@@ -35,7 +36,7 @@ fn hold(alloc: Global, graph: &Graph) -> Result<bool, OutOfMemory> {
 }
 
 fn hold_on_graph(alloc: Global) -> Result<bool, OutOfMemory> {
-    let graph = graph_of(alloc, ROW, ONE_BEHIND)?;
+    let graph = graph_of(alloc, LANE, BEHIND)?;
     hold(alloc, &graph)
 }
 

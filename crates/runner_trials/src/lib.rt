@@ -12,5 +12,3 @@ mod refused_replays;
 mod scripted_agents;
 #[cfg(test)]
 mod tapes;
-#[cfg(test)]
-mod texts;

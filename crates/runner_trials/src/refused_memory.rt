@@ -1,10 +1,17 @@
 //! Runs while memory may be refused, as `./test --prove` refuses each allocation of these tests in turn: at the most one in a run.
-use crate::texts::{ONE_BEHIND, ROW, SQUARE, TURNING, graph_of, have_text};
+use agent_fixtures::graph_of;
 use depgraph::{Graph, OutOfMemory};
+use event_text::write_replies;
+use fakes::{BEHIND, Keeper, LANE, SQUARE};
 use runner::{CompleteFault, Event, Reply, Runner, Version, run, run_with};
 use std::alloc::Global;
 use std::process::Abort;
 use std::test::Fail;
+use text_io::Counted;
+
+/// On the square, each agent goes into the cell of the next.
+const TURNING: &str =
+    "mapf-plan 1\nnumber 7\nagents 4\nagent 0 0 e\nagent 1 0 s\nagent 1 1 w\nagent 0 1 n\n";
 
 /// A run: its map and its plan, its events with the text of their replies, and which of these events may want memory.
 #[derive(Clone, Copy)]
@@ -33,8 +40,8 @@ static TURNS: Case = Case {
 
 /// At version 1.
 static MESSAGE: Case = Case {
-    map: ROW,
-    plan: ONE_BEHIND,
+    map: LANE,
+    plan: BEHIND,
     events: &[
         Event::Start(1),
         Event::Start(0),
@@ -50,8 +57,8 @@ static MESSAGE: Case = Case {
 
 /// At version 2 agent 1 hears the same message before and after a restart, and agent 0 one without an entry.
 static TELLING: Case = Case {
-    map: ROW,
-    plan: ONE_BEHIND,
+    map: LANE,
+    plan: BEHIND,
     events: &[
         Event::Start(0),
         Event::Finish(0),
@@ -103,6 +110,13 @@ fn answer_all(
         };
     }
     Ok(replies)
+}
+
+/// Whether this is the text of these replies.
+fn have_text(replies: &[Reply], text: &str) -> bool {
+    let mut out = Keeper::of_size(4096);
+    let is_written = write_replies(replies, &mut Counted::new(&mut out)).is_ok();
+    is_written && out.kept() == text.as_bytes()
 }
 
 /// Whether memory suffices to say how a run ends.

@@ -1,9 +1,9 @@
 //! Runs that are replayed from texts while memory may be refused, as `./test --prove` refuses each allocation of these tests in turn: at the most one in a run.
-use crate::texts::{ONE_BEHIND, ROW};
 use event_text::EventFault;
-use fakes::Keeper;
+use fakes::{BEHIND, Keeper, LANE};
 use grid::MapFault;
 use plan::{PlanFault, PlanTextFault};
+use planned::PlannedFault;
 use replay::{Completion, RunFault, complete_text, run_text};
 use std::alloc::Global;
 use std::process::Abort;
@@ -35,10 +35,13 @@ fn lacks_memory(fault: RunFault) -> bool {
     matches!(
         fault,
         RunFault::OutOfMemory
-            | RunFault::Map(MapFault::OutOfMemory)
-            | RunFault::PlanText(PlanTextFault::OutOfMemory)
-            | RunFault::Plan(PlanFault::OutOfMemory)
             | RunFault::Events(EventFault::OutOfMemory)
+            | RunFault::Planned(
+                PlannedFault::OutOfMemory
+                    | PlannedFault::Map(MapFault::OutOfMemory)
+                    | PlannedFault::PlanText(PlanTextFault::OutOfMemory)
+                    | PlannedFault::Plan(PlanFault::OutOfMemory),
+            )
     )
 }
 
@@ -52,8 +55,8 @@ fn replay(rt: &impl Abort, alloc: Global, run: ReplayText) -> Result<(), RunFaul
     let mut keeper = Keeper::of_size(4096);
     let end = run_text(
         alloc,
-        &mut Counted::new(ROW.as_bytes()),
-        &mut Counted::new(ONE_BEHIND.as_bytes()),
+        &mut Counted::new(LANE.as_bytes()),
+        &mut Counted::new(BEHIND.as_bytes()),
         &mut Counted::new(run.events.as_bytes()),
         &mut Counted::new(&mut keeper),
     );
@@ -78,8 +81,8 @@ fn replay_to_the_end(rt: &impl Abort, alloc: Global, run: ReplayText) -> Result<
     let mut keeper = Keeper::of_size(4096);
     let end = complete_text(
         alloc,
-        &mut Counted::new(ROW.as_bytes()),
-        &mut Counted::new(ONE_BEHIND.as_bytes()),
+        &mut Counted::new(LANE.as_bytes()),
+        &mut Counted::new(BEHIND.as_bytes()),
         &mut Counted::new(run.events.as_bytes()),
         &mut Counted::new(&mut keeper),
     );

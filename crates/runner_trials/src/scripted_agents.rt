@@ -1,7 +1,8 @@
 //! An agent over a tape of the caller's own, which is told to tear.
-use crate::texts::{ONE_BEHIND, ROW, graph_of};
 use agent::{Agent, Refusal, Tape};
+use agent_fixtures::graph_of;
 use depgraph::{Graph, OutOfMemory};
+use fakes::{BEHIND, LANE};
 use grid::Cell;
 use runner::SimTape;
 use std::alloc::Global;
@@ -26,7 +27,7 @@ fn tears(alloc: Global, graph: &Graph) -> Result<bool, OutOfMemory> {
 }
 
 fn tears_on_graph(alloc: Global) -> Result<bool, OutOfMemory> {
-    let graph = graph_of(alloc, ROW, ONE_BEHIND)?;
+    let graph = graph_of(alloc, LANE, BEHIND)?;
     tears(alloc, &graph)
 }
 

@@ -5,6 +5,8 @@
 pub mod Status
 -- what a command says of a fault
 pub mod Telling
+-- how a command ends, and what of that is told
+pub mod Ending
 -- the words of why a row has no answer
 pub mod FaultWords
 -- how a command ends that wrote a text

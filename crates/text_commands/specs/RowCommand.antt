@@ -1,7 +1,6 @@
 -- What `mapf row` does and answers.
 use Rattle.std.specs.Prelude.{◌≡◌, ℕ, ◌≤◌, ◌↔◌, IsTrue, Bool, if◌then◌else◌, List, [], ◌∷◌, ◌++◌, length, Option, Some, None, Result, Ok, Err, slice_get, codes, decimal}
 use Rattle.std.specs.List.{join_with_byte}
-use Rattle.text_io.specs.FaultWords.{Words}
 use Rattle.text_io.specs.declared.counted.Counted.{Counted}
 use Rattle.grid.specs.Map.{Grid}
 use Rattle.grid.specs.MapFault.{ReadsMap}
@@ -21,7 +20,8 @@ use Rattle.text_commands.specs.declared.row_verdict.RowVerdict.{RowVerdict}
 use Rattle.text_commands.specs.declared.row_verdict.RowVerdict.TheVariants.{Shortest, Unreachable}
 use Rattle.text_commands.specs.FaultWords.{row_fault_words}
 use Rattle.text_commands.specs.Rewriting.{EndsWriting}
-use Rattle.text_commands.specs.Status.{code_of, status_of, row_verdict_status}
+use Rattle.text_commands.specs.Ending.{End, answered_with, gave_up}
+use Rattle.text_commands.specs.Status.{row_verdict_status}
 
 -- the words of the line, as `shortest 2 0 listed 2 agrees`
 abbrev pub shortest_words : Length → Listed → Bool → List (List ℕ)
@@ -87,19 +87,17 @@ ReadsAndJudges map_left scen_left old_map new_map old_scen new_scen number answe
     (m : Grid) × (rows : List Query) × ReadsMap map_left old_map new_map (Ok m) × ReadsScen scen_left old_scen new_scen (Ok rows)
     × JudgesRow m rows number answer
 
--- The exit status, what the output got and which fault was told: the line of the verdict, or a beginning of it where the output failed;
--- nothing where there is no verdict.
-abbrev pub EndsByRowVerdict
-    : {W : Type 0} → (W → Option (List ℕ)) → (Told : Option Words → Type 0) → Counted W → Counted W → ℕ → Result RowVerdict RowFault → Type 0
-EndsByRowVerdict contents Told old new status (Ok verdict) =
-    EndsWriting contents Told old new status (row_verdict_status verdict) (row_verdict_text verdict)
-EndsByRowVerdict contents Told old new status (Err fault) =
-    (status ≡ code_of (status_of (row_fault_words fault))) × (new ≡ old) × Told (Some (row_fault_words fault))
+-- What the output got and how the command ended: the line of the verdict, or a beginning of it where the output failed; nothing where
+-- there is no verdict.
+abbrev pub EndsByRowVerdict : {W : Type 0} → (W → Option (List ℕ)) → Counted W → Counted W → End → Result RowVerdict RowFault → Type 0
+EndsByRowVerdict contents old new end (Ok verdict) =
+    EndsWriting contents old new (answered_with (row_verdict_status verdict)) end (row_verdict_text verdict)
+EndsByRowVerdict contents old new end (Err fault) = (end ≡ gave_up (row_fault_words fault)) × (new ≡ old)
 
 -- The texts were read and the row was judged, and the command ended by that.
 pub record AnswersRow
     {R S W : Type 0} (map_left : R → Option (List ℕ)) (scen_left : S → Option (List ℕ)) (contents : W → Option (List ℕ))
-    (Told : Option Words → Type 0) (old_map new_map : Counted R) (old_scen new_scen : Counted S) (number : ℕ) (old_out new_out : Counted W) (status : ℕ) : Type 0 where
+    (old_map new_map : Counted R) (old_scen new_scen : Counted S) (number : ℕ) (old_out new_out : Counted W) (end : End) : Type 0 where
   pub answer : Result RowVerdict RowFault
   pub judges : ReadsAndJudges map_left scen_left old_map new_map old_scen new_scen number answer
-  pub ends : EndsByRowVerdict contents Told old_out new_out status answer
+  pub ends : EndsByRowVerdict contents old_out new_out end answer

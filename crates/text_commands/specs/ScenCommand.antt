@@ -1,15 +1,14 @@
 -- What `mapf scen` does and answers.
 use Rattle.std.specs.Prelude.{ℕ, List, Option}
-use Rattle.text_io.specs.FaultWords.{Words}
 use Rattle.text_io.specs.declared.counted.Counted.{Counted}
 use Rattle.scen.specs.FaultWords.{scen_fault_words}
 use Rattle.scen.specs.Query.{canonical_scen_text}
 use Rattle.scen.specs.ScenText.{ScenText}
 use Rattle.scen.specs.ScenFault.{ScenFaultAt}
+use Rattle.text_commands.specs.Ending.{End}
 use Rattle.text_commands.specs.Rewriting.{RewritesText}
 
 -- the scenario was read as `read_scen` reads it, and the command ended by that
 abbrev pub RewritesScen
-    : {R W : Type 0} → (R → Option (List ℕ)) → (W → Option (List ℕ)) → (Told : Option Words → Type 0)
-    → Counted R → Counted R → Counted W → Counted W → ℕ → Type 0
-RewritesScen remaining contents Told = RewritesText ScenText ScenFaultAt canonical_scen_text scen_fault_words remaining contents Told
+    : {R W : Type 0} → (R → Option (List ℕ)) → (W → Option (List ℕ)) → Counted R → Counted R → Counted W → Counted W → End → Type 0
+RewritesScen remaining contents = RewritesText ScenText ScenFaultAt canonical_scen_text scen_fault_words remaining contents

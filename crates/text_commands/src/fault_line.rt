@@ -5,26 +5,15 @@ ghost use Rattle.text_io.specs.Counted.{counted_inner, failures_of};
 ghost use Rattle.text_io.specs.FaultWords.{words_of};
 ghost use Rattle.text_io.specs.Sink.{held_back, Puts, Breaks};
 ghost use Rattle.text_io.specs.Writing.{WritesText};
-ghost use Rattle.text_commands.specs.Status.{code_of, status_of};
 ghost use Rattle.text_commands.specs.Telling.{Tells, fault_line};
 
-use crate::Status;
 use std::io::Write;
 use text_io::{Counted, FaultWords, Sink, WriteFault};
-
-/// Says why a command does not come to its end. The answer is the exit status.
-pub fn give_up<E: Write>(words: FaultWords, err: &mut Counted<E>) -> u8
-    ensures code { result ≡ code_of (status_of (words_of words)) }
-    ensures told { Tells E.contents err.old err.new (Some (words_of words)) }
-{
-    report(err, words);
-    Status::of_fault(&words).code()
-}
 
 /// Writes the line of a fault, as `mapf: ShortRow 6`, by one write where the writer takes it whole.
 // Compiled by itself, for its room on the stack.
 #[inline(never)]
-pub fn report<E: Write>(err: &mut Counted<E>, words: FaultWords)
+pub(crate) fn report<E: Write>(err: &mut Counted<E>, words: FaultWords)
     ensures { Tells E.contents err.old err.new (Some (words_of words)) }
 {
     let _ = write_line(err, words);

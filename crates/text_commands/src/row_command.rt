@@ -1,22 +1,20 @@
 //! `mapf row`: judges the listed length of a scenario's row on a map.
 ghost use Rattle.std.specs.Prelude.{◌≡◌, ◌↔◌, IsTrue, IfErr, MatchResult};
 ghost use Rattle.scen.specs.Certificate.{AreOn};
-ghost use Rattle.text_commands.specs.Telling.{Tells};
+ghost use Rattle.text_commands.specs.Ending.{EndsAndTells, end_of};
 ghost use Rattle.text_commands.specs.RowCommand.{HasSizeOf, IsAsked, JudgesRow, ReadsAndJudges, AnswersRow};
 
-use crate::fault_line::give_up;
 use crate::row_fault::RowFault;
 use crate::row_verdict::{RowVerdict, write_row_verdict};
-use crate::writing::finish;
+use crate::{Ending, conclude, finish};
 use grid::{Cell, Map, read_map};
 use scen::{Proposal, Row, Scenario, SearchFault, certify, read_scen, search};
 use std::alloc::Global;
 use std::io::{Read, Write};
 use text_io::Counted;
 
-/// Reads a map from `map` and a scenario from `scen`, and writes the shortest length for the scenario's row with this number,
-/// counted from 0, and whether the listed one agrees with it, to `out`, with a fault's line on `err`. The answer is the exit status,
-/// which stays where `err` fails.
+/// As `perform`, with a fault's line on `err`. The answer is the exit status, which stays where
+/// `err` fails.
 pub fn row_cmd<R: Read, S: Read, W: Write, E: Write>(
     alloc: Global,
     map: &mut Counted<R>,
@@ -25,14 +23,32 @@ pub fn row_cmd<R: Read, S: Read, W: Write, E: Write>(
     out: &mut Counted<W>,
     err: &mut Counted<E>,
 ) -> u8
-    ensures { AnswersRow R.remaining S.remaining W.contents (Tells E.contents err.old err.new) map.old map.new scen.old scen.new row out.old out.new result }
+    ensures { EndsAndTells
+        (AnswersRow R.remaining S.remaining W.contents map.old map.new scen.old scen.new row out.old out.new)
+        E.contents err.old err.new result }
+{
+    conclude(perform(alloc, map, scen, row, out), err)
+}
+
+/// Reads a map from `map` and a scenario from `scen`, and writes the shortest length for the
+/// scenario's row with this number, counted from 0, and whether the listed one agrees with it, to
+/// `out`.
+pub fn perform<R: Read, S: Read, W: Write>(
+    alloc: Global,
+    map: &mut Counted<R>,
+    scen: &mut Counted<S>,
+    row: u32,
+    out: &mut Counted<W>,
+) -> Ending
+    ensures { AnswersRow R.remaining S.remaining W.contents map.old map.new scen.old scen.new row
+        out.old out.new (end_of result) }
 {
     match read_and_judge(alloc, map, scen, row) {
         Ok(verdict) => {
             let written = write_row_verdict(verdict, out);
-            finish(written, verdict.status(), out, err).code()
+            finish(written, Ending::answered_with(verdict.status()), out)
         }
-        Err(fault) => give_up(fault.words(), err),
+        Err(fault) => Ending::gave_up(fault.words()),
     }
 }
 

@@ -1,14 +1,9 @@
-//! Ending a command that wrote a text.
-ghost use Rattle.std.specs.Prelude.{◌≡◌, [], None, Some, is_ok, OnOk, OnErr};
+//! Writing a text.
+ghost use Rattle.std.specs.Prelude.{◌≡◌, [], ◌++◌, codes, decimal, is_ok, OnOk, OnErr};
 ghost use Rattle.text_io.specs.Counted.{counted_inner, failures_of};
-ghost use Rattle.text_io.specs.FaultWords.{write_fault_words};
 ghost use Rattle.text_io.specs.Sink.{held_back, Puts, Breaks};
 ghost use Rattle.text_io.specs.Writing.{WritesText};
-ghost use Rattle.text_io.specs.declared.sink.WriteFault.TheVariants as write_fault;
-ghost use Rattle.text_commands.specs.Telling.{Tells};
-ghost use Rattle.text_commands.specs.Finishing.{FinishesWriting};
 
-use crate::{Status, report};
 use std::io::Write;
 use text_io::{Counted, Sink, WriteFault};
 
@@ -32,19 +27,16 @@ fn put_text<W: Write>(sink: &mut Sink<'_, W>, text: &[u8]) -> Result<(), WriteFa
     sink.hand_on()
 }
 
-/// Flushes the output after a write, and says on `err` where either failed. Where neither did, the answer is the status of success.
-pub fn finish<W: Write, E: Write>(
-    written: Result<(), WriteFault>,
-    success: Status,
-    out: &mut Counted<W>,
-    err: &mut Counted<E>,
-) -> Status
-    ensures { FinishesWriting W.contents (Tells E.contents err.old err.new None) (Tells E.contents err.old err.new (Some (write_fault_words write_fault.WriteFailed)))
-        (is_ok written) success out.old out.new result }
+/// Puts a word, and a number behind a space.
+#[inline(always)]
+pub fn put_number<W: Write>(
+    sink: &mut Sink<'_, W>,
+    word: &[u8],
+    number: u64,
+) -> Result<(), WriteFault>
+    ensures ok { OnOk result (Puts W.contents sink.old sink.new (word.now ++ codes " " ++ decimal number)) }
+    ensures err { OnErr result (Breaks W.contents sink.old sink.new (word.now ++ codes " " ++ decimal number)) }
 {
-    if written.is_ok() && out.flush().is_ok() {
-        return success;
-    }
-    report(err, WriteFault::WriteFailed.words());
-    Status::Failure
+    sink.put(word)?;
+    sink.put_number_after(b' ', number)
 }

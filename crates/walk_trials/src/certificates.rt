@@ -1,12 +1,10 @@
 //! Proposals of shortest lengths, right and wrong, and what each is answered with.
+use fakes::SQUARE;
 use grid::{Cell, read_map};
 use scen::{CertFault, Length, LengthTable, Proposal, certify};
 use std::alloc::{AllocError, Global};
 use std::test::Fail;
 use text_io::Counted;
-
-/// Two rows of two cells, all passable.
-const SQUARE: &str = "type octile\nheight 2\nwidth 2\nmap\n..\n..\n";
 
 type Entry = Option<(u32, u32)>;
 

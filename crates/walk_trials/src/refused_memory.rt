@@ -1,12 +1,11 @@
 //! A walk that is searched for while memory may be refused, as `./test --prove` refuses each allocation of these tests in turn: at the most one in a run.
+use fakes::SQUARE;
 use grid::{Cell, Map, MapFault, read_map};
 use scen::{Length, SearchFault, certify, search};
 use std::alloc::Global;
 use std::process::Abort;
 use std::test::Fail;
 use text_io::Counted;
-
-const SQUARE: &str = "type octile\nheight 2\nwidth 2\nmap\n..\n..\n";
 
 /// Searches from corner to corner, one diagonal step; nothing but memory is lacking.
 fn attempt(rt: &impl Abort, alloc: Global, map: &Map) -> Result<(), SearchFault> {

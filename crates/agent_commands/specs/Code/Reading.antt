@@ -3,8 +3,8 @@ use Rattle.std.specs.Prelude.{◌≡◌, ℕ, List, Option, None, MatchOption, R
 use Rattle.text_io.specs.declared.counted.Counted.{Counted}
 use Rattle.model.specs.Timetable.{Timetable, track_of}
 use Rattle.depgraph.specs.AgentParts.{AgentPart, IsPartOf}
-use Rattle.plan_commands.specs.DepsCommand.{ReadsTimetable}
-use Rattle.plan_commands.specs.declared.check_fault.CheckFault.{CheckFault}
+use Rattle.planned.specs.Planned.{ReadsTimetable}
+use Rattle.planned.specs.declared.planned_fault.PlannedFault.{PlannedFault}
 
 -- there is no such agent, or this is what it needs of the timetable
 abbrev pub IsPartFor : Timetable → ℕ → Option AgentPart → Type 0
@@ -13,7 +13,7 @@ IsPartFor tt i part = MatchOption part (track_of tt i ≡ None) (λ p. IsPartOf 
 -- the map and the plan were read and the plan was checked, and where it is valid, the agent's part was taken
 abbrev pub ReadsPart
     : {M P : Type 0} → (M → Option (List ℕ)) → (P → Option (List ℕ)) → ℕ → Counted M → Counted M → Counted P → Counted P
-    → Result (Option AgentPart) CheckFault → Type 0
+    → Result (Option AgentPart) PlannedFault → Type 0
 ReadsPart map_left plan_left i old_map new_map old_plan new_plan (Ok part) =
     (tt : Timetable) × ReadsTimetable map_left plan_left old_map new_map old_plan new_plan (Ok tt) × IsPartFor tt i part
 ReadsPart map_left plan_left i old_map new_map old_plan new_plan (Err fault) = ReadsTimetable map_left plan_left old_map new_map old_plan new_plan (Err fault)

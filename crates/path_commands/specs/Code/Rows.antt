@@ -1,12 +1,12 @@
 -- The cells of all agents, time by time, as the code goes through them.
 use Rattle.std.specs.Prelude.{◌≡◌, ℕ, ◌+◌, ◌≤◌, zero, suc, List, [], ◌∷◌, length, map, Option, Some, Result, slice_get}
-use Rattle.text_io.specs.FaultWords.{Words}
 use Rattle.grid.specs.declared.cell.Cell.{Cell}
 use Rattle.text_io.specs.declared.counted.Counted.{Counted}
 use Rattle.model.specs.Plan.{Course, Plan, position_of, position_at}
 use Rattle.model.specs.Timetable.{cell_at}
 use Rattle.plan_text.specs.Limits.{most_acts}
 use Rattle.plan.specs.Code.Tracks.{track_along, StaysInRange}
+use Rattle.text_commands.specs.Ending.{End}
 use Rattle.path_commands.specs.PathCommand.{ShowsRows, EndsByPath}
 use Rattle.path_commands.specs.PathText.{count_of_times}
 use Rattle.path_commands.specs.declared.path_fault.PathFault.{PathFault}
@@ -38,8 +38,7 @@ IsNoAgent p agent = (i : ℕ) × (agent ≡ Some i) × (length p.courses ≤ i)
 
 -- what is asked for of the plan was shown
 pub record EndsByRows
-    {W : Type 0} (contents : W → Option (List ℕ)) (Told : Option Words → Type 0) (p : Plan) (agent : Option ℕ) (old new : Counted W) (code : ℕ)
-    : Type 0 where
+    {W : Type 0} (contents : W → Option (List ℕ)) (p : Plan) (agent : Option ℕ) (old new : Counted W) (end : End) : Type 0 where
   pub answer : Result (List (List Cell)) PathFault
   pub shows : ShowsRows p agent answer
-  pub ends : EndsByPath contents Told old new code answer
+  pub ends : EndsByPath contents old new end answer

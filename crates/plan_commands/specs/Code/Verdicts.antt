@@ -1,26 +1,9 @@
 -- What the parts of `mapf check` owe each other.
 use Rattle.std.specs.Prelude.{ℕ, Bool, true, false, List, codes}
-use Rattle.model.specs.declared.plan_fault.PlanFault.{PlanFault}
-use Rattle.model.specs.declared.plan_fault.PlanFault.TheVariants as plan_fault
 use Rattle.serde_json.specs.Data.{Data, boolean, number, unsigned, string, object, member, no_members}
 use Rattle.plan_commands.specs.VerdictText.{accepted_line, rejected_line}
-use Rattle.plan_commands.specs.declared.check_fault.CheckFault.{CheckFault}
-use Rattle.plan_commands.specs.declared.check_fault.CheckFault.TheVariants as check_fault
-use Rattle.plan_commands.specs.declared.rejection.Rejection.TheVariants.{Invalid}
-use Rattle.text_commands.specs.declared.status.Status.{Status}
-use Rattle.text_commands.specs.declared.status.Status.TheVariants.{Done, Fault}
 use Rattle.plan_commands.specs.declared.verdict.Verdict.{Verdict}
 use Rattle.plan_commands.specs.declared.verdict.Verdict.TheVariants.{Accepted, Rejected}
-
--- what a plan's fault is to the command: a rejection, or the checker was refused memory
-abbrev pub check_fault_of : PlanFault → CheckFault
-check_fault_of plan_fault.OutOfMemory = check_fault.OutOfMemory
-check_fault_of fault = check_fault.Rejected (Invalid fault)
-
--- well only where the plan is accepted
-abbrev pub verdict_status : Verdict → Status
-verdict_status (Accepted agents cost makespan) = Done
-verdict_status (Rejected fault) = Fault
 
 -- the line of a verdict
 abbrev pub verdict_line : Bool → Verdict → List ℕ

@@ -17,7 +17,5 @@ abbrev pub PutsEnding : Version → Timetable → History → (List ℕ → Type
 PutsEnding version tt h Whole Broken (Ok completion) = SaysEnding version tt h Whole completion
 PutsEnding version tt h Whole Broken (Err run_fault.WriteFailed) = (completion : Completion) × SaysEnding version tt h Broken completion
 PutsEnding version tt h Whole Broken (Err run_fault.OutOfMemory) = Whole []
-PutsEnding version tt h Whole Broken (Err (run_fault.Map fault)) = ⊥
-PutsEnding version tt h Whole Broken (Err (run_fault.PlanText fault)) = ⊥
-PutsEnding version tt h Whole Broken (Err (run_fault.Plan fault)) = ⊥
+PutsEnding version tt h Whole Broken (Err (run_fault.Planned fault)) = ⊥
 PutsEnding version tt h Whole Broken (Err (run_fault.Events fault)) = ⊥

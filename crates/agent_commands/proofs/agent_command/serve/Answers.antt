@@ -14,18 +14,18 @@ returns-in_err-own g c =
 pub returns-in_default : goal.returns-in_default
 returns-in_default g c =
     let read = c.in_ok-own.ensures in
-    let none = subst (IsPartFor read.0 c.args.id) c.in_default.is read.2 in
+    let none = subst (IsPartFor read.0 c.args.seat.id) c.in_default.is read.2 in
     record { read = Ok read.0; reads = read.1; ends = record { opened = Err _; opens = inl none; ends = (refl, refl, refl) } }
 
 pub returns : goal.returns
 returns g c =
     let read = c.in_ok-own.ensures in
-    let part = subst (IsPartFor read.0 c.args.id) c.in-Some.is read.2 in
+    let part = subst (IsPartFor read.0 c.args.seat.id) c.in-Some.is read.2 in
     let lent = c.part.ensures in
     let is = subst (IsPartOf read.0) (sym lent) part.0 in
     record {
       read = Ok read.0;
       reads = read.1;
-      ends = subst (λ i. Converses g.R.File.Read.remaining g.I.Read.remaining g.W.Write.contents c.args.claim read.0 i c.args.input.now c.converse.new.input c.args.out.now c.converse.new.out c.converse.result)
+      ends = subst (λ i. Converses g.R.File.Read.remaining g.I.Read.remaining g.W.Write.contents c.args.seat.claim read.0 i c.args.input.now c.converse.new.input c.args.out.now c.converse.new.out c.converse.result)
           (ap (λ p. p.agent) lent ∙ part.1) (c.converse.ensures read.0 is);
     }

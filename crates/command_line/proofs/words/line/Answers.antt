@@ -64,26 +64,26 @@ fault-from_refusal words fault taken (inr number) = inr (inr (taken, number))
 pub returns-in-Some-clause-command : goal.returns-in-Some-clause-command
 returns-in-Some-clause-command c =
     let found = subcommand_found _ _ _ _ _ c.in_ok-program.ensures c.in-Ok.ensures.matches c.in-Some.ensures.name c.in-Some.ensures.rows in
-    IfOk-weaker c.read_command.result _ _ (λ line is. (_, _, found, is)) c.read_command.ensures.ok
+    IfOk-weaker c.read_asked.result _ _ (λ line is. (_, _, found, is)) c.read_asked.ensures.ok
 
 pub returns-in-Some-clause-taken : goal.returns-in-Some-clause-taken
 returns-in-Some-clause-taken c =
     let e = c.in_ok-program.ensures in
     let taken = sym (ap (λ a. fault_of a (map string_bytes c.args.words.now)) e)
     ∙ c.in-Ok.ensures.kinds (ap is_simple_and_free e ∙ is_free_program) in
-    IfOk-weaker c.read_command.result _ _ (λ line is. taken) c.read_command.ensures.ok
+    IfOk-weaker c.read_asked.result _ _ (λ line is. taken) c.read_asked.ensures.ok
 
 pub returns-in-Some-clause-fault : goal.returns-in-Some-clause-fault
 returns-in-Some-clause-fault c =
     let e = c.in_ok-program.ensures in
     let taken = sym (ap (λ a. fault_of a (map string_bytes c.args.words.now)) e)
     ∙ c.in-Ok.ensures.kinds (ap is_simple_and_free e ∙ is_free_program) in
-    IfErr-weaker c.read_command.result _ _ (λ fault refusal. fault-from_refusal (map string_bytes c.args.words.now) fault taken refusal) c.read_command.ensures.refusal
+    IfErr-weaker c.read_asked.result _ _ (λ fault refusal. fault-from_refusal (map string_bytes c.args.words.now) fault taken refusal) c.read_asked.ensures.refusal
 
 pub returns-in-Some-clause-refused : goal.returns-in-Some-clause-refused
 returns-in-Some-clause-refused c =
     let found = subcommand_found _ _ _ _ _ c.in_ok-program.ensures c.in-Ok.ensures.matches c.in-Some.ensures.name c.in-Some.ensures.rows in
-    IfErr-weaker c.read_command.result _ _ (λ fault only t spelled. only (subst IsGiven found (taken_gives (map string_bytes c.args.words.now) t)) (spelled _ _ found)) c.read_command.ensures.err
+    IfErr-weaker c.read_asked.result _ _ (λ fault only t spelled. only (subst IsGiven found (taken_gives (map string_bytes c.args.words.now) t)) (spelled _ _ found)) c.read_asked.ensures.err
 
 pub returns-in-Err-clause-fault : goal.returns-in-Err-clause-fault
 returns-in-Err-clause-fault c =

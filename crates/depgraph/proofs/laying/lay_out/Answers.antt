@@ -2,19 +2,25 @@
 use Rattle.std.proofs.Common.{◌<◌, ℕ, length, get_or, arith, sym, ap, subst, ◌∙◌}
 use Rattle.depgraph.specs.Code.Entries.{AreFew}
 use Rattle.depgraph.specs.Code.Numbers.{cells_by}
-use Rattle.depgraph.specs.Code.Paths.{all_entered}
+use Rattle.depgraph.specs.Code.Paths.{all_entered, ArePaths}
 use Rattle.depgraph.specs.Code.Placing.{AreSortedVisits}
 use Rattle.depgraph.proofs.LayingLemmas.{few, time_count, built, laid_out, lent}
 use Rattle.depgraph.proofs.NumberLemmas.{are_known}
 use Rattle.depgraph.proofs.laying.lay_out.Goals as goal
 
-pub place_visits-requires-clause-few : goal.place_visits-requires-clause-few
-place_visits-requires-clause-few c =
-    let tt = c.args.plan.now.timetable in
-    let f = c.in_ok-number.field-0 in
+pub place_visits-requires-clause-paths : goal.place_visits-requires-clause-paths
+place_visits-requires-clause-paths c =
+    let tracks = c.args.plan.now.timetable.tracks in
+    let p = c.in_ok-number.field-0.paths in
     let did = c.in_ok-number.ensures in
-    subst (AreFew (all_entered tt.tracks)) (sym c.deref-2.ensures.value)
-    (few tt did.found.laid.graphed f.paths.names.items f.paths.numbers.items f.paths.times.items f.paths.ends.items did.numbered did.paths)
+    let few_cells = few c.args.plan.now.timetable did.found.laid.graphed p.names.items p.numbers.items p.times.items p.ends.items did.numbered did.paths in
+    let paths = subst (λ l. ArePaths tracks l p.times.items p.ends.items) did.paths.are_cells did.paths in
+    record {
+      tracks = tracks;
+      few = subst (AreFew (all_entered tracks)) (sym c.deref-2.ensures.value) few_cells;
+      are_paths = subst (λ l. ArePaths tracks (all_entered tracks) l c.deref-2.result.now) (sym c.deref.ensures.value)
+          (subst (ArePaths tracks (all_entered tracks) p.times.items) (sym c.deref-2.ensures.value) paths);
+    }
 
 pub place_visits-requires-clause-count : goal.place_visits-requires-clause-count
 place_visits-requires-clause-count c =

@@ -14,8 +14,8 @@ use Rattle.depgraph.proofs.rotations.rotations_by_agent.Goals.{then-branch+in_ok
 pub loop-agent-init : goal.loop-agent-init
 loop-agent-init c =
     let tt = c.args.plan.now.timetable in
-    let ends = c.args.ends.now in
-    let waits = c.args.waits.now in
+    let ends = c.args.links.now.ends.now in
+    let waits = c.args.links.now.waits.now in
     let ahead = links_in c.args.links.now in
     record {
       first = refl;
@@ -28,11 +28,11 @@ loop-agent-init c =
 pub loop-entry-init : goal.loop-entry-init
 loop-entry-init c =
     let tt = c.args.plan.now.timetable in
-    let ends = c.args.ends.now in
+    let ends = c.args.links.now.ends.now in
     let was = c.loop-agent.invariant in
     let first = was.first in
     let agent = c.loop-agent.agent in
-    let up = begin_up tt ends c.args.waits.now (links_in c.args.links.now) c.requires.laid agent c.loop-agent-test.true in
+    let up = begin_up tt ends c.args.links.now.waits.now (links_in c.args.links.now) c.requires.laid agent c.loop-agent-test.true in
     record {
       from = omega (arith, first);
       to = omega (arith, first, up);
@@ -45,38 +45,38 @@ pub overflow_cast-entry : goal.overflow_cast-entry
 overflow_cast-entry c =
     let tt = c.args.plan.now.timetable in
     let laid = c.requires.laid in
-    let few = few_entries tt c.args.ends.now c.args.waits.now (links_in c.args.links.now) laid in
-    let here = (entry_here tt c.args.ends.now c.args.waits.now (links_in c.args.links.now) laid c.loop-agent.agent c.loop-entry.entry c.loop-agent-test.true c.loop-entry.invariant.from c.loop-entry-test.true).0 in
+    let few = few_entries tt c.args.links.now.ends.now c.args.links.now.waits.now (links_in c.args.links.now) laid in
+    let here = (entry_here tt c.args.links.now.ends.now c.args.links.now.waits.now (links_in c.args.links.now) laid c.loop-agent.agent c.loop-entry.entry c.loop-agent-test.true c.loop-entry.invariant.from c.loop-entry-test.true).0 in
     omega (arith, few, here)
 
 pub walk-requires-clause-links : goal.walk-requires-clause-links
 walk-requires-clause-links c =
-    links_now c.args.plan.now.timetable c.args.ends.now c.args.waits.now (links_in c.args.links.now) (links_in c.loop-entry.links) c.loop-entry.entry (turns_of c.loop-entry.rotations.items) c.loop-entry.invariant.turned
+    links_now c.args.plan.now.timetable c.args.links.now.ends.now c.args.links.now.waits.now (links_in c.args.links.now) (links_in c.loop-entry.links) c.loop-entry.entry (turns_of c.loop-entry.rotations.items) c.loop-entry.invariant.turned
 
 pub walk-requires-clause-first : goal.walk-requires-clause-first
 walk-requires-clause-first c =
     let tt = c.args.plan.now.timetable in
-    let here = (entry_here tt c.args.ends.now c.args.waits.now (links_in c.args.links.now) c.requires.laid c.loop-agent.agent c.loop-entry.entry c.loop-agent-test.true c.loop-entry.invariant.from c.loop-entry-test.true).0 in
-    let long = now_count tt c.args.ends.now c.args.waits.now (links_in c.args.links.now) (links_in c.loop-entry.links) c.loop-entry.entry (turns_of c.loop-entry.rotations.items) c.loop-entry.invariant.turned in
+    let here = (entry_here tt c.args.links.now.ends.now c.args.links.now.waits.now (links_in c.args.links.now) c.requires.laid c.loop-agent.agent c.loop-entry.entry c.loop-agent-test.true c.loop-entry.invariant.from c.loop-entry-test.true).0 in
+    let long = now_count tt c.args.links.now.ends.now c.args.links.now.waits.now (links_in c.args.links.now) (links_in c.loop-entry.links) c.loop-entry.entry (turns_of c.loop-entry.rotations.items) c.loop-entry.invariant.turned in
     omega (arith, here, long)
 
 pub agents_on-requires : goal.agents_on-requires
 agents_on-requires c =
-    subst (All (λ e. e < length c.args.waits.now)) (sym c.deref.ensures.value)
-    (known_here c.args.plan.now.timetable c.args.ends.now c.args.waits.now (links_in c.args.links.now) (links_in c.loop-entry.links) c.loop-entry.entry (turns_of c.loop-entry.rotations.items) c.loop-entry.invariant.turned
+    subst (All (λ e. e < length c.args.links.now.waits.now)) (sym c.deref.ensures.value)
+    (known_here c.args.plan.now.timetable c.args.links.now.ends.now c.args.links.now.waits.now (links_in c.args.links.now) (links_in c.loop-entry.links) c.loop-entry.entry (turns_of c.loop-entry.rotations.items) c.loop-entry.invariant.turned
     (links_in c.walk.new.links) c.walk.new.trail.items (IsTrue c.in_ok-walk.field-0) c.in_ok-walk.ensures.walked c.if-branch.true)
 
 pub offset_bounds-times-entry : goal.offset_bounds-times-entry
 offset_bounds-times-entry c =
     let tt = c.args.plan.now.timetable in
     let laid = c.requires.laid in
-    let few = few_entries tt c.args.ends.now c.args.waits.now (links_in c.args.links.now) laid in
-    let here = (entry_here tt c.args.ends.now c.args.waits.now (links_in c.args.links.now) laid c.loop-agent.agent c.loop-entry.entry c.loop-agent-test.true c.loop-entry.invariant.from c.loop-entry-test.true).0 in
+    let few = few_entries tt c.args.links.now.ends.now c.args.links.now.waits.now (links_in c.args.links.now) laid in
+    let here = (entry_here tt c.args.links.now.ends.now c.args.links.now.waits.now (links_in c.args.links.now) laid c.loop-agent.agent c.loop-entry.entry c.loop-agent-test.true c.loop-entry.invariant.from c.loop-entry-test.true).0 in
     omega (arith, few, here)
 
 pub bounds-times-entry : goal.bounds-times-entry
 bounds-times-entry c =
-    let here = (entry_here c.args.plan.now.timetable c.args.ends.now c.args.waits.now (links_in c.args.links.now) c.requires.laid c.loop-agent.agent c.loop-entry.entry c.loop-agent-test.true
+    let here = (entry_here c.args.plan.now.timetable c.args.links.now.ends.now c.args.links.now.waits.now (links_in c.args.links.now) c.requires.laid c.loop-agent.agent c.loop-entry.entry c.loop-agent-test.true
     c.loop-entry.invariant.from c.loop-entry-test.true).0 in
     let long = ap length c.requires.times in
     omega (arith, here, long)
@@ -85,22 +85,22 @@ pub overflow_sub-step : goal.overflow_sub-step
 overflow_sub-step c =
     let from = c.from-step.ensures in
     let begun = subst (λ l. 1 ≤ get_or l c.loop-entry.entry 0) (sym c.requires.times)
-    (begun_here c.args.plan.now.timetable c.args.ends.now c.args.waits.now (links_in c.args.links.now) (links_in c.loop-entry.links) c.loop-entry.entry (turns_of c.loop-entry.rotations.items) c.loop-entry.invariant.turned
+    (begun_here c.args.plan.now.timetable c.args.links.now.ends.now c.args.links.now.waits.now (links_in c.args.links.now) (links_in c.loop-entry.links) c.loop-entry.entry (turns_of c.loop-entry.rotations.items) c.loop-entry.invariant.turned
     (links_in c.walk.new.links) c.walk.new.trail.items (IsTrue c.in_ok-walk.field-0) c.in_ok-walk.ensures.walked c.if-branch.true) in
     omega (arith, from, begun)
 
 pub loop-entry-preserved : goal.loop-entry-preserved
 loop-entry-preserved c =
     let tt = c.args.plan.now.timetable in
-    let ends = c.args.ends.now in
-    let waits = c.args.waits.now in
+    let ends = c.args.links.now.ends.now in
+    let waits = c.args.links.now.waits.now in
     let ahead = links_in c.args.links.now in
     let was = c.loop-entry.invariant in
     let entry = c.loop-entry.entry in
     let agent = c.loop-agent.agent in
     let rotations = c.loop-entry.rotations.items in
     let trail = c.walk.new.trail.items in
-    let step = get_or c.args.times.now entry 0 - 1 in
+    let step = get_or c.args.links.now.times.now entry 0 - 1 in
     let from = was.from in
     let less = c.loop-entry-test.true in
     record {
@@ -126,12 +126,12 @@ loop-entry-preserved c =
 
 pub returns : goal.returns
 returns c =
-    let ends = c.args.ends.now in
+    let ends = c.args.links.now.ends.now in
     let was = c.loop-agent.invariant in
     let first = was.first in
     let past = c.loop-agent-test.false in
     let most = c.loop-agent.auto.agent-end in
     let last : length ends ≡ c.loop-agent.agent = omega (arith, past, most) in
     let end = ap (begin_in ends) last in
-    turned-all c.args.plan.now.timetable ends c.args.waits.now (links_in c.args.links.now) (links_in c.loop-agent.links) c.loop-agent.entry (turns_of c.loop-agent.rotations.items) was.turned
+    turned-all c.args.plan.now.timetable ends c.args.links.now.waits.now (links_in c.args.links.now) (links_in c.loop-agent.links) c.loop-agent.entry (turns_of c.loop-agent.rotations.items) was.turned
     (omega (arith, first, end))

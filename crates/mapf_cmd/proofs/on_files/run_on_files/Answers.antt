@@ -1,4 +1,4 @@
 use Rattle.mapf_cmd.proofs.on_files.run_on_files.Goals as goal
 
 pub returns : goal.returns
-returns g c = (c.new-map.result, c.run_cmd.new.map, c.new-plan.result, c.run_cmd.new.plan, c.new-events.result, c.run_cmd.new.events, c.run_cmd.ensures)
+returns g c = (c.new-map.result, c.perform.new.map, c.new-plan.result, c.perform.new.plan, c.new-events.result, c.perform.new.events, c.perform.ensures)

@@ -3,4 +3,4 @@ use Rattle.mapf_cmd.proofs.on_files.scen_on_file.Goals as goal
 
 pub returns-in_ok-open-in_default : goal.returns-in_ok-open-in_default
 returns-in_ok-open-in_default g c =
-    inr (c.in_default.not-text, (c.new-scen.result, c.scen_cmd-in_default.new.scen, c.scen_cmd-in_default.ensures), refl)
+    inr (c.in_default.not-text, (c.new-scen.result, c.perform-in_default.new.scen, c.perform-in_default.ensures), refl)

@@ -39,9 +39,9 @@ take_step-requires-clause-next c =
     let kept = c.advance.auto.cells in
     let value = c.deref_mut.ensures.value in
     let items = with_items_is c.in_ok-next.next next (omega (arith, long, kept, ap length value)) in
-    subst (IsAdvanced m c.args.plan.now.courses step) (sym (c.deref-6.ensures.value ∙ items)) (subst (λ k. IsAdvanced m k step next) courses ahead)
+    subst (IsAdvanced m c.args.plan.now.courses step) (sym (c.deref-5.ensures.value ∙ items)) (subst (λ k. IsAdvanced m k step next) courses ahead)
 
 pub take_step-requires-clause-all : goal.take_step-requires-clause-all
 take_step-requires-clause-all c = λ i less.
     let count = c.in_ok-now.ensures.at.count in
-    subst (λ l. Contains l i) (sym c.deref-4.ensures.value) (c.in_ok-agents.ensures.all i (omega (arith, less, ap length c.deref-5.ensures.value, count)))
+    subst (λ l. Contains l i) (sym c.deref-6.ensures.value) (c.in_ok-agents.ensures.all i (omega (arith, less, ap length c.deref-4.ensures.value, count)))

@@ -34,29 +34,29 @@ after m p step entries now next within was count ahead =
 
 pub find_swap-swap-requires-clause-cells : goal.find_swap-swap-requires-clause-cells
 find_swap-swap-requires-clause-cells c =
-    (after c.args.map.now c.args.plan.now c.args.step c.args.table.now c.args.now.now c.args.next.now c.requires.plan c.requires.watched c.requires.count c.requires.next).on_map
+    (after c.args.map.now c.args.plan.now c.args.step.now.number c.args.table.now c.args.step.now.before.now c.args.step.now.after.now c.requires.plan c.requires.watched c.requires.count c.requires.next).on_map
 
 pub enter-requires-clause-cells : goal.enter-requires-clause-cells
 enter-requires-clause-cells c =
-    (after c.args.map.now c.args.plan.now c.args.step c.args.table.now c.args.now.now c.args.next.now c.requires.plan c.requires.watched c.requires.count c.requires.next).on_map
+    (after c.args.map.now c.args.plan.now c.args.step.now.number c.args.table.now c.args.step.now.before.now c.args.step.now.after.now c.requires.plan c.requires.watched c.requires.count c.requires.next).on_map
 
 pub returns-in-Some : goal.returns-in-Some
 returns-in-Some c =
     let m = c.args.map.now in
     let p = c.args.plan.now in
-    let h = after m p c.args.step c.args.table.now c.args.now.now c.args.next.now c.requires.plan c.requires.watched c.requires.count c.requires.next in
+    let h = after m p c.args.step.now.number c.args.table.now c.args.step.now.before.now c.args.step.now.after.now c.requires.plan c.requires.watched c.requires.count c.requires.next in
     subst (IsLeastFault m p) (sym c.vertex.ensures)
-    (least_vertex m p (c.args.step + 1) c.args.next.now c.in-Some.pair h.at h.limit c.requires.watched.clean h.good c.in-Some.ensures.least)
+    (least_vertex m p (c.args.step.now.number + 1) c.args.step.now.after.now c.in-Some.pair h.at h.limit c.requires.watched.clean h.good c.in-Some.ensures.least)
 
 pub returns-in-Some-swap : goal.returns-in-Some-swap
 returns-in-Some-swap c =
     let m = c.args.map.now in
     let p = c.args.plan.now in
     let was = c.requires.watched in
-    let h = after m p c.args.step c.args.table.now c.args.now.now c.args.next.now c.requires.plan was c.requires.count c.requires.next in
-    subst (λ i. IsLeastFault m p (Swap i c.from-in-Some-swap.result c.args.step)) (sym c.from.ensures)
-    (subst (λ j. IsLeastFault m p (Swap c.in-Some-swap.pair.first j c.args.step)) (sym c.from-in-Some-swap.ensures)
-    (least_swap m p c.args.step m.width c.args.now.now c.args.next.now c.args.table.now c.in-Some-swap.pair was.at h.at h.limit_now was.clean h.good
+    let h = after m p c.args.step.now.number c.args.table.now c.args.step.now.before.now c.args.step.now.after.now c.requires.plan was c.requires.count c.requires.next in
+    subst (λ i. IsLeastFault m p (Swap i c.from-in-Some-swap.result c.args.step.now.number)) (sym c.from.ensures)
+    (subst (λ j. IsLeastFault m p (Swap c.in-Some-swap.pair.first j c.args.step.now.number)) (sym c.from-in-Some-swap.ensures)
+    (least_swap m p c.args.step.now.number m.width c.args.step.now.before.now c.args.step.now.after.now c.args.table.now c.in-Some-swap.pair was.at h.at h.limit_now was.clean h.good
     was.table c.in_default.ensures.least c.in-Some-swap.ensures))
 
 pub returns-in-None : goal.returns-in-None
@@ -64,11 +64,11 @@ returns-in-None c =
     let m = c.args.map.now in
     let p = c.args.plan.now in
     let was = c.requires.watched in
-    let h = after m p c.args.step c.args.table.now c.args.now.now c.args.next.now c.requires.plan was c.requires.count c.requires.next in
+    let h = after m p c.args.step.now.number c.args.table.now c.args.step.now.before.now c.args.step.now.after.now c.requires.plan was c.requires.count c.requires.next in
     record {
       at = h.at;
       on_map = h.on_map;
       size = c.enter.auto.table ∙ was.size;
       table = c.in_default.ensures.table;
-      clean = clean_step m p c.args.step c.args.now.now c.args.next.now was.at h.at was.clean h.good c.in_default.ensures.least c.in-None.ensures;
+      clean = clean_step m p c.args.step.now.number c.args.step.now.before.now c.args.step.now.after.now was.at h.at was.clean h.good c.in_default.ensures.least c.in-None.ensures;
     }

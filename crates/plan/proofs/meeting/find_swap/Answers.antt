@@ -15,11 +15,11 @@ loop-agent-preserved c =
       each = λ i j pair. elim (now.each i j pair) [
         | inl comes ↦ elim comes [
           | inl first ↦ elim (Contains-more agents at i c.loop-agent-test.true first) [
-            | inl own ↦ inr (subst (λ a. NoLater c.cross-best.result a j) (sym own) (did.first j (subst (λ a. AreSwapped c.args.now.now c.args.next.now a j) own pair)))
+            | inl own ↦ inr (subst (λ a. NoLater c.cross-best.result a j) (sym own) (did.first j (subst (λ a. AreSwapped c.args.step.now.before.now c.args.step.now.after.now a j) own pair)))
             | inr later ↦ inl (inl later)
           ]
           | inr second ↦ elim (Contains-more agents at j c.loop-agent-test.true second) [
-            | inl own ↦ inr (subst (λ a. NoLater c.cross-best.result i a) (sym own) (did.second i (subst (λ a. AreSwapped c.args.now.now c.args.next.now i a) own pair)))
+            | inl own ↦ inr (subst (λ a. NoLater c.cross-best.result i a) (sym own) (did.second i (subst (λ a. AreSwapped c.args.step.now.before.now c.args.step.now.after.now i a) own pair)))
             | inr later ↦ inl (inr later)
           ]
         ]

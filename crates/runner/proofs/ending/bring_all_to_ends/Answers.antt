@@ -5,7 +5,7 @@ use Rattle.model.specs.Completion.{IsCompletion}
 use Rattle.runner.specs.Endings.{IsEndedBy}
 use Rattle.runner.specs.Code.Leading.{Begins}
 use Rattle.runner.specs.Code.Waiting.{HasNoRotation}
-use Rattle.runner.proofs.LeadLemmas.{leads-nowhere, leads-same, completes-on}
+use Rattle.runner.proofs.EndingLemmas.{leads-nowhere, leads-same, completes-on}
 use Rattle.runner.proofs.ending.bring_all_to_ends.Goals as goal
 
 pub rest-init : goal.rest-init

@@ -5,7 +5,8 @@ use Rattle.model.specs.declared.event.Event.TheVariants.{Deliver}
 use Rattle.model.specs.Timetable.{Track}
 use Rattle.runner.specs.declared.ending.Heard.{Heard}
 use Rattle.runner.specs.Code.Leading.{told_in, LeadsThrough}
-use Rattle.runner.proofs.LeadLemmas.{told-is, each-set, deliver-on, deliver-knows}
+use Rattle.runner.proofs.NeedLemmas.{told-is}
+use Rattle.runner.proofs.LeadLemmas.{each-set, deliver-on, deliver-knows}
 use Rattle.runner.proofs.ending.Ending.deliver.Goals as goal
 
 -- the element that was put, and the others

@@ -7,7 +7,8 @@ use Rattle.model.specs.History.{known}
 use Rattle.model.specs.Timetable.{moves, track_of}
 use Rattle.runner.specs.declared.ending.Standing.{Standing}
 use Rattle.runner.specs.Code.Leading.{finished_in, LeadsThrough, HasMoved}
-use Rattle.runner.proofs.LeadLemmas.{finished-is, move-on, two-more, has-moved}
+use Rattle.runner.proofs.NeedLemmas.{finished-is}
+use Rattle.runner.proofs.LeadLemmas.{move-on, two-more, has-moved}
 use Rattle.runner.proofs.ending.Ending.make_move.Goals as goal
 
 pub returns-clause-leads : goal.returns-clause-leads

@@ -1,6 +1,6 @@
 use Rattle.std.proofs.Common.{◌≡◌, length, subst}
 use Rattle.model.specs.Timetable.{IsConflictFree}
-use Rattle.runner.proofs.LeadLemmas.{asked-there}
+use Rattle.runner.proofs.NeedLemmas.{asked-there}
 use Rattle.runner.proofs.ending.Ending.need.Goals as goal
 
 pub returns-clause-there : goal.returns-clause-there

@@ -1,6 +1,6 @@
 use Rattle.std.proofs.Common.{refl, sym, subst}
 use Rattle.runner.specs.Code.Leading.{AreUnheard}
-use Rattle.runner.proofs.LeadLemmas.{unheard-more}
+use Rattle.runner.proofs.EndingLemmas.{unheard-more}
 use Rattle.runner.proofs.ending.Ending.place_of.Goals as goal
 
 pub returns-then-index-seen-2-clause-none_heard : goal.returns-then-index-seen-2-clause-none_heard

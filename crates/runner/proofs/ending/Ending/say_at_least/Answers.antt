@@ -4,7 +4,8 @@ use Rattle.model.specs.declared.event.Event.TheVariants.{Say}
 use Rattle.model.specs.Timetable.{Track}
 use Rattle.runner.specs.declared.ending.Standing.{Standing}
 use Rattle.runner.specs.Code.Leading.{finished_in, told_in, LeadsThrough}
-use Rattle.runner.proofs.LeadLemmas.{finished-is, told-set, say-on}
+use Rattle.runner.proofs.NeedLemmas.{finished-is}
+use Rattle.runner.proofs.LeadLemmas.{told-set, say-on}
 use Rattle.runner.proofs.ending.Ending.say_at_least.Goals as goal
 
 pub returns-clause-leads : goal.returns-clause-leads

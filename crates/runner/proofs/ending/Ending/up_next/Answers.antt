@@ -4,7 +4,7 @@ use Rattle.model.specs.Timetable.{moves}
 use Rattle.runner.specs.Code.Leading.{finished_in}
 use Rattle.runner.specs.Code.Waiting.{last_of}
 use Rattle.runner.proofs.ChainLemmas.{last-is, none-last}
-use Rattle.runner.proofs.LeadLemmas.{finished-is}
+use Rattle.runner.proofs.NeedLemmas.{finished-is}
 use Rattle.runner.proofs.ending.Ending.up_next.Goals as goal
 
 pub returns-in-Some-clause-next : goal.returns-in-Some-clause-next

@@ -1,0 +1,130 @@
+//! The program over its words, with fake files.
+use crate::endings::{End, Ended};
+use crate::texts::{
+    ACCEPTED, ACCEPTED_JSON, AGREES, ANSWERED, ASKED, COMPLETED, EVENTS, NEEDS, PATH, PATHS,
+    REJECTED, REPLIES, SWAP, VISITS,
+};
+use fakes::{
+    BEHIND, CORNER, CORNER_WRITTEN, DiskFiles, FakeDisk, Keeper, LANE, ROW, ROW_WRITTEN, TASKS,
+};
+use mapf_cmd::{Style, run};
+use std::alloc::{AllocError, Global};
+use std::process::Abort;
+use std::test::Fail;
+use text_io::Counted;
+
+/// Command lines with their status and what they write.
+static LINES: [(&str, u8, &str); 15] = [
+    ("map C", 0, CORNER_WRITTEN),
+    ("scen S", 0, ROW_WRITTEN),
+    ("row C S 0", 0, AGREES),
+    ("check M P", 0, ACCEPTED),
+    ("check M X", 1, REJECTED),
+    ("check M P --json", 0, ACCEPTED_JSON),
+    ("check M P --scen F", 0, ACCEPTED),
+    ("deps M P", 0, NEEDS),
+    ("deps M P --cell 1 0", 0, VISITS),
+    ("path M P", 0, PATHS),
+    ("path M P --agent 1", 0, PATH),
+    ("run M P E", 0, REPLIES),
+    ("run M P E --complete", 0, COMPLETED),
+    ("agent M P 0 T", 0, ANSWERED),
+    (
+        "--version",
+        0,
+        "mapf 0.1.0\nproved by rattle-kit-13b logic dac8208d650f15bf\n",
+    ),
+];
+
+/// The files that they name, but for the tape.
+static TEXTS: [(&str, &str); 7] = [
+    ("C", CORNER),
+    ("S", ROW),
+    ("M", LANE),
+    ("P", BEHIND),
+    ("X", SWAP),
+    ("F", TASKS),
+    ("E", EVENTS),
+];
+
+/// A disk for each text, and at last one for a tape.
+fn disks_of(alloc: Global) -> Result<Vec<FakeDisk>, AllocError> {
+    let mut disks = Vec::new(alloc);
+    for (_, text) in &TEXTS {
+        disks.push(FakeDisk::of_text(alloc, text)?)?;
+    }
+    disks.push(FakeDisk::new(alloc, b"")?)?;
+    Ok(disks)
+}
+
+/// The name of the file of a disk.
+fn name_of(number: usize) -> &'static str {
+    match TEXTS.get(number) {
+        Some((name, _)) => name,
+        None => "T",
+    }
+}
+
+/// The disks with the names of their files.
+fn named<'a>(
+    alloc: Global,
+    disks: &'a [FakeDisk],
+) -> Result<Vec<(&'a str, &'a FakeDisk)>, AllocError> {
+    let mut all = Vec::new(alloc);
+    for (number, disk) in disks.iter().enumerate() {
+        all.push((name_of(number), disk))?;
+    }
+    Ok(all)
+}
+
+/// The words of a command line, the program's name first.
+pub fn words_of(alloc: Global, line: &str) -> Result<Vec<String>, AllocError> {
+    let mut words = Vec::new(alloc);
+    words.push(String::from_str(alloc, "mapf")?)?;
+    for word in line.split(' ') {
+        words.push(String::from_str(alloc, word)?)?;
+    }
+    Ok(words)
+}
+
+fn ended(files: &DiskFiles<'_>, words: &[String]) -> Ended {
+    let (mut out, mut err) = (Keeper::of_size(512), Keeper::of_size(512));
+    let status = run(
+        files,
+        words,
+        Style::Plain,
+        &mut Counted::new(ASKED.as_bytes()),
+        &mut Counted::new(&mut out),
+        &mut Counted::new(&mut err),
+    );
+    Ended { status, out, err }
+}
+
+/// Performs a command, and once more where memory was wanting.
+fn expect(
+    rt: &impl Abort,
+    files: &DiskFiles<'_>,
+    (line, status, text): (&str, u8, &str),
+) -> Result<(), AllocError> {
+    let words = words_of(files.alloc(), line)?;
+    let mut end = ended(files, &words).end(status, text);
+    if end == End::Wanting {
+        end = ended(files, &words).end(status, text);
+    }
+    assert_eq!(rt; end, End::Right, "at {line}");
+    Ok(())
+}
+
+#[test]
+fn memory_refused_to_command_lines(rt: HostRuntime) -> Result<(), Fail> {
+    let disks = disks_of(rt.alloc())?;
+    let named = named(rt.alloc(), &disks)?;
+    let files = DiskFiles::new(rt.alloc(), &named);
+    for &line in &LINES {
+        expect(&rt, &files, line)?;
+    }
+    for disk in &disks {
+        assert!(rt; disk.was_used_as_expected());
+    }
+    Ok(())
+}

@@ -1,0 +1,137 @@
+//! Each command of the program, called as the program calls it.
+use crate::endings::{End, Ended};
+use crate::texts::{
+    ACCEPTED, ACCEPTED_JSON, AGREES, ANSWERED, ASKED, COMPLETED, EVENTS, KEPT, NEEDS, PATH, PATHS,
+    REJECTED, REJECTED_JSON, REPLIES, SWAP, VISITS,
+};
+use fakes::{
+    BEHIND, CORNER, CORNER_WRITTEN, DiskFiles, FakeDisk, Keeper, LANE, ROW, ROW_WRITTEN, TASKS,
+};
+use grid::Cell;
+use mapf_cmd::{
+    agent_cmd, check_cmd, check_fit_cmd, deps_cell_cmd, deps_cmd, map_cmd, path_cmd, row_cmd,
+    run_cmd, scen_cmd, tape_cmd,
+};
+use std::alloc::Global;
+use std::test::Fail;
+use text_io::Counted;
+
+/// A command over the texts of this crate.
+#[derive(Clone, Copy, Debug)]
+enum Command {
+    Map,
+    Scen,
+    Row,
+    /// Checks this plan, and perhaps answers as JSON.
+    Check(&'static str, bool),
+    CheckFit(bool),
+    Deps,
+    DepsOfCell,
+    /// Perhaps of one agent.
+    Path(Option<u16>),
+    /// Perhaps says how the run ends.
+    Run(bool),
+    Agent,
+    /// Says what an empty tape keeps.
+    Tape,
+}
+
+/// Each command with its status and what it writes: last the one that writes the tape.
+static COMMANDS: [(Command, u8, &str); 17] = [
+    (Command::Map, 0, CORNER_WRITTEN),
+    (Command::Scen, 0, ROW_WRITTEN),
+    (Command::Row, 0, AGREES),
+    (Command::Check(BEHIND, false), 0, ACCEPTED),
+    (Command::Check(SWAP, false), 1, REJECTED),
+    (Command::Check(BEHIND, true), 0, ACCEPTED_JSON),
+    (Command::Check(SWAP, true), 1, REJECTED_JSON),
+    (Command::CheckFit(false), 0, ACCEPTED),
+    (Command::CheckFit(true), 0, ACCEPTED_JSON),
+    (Command::Deps, 0, NEEDS),
+    (Command::DepsOfCell, 0, VISITS),
+    (Command::Path(None), 0, PATHS),
+    (Command::Path(Some(1)), 0, PATH),
+    (Command::Run(false), 0, REPLIES),
+    (Command::Run(true), 0, COMPLETED),
+    (Command::Tape, 0, KEPT),
+    (Command::Agent, 0, ANSWERED),
+];
+
+/// A reader of a text.
+fn reader(text: &str) -> Counted<&[u8]> {
+    Counted::new(text.as_bytes())
+}
+
+type Out<'a> = Counted<&'a mut Keeper>;
+
+/// Performs a command on maps and scenarios, or else one on plans.
+fn perform(files: &DiskFiles<'_>, command: Command, out: &mut Out<'_>, err: &mut Out<'_>) -> u8 {
+    let alloc = files.alloc();
+    match command {
+        Command::Map => map_cmd(alloc, &mut reader(CORNER), out, err),
+        Command::Scen => scen_cmd(alloc, &mut reader(ROW), out, err),
+        Command::Row => row_cmd(alloc, &mut reader(CORNER), &mut reader(ROW), 0, out, err),
+        Command::Agent => perform_agent(files, out, err),
+        _ => perform_on_plan(alloc, command, out, err),
+    }
+}
+
+fn perform_on_plan(alloc: Global, command: Command, out: &mut Out<'_>, err: &mut Out<'_>) -> u8 {
+    let map = &mut reader(LANE);
+    let plan = &mut reader(BEHIND);
+    match command {
+        Command::Check(plan, json) => check_cmd(
+            alloc,
+            map,
+            &mut reader(plan),
+            None,
+            json,
+            out,
+            err,
+        ),
+        Command::CheckFit(json) => {
+            check_fit_cmd(alloc, map, plan, &mut reader(TASKS), None, json, out, err)
+        }
+        Command::DepsOfCell => deps_cell_cmd(alloc, map, plan, Cell { x: 1, y: 0 }, out, err),
+        Command::Path(agent) => path_cmd(alloc, map, plan, agent, out, err),
+        Command::Run(complete) => {
+            run_cmd(alloc, map, plan, &mut reader(EVENTS), complete, out, err)
+        }
+        Command::Tape => tape_cmd(alloc, map, plan, 0, &mut reader(""), out, err),
+        _ => deps_cmd(alloc, map, plan, out, err),
+    }
+}
+
+fn perform_agent(files: &DiskFiles<'_>, out: &mut Out<'_>, err: &mut Out<'_>) -> u8 {
+    let (map, plan, input) = (&mut reader(LANE), &mut reader(BEHIND), &mut reader(ASKED));
+    agent_cmd(files, map, plan, 0, "T", input, out, err)
+}
+
+fn ended(files: &DiskFiles<'_>, command: Command) -> Ended {
+    let (mut out, mut err) = (Keeper::of_size(512), Keeper::of_size(512));
+    let status = perform(
+        files,
+        command,
+        &mut Counted::new(&mut out),
+        &mut Counted::new(&mut err),
+    );
+    Ended { status, out, err }
+}
+
+#[test]
+fn memory_refused_to_commands(rt: HostRuntime) -> Result<(), Fail> {
+    let tape = FakeDisk::new(rt.alloc(), b"")?;
+    let disks = [("T", &tape)];
+    let files = DiskFiles::new(rt.alloc(), &disks);
+    for &(command, status, text) in &COMMANDS {
+        let mut end = ended(&files, command).end(status, text);
+        if end == End::Wanting {
+            // A tape of which nothing is known was not written.
+            assert!(rt; tape.is_untouched(), "at {command:?}");
+            end = ended(&files, command).end(status, text);
+        }
+        assert_eq!(rt; end, End::Right, "at {command:?}");
+    }
+    assert!(rt; tape.was_used_as_expected());
+    Ok(())
+}

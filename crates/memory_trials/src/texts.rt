@@ -1,0 +1,42 @@
+//! A plan and events that the tests of commands share, and what is answered.
+
+/// On the lane, two agents that exchange their cells.
+pub const SWAP: &str = "mapf-plan 1\nnumber 7\nagents 2\nagent 0 0 e\nagent 1 0 w\n";
+
+pub const EVENTS: &str = "mapf-events 1\nstart 0\nfinish 0\nsay 0\ndeliver 1 0\nstart 1\n";
+
+/// What the events are answered.
+pub const REPLIES: &str =
+    "moving 2 0\narrived 2 0\nsaid 0 460100000000000700000001\nheard 0 1\nmoving 1 0\n";
+
+/// The same, and how the run ends.
+pub const COMPLETED: &str =
+    "moving 2 0\narrived 2 0\nsaid 0 460100000000000700000001\nheard 0 1\nmoving 1 0\ncomplete 1\nfinish 1\n";
+
+/// What agent 0 is asked.
+pub const ASKED: &str = "start\nfinish\nsay\n";
+
+pub const ANSWERED: &str =
+    "at 1 0 done 0\nmoving 2 0\narrived 2 0\nsaid 460100000000000700000001\n";
+
+/// What is kept of the first agent by a tape without a record.
+pub const KEPT: &str = "at 1 0 done 0\nrecords 0 torn 0\n";
+
+pub const AGREES: &str = "shortest 2 0 listed 2.00000000 agrees\n";
+
+pub const ACCEPTED: &str = "accepted agents 2 cost 2 makespan 1\n";
+
+pub const REJECTED: &str = "rejected Swap 0 1 0\n";
+
+pub const ACCEPTED_JSON: &str = "{\"accepted\":true,\"agents\":2,\"cost\":2,\"makespan\":1}\n";
+
+pub const REJECTED_JSON: &str = "{\"accepted\":false,\"fault\":\"Swap 0 1 0\"}\n";
+
+pub const NEEDS: &str = "agents 2 moves 2 needs 1 rotations 0\nneed 1 0 0 1\n";
+
+pub const PATHS: &str = "0 1 0 0 0\n1 2 0 1 0\n2 2 0 1 0\n";
+
+/// The path of agent 1.
+pub const PATH: &str = "0 0 0\n1 1 0\n";
+
+pub const VISITS: &str = "visit 0 0 0\nvisit 1 1 1\n";

@@ -1,0 +1,50 @@
+//! Reading a map and a plan, and checking the plan on the map.
+ghost use Rattle.planned.specs.Planned.{ReadsChecked, ReadsTimetable};
+
+use crate::PlannedFault;
+use depgraph::{Dependencies, Graph};
+use grid::read_map;
+use plan::{CheckedPlan, check, read_plan};
+use std::alloc::Global;
+use std::io::Read;
+use text_io::Counted;
+
+/// Reads the map and then the plan, and checks the plan.
+pub fn read_checked<M: Read, P: Read>(
+    alloc: Global,
+    map: &mut Counted<M>,
+    plan: &mut Counted<P>,
+) -> Result<CheckedPlan, PlannedFault>
+    ensures { ReadsChecked M.remaining P.remaining map.old map.new plan.old plan.new result }
+{
+    let map = read_map(alloc, map)?;
+    let plan = read_plan(alloc, plan)?;
+    match check(alloc, &map, plan) {
+        Ok(checked) => Ok(checked),
+        Err(rejected) => Err(PlannedFault::Plan(rejected.fault)),
+    }
+}
+
+/// The same, and tells which of the plan's moves wait for which.
+pub fn read_dependencies<M: Read, P: Read>(
+    alloc: Global,
+    map: &mut Counted<M>,
+    plan: &mut Counted<P>,
+) -> Result<Dependencies, PlannedFault>
+    ensures { ReadsTimetable M.remaining P.remaining map.old map.new plan.old plan.new result }
+{
+    let plan = read_checked(alloc, map, plan)?;
+    Ok(Dependencies::build(alloc, &plan)?)
+}
+
+/// The same, and tells the visits of each cell too.
+pub fn read_graph<M: Read, P: Read>(
+    alloc: Global,
+    map: &mut Counted<M>,
+    plan: &mut Counted<P>,
+) -> Result<Graph, PlannedFault>
+    ensures { ReadsTimetable M.remaining P.remaining map.old map.new plan.old plan.new result }
+{
+    let plan = read_checked(alloc, map, plan)?;
+    Ok(Graph::build(alloc, &plan)?)
+}

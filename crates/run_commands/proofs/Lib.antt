@@ -1,2 +1,0 @@
--- Lemmas on runs that end.
-mod FinishLemmas
