@@ -6,7 +6,7 @@ use depgraph::{Dependencies, Graph, OutOfMemory, OwnPart};
 use event_text::write_replies;
 use fakes::{BEHIND, Keeper, LANE};
 use grid::read_map;
-use mapf_cmd::{Asked, Line, LineFault, Verdict, line, verdict_json};
+use mapf_cmd::{Line, LineFault, Verdict, line, verdict_json};
 use plan::{CheckedPlan, check, read_plan};
 use runner::{Event, Reply, SimTape, Version, run, run_with};
 use scen::{Length, LengthTable};
@@ -78,14 +78,16 @@ fn is_behind(alloc: Global, plan: &CheckedPlan) -> Result<bool, OutOfMemory> {
 /// The words `mapf row M S 3`.
 fn is_line(words: &[String], alloc: Global) -> Result<bool, OutOfMemory> {
     match line(alloc, words) {
-        Ok(
-            Asked {
-                line: Line::Row { map, scen, row },
-                explain,
-            },
-        ) => Ok(map.as_str() == "M" && scen.as_str() == "S" && row == 3 && !explain),
+        Ok(asked) => Ok(is_row(&asked.line) && !asked.explain),
         Err(LineFault::OutOfMemory) => Err(OutOfMemory),
         _ => Ok(false),
+    }
+}
+
+fn is_row(line: &Line) -> bool {
+    match line {
+        Line::Row { map, scen, row } => map.as_str() == "M" && scen.as_str() == "S" && *row == 3,
+        _ => false,
     }
 }
 
