@@ -22,11 +22,12 @@ def left_in(folder: pathlib.Path) -> list[str]:
 def processes_of(folder: pathlib.Path) -> list[tuple[int, str]]:
     """Those that were started with a file of a folder."""
     word, found = f"{folder}/", []
-    for path in pathlib.Path("/proc").glob("[0-9]*/cmdline"):
+    # Any of them may be gone when it is looked at, for which `glob` has no answer.
+    for pid in (int(it) for it in os.listdir("/proc") if it.isdigit()):
         with contextlib.suppress(OSError):
-            command = path.read_bytes().replace(b"\0", b" ").decode(errors="replace")
-            if word in command and int(path.parent.name) != os.getpid():
-                found.append((int(path.parent.name), command))
+            command = pathlib.Path(f"/proc/{pid}/cmdline").read_bytes().replace(b"\0", b" ").decode(errors="replace")
+            if word in command and pid != os.getpid():
+                found.append((pid, command))
     return found
 
 

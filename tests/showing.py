@@ -1,6 +1,5 @@
 """tools/show.py: pages and pictures of plans and runs. Pages are opened in a browser, where there is one."""
 import base64
-import contextlib
 import functools
 import json
 import os
@@ -21,6 +20,7 @@ import show_pages
 import show_pictures
 import show_replays
 from harness import ROOT, Ended, Harness, Outcome, compared, ended_as, shown, side_by_side
+from processes import processes_of
 from texts import BEHIND, HALL, LANE, NOBODY, SHORT, SQUARE, SWAP, TASKS, TURN, VERTEX, WALL, events, plan, scen
 
 TOOL = ROOT / "tools" / "show.py"
@@ -281,16 +281,9 @@ def stopped(room: Room) -> Iterator[Outcome]:
     started.terminate()
     told = started.communicate()[1]
     left = [it.name for it in away.iterdir()] + [it.name for it in room.folder.glob("stopped*")]
-    running = [it.parent.name for it in pathlib.Path("/proc").glob("[0-9]*/cmdline") if str(away).encode() in words_of(it)]
+    running = processes_of(away)
     ran = "tools/show.py square.map turn.plan --gif 0 1, ended while it draws"
     yield compared("a call that is ended leaves nothing", ran, (started.returncode, told, left, running), (128 + signal.SIGTERM, b"", [], []))
-
-
-def words_of(file: pathlib.Path) -> bytes:
-    """The words of a process, if it is there."""
-    with contextlib.suppress(OSError):
-        return file.read_bytes()
-    return b""
 
 
 def large_texts() -> tuple[bytes, bytes]:
