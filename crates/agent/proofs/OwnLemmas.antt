@@ -1,6 +1,6 @@
 -- What the tape of an agent keeps, and what a write of the due record does to it.
 use Rattle.std.proofs.Common.{◌≡◌, ℕ, zero, suc, ◌+◌, ◌*◌, ◌/◌, ◌-◌, ◌<◌, ◌≤◌, ◌++◌, Bool, true, false, List, [], ◌∷◌, length, take, drop, Some, None, inl, inr, refl, sym, ap, subst, ◌∙◌, arith}
-use Rattle.std.specs.Prelude.{◌⊎◌, ◌==◌, Option, option_map, slice_get}
+use Rattle.std.specs.Prelude.{◌⊎◌, ◌==◌, slice_get}
 use Rattle.std.proofs.Math.Nat.{mul-div-le, lt-mul-div-succ, mul-add-div, mul-div_cancel_left, div-eq_of_lt}
 use Rattle.std.proofs.Math.Seq.{drop-append_seam}
 use Rattle.std.proofs.lemmas.Bool.{cases_lt, cases_Bool, cond-true, cond-false, eq-eqb, true≢false}
@@ -16,8 +16,7 @@ use Rattle.agent.specs.Records.{due_record, record_at}
 use Rattle.agent.specs.States.{State, finished_moves, is_on_the_way, start_refusal, finish_refusal}
 use Rattle.agent.specs.Tape.{TapeState, whole_records, MayRead, MayWrite, IsWrite}
 use Rattle.depgraph.specs.AgentParts.{AgentPart, IsPartOf, IsOfGraph}
-use Rattle.depgraph.specs.Laws.AgentParts.{moves-limit, own-moves, own-most}
-use Rattle.depgraph.specs.Graphs.{IsGraphed}
+use Rattle.depgraph.specs.Laws.AgentParts.{own-moves, own-most}
 
 -- ---- how many moves there are
 

@@ -1,5 +1,5 @@
 -- The words of why a tape is not opened or made, and of why an agent refuses.
-use Rattle.std.specs.Prelude.{ℕ, List, [], ◌∷◌, codes}
+use Rattle.std.specs.Prelude.{[], ◌∷◌, codes}
 use Rattle.text_io.specs.declared.failure.Failure.TheVariants as failure
 use Rattle.text_io.specs.FaultWords.{Words, text_fault, failed}
 use Rattle.model.specs.FaultWords.{msg_fault_words}

@@ -29,7 +29,9 @@ pub mod RingLemmas
 pub mod WalkLemmas
 pub mod CycleLemmas
 pub mod RotationLemmas
+pub mod AheadLemmas
 pub mod TurnLemmas
+pub mod TurnedLemmas
 pub mod KeyLemmas
 pub mod FewLemmas
 pub mod LayingLemmas

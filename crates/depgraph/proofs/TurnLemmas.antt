@@ -1,6 +1,6 @@
 -- The cycles of the links are the rotations.
-use Rattle.std.proofs.Common.{◌≡◌, ℕ, zero, suc, ◌+◌, ◌-◌, ◌<◌, ◌≤◌, ◌^◌, List, [], ◌∷◌, ◌++◌, length, get_or, map, Some, inl, inr, arith, refl, sym, ap, subst, ◌∙◌}
-use Rattle.std.specs.Prelude.{◌⊎◌, ◌==◌, if◌then◌else◌, All, slice_get}
+use Rattle.std.proofs.Common.{◌≡◌, ℕ, zero, suc, ◌+◌, ◌-◌, ◌<◌, ◌≤◌, List, length, get_or, map, Some, inl, inr, arith, refl, sym, ap, subst, ◌∙◌}
+use Rattle.std.specs.Prelude.{◌==◌, All, slice_get}
 use Rattle.std.proofs.lemmas.Bool.{cases_lt, cases_eq, cond-true, cond-false, eq-eqb, ne_eqb}
 use Rattle.std.proofs.lemmas.List.{get_or_past, length-map}
 use Rattle.std.proofs.lemmas.Option.{same_Some, slice_get-get_or, slice_get_within, get_or_from_slice_get}
@@ -11,7 +11,7 @@ use Rattle.model.specs.Laws.Needs.{stands-from}
 use Rattle.model.specs.Laws.Tracks.{moves-leave}
 use Rattle.depgraph.specs.Rotations.{Turn}
 use Rattle.depgraph.specs.declared.waiting.Wait.{Wait}
-use Rattle.depgraph.specs.Code.Cycles.{LinksTo, AreLinks, IsCycle, IsCycleWalked}
+use Rattle.depgraph.specs.Code.Cycles.{LinksTo, AreLinks, IsCycle}
 use Rattle.depgraph.specs.Code.Entries.{begin_in, IsEntry}
 use Rattle.depgraph.specs.Code.Keeping.{AreKeptVisits}
 use Rattle.depgraph.specs.Code.Links.{entry_before, AreBound}
@@ -19,63 +19,17 @@ use Rattle.depgraph.specs.Code.Numbers.{no_cell}
 use Rattle.depgraph.specs.Code.Paths.{all_entered, all_times}
 use Rattle.depgraph.specs.Code.Ranks.{rank}
 use Rattle.depgraph.specs.Code.Schedules.{entry_in}
-use Rattle.depgraph.specs.Code.Turning.{AreLaid, AreAllRotations, agents_of}
+use Rattle.depgraph.specs.Code.Turning.{AreLaid, agents_of}
 use Rattle.depgraph.specs.Code.Waits.{no_wait, no_entry, entry_for, wait_of, ahead_of}
 use Rattle.depgraph.proofs.BeforeLemmas.{left_before}
-use Rattle.depgraph.proofs.CycleLemmas.{AreCycles, AreFound, cut-links, found-none, found-one, found-all, walked-cycle}
 use Rattle.depgraph.proofs.KeptLemmas.{rank-visit, in_block, before_of, before_is, looked_up}
 use Rattle.depgraph.proofs.PositionLemmas.{times-rise}
 use Rattle.depgraph.proofs.RingLemmas.{map-get, map-from, one_at, same_at, following-next, following-first, follower, follower-within, same_by_places}
 use Rattle.depgraph.proofs.RotationLemmas.{kept, visit_of, is_visit, mover-arrival, not_own, waits-for, into-after, after-into}
-use Rattle.depgraph.proofs.ScheduleLemmas.{same_count, position, begin_most, begin_last}
+use Rattle.depgraph.proofs.ScheduleLemmas.{same_count, position}
 use Rattle.depgraph.proofs.VisitLemmas.{entry_own, entry_track, entry-one, entry-before, entry-within}
 use Rattle.depgraph.proofs.WalkLemmas.{cycle-leads}
-
--- ---- the agents of entries
-
--- what follows in a list of images
-map-following : (f : ℕ → ℕ) (xs : List ℕ) (k y : ℕ) → following (map f xs) k ≡ Some y → (x : ℕ) × (following xs k ≡ Some x) × (f x ≡ y)
-map-following f xs k y next =
-    let long = length-map xs f in
-    elim (cases_lt (k + 1) (length xs)) [
-      | inl less ↦ (
-          let found = map-get f xs (k + 1) y (sym (following-next (map f xs) k (omega (arith, less, long))) ∙ next) in
-          (found.0, following-next xs k less ∙ found.1, found.2)
-          )
-      | inr past ↦ (
-          let found = map-get f xs 0 y (sym (following-first (map f xs) k (omega (arith, past, long))) ∙ next) in
-          (found.0, following-first xs k past ∙ found.1, found.2)
-          )
-    ]
-
--- where each waits for the agent of the next, those that are waited for are the agents of the entries
-agents-map : (waits : List Wait) (owner : ℕ → ℕ) (i : ℕ) (entries : List ℕ) → ((first : ℕ) → slice_get entries 0 ≡ Some first → i ≡ owner first)
-    → ((k e f : ℕ) → slice_get entries k ≡ Some e → slice_get entries (suc k) ≡ Some f → (get_or waits e no_wait).agent ≡ owner f) → agents_of waits i entries ≡ map owner entries
-agents-map waits owner i [] begins waits_for = refl
-agents-map waits owner i (e ∷ entries) begins waits_for =
-    ap (λ j. j ∷ agents_of waits (get_or waits e no_wait).agent entries) (begins e refl)
-    ∙ ap (λ l. owner e ∷ l) (agents-map waits owner (get_or waits e no_wait).agent entries (λ f there. waits_for 0 e f refl there) (λ k. waits_for (suc k)))
-
--- ---- what is ahead, by the visit before
-
-ahead-there : (times ends : List ℕ) (own v : Visit) → (v.agent ≡ own.agent → ⊥) → get_or times (entry_for ends v + 1) 0 ≡ own.time → ahead_of times ends own (Some v) ≡ entry_for ends v + 1
-ahead-there times ends own v other time =
-    let next = entry_for ends v + 1 in
-    cond-false (v.agent == own.agent) no_entry (if get_or times next 0 == own.time then next else no_entry) (ne_eqb v.agent own.agent other)
-    ∙ cond-true (get_or times next 0 == own.time) next no_entry (eq-eqb (get_or times next 0) own.time time)
-
-ahead-cases : (times ends : List ℕ) (own v : Visit)
-    → (ahead_of times ends own (Some v) ≡ no_entry) ⊎ ((v.agent ≡ own.agent → ⊥) × (get_or times (entry_for ends v + 1) 0 ≡ own.time) × (ahead_of times ends own (Some v) ≡ entry_for ends v + 1))
-ahead-cases times ends own v =
-    let next = entry_for ends v + 1 in
-    elim (cases_eq v.agent own.agent) [
-      | inl same ↦ inl (cond-true (v.agent == own.agent) no_entry (if get_or times next 0 == own.time then next else no_entry) (eq-eqb v.agent own.agent same))
-      | inr other ↦ elim (cases_eq (get_or times next 0) own.time) [
-        | inl time ↦ inr (other, time, ahead-there times ends own v other time)
-        | inr unlike ↦ inl (cond-false (v.agent == own.agent) no_entry (if get_or times next 0 == own.time then next else no_entry) (ne_eqb v.agent own.agent other)
-            ∙ cond-false (get_or times next 0 == own.time) next no_entry (ne_eqb (get_or times next 0) own.time unlike))
-      ]
-    ]
+use Rattle.depgraph.proofs.AheadLemmas.{map-following, agents-map, ahead-there, ahead-cases}
 
 module _ (tt : Timetable) (ends : List ℕ) (waits : List Wait) (ahead : List ℕ) (l : AreLaid tt ends waits ahead) where
   abbrev times : List ℕ
@@ -97,10 +51,10 @@ module _ (tt : Timetable) (ends : List ℕ) (waits : List Wait) (ahead : List �
 
   -- ---- entries
 
-  count : length (all_times tt.tracks) ≡ length (all_entered tt.tracks)
+  pub count : length (all_times tt.tracks) ≡ length (all_entered tt.tracks)
   count = same_count tt.tracks (all_entered tt.tracks) (all_times tt.tracks) ends l.line.paths
 
-  entry_count : length ahead ≡ length (all_times tt.tracks)
+  pub entry_count : length ahead ≡ length (all_times tt.tracks)
   entry_count = l.are_ahead.count ∙ l.placing.visit_count ∙ l.line.schedule.count
 
   wait_count : length waits ≡ length (all_times tt.tracks)
@@ -120,11 +74,11 @@ module _ (tt : Timetable) (ends : List ℕ) (waits : List Wait) (ahead : List �
   own_time e less = ap (λ x. get_or times x 0) (arrival_of e less).1
 
   -- who has an entry, by its place in the list of all
-  owner-is : (i k e : ℕ) → IsEntry ends i k e → e < length (all_times tt.tracks) → owner e ≡ i
+  pub owner-is : (i k e : ℕ) → IsEntry ends i k e → e < length (all_times tt.tracks) → owner e ≡ i
   owner-is i k e entry less = (entry-one tt.tracks (all_entered tt.tracks) times ends l.line.paths (owner e) i (visit_for e).index k e (own_entry e less) entry).0
 
   -- an agent has one entry of a time
-  one_entry : (e f : ℕ) → e < length times → f < length times → owner e ≡ owner f → get_or times e 0 ≡ get_or times f 0 → e ≡ f
+  pub one_entry : (e f : ℕ) → e < length times → f < length times → owner e ≡ owner f → get_or times e 0 ≡ get_or times f 0 → e ≡ f
   one_entry e f in_e in_f agent time =
       let v = is_visit tt (all_entered tt.tracks) times ends waits l.visits l.visit_ends h (rank times e) (arrival_of e in_e).0 in
       let w = is_visit tt (all_entered tt.tracks) times ends waits l.visits l.visit_ends h (rank times f) (arrival_of f in_f).0 in
@@ -329,7 +283,7 @@ module _ (tt : Timetable) (ends : List ℕ) (waits : List Wait) (ahead : List �
       let same = count in
       (slice_get-get_or ahead e no_entry (omega (arith, all, inside)) ∙ ap Some is, λ none. omega (arith, none, within, few, same))
 
-  are_links : AreLinks ahead
+  pub are_links : AreLinks ahead
   are_links = record {
     few = (let few = l.line.few.all in let same = count in let all = entry_count in omega (arith, few, same, all));
     within = λ i j leads. (let less = (leads-moves i j leads).1.in_f in let all = entry_count in omega (arith, less, all));
@@ -370,7 +324,7 @@ module _ (tt : Timetable) (ends : List ℕ) (waits : List Wait) (ahead : List �
     moves place i j there next = leads-moves i j (cycle-leads ahead entries place i j are_links c there next)
 
     -- all of them have one time
-    same_time : (place i : ℕ) → slice_get entries place ≡ Some i → get_or times i 0 ≡ get_or times first 0
+    pub same_time : (place i : ℕ) → slice_get entries place ≡ Some i → get_or times i 0 ≡ get_or times first 0
     same_time zero i there = ap (λ x. get_or times x 0) (same_at entries 0 i first there is_first)
     same_time (suc place) i there =
         let less = slice_get_within entries (suc place) i there in
@@ -390,17 +344,17 @@ module _ (tt : Timetable) (ends : List ℕ) (waits : List Wait) (ahead : List �
         let is : both.0 ≡ step = omega (arith, a, b) in
         subst (AreMoves i j) is both.1
 
-    inside : (place i : ℕ) → slice_get entries place ≡ Some i → i < length times
+    pub inside : (place i : ℕ) → slice_get entries place ≡ Some i → i < length times
     inside place i there = (let next = follower entries place c.some in (moves_at place i next.0 there next.1).in_e)
 
     -- which is not the start
-    begun : 1 ≤ get_or (all_times tt.tracks) (get_or entries 0 0) 0
+    pub begun : 1 ≤ get_or (all_times tt.tracks) (get_or entries 0 0) 0
     begun = (let next = follower entries 0 c.some in let time = (moves_at 0 first next.0 is_first next.1).time_e in omega (arith, time))
 
-    trail_known : All (λ e. e < length waits) entries
+    pub trail_known : All (λ e. e < length waits) entries
     trail_known k d less = (let within = inside k (get_or entries k d) (slice_get-get_or entries k d less) in let all = wait_count in omega (arith, within, all))
 
-    trail_agents : (i : ℕ) → i ≡ owner (get_or entries 0 0) → agents_of waits i entries ≡ map owner entries
+    pub trail_agents : (i : ℕ) → i ≡ owner (get_or entries 0 0) → agents_of waits i entries ≡ map owner entries
     trail_agents i is = agents-map waits owner i entries (λ e there. is ∙ ap owner (same_at entries 0 first e is_first there)) (λ k e f there after.
         let less = slice_get_within entries (suc k) f after in
         let next : k + 1 ≡ suc k = omega arith in
@@ -426,7 +380,7 @@ module _ (tt : Timetable) (ends : List ℕ) (waits : List Wait) (ahead : List �
           (moves_at 0 first first is_first (following-first entries 0 (omega (arith, one)) ∙ is_first)).into
     ]
 
-    cycle-rotation : IsRotation tt (get_or (all_times tt.tracks) (get_or entries 0 0) 0 - 1) (map owner entries)
+    pub cycle-rotation : IsRotation tt (get_or (all_times tt.tracks) (get_or entries 0 0) 0 - 1) (map owner entries)
     cycle-rotation = record {
       three = (let long = length-map entries owner in elim (cases_lt (length entries) 3) [ inl few ↦ absurd (not_two few) | inr enough ↦ omega (arith, enough, long) ]);
       different = λ place other i at_place at_other. (
@@ -460,7 +414,7 @@ module _ (tt : Timetable) (ends : List ℕ) (waits : List Wait) (ahead : List �
   -- ---- the cycle of a rotation
 
   module _ (r : Turn) (is : IsRotation tt r.step r.agents) where
-    abbrev round : List ℕ
+    abbrev pub round : List ℕ
     round = map (entry_after r.step) r.agents
 
     some_agents : 0 < length r.agents
@@ -470,7 +424,7 @@ module _ (tt : Timetable) (ends : List ℕ) (waits : List Wait) (ahead : List �
         → (entry_after r.step i < length times) × (owner (entry_after r.step i) ≡ i) × (get_or times (entry_after r.step i) 0 ≡ r.step + 1)
     moved place i there = (let next = follower r.agents place some_agents in entry_of_move i r.step next.0 (is.cycle place i next.0 there next.1))
 
-    rotation-cycle : IsCycle ahead round
+    pub rotation-cycle : IsCycle ahead round
     rotation-cycle = record {
       some = (let long = length-map r.agents (entry_after r.step) in let some = some_agents in omega (arith, long, some));
       different = λ place other e at_place at_other. (
@@ -511,7 +465,7 @@ module _ (tt : Timetable) (ends : List ℕ) (waits : List Wait) (ahead : List �
           );
     }
 
-    same_turn : turn round ≡ r
+    pub same_turn : turn round ≡ r
     same_turn =
         let start = one_at r.agents 0 some_agents in
         let begins = get_or_from_slice_get round 0 (entry_after r.step start.0) 0 (map-from (entry_after r.step) r.agents 0 start.0 start.1) in
@@ -523,98 +477,3 @@ module _ (tt : Timetable) (ends : List ℕ) (waits : List Wait) (ahead : List �
         let x = one_at r.agents k (omega (arith, less, inner, outer)) in
         map-from owner round k (entry_after r.step x.0) (map-from (entry_after r.step) r.agents k x.0 x.1) ∙ ap Some (moved k x.0 x.1).1 ∙ sym x.1) in
         ap {A = ℕ} {B = Turn} (λ s. record { step = s; agents = map owner round }) step ∙ ap {A = List ℕ} {B = Turn} (λ a. record { step = r.step; agents = a }) agents
-
-  -- ---- all of them
-
-  all-rotations : (cycles : List (List ℕ)) → AreCycles ahead cycles → AreAllRotations tt (map turn cycles)
-  all-rotations cycles c = record {
-    sound = λ n r there. (let found = map-get turn cycles n r there in subst (λ x. IsRotation tt x.step x.agents) found.2 (cycle-rotation found.0 (c.sound n found.0 found.1)));
-    whole = λ r is. (let found = c.whole (round r is) (rotation-cycle r is) in (found.0, map-from turn cycles found.0 (round r is) found.1 ∙ ap Some (same_turn r is)));
-    different = λ n m i r s less at_n at_m step begins other_begins. (
-        let a = map-get turn cycles n r at_n in
-        let b = map-get turn cycles m s at_m in
-        let one = c.sound n a.0 a.1 in
-        let other = c.sound m b.0 b.1 in
-        let e = map-get owner a.0 0 i (ap (λ x. slice_get x.agents 0) a.2 ∙ begins) in
-        let f = map-get owner b.0 0 i (ap (λ x. slice_get x.agents 0) b.2 ∙ other_begins) in
-        let steps = ap (λ x. x.step) a.2 ∙ step ∙ sym (ap (λ x. x.step) b.2) in
-        let begun_a = begun a.0 one in
-        let begun_b = begun b.0 other in
-        let at_e = same_time a.0 one 0 e.0 e.1 in
-        let at_f = same_time b.0 other 0 f.0 f.1 in
-        let same = one_entry e.0 f.0 (inside a.0 one 0 e.0 e.1) (inside b.0 other 0 f.0 f.1) (e.2 ∙ sym f.2) (omega (arith, steps, begun_a, begun_b, at_e, at_f)) in
-        let rises = c.rising n m e.0 f.0 a.0 b.0 less a.1 b.1 e.1 f.1 in
-        omega (arith, same, rises)
-        );
-  }
-
-  -- ---- the entries of an agent
-
-  pub entry_here : (agent e : ℕ) → agent < length ends → begin_in ends agent ≤ e → e < get_or ends agent 0 → (e < length (all_times tt.tracks)) × (owner e ≡ agent)
-  entry_here agent e known from to =
-      let entry : IsEntry ends agent (e - begin_in ends agent) e = record { is_agent = known; place = omega (arith, from); within = to } in
-      let all = count in
-      let inside = entry-within tt.tracks (all_entered tt.tracks) times ends l.line.paths agent (e - begin_in ends agent) e entry in
-      let less : e < length times = omega (arith, inside, all) in
-      (less, owner-is agent (e - begin_in ends agent) e entry less)
-
-  pub few_entries : length (all_times tt.tracks) < 2 ^ 32
-  few_entries = (let few = l.line.few.all in let all = count in omega (arith, few, all))
-
-  pub begin_up : (agent : ℕ) → agent < length ends → begin_in ends agent ≤ get_or ends agent 0
-  begin_up agent known = begin_most tt.tracks (all_entered tt.tracks) times ends l.line.paths agent known
-
-  last_entry : begin_in ends (length ends) ≡ length ahead
-  last_entry = (let last = begin_last tt.tracks (all_entered tt.tracks) times ends l.line.paths in let all = count in let whole = entry_count in omega (arith, last, all, whole))
-
--- ---- one walk after another
-
--- The rotations whose least entry is before a place are found, and the links of the others are left.
-pub record AreTurned (tt : Timetable) (ends : List ℕ) (waits : List Wait) (ahead now : List ℕ) (m : ℕ) (turns : List Turn) : Type 0 where
-  pub laid : AreLaid tt ends waits ahead
-  pub found : AreFound (turn tt ends waits ahead laid) ahead now m turns
-
-module _ (tt : Timetable) (ends : List ℕ) (waits : List Wait) (ahead now : List ℕ) (m : ℕ) (turns : List Turn) (t : AreTurned tt ends waits ahead now m turns) where
-  all_links : AreLinks ahead
-  all_links = are_links tt ends waits ahead t.laid
-
-  pub links_now : AreLinks now
-  links_now = cut-links ahead now all_links t.found.is_cut
-
-  pub now_count : length now ≡ length (all_times tt.tracks)
-  now_count = t.found.is_cut.count ∙ entry_count tt ends waits ahead t.laid
-
-  pub turned-all : begin_in ends (length ends) ≤ m → AreAllRotations tt turns
-  turned-all past =
-      let last = last_entry tt ends waits ahead t.laid in
-      let all = found-all (turn tt ends waits ahead t.laid) ahead now m turns all_links t.found (omega (arith, past, last)) in
-      subst (AreAllRotations tt) (sym all.2) (all-rotations tt ends waits ahead t.laid all.0 all.1)
-
-  module _ (next trail : List ℕ) (is : Type 0) (walked : IsCycleWalked m now next trail is) where
-    pub turned-none : (is → ⊥) → AreTurned tt ends waits ahead next (m + 1) turns
-    turned-none not_found = record { laid = t.laid; found = found-none (turn tt ends waits ahead t.laid) ahead now next trail m turns is t.found walked not_found }
-
-    cycle_here : is → IsCycle ahead trail × (slice_get trail 0 ≡ Some m)
-    cycle_here is_found = walked-cycle (turn tt ends waits ahead t.laid) ahead now next trail m turns is all_links t.found walked is_found
-
-    pub begun_here : is → 1 ≤ get_or (all_times tt.tracks) m 0
-    begun_here is_found =
-        let c = cycle_here is_found in
-        subst (λ e. 1 ≤ get_or (all_times tt.tracks) e 0) (get_or_from_slice_get trail 0 m 0 c.1) (begun tt ends waits ahead t.laid trail c.0)
-
-    pub known_here : is → All (λ e. e < length waits) trail
-    known_here is_found = trail_known tt ends waits ahead t.laid trail (cycle_here is_found).0
-
-    pub turned-one : is → (agent step : ℕ) (agents : List ℕ) → agent < length ends → begin_in ends agent ≤ m → m < get_or ends agent 0 → step ≡ get_or (all_times tt.tracks) m 0 - 1
-        → agents ≡ agents_of waits agent trail → AreTurned tt ends waits ahead next (m + 1) (turns ++ record { step = step; agents = agents } ∷ [])
-    turned-one is_found agent step agents known from to is_step are_agents =
-        let c = cycle_here is_found in
-        let begins = get_or_from_slice_get trail 0 m 0 c.1 in
-        let owned = (entry_here tt ends waits ahead t.laid agent m known from to).1 in
-        let same = are_agents ∙ trail_agents tt ends waits ahead t.laid trail c.0 agent (sym owned ∙ ap (owner tt ends waits ahead t.laid) (sym begins)) in
-        let time = is_step ∙ ap (λ e. get_or (all_times tt.tracks) e 0 - 1) (sym begins) in
-        let one : turn tt ends waits ahead t.laid trail ≡ record { step = step; agents = agents } =
-        ap {A = ℕ} {B = Turn} (λ s. record { step = s; agents = map (owner tt ends waits ahead t.laid) trail }) (sym time)
-        ∙ ap {A = List ℕ} {B = Turn} (λ a. record { step = step; agents = a }) (sym same) in
-        subst (λ r. AreTurned tt ends waits ahead next (m + 1) (turns ++ r ∷ [])) one
-        (record { laid = t.laid; found = found-one (turn tt ends waits ahead t.laid) ahead now next trail m turns is all_links t.found walked is_found })

@@ -1,5 +1,4 @@
 -- The words of why a dialogue ended early.
-use Rattle.std.specs.Prelude.{ℕ, List, [], ◌∷◌, codes}
 use Rattle.text_io.specs.declared.failure.Failure.TheVariants as failure
 use Rattle.text_io.specs.FaultWords.{Words, failed}
 use Rattle.dialogue.specs.declared.talk_fault.TalkFault.{TalkFault}

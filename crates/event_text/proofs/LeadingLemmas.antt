@@ -1,16 +1,9 @@
 -- What stands at the front of bytes, before an LF or another byte that ends it.
-use Rattle.std.proofs.Common.{◌≡◌, ℕ, ◌+◌, ◌-◌, ◌*◌, ◌^◌, ◌<◌, ◌≤◌, true, false, List, [], ◌∷◌, ◌++◌, length, take, drop, get_or, refl, sym, ap, ◌∙◌, arith, append_assoc, length-append, add-one}
-use Rattle.std.specs.List.{list_all}
-use Rattle.std.specs.Char.{is_ascii_digit}
-use Rattle.std.proofs.Math.Nat.{pow-suc, pow-le-pow_right}
+use Rattle.std.proofs.Common.{◌≡◌, ℕ, ◌+◌, ◌-◌, ◌^◌, List, [], ◌∷◌, ◌++◌, length, take, refl, sym, ap, ◌∙◌, arith, append_assoc, length-append}
 use Rattle.std.proofs.Math.Seq.{take-append_seam}
-use Rattle.std.proofs.lemmas.Bool.{and_from, and_parts, leb-true}
-use Rattle.std.proofs.lemmas.Int.Digits.{digits_value_more}
-use Rattle.std.proofs.lemmas.List.{take_more}
-use Rattle.std.proofs.lemmas.List.Folds.{list_all-append}
 use Rattle.text_io.specs.Text.{space, line_feed}
 use Rattle.model.specs.declared.event.Event.{Event}
-use Rattle.text_io.specs.Numerals.{has_leading_zero, numeral_value, BeginsWithNumber}
+use Rattle.text_io.specs.Numerals.{BeginsWithNumber}
 use Rattle.event_text.specs.EventText.{NamesAgent, NamesAgentAnd}
 use Rattle.event_text.specs.Code.EventLines.{IsBehindEvent, BeginsWithEvent}
 

@@ -1,11 +1,8 @@
 -- How a file is read piece by piece.
-use Rattle.std.proofs.Common.{◌≡◌, ℕ, ◌+◌, ◌-◌, ◌≤◌, List, ◌++◌, length, take, drop, sym, ap, subst, ◌∙◌, arith, length-append}
-use Rattle.std.specs.Prelude.{Option, min}
-use Rattle.std.specs.Io.KnownBytes.{Consumes}
-use Rattle.std.proofs.KnownBytes.{Consumes-trans}
-use Rattle.std.proofs.Math.Seq.{take-append-add, take-append_seam}
-use Rattle.std.proofs.lemmas.List.{length-take-le, take-append-le, take-take, take_min}
-use borrow.Rule.Slice.PartMut.{put_mid, post_of}
+use Rattle.std.proofs.Common.{◌≡◌, ℕ, ◌+◌, ◌-◌, ◌≤◌, List, ◌++◌, length, take, sym, ap, ◌∙◌, arith}
+use Rattle.std.specs.Prelude.{min}
+use Rattle.std.proofs.Math.Seq.{take-append_seam}
+use Rattle.std.proofs.lemmas.List.{length-take-le, take-take, take_min}
 use Rattle.agent.specs.Tape.{TapeState}
 
 -- the part of what was read that there is room for, in a buffer that has its vector's length

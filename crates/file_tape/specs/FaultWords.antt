@@ -1,5 +1,5 @@
 -- The words of why a file is not opened as a tape.
-use Rattle.std.specs.Prelude.{ℕ, List, [], ◌∷◌, codes}
+use Rattle.std.specs.Prelude.{[], codes}
 use Rattle.text_io.specs.declared.failure.Failure.TheVariants as failure
 use Rattle.text_io.specs.FaultWords.{Words, text_fault, failed}
 use Rattle.file_tape.specs.declared.file_tape.FileTapeFault.{FileTapeFault}

@@ -13,7 +13,7 @@ use Rattle.grid.specs.MapText.{IsNumberLine}
 use Rattle.grid.specs.MapFault.{height_due, width_due, map_due, MapFollows, HasMapFault, HasValue, HasPositive}
 use Rattle.grid.specs.Code.HeaderLine.{word_of, saying_of}
 use Rattle.grid.specs.Code.Following.{SaysNoSize}
-use Rattle.grid.proofs.HeaderLemmas.{HasSize, height_has_size, width_has_size, Size-from_number_line, number_line-from_Size, HasValue-from_Size, HasValue-from_NoSize, says-from_HasValue}
+use Rattle.grid.proofs.HeaderNumbers.{HasSize, height_has_size, width_has_size, Size-from_number_line, number_line-from_Size, HasValue-from_Size, HasValue-from_NoSize, says-from_HasValue}
 
 -- an empty line says nothing
 says_some : (kind : HeaderLine) (line : List ℕ) → (saying_of kind line ≡ NoForm → ⊥) → 0 < length line

@@ -2,6 +2,7 @@
 pub mod RowLemmas
 pub mod TerrainLemmas
 pub mod HeaderLemmas
+pub mod HeaderNumbers
 pub mod TakenLines
 pub mod ScanLemmas
 pub mod RowTaken
@@ -13,4 +14,5 @@ pub mod Standing
 pub mod Judging
 pub mod MapTaken
 pub mod MapLemmas
+pub mod LineDecisions
 pub mod Deciding

@@ -22,7 +22,7 @@ use Rattle.grid.specs.MapFault.{type_due, height_due, width_due, map_due, rows_d
 use Rattle.grid.specs.Code.Following.{MapLeads}
 use Rattle.grid.specs.Code.HeaderLine.{word_of, saying_of}
 use Rattle.text_io.specs.Laws.Lines.{differs, is_line_byte-from, lines_of-all}
-use Rattle.grid.proofs.HeaderLemmas.{HasSize, height_has_size, width_has_size, Size-from_number_line}
+use Rattle.grid.proofs.HeaderNumbers.{HasSize, height_has_size, width_has_size, Size-from_number_line}
 use Rattle.grid.proofs.Judging.{MapLeads-append, fault_of-lines, fault_of-first}
 
 -- ---- characters

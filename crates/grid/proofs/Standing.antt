@@ -19,7 +19,8 @@ use Rattle.grid.specs.MapFault.{MapDue, type_due, height_due, width_due, map_due
 use Rattle.grid.specs.Code.HeaderLine.{word_of, saying_of}
 use Rattle.grid.specs.Code.Following.{IsLineOpen, MapLeads}
 use Rattle.text_io.specs.Laws.Lines.{is_line_byte-true, differs, ended-line}
-use Rattle.grid.proofs.HeaderLemmas.{HasSize, height_has_size, width_has_size, Whole-from_type_line, type_line-from_Whole, Whole-from_map_line, map_line-from_Whole, Size-from_number_line, number_line-from_Size, HasValue-from_Size, HasValue-from_NoSize, says-from_HasValue}
+use Rattle.grid.proofs.HeaderLemmas.{Whole-from_type_line, type_line-from_Whole, Whole-from_map_line, map_line-from_Whole}
+use Rattle.grid.proofs.HeaderNumbers.{HasSize, height_has_size, width_has_size, Size-from_number_line, number_line-from_Size, HasValue-from_Size, HasValue-from_NoSize, says-from_HasValue}
 
 -- Where the pass stands: at a line that is due, after so many lines, with the bytes of the line so far, or at a fault.
 pub data Standing : Type 0 where

@@ -3,3 +3,4 @@ pub mod CostLemmas
 pub mod Visited
 pub mod WalkedLemmas
 pub mod CompletionLemmas
+pub mod ExampleFaults

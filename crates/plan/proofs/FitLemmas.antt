@@ -5,7 +5,7 @@ use Rattle.std.proofs.lemmas.Option.{slice_get-map, slice_get-get_or}
 use Rattle.model.specs.Costs.{SolvesAt}
 use Rattle.model.specs.Timetable.{Track, Timetable, cell_at, track_of}
 use Rattle.model.specs.Laws.Tracks.{cell_at-start}
-use Rattle.scen.specs.Query.{Query}
+use Rattle.rows.specs.Query.{Query}
 use Rattle.plan.specs.declared.fit_fault.FitFault.{FitFault}
 use Rattle.plan.specs.declared.fit_fault.FitFault.TheVariants.{TooFewRows, AgentCount, StartDiffers, GoalDiffers, SizeDiffers}
 use Rattle.plan.specs.Checking.{Checked}

@@ -13,5 +13,8 @@ pub mod BoardLemmas
 pub mod SquareLemmas
 pub mod RowLemmas
 pub mod AgentLemmas
+pub mod GroundLemmas
 pub mod UnderWayLemmas
+pub mod UnderWayStarts
+pub mod BlockLemmas
 pub mod StrayLemmas

@@ -4,7 +4,7 @@ use Rattle.std.proofs.Math.Nat.{suc-mod, mod-lt}
 use Rattle.std.proofs.lemmas.Bool.{cases_eq}
 use Rattle.plan.specs.declared.board.Square.{Square}
 use Rattle.plan.specs.declared.crowd.Walker.{Walker}
-use Rattle.plan.specs.Code.Squares.{AreUnmarked, IsOfStep}
+use Rattle.plan.specs.Code.Squares.{AreUnmarked}
 use Rattle.plan.specs.Code.Crowd.{first_mark, AreApart, AreMarksOf, AreOldMarks}
 
 abbrev by_rest : ℕ → ℕ

@@ -1,21 +1,20 @@
 -- An agent by itself, which keeps to its ground.
-use Rattle.std.proofs.Common.{◌≡◌, ℕ, ◌+◌, ◌*◌, ◌<◌, ◌≤◌, List, [], ◌∷◌, length, Some, arith, refl, sym, ap, subst, inl, inr, ◌∙◌}
+use Rattle.std.proofs.Common.{◌≡◌, ℕ, ◌+◌, ◌*◌, List, [], ◌∷◌, length, Some, refl, sym, ap, subst, ◌∙◌}
 use Rattle.std.specs.Prelude.{slice_get}
-use Rattle.std.proofs.lemmas.Bool.{cases_lt}
-use Rattle.grid.specs.declared.cell.Cell.{Cell}
 use Rattle.grid.specs.Map.{Grid, IsSize}
 use Rattle.model.specs.declared.act.Act.{Act}
-use Rattle.model.specs.Plan.{Course, position_of, moved, position_at, IsPassable, IsBadMove}
+use Rattle.model.specs.Plan.{Course, position_of, moved, position_at, IsPassable}
 use Rattle.plan.specs.declared.board.Square.{Square}
 use Rattle.plan.specs.declared.crowd.Turns.{Turns}
-use Rattle.plan.specs.Moving.{IsOnGrid, KeepsToGround}
 use Rattle.plan.specs.Code.Squares.{ground_in, square_at, wide_of, place_on, IsOpen, HasGround, IsSquareOf, IsBoard}
 use Rattle.plan.specs.Code.Crowd.{led_to, AreActTurns, IsInside}
 use Rattle.plan.specs.Code.UnderWay.{IsWalker}
 use Rattle.plan.proofs.BoardLemmas.{from_place, inside}
 use Rattle.plan.specs.Laws.Keeping.{HasKept, kept_next}
-use Rattle.plan.specs.Laws.Walking.{bad-has_act, moved-place, position_at-start, position-stays}
-use Rattle.plan.proofs.UnderWayLemmas.{may_start, no_bad_move, starts_as}
+use Rattle.plan.specs.Laws.Walking.{moved-place}
+use Rattle.plan.proofs.GroundLemmas.{may_start}
+use Rattle.plan.proofs.UnderWayLemmas.{no_bad_move}
+use Rattle.plan.proofs.UnderWayStarts.{starts_as}
 
 -- ---- on a board
 

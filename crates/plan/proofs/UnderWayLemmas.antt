@@ -1,109 +1,36 @@
--- A step of the agents that are under way.
-use Rattle.std.proofs.Common.{◌≡◌, ◌≢◌, ℕ, ◌+◌, ◌-◌, pos, ◌+ℤ◌, ◌-ℤ◌, ◌*◌, ◌<◌, ◌≤◌, ◌⊎◌, List, [], ◌∷◌, ◌++◌, length, get_or, Some, None, true, arith, refl, sym, ap, subst, inl, inr, ◌∙◌}
+-- What a step makes of the agents under way.
+use Rattle.std.proofs.Common.{◌≡◌, ◌≢◌, ℕ, ◌+◌, pos, ◌+ℤ◌, ◌-ℤ◌, ◌<◌, ◌≤◌, ◌⊎◌, List, length, get_or, Some, None, arith, refl, sym, ap, subst, inl, inr, ◌∙◌}
 use Rattle.std.specs.Prelude.{Option, MatchOption, Result, Ok, Err, IfOk, slice_get}
-use Rattle.std.proofs.lemmas.Bool.{cases_lt, cases_eq, cases_order, cases_Bool}
+use Rattle.std.proofs.lemmas.Bool.{cases_lt, cases_eq, cases_order}
 use Rattle.std.proofs.lemmas.Int.{ints}
 use Rattle.std.proofs.lemmas.Option.{slice_get-get_or, slice_get_within, get_or_from_slice_get}
 use Rattle.std.proofs.lemmas.Nat.{mul-add-lt}
-use Rattle.std.proofs.lemmas.List.{get_or_past, get_or_append_left, get_or-append_right, length-append}
+use Rattle.std.proofs.lemmas.List.{get_or_past}
 use Rattle.grid.specs.declared.cell.Cell.{Cell}
-use Rattle.grid.specs.declared.terrain.Terrain.{Terrain}
-use Rattle.grid.specs.declared.terrain.Terrain.TheVariants.{Floor, Grass, Void, OutOfBounds, Trees, Swamp, Water}
-use Rattle.grid.specs.Terrain.{Class, land, swamp, water, blocked, character_of, class_of, joins}
-use Rattle.grid.specs.Map.{Grid, IsMap, IsSize, terrain_at, AreJoined}
+use Rattle.grid.specs.declared.terrain.Terrain.TheVariants.{Floor}
+use Rattle.grid.specs.Terrain.{character_of}
+use Rattle.grid.specs.Map.{Grid, IsMap}
 use Rattle.model.specs.declared.act.Act.{Act}
 use Rattle.model.specs.declared.act.Act.TheVariants.{N, E, S, W, Wait}
 use Rattle.model.specs.declared.plan_fault.PlanFault.{PlanFault}
 use Rattle.model.specs.declared.plan_fault.PlanFault.TheVariants.{BadStart, BadMove, Vertex, Swap, OutOfMemory}
-use Rattle.model.specs.Plan.{Course, Plan, Position, position_of, moved, position_at, course_of, IsAt, IsPassable, IsLegal, IsBadMove, HasPlanFault, IsValid, key_of}
+use Rattle.model.specs.Plan.{Course, Plan, Position, position_of, moved, position_at, course_of, IsAt, IsLegal, IsBadMove, HasPlanFault, key_of}
 use Rattle.model.specs.Laws.Options.{some-found}
 use Rattle.model.specs.Laws.Places.{same_place}
 use Rattle.plan.specs.declared.board.Square.{Square}
 use Rattle.plan.specs.declared.crowd.Walker.{Walker}
 use Rattle.plan.specs.declared.crowd.Turns.{Turns}
 use Rattle.plan.specs.Code.Standing.{IsOnGrid, AreOnGrid, cell_in, place_in}
-use Rattle.plan.specs.Code.Walking.{AreAt, ArePassable, has_act}
-use Rattle.plan_text.specs.Limits.{IsPlan}
-use Rattle.plan.specs.Code.Blocks.{block_steps, HoldsSquares, IsLinedUp}
+use Rattle.plan.specs.Code.Walking.{AreAt}
 use Rattle.plan.specs.Code.Squares.{ground_in, square_at, ground_by, wide_of, place_on, IsOpen, HasGround, IsSquareOf, IsBoard}
-use Rattle.plan.specs.Code.Crowd.{number_of_act, against_of, led_to, walker_at, act_at, comes_to, AreActTurns, KeepGrounds, IsInside, AreInside, AreLed, AreAllowed, first_mark, AreMarksOf}
-use Rattle.plan.specs.Code.UnderWay.{IsWalker, AreWalkers, IsAtRest, AreUnderWay, AreActs, AreAllAgents}
-use Rattle.plan.specs.Code.Watching.{IsClean, IsCleanUpTo, IsSeen, AreSameAgents}
-use Rattle.plan.specs.Laws.Walking.{bad-has_act, has_act-over, step_limit, beside_by, step_from_legal, legal_from_step, terrain_on, position_at-start, position-moved, position-stays}
-use Rattle.plan.proofs.FaultLemmas.{clean_more, good_start, valid_at_end}
-use Rattle.plan.proofs.BoardLemmas.{from_place, to_place, inside}
-use Rattle.plan.proofs.RowLemmas.{held_or_kept}
+use Rattle.plan.specs.Code.Crowd.{number_of_act, against_of, led_to, walker_at, act_at, comes_to, AreActTurns, KeepGrounds, AreLed, AreAllowed, first_mark, AreMarksOf}
+use Rattle.plan.specs.Code.UnderWay.{IsWalker, IsAtRest, AreUnderWay, AreActs}
+use Rattle.plan.specs.Code.Watching.{IsClean, IsCleanUpTo, IsSeen}
+use Rattle.plan.specs.Laws.Walking.{bad-has_act, beside_by, step_from_legal, legal_from_step, terrain_on, position-moved, position-stays}
+use Rattle.plan.proofs.FaultLemmas.{clean_more}
+use Rattle.plan.proofs.BoardLemmas.{from_place, to_place}
 use Rattle.plan.proofs.SquareLemmas.{one_ground}
-
--- ---- grounds
-
-abbrev ground_of_class : Class → ℕ
-ground_of_class land = 1
-ground_of_class swamp = 1
-ground_of_class water = 2
-ground_of_class blocked = 0
-
-ground-character : (t : Terrain) → ground_by (character_of t) ≡ ground_of_class (class_of t)
-ground-character Floor = refl
-ground-character Grass = refl
-ground-character Void = refl
-ground-character OutOfBounds = refl
-ground-character Trees = refl
-ground-character Swamp = refl
-ground-character Water = refl
-
-blocked_is_closed : IsOpen 0 → ⊥
-blocked_is_closed (inl e) = omega (arith, e)
-blocked_is_closed (inr e) = omega (arith, e)
-
-joins_by_ground : (c d : Class) → IsOpen (ground_of_class c) → ground_of_class c ≡ ground_of_class d → joins c d ≡ true
-joins_by_ground land land h e = refl
-joins_by_ground land swamp h e = refl
-joins_by_ground land water h e = absurd (omega (arith, e))
-joins_by_ground land blocked h e = absurd (omega (arith, e))
-joins_by_ground swamp land h e = refl
-joins_by_ground swamp swamp h e = refl
-joins_by_ground swamp water h e = absurd (omega (arith, e))
-joins_by_ground swamp blocked h e = absurd (omega (arith, e))
-joins_by_ground water land h e = absurd (omega (arith, e))
-joins_by_ground water swamp h e = absurd (omega (arith, e))
-joins_by_ground water water h e = refl
-joins_by_ground water blocked h e = absurd (omega (arith, e))
-joins_by_ground blocked d h e = absurd (blocked_is_closed h)
-
-ground_by_joins : (c d : Class) → joins c d ≡ true → ground_of_class c ≡ ground_of_class d
-ground_by_joins land land h = refl
-ground_by_joins land swamp h = refl
-ground_by_joins land water h = cc
-ground_by_joins land blocked h = cc
-ground_by_joins swamp land h = refl
-ground_by_joins swamp swamp h = refl
-ground_by_joins swamp water h = cc
-ground_by_joins swamp blocked h = cc
-ground_by_joins water land h = cc
-ground_by_joins water swamp h = cc
-ground_by_joins water water h = refl
-ground_by_joins water blocked h = cc
-ground_by_joins blocked land h = cc
-ground_by_joins blocked swamp h = cc
-ground_by_joins blocked water h = cc
-ground_by_joins blocked blocked h = refl
-
-joined_by : (m : Grid) (u v : Cell) (g : ℕ) → IsOpen g → HasGround m u g → HasGround m v g → AreJoined (terrain_at m u) (terrain_at m v)
-joined_by m u v g may_go hu hv =
-    let first : g ≡ ground_of_class (class_of hu.terrain) = hu.ground ∙ ground-character hu.terrain in
-    let second : g ≡ ground_of_class (class_of hv.terrain) = hv.ground ∙ ground-character hv.terrain in
-    subst (λ o. AreJoined o (terrain_at m v)) (sym hu.has)
-    (subst (λ o. AreJoined (Some hu.terrain) o) (sym hv.has)
-    (joins_by_ground (class_of hu.terrain) (class_of hv.terrain) (subst IsOpen first may_go) (sym first ∙ second)))
-
-grounds_joined : (m : Grid) (u v : Cell) (g h : ℕ) → HasGround m u g → HasGround m v h → AreJoined (terrain_at m u) (terrain_at m v) → g ≡ h
-grounds_joined m u v g h hu hv joined =
-    let one = subst (λ o. AreJoined o (terrain_at m v)) hu.has joined in
-    let both = subst (λ o. AreJoined (Some hu.terrain) o) hv.has one in
-    hu.ground ∙ ground-character hu.terrain ∙ ground_by_joins (class_of hu.terrain) (class_of hv.terrain) both ∙ sym (ground-character hv.terrain) ∙ sym hv.ground
-
--- ---- where an agent comes
+use Rattle.plan.proofs.GroundLemmas.{joined_by, grounds_joined}
 
 after_act : (course : Course) (step : ℕ) (act : Act) → slice_get course.acts step ≡ Some act → position_at course (step + 1) ≡ moved act (position_at course step)
 after_act course step act is =
@@ -245,14 +172,14 @@ opposite first Wait W u v apart to back = absurd (apart (sym to))
 opposite first Wait Wait u v apart to back = absurd (apart (sym to))
 
 -- where a walker is
-at_of : (m : Grid) (p : Plan) (t : ℕ) (walker : Walker) (w : IsWalker m p.courses t walker) (i : ℕ) (place : Position) → walker.agent ≡ i → IsAt p i t place
+pub at_of : (m : Grid) (p : Plan) (t : ℕ) (walker : Walker) (w : IsWalker m p.courses t walker) (i : ℕ) (place : Position) → walker.agent ≡ i → IsAt p i t place
     → position_of w.cell ≡ place
 at_of m p t walker w i place is at =
     let some = some-found (course_of p i) (λ k. position_at k t ≡ place) at in
     let same : w.course ≡ some.0 = (let a = w.is_agent in let b = some.1 in cc) in
     w.at ∙ ap (λ k. position_at k t) same ∙ some.2
 
-one_place : (m : Grid) (u v : Cell) → position_of u ≡ position_of v → place_on m u ≡ place_on m v
+pub one_place : (m : Grid) (u v : Cell) → position_of u ≡ position_of v → place_on m u ≡ place_on m v
 one_place m u v e = ap (place_on m) (same_place u v e)
 
 -- ---- a step in which nothing is wrong
@@ -386,7 +313,7 @@ clean_after m p step turns acts walkers squares h now are allowed come clean = c
 
 -- ---- the state after a step
 
-board-kept : (m : Grid) (old new : List Square) → IsBoard m old → KeepGrounds old new → IsBoard m new
+pub board-kept : (m : Grid) (old new : List Square) → IsBoard m old → KeepGrounds old new → IsBoard m new
 board-kept m old new board kept = record {
   size = kept.count ∙ board.size;
   cells = λ place may_go. (let same = kept.each place in
@@ -480,193 +407,6 @@ come_clean m p step turns acts walkers squares next is_map h now are at on clean
       may_go = w.may_go;
     }
 
--- ---- starts
-
-open_class : (c : Class) → c ≢ blocked → IsOpen (ground_of_class c)
-open_class land h = inl refl
-open_class swamp h = inl refl
-open_class water h = inr refl
-open_class blocked h = absurd (h refl)
-
-pub may_start : (m : Grid) (start : Cell) (ground : ℕ) → IsPassable m start → HasGround m start ground → IsOpen ground
-may_start m start ground passable has =
-    let some = some-found (terrain_at m start) (λ terrain. class_of terrain ≢ blocked) passable in
-    let same : some.0 ≡ has.terrain = (let a = some.1 in let b = has.has in cc) in
-    subst IsOpen (sym (ground-character has.terrain) ∙ sym has.ground) (open_class (class_of has.terrain) (subst (λ t. class_of t ≢ blocked) same some.2))
-
-pub starts_as : (m : Grid) (courses : List Course) (course : Course) (walker : Walker) → slice_get courses walker.agent ≡ Some course
-    → walker.place ≡ place_on m course.start → HasGround m course.start walker.ground → IsOpen walker.ground → IsWalker m courses 0 walker
-starts_as m courses course walker is place ground may_go = record {
-  course = course;
-  is_agent = is;
-  cell = course.start;
-  at = sym (position_at-start (position_of course.start) course.acts);
-  place = place;
-  ground = ground;
-  may_go = may_go;
-}
-
--- the first so many agents, at their starts
-pub record AreFirst (m : Grid) (courses : List Course) (walkers : List Walker) (n : ℕ) : Type 0 where
-  pub count : length walkers ≡ n
-  pub walkers_are : AreWalkers m courses 0 walkers
-  pub agents : (k : ℕ) → k < n → (walker_at walkers k).agent ≡ k
-
-pub first-more : (m : Grid) (courses : List Course) (walkers : List Walker) (n : ℕ) (walker : Walker) → AreFirst m courses walkers n → IsWalker m courses 0 walker
-    → walker.agent ≡ n → AreFirst m courses (walkers ++ walker ∷ []) (n + 1)
-first-more m courses walkers n walker h is agent =
-    let count = h.count in
-    let before : (k : ℕ) → k < n → walker_at (walkers ++ walker ∷ []) k ≡ walker_at walkers k = λ k less.
-    get_or_append_left walkers (walker ∷ []) (record { place = 0; ground = 0; agent = 0 }) k (omega (arith, less, count)) in
-    let last : walker_at (walkers ++ walker ∷ []) n ≡ walker =
-    get_or-append_right walkers (walker ∷ []) n n (record { place = 0; ground = 0; agent = 0 }) count (omega arith)
-    ∙ (let none : n - n ≡ 0 = omega arith in ap (walker_at (walker ∷ [])) none) in
-    let long : length (walkers ++ walker ∷ []) ≡ n + 1 = (let both = length-append walkers (walker ∷ []) in omega (arith, both, count)) in
-    record {
-      count = long;
-      walkers_are = λ k less. elim (cases_lt k n) [
-        | inl early ↦ subst (IsWalker m courses 0) (sym (before k early)) (h.walkers_are k (omega (arith, early, count)))
-        | inr late ↦ (let same : n ≡ k = omega (arith, less, late, long) in
-            subst (λ i. IsWalker m courses 0 (walker_at (walkers ++ walker ∷ []) i)) same (subst (IsWalker m courses 0) (sym last) is))
-      ];
-      agents = λ k less. elim (cases_lt k n) [
-        | inl early ↦ ap (λ w. w.agent) (before k early) ∙ h.agents k early
-        | inr late ↦ (let same : n ≡ k = omega (arith, less, late) in
-            subst (λ i. (walker_at (walkers ++ walker ∷ []) i).agent ≡ i) same (ap (λ w. w.agent) last ∙ agent))
-      ];
-    }
-
-pub first-none : (m : Grid) (courses : List Course) (walkers : List Walker) → walkers ≡ [] → AreFirst m courses walkers 0
-first-none m courses walkers none =
-    let count = ap length none in
-    record { count = count; walkers_are = λ k less. absurd (omega (arith, less, count)); agents = λ k less. absurd (omega (arith, less)) }
-
--- ---- a block begins
-
--- those without an act hold their squares, and the others are lined up
-pub block-begun : (m : Grid) (courses : List Course) (step : ℕ) (old new : List Walker) (squares after : List Square) → AreUnderWay m courses step old squares
-    → HoldsSquares courses step old squares after → IsLinedUp courses step old new → AreUnderWay m courses step new after
-block-begun m courses step old new squares after now held lined = record {
-  board = record {
-    size = held.count ∙ now.board.size;
-    cells = λ place may_go. elim (held_or_kept courses step old squares after held place) [
-      | inl is ↦ absurd (elim may_go [ inl e ↦ omega (arith, is, e) | inr e ↦ omega (arith, is, e) ])
-      | inr same ↦ subst (IsSquareOf m place) (sym same) (now.board.cells place (subst IsOpen same may_go))
-    ];
-  };
-  walkers_are = λ k less. (let from = lined.each k less in subst (IsWalker m courses step) (sym from.2) (now.walkers_are from.0 from.1));
-  agents = λ i course there. elim (now.agents i course there) [
-    | inl (j, less, is) ↦ elim (cases_Bool (has_act courses step (walker_at old j).agent)) [
-      | inl acts ↦ (let to = lined.all j less acts in inl (to.0, to.1, ap (λ w. w.agent) to.2 ∙ is))
-      | inr none ↦ (
-          let w = now.walkers_are j less in
-          let same : w.course ≡ course = (let a = w.is_agent in let b = ap (slice_get courses) is in cc) in
-          inr (record {
-            over = has_act-over courses step (walker_at old j).agent course none (ap (slice_get courses) is ∙ there);
-            cell = w.cell;
-            at = w.at ∙ ap (λ c. position_at c step) same;
-            held = ap (λ place. ground_in (square_at after place)) (sym w.place) ∙ (held.held j less none).ground;
-          })
-          )
-    ]
-    | inr rest ↦ inr (record {
-      over = rest.over;
-      cell = rest.cell;
-      at = rest.at;
-      held = elim (held_or_kept courses step old squares after held (place_on m rest.cell)) [ inl is ↦ is | inr same ↦ same ∙ rest.held ];
-    })
-  ];
-}
-
--- ---- the starts
-
--- all agents wait at their starts
-pub all_start : (m : Grid) (courses : List Course) (walkers : List Walker) (squares : List Square) → IsBoard m squares → AreWalkers m courses 0 walkers
-    → AreAllAgents (length courses) walkers → AreUnderWay m courses 0 walkers squares
-all_start m courses walkers squares board are all = record {
-  board = board;
-  walkers_are = are;
-  agents = λ i course there. (
-      let is_agent = slice_get_within courses i course there in
-      let count = all.all in
-      inl (i, omega (arith, is_agent, count), all.each i is_agent)
-      );
-}
-
--- a wait leads nowhere
-pub wait_stays : (m : Grid) (turns : Turns) (acts : List Act) (walkers : List Walker) (k : ℕ) → AreActTurns (wide_of m) turns → act_at acts k ≡ Wait
-    → comes_to turns acts walkers k ≡ (walker_at walkers k).place
-wait_stays m turns acts walkers k h waits =
-    let turn = h.each Wait in
-    let ahead = turn.ahead in
-    let back = turn.back in
-    ap (λ a. led_to turns a (walker_at walkers k).place) waits ∙ omega (arith, ahead, back)
-
-pub starts_wait : (m : Grid) (courses : List Course) (turns : Turns) (acts : List Act) (old new : List Walker) (squares after : List Square)
-    → AreActTurns (wide_of m) turns → ((k : ℕ) → k < length old → act_at acts k ≡ Wait) → AreUnderWay m courses 0 old squares → AreLed turns acts old new
-    → KeepGrounds squares after → AreUnderWay m courses 0 new after
-starts_wait m courses turns acts old new squares after h waits now led kept =
-    let count = led.count in
-    let stays : (k : ℕ) → k < length old → walker_at new k ≡ walker_at old k = λ k less.
-    led.each k less ∙ ap {A = ℕ} {B = Walker} (λ place. record (walker_at old k) { place = place }) (wait_stays m turns acts old k h (waits k less)) in
-    record {
-      board = board-kept m squares after now.board kept;
-      walkers_are = λ k less. (let before : k < length old = omega (arith, less, count) in subst (IsWalker m courses 0) (sym (stays k before)) (now.walkers_are k before));
-      agents = λ i course there. elim (now.agents i course there) [
-        | inl (k, less, is) ↦ inl (k, omega (arith, less, count), ap (λ w. w.agent) (stays k less) ∙ is)
-        | inr rest ↦ inr (record { over = rest.over; cell = rest.cell; at = rest.at; held = kept.each (place_on m rest.cell) ∙ rest.held })
-      ];
-    }
-
-pub clean_at_start : (m : Grid) (p : Plan) (turns : Turns) (acts : List Act) (walkers : List Walker) (squares : List Square) → AreActTurns (wide_of m) turns
-    → ArePassable m p.courses → ((k : ℕ) → k < length walkers → act_at acts k ≡ Wait) → AreWalkers m p.courses 0 walkers → AreAllAgents (length p.courses) walkers
-    → AreAllowed turns acts walkers squares (length walkers) → IsClean m p 1
-clean_at_start m p turns acts walkers squares h passable waits are all allowed = clean_more m p 0 (λ fault has less. absurd (omega (arith, less))) no_fault where
-  apart : (j k : ℕ) → j < k → k < length walkers → (walker_at walkers j).place ≢ (walker_at walkers k).place
-  apart j k order less = λ one. allowed.apart j k order less
-      (wait_stays m turns acts walkers j h (waits j (omega (arith, order, less))) ∙ one ∙ sym (wait_stays m turns acts walkers k h (waits k less)))
-
-  vertex : (i j : ℕ) (cell : Cell) → i < j → IsAt p i 0 (position_of cell) → IsAt p j 0 (position_of cell) → ⊥
-  vertex i j cell order at_i at_j =
-      let two = some-found (course_of p j) (λ c. position_at c 0 ≡ position_of cell) at_j in
-      let is_agent = slice_get_within p.courses j two.0 two.1 in
-      let count = all.all in
-      let less_j : j < length walkers = omega (arith, is_agent, count) in
-      let less_i : i < length walkers = omega (arith, order, less_j) in
-      let w = are i less_i in
-      let v = are j less_j in
-      apart i j order less_j
-      (w.place
-      ∙ one_place m w.cell v.cell
-      (at_of m p 0 (walker_at walkers i) w i (position_of cell) (all.each i (omega (arith, order, is_agent))) at_i
-      ∙ sym (at_of m p 0 (walker_at walkers j) v j (position_of cell) (all.each j is_agent) at_j))
-      ∙ sym v.place)
-
-  no_fault : (fault : PlanFault) → HasPlanFault m p fault → (key_of fault).time ≡ 0 → ⊥
-  no_fault (BadStart i) has time = (good_start m p passable).start i refl has
-  no_fault (BadMove i other) has time = omega (arith, time)
-  no_fault (Vertex i j time cell) (order, at_i, at_j) same =
-      vertex i j cell order (subst (λ t. IsAt p i t (position_of cell)) same at_i) (subst (λ t. IsAt p j t (position_of cell)) same at_j)
-  no_fault (Swap i j other) has time = omega (arith, time)
-  no_fault OutOfMemory has time = has
-
--- ---- all acts are over
-
-pub none_under_way : (m : Grid) (p : Plan) (step : ℕ) (squares : List Square) → AreUnderWay m p.courses step [] squares → IsClean m p (step + 1) → IsValid m p
-none_under_way m p step squares now clean = valid_at_end m p step
-    (λ i course there. elim (now.agents i course there) [
-      | inl among ↦ (let less = among.1 in absurd (omega (arith, less)))
-      | inr rest ↦ rest.over
-    ]) clean
-
--- all walkers are inside the board
-pub all_inside : (m : Grid) (courses : List Course) (step : ℕ) (turns : Turns) (walkers : List Walker) (squares : List Square) → IsSize m.width m.height
-    → AreActTurns (wide_of m) turns → AreUnderWay m courses step walkers squares → AreInside turns (length squares) walkers
-all_inside m courses step turns walkers squares size h now k less =
-    let w = now.walkers_are k less in
-    subst (λ n. IsInside turns n (walker_at walkers k).place) (sym now.board.size)
-    (subst (IsInside turns ((m.height + 2) * wide_of m)) (sym w.place) (inside m turns w.cell size h w.ground.on_map))
-
 -- ---- what a look at a step comes to
 
 pub if_past : {F E : Type 0} (r : Result (Option F) E) (A B : Type 0) (P : F → Type 0) → (A → B) → IfOk r (λ o. MatchOption o A P) → IfOk r (λ o. MatchOption o B P)
@@ -694,43 +434,3 @@ seen-allowed m p step turns acts old new squares after h seen are led kept marks
       clean = clean_after m p step turns acts old squares h seen.under_way are allowed come seen.clean;
       marks = marks;
     }
-
-pub same-led : (turns : Turns) (acts : List Act) (old new : List Walker) → AreLed turns acts old new → AreSameAgents old new
-same-led turns acts old new led = record { count = led.count; each = λ k less. ap (λ w. w.agent) (led.each k less) }
-
--- ---- one block after another
-
--- those under way had an act when the block before began
-abbrev pub AreRecent : List Course → ℕ → List Walker → Type 0
-AreRecent courses step walkers =
-    (k : ℕ) → k < length walkers → (step ≡ 0) ⊎ (has_act courses (step - block_steps) (walker_at walkers k).agent ≡ true)
-
--- where some agent is under way, the step is one that a plan may have, or one of the block after
-pub step_bound : (m : Grid) (p : Plan) (step : ℕ) (walkers : List Walker) → IsPlan p → AreWalkers m p.courses step walkers → AreRecent p.courses step walkers
-    → 0 < length walkers → step < 65536 + block_steps
-step_bound m p step walkers within are recent some = elim (recent 0 some) [
-  | inl first ↦ omega (arith, first)
-  | inr acts ↦ (
-      let w = are 0 some in
-      let less = step_limit p (step - block_steps) (walker_at walkers 0).agent w.course within acts w.is_agent in
-      omega (arith, less)
-      )
-]
-
-pub recent-after : (courses : List Course) (step : ℕ) (old lined new : List Walker) → IsLinedUp courses step old lined → AreSameAgents lined new
-    → AreRecent courses (step + block_steps) new
-recent-after courses step old lined new h same k less =
-    let count = same.count in
-    let before : k < length lined = omega (arith, less, count) in
-    let from = h.each k before in
-    inr (subst (λ t. has_act courses t (walker_at new k).agent ≡ true) (omega arith)
-    (ap (has_act courses step) (same.each k before) ∙ from.3))
-
-pub are_agents : (m : Grid) (courses : List Course) (step : ℕ) (old lined : List Walker) → AreWalkers m courses step old → IsLinedUp courses step old lined
-    → (k : ℕ) → k < length lined → (walker_at lined k).agent < length courses
-are_agents m courses step old lined are h k less =
-    let from = h.each k less in
-    let w = are from.0 from.1 in
-    let is_agent = slice_get_within courses (walker_at old from.0).agent w.course w.is_agent in
-    let same = ap (λ w. w.agent) from.2 in
-    omega (arith, is_agent, same)

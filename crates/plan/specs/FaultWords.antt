@@ -1,5 +1,5 @@
 -- The words of why a plan does not solve the rows of a scenario.
-use Rattle.std.specs.Prelude.{ℕ, List, [], ◌∷◌, codes}
+use Rattle.std.specs.Prelude.{[], ◌∷◌, codes}
 use Rattle.text_io.specs.FaultWords.{Words, text_fault}
 use Rattle.plan.specs.declared.fit_fault.FitFault.{FitFault}
 use Rattle.plan.specs.declared.fit_fault.FitFault.TheVariants as fit_fault

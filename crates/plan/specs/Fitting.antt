@@ -2,7 +2,7 @@
 use Rattle.std.specs.Prelude.{◌≡◌, ◌≢◌, ℕ, ◌<◌, ◌≤◌, List, length, map, Some, slice_get, Result, Ok, Err}
 use Rattle.model.specs.Costs.{Task, cost, FitsFirst, SolvesAt}
 use Rattle.model.specs.Timetable.{Track, cell_at}
-use Rattle.scen.specs.Query.{Query}
+use Rattle.rows.specs.Query.{Query}
 use Rattle.plan.specs.declared.fit_fault.FitFault.{FitFault}
 use Rattle.plan.specs.declared.fit_fault.FitFault.TheVariants.{TooFewRows, AgentCount, StartDiffers, GoalDiffers, SizeDiffers}
 use Rattle.plan.specs.Checking.{Checked}

@@ -6,7 +6,7 @@ ghost use Rattle.plan.specs.Code.Rows.{JudgesAgent};
 use crate::checked_plan::CheckedPlan;
 use crate::fit_fault::FitFault;
 use grid::Cell;
-use scen::{Row, Scenario};
+use rows::{Row, Scenario};
 
 /// Whether the plan solves the first rows: each agent the row of its number, on a map of the row's size.
 pub fn fits(plan: &CheckedPlan, scenario: &Scenario, count: u32) -> Result<(), FitFault>

@@ -9,8 +9,8 @@ use Rattle.plan.specs.Fitting.{AnswersFit}
 use Rattle.plan.specs.declared.fit_fault.FitFault.{FitFault}
 use Rattle.plan.specs.declared.fit_fault.FitFault.TheVariants.{AgentCount}
 use Rattle.planned.specs.Planned.{ReadsChecked}
-use Rattle.scen.specs.Query.{Query}
-use Rattle.scen.specs.ScenFault.{ReadsScen}
+use Rattle.rows.specs.Query.{Query}
+use Rattle.rows.specs.ScenFault.{ReadsScen}
 use Rattle.plan_commands.specs.declared.check_fault.CheckFault.{CheckFault}
 use Rattle.plan_commands.specs.declared.check_fault.CheckFault.TheVariants as check_fault
 use Rattle.text_commands.specs.declared.status.Status.TheVariants.{Done}

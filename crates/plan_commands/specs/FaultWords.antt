@@ -5,7 +5,7 @@ use Rattle.model.specs.declared.plan_fault.PlanFault.TheVariants as plan_fault
 use Rattle.plan.specs.FaultWords.{fit_fault_words}
 use Rattle.planned.specs.FaultWords.{planned_fault_words}
 use Rattle.planned.specs.declared.planned_fault.PlannedFault.TheVariants as planned_fault
-use Rattle.scen.specs.FaultWords.{scen_fault_words}
+use Rattle.rows.specs.FaultWords.{scen_fault_words}
 use Rattle.plan_commands.specs.declared.check_fault.CheckFault.{CheckFault}
 use Rattle.plan_commands.specs.declared.check_fault.CheckFault.TheVariants as check_fault
 

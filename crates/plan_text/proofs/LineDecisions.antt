@@ -1,13 +1,13 @@
 -- What can be told of a line: each is so or not.
-use Rattle.std.proofs.Common.{◌≡◌, ◌≢◌, ℕ, ◌<◌, ◌≤◌, ◌⊎◌, inl, inr, Bool, true, false, List, [], ◌∷◌, ◌++◌, length, refl, sym, ap, ◌∙◌, subst, arith, codes}
-use Rattle.std.specs.Prelude.{nat_lt, ◌&&◌, ◌==◌}
+use Rattle.std.proofs.Common.{◌≡◌, ◌≢◌, ℕ, ◌<◌, ◌≤◌, ◌⊎◌, inl, inr, true, false, List, [], ◌∷◌, ◌++◌, length, refl, sym, ap, ◌∙◌, subst, arith, codes}
+use Rattle.std.specs.Prelude.{◌==◌}
 use Rattle.std.specs.List.{slice_split}
-use Rattle.std.proofs.lemmas.Bool.{lt-ltb, ltb-true, cases_Bool, cases_eq, cases_lt, and_parts, and_from}
+use Rattle.std.proofs.lemmas.Bool.{cases_Bool, cases_lt}
 use Rattle.std.proofs.lemmas.List.{append_cancel_left}
 use Rattle.text_io.specs.Text.{space, BeginsWith}
-use Rattle.text_io.specs.Numerals.{IsNumeral, is_numeral, numeral_value, is_below}
+use Rattle.text_io.specs.Numerals.{numeral_value, is_below}
 use Rattle.plan_text.specs.PlanTextFault.{HasParts, IsCoordinate}
-use Rattle.text_io.specs.Laws.Numerals.{IsNumeral-from_test, test-from_IsNumeral, below-from_IsNumeral, IsNumeral-from_below}
+use Rattle.text_io.specs.Laws.Numerals.{below-from_IsNumeral, IsNumeral-from_below}
 use Rattle.text_io.specs.Laws.Parts.{same_or_not, begins_or_not}
 use Rattle.plan_text.proofs.SpellingLemmas.{HasParts-same}
 

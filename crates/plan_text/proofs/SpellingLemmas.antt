@@ -1,21 +1,20 @@
 -- The lines of a plan's text: each has one spelling, which is cut at its spaces.
-use Rattle.std.proofs.Common.{◌≡◌, ℕ, ◌^◌, ◌<◌, ◌≤◌, Bool, true, false, List, [], ◌∷◌, ◌++◌, length, map, refl, sym, ap, ◌∙◌, arith, IsTrue, codes}
-use Rattle.std.specs.Prelude.{decimal, not, ◌==◌, ◌&&◌}
+use Rattle.std.proofs.Common.{◌≡◌, ℕ, ◌^◌, ◌<◌, ◌≤◌, true, false, List, [], ◌∷◌, ◌++◌, length, map, refl, sym, ap, ◌∙◌, arith, IsTrue, codes}
+use Rattle.std.specs.Prelude.{decimal, not, ◌==◌}
 use Rattle.std.specs.List.{All, join_with_byte, list_all, slice_split}
-use Rattle.std.specs.Char.{is_ascii_digit}
 use Rattle.std.specs.Str.Parse.{digits_value}
-use Rattle.std.proofs.lemmas.Bool.{and_parts, and_from, cond-false, eqb-true, not_from_false, not-true, both_ways, eq-eqb}
+use Rattle.std.proofs.lemmas.Bool.{and_parts, and_from, not-true, eq-eqb}
 use Rattle.std.proofs.lemmas.Fmt.{length-decimal-le}
 use Rattle.std.proofs.lemmas.List.{append_cancel_left, length-append, length-map}
 use Rattle.std.proofs.lemmas.List.Elements.{All-weaker}
 use Rattle.std.proofs.lemmas.List.Folds.{list_all-append}
 use Rattle.std.proofs.lemmas.List.Splits.{slice_split_none, slice_split_at}
 use Rattle.std.proofs.lemmas.List.Sums.{AllPass-from_list_all}
-use Rattle.text_io.specs.Text.{space, line_feed, is_line_byte, IsLine, IsPart, is_part_byte}
+use Rattle.text_io.specs.Text.{space, is_line_byte, IsLine, IsPart, is_part_byte}
 use Rattle.model.specs.declared.act.Act.{Act}
 use Rattle.model.specs.declared.act.Act.TheVariants.{N, E, S, W, Wait}
 use Rattle.model.specs.Plan.{Course}
-use Rattle.text_io.specs.Laws.Numerals.{digits-decimal, decimal-from_IsNumeral, decimal-IsNumeral}
+use Rattle.text_io.specs.Laws.Numerals.{decimal-from_IsNumeral, decimal-IsNumeral}
 use Rattle.plan_text.specs.Limits.{most_acts, IsCourse}
 use Rattle.plan_text.specs.PlanText.{act_character, no_act, acts_text, SaysNumber, SpellsCourse, course_line}
 use Rattle.text_io.specs.Numerals.{IsNumeral}

@@ -4,7 +4,7 @@ use Rattle.std.specs.Prelude.{slice_get}
 use Rattle.std.proofs.lemmas.Option.{slice_get_cases, slice_get_within}
 use Rattle.model.specs.declared.version.Version.{Version}
 use Rattle.model.specs.History.{History}
-use Rattle.model.specs.Timetable.{Track, Timetable, track_of}
+use Rattle.model.specs.Timetable.{Timetable}
 use Rattle.agent.specs.Agents.{AgentOn}
 use Rattle.agent.specs.declared.counted_tape.CountedTape.{CountedTape}
 use Rattle.runner.specs.Endings.{HaveArrived}

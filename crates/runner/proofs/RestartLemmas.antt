@@ -7,7 +7,7 @@ use Rattle.model.specs.declared.held.Held.{Held}
 use Rattle.model.specs.declared.held.Held.TheVariants.{At, Between}
 use Rattle.model.specs.declared.why.Why.TheVariants.{BadTear}
 use Rattle.model.specs.History as history
-use Rattle.model.specs.History.{Answer, History, Happening, refused, armed_of, is_broken, kept_starts, known}
+use Rattle.model.specs.History.{Answer, History, refused, armed_of, is_broken, known}
 use Rattle.model.specs.Rules.{path_cell, restart_answer, IsRun}
 use Rattle.model.specs.Safety.{held}
 use Rattle.model.specs.Timetable.{Track, Timetable}

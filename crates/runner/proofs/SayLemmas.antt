@@ -8,7 +8,7 @@ use Rattle.model.specs.declared.event.Event.TheVariants.{Say}
 use Rattle.model.specs.declared.version.Version.TheVariants.{One, Two}
 use Rattle.model.specs.declared.why.Why.TheVariants as why
 use Rattle.model.specs.History as history
-use Rattle.model.specs.History.{Answer, History, refused, said, is_broken, messages, known}
+use Rattle.model.specs.History.{History, refused, said, messages, known}
 use Rattle.model.specs.Messages.{Message, own_message, entries_from, number_told, whole_message, message_said, message_bytes, told_bytes, bytes_said}
 use Rattle.model.specs.Rules.{say_answer, answer_by, answer}
 use Rattle.model.specs.Timetable.{Track, track_of}

@@ -3,9 +3,9 @@ use Rattle.std.proofs.Common.{ℕ, ◌+◌, ◌-◌, ◌*◌, ◌^◌, ◌<◌, 
 use Rattle.std.specs.Prelude.{Option}
 use Rattle.std.proofs.lemmas.Bool.{cases_lt}
 use Rattle.std.proofs.lemmas.Nat.{mul-le, mul-lt}
-use Rattle.scen.specs.declared.length.Length.{Length}
-use Rattle.scen.specs.Length.{IsLess, IsAtMost}
-use Rattle.scen.specs.Code.OrderLaws.{total}
+use Rattle.rows.specs.declared.length.Length.{Length}
+use Rattle.rows.specs.Length.{IsLess, IsAtMost}
+use Rattle.rows.specs.Code.OrderLaws.{total}
 use Rattle.scen.specs.Certificate.{Bounds}
 use Rattle.scen.specs.Code.KeyParts.{number_of_entry}
 use Rattle.scen.specs.Code.Tightness.{AreWithinStep}

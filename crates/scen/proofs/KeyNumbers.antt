@@ -5,7 +5,7 @@ use Rattle.std.specs.Coded.{le_prop}
 use Rattle.std.proofs.lemmas.Bool.{and_from, lt-ltb, leb-true, le-leb, cond-true}
 use Rattle.std.proofs.lemmas.Nat.{mod-mul-add}
 use Rattle.std.proofs.Math.Nat.{add-mul-mod_self_right}
-use Rattle.scen.specs.declared.length.Length.{Length}
+use Rattle.rows.specs.declared.length.Length.{Length}
 use Rattle.scen.specs.Code.KeyParts.{diagonal_in, straight_in, IsKey, number_of_entry, tested_length, length_of_parts, length_of_number}
 
 -- ---- the parts are read back

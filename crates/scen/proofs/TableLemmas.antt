@@ -7,7 +7,7 @@ use Rattle.std.proofs.lemmas.List.FromFn.{length-map-range_with_len, get_or-map-
 use Rattle.std.proofs.lemmas.Nat.{div-mul-add, mod-mul-add}
 use Rattle.grid.specs.Map.{Grid}
 use Rattle.scen.specs.declared.keys.Key.{Key}
-use Rattle.scen.specs.declared.length.Length.{Length}
+use Rattle.rows.specs.declared.length.Length.{Length}
 use Rattle.scen.specs.declared.tiles.Tiles.{Tiles}
 use Rattle.scen.specs.declared.length_table.Entries.{Entries}
 use Rattle.scen.specs.declared.length_table.Entries.TheVariants.{Listed, Found}

@@ -11,7 +11,7 @@ use Rattle.grid.specs.declared.terrain.Terrain.{Terrain}
 use Rattle.grid.specs.declared.terrain.Terrain.TheVariants.{Floor, Grass, Void, OutOfBounds, Trees, Swamp, Water}
 use Rattle.grid.specs.Terrain.{Class, land, swamp, water, blocked, class_of, joins, character_of, terrain_of}
 use Rattle.grid.specs.Map.{Grid, IsMap, terrain_at, AreNext, ShareSide, AreJoined, IsStraightStep, IsDiagonalStep}
-use Rattle.scen.specs.declared.length.Length.{Length}
+use Rattle.rows.specs.declared.length.Length.{Length}
 use Rattle.scen.specs.declared.tightness.Corner.{Corner}
 use Rattle.scen.specs.declared.tightness.Corners.{Corners}
 use Rattle.scen.specs.Certificate.{entry_of, Bounds, IsTight}

@@ -4,7 +4,7 @@ use Rattle.std.specs.Prelude.{Option, ◌⊎◌, ◌&&◌, ◌↔◌, nat_lt, ma
 use Rattle.std.proofs.lemmas.Bool.{and_parts, ltb-true, lt-ltb, cond-true, cases_lt}
 use Rattle.std.proofs.lemmas.List.{map-append, take_more, get_or-set_same, get_or-set_other}
 use Rattle.scen.specs.declared.beyond.Beyond.{Beyond}
-use Rattle.scen.specs.declared.length.Length.{Length}
+use Rattle.rows.specs.declared.length.Length.{Length}
 use Rattle.scen.specs.declared.keys.Key.{Key}
 use Rattle.scen.specs.declared.tiles.Tiles.{Tiles}
 use Rattle.grid.specs.declared.cell.Cell.{Cell}

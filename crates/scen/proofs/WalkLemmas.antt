@@ -4,12 +4,12 @@ use Rattle.std.specs.Prelude.{◌⊎◌, ◌↔◌, Option, MatchOption}
 use Rattle.grid.specs.declared.cell.Cell.{Cell}
 use Rattle.grid.specs.declared.terrain.Terrain.{Terrain}
 use Rattle.grid.specs.Map.{Grid, terrain_at, ShareSide, AreNext, AreJoined, IsStraightStep, IsDiagonalStep}
-use Rattle.scen.specs.declared.length.Length.{Length}
-use Rattle.scen.specs.Length.{IsLess, IsAtMost}
-use Rattle.scen.specs.Code.OrderLaws.{transitive}
+use Rattle.rows.specs.declared.length.Length.{Length}
+use Rattle.rows.specs.Length.{IsLess, IsAtMost}
+use Rattle.rows.specs.Code.OrderLaws.{transitive}
 use Rattle.scen.specs.Walk.{IsOn, IsWalk}
 use Rattle.scen.specs.Certificate.{entry_of, IsTable, Bounds, IsTight, IsProof, IsLeast}
-use Rattle.scen.proofs.OrderLemmas.{step_at_most}
+use Rattle.rows.specs.Laws.LengthSums.{step_at_most}
 
 -- ---- steps
 

@@ -2,11 +2,11 @@
 use Rattle.std.specs.Prelude.{◌≡◌, ℕ, ◌+◌, ◌*◌, List, [], length, Option, None, Some, MatchOption, Result, Ok, Err, slice_index_or}
 use Rattle.grid.specs.declared.cell.Cell.{Cell}
 use Rattle.grid.specs.Map.{Grid, IsStraightStep, IsDiagonalStep}
-use Rattle.scen.specs.declared.length.Length.{Length}
+use Rattle.rows.specs.declared.length.Length.{Length}
 use Rattle.scen.specs.declared.certificate.Proposal.{Proposal}
 use Rattle.scen.specs.declared.certificate.CertFault.{CertFault}
 use Rattle.scen.specs.declared.certificate.CertFault.TheVariants.{BadWalk, BadTable, NotTight, OutOfRange}
-use Rattle.scen.specs.Length.{IsAtMost}
+use Rattle.rows.specs.Length.{IsAtMost}
 use Rattle.scen.specs.Walk.{IsOn, IsWalk, IsShortest, IsUnreachable}
 
 -- the entry of a cell, in a table of one entry a cell, row by row

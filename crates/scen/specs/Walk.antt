@@ -2,8 +2,8 @@
 use Rattle.std.specs.Prelude.{◌≡◌, ℕ, ◌+◌, ◌⊎◌, List, [], ◌∷◌, None}
 use Rattle.grid.specs.declared.cell.Cell.{Cell}
 use Rattle.grid.specs.Map.{Grid, terrain_at, IsStraightStep, IsDiagonalStep}
-use Rattle.scen.specs.declared.length.Length.{Length}
-use Rattle.scen.specs.Length.{IsAtMost}
+use Rattle.rows.specs.declared.length.Length.{Length}
+use Rattle.rows.specs.Length.{IsAtMost}
 
 -- the cell is on the map
 abbrev pub IsOn : Grid → Cell → Type 0

@@ -6,9 +6,9 @@ ghost use Rattle.scen.specs.FaultWords.{cert_fault_words};
 ghost use Rattle.scen.specs.Walk.{IsOn, IsWalk};
 ghost use Rattle.scen.specs.Certificate.{entry_of, IsTable, IsProof, Certifies, IsLeast};
 
-use crate::Length;
 use crate::length_table::LengthTable;
 use grid::{Cell, Map, step4, step8};
+use rows::Length;
 use std::fmt;
 use text_io::FaultWords;
 use thiserror::Error;

@@ -2,7 +2,7 @@
 ghost use Rattle.std.specs.Prelude.{◌≡◌, ◌+◌, ◌*◌, ◌^◌, ◌<◌, ◌≤◌, ◌⊎◌, MatchOption};
 ghost use Rattle.scen.specs.Code.KeyParts.{IsKey, number_of_entry, number_within, length_of_number};
 
-use crate::Length;
+use rows::Length;
 
 /// A straight step. `DIAGONAL / STRAIGHT` is so near to the root of two that the keys of lengths compare as the lengths do.
 pub(crate) const STRAIGHT: u64 = 6_625_109;

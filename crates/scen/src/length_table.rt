@@ -5,11 +5,11 @@ ghost use Rattle.scen.specs.Code.KeyParts.{number_of_entry};
 ghost use Rattle.scen.specs.Code.TableEntries.{table_entries, entry_number, number_on, IsBeyond};
 ghost use Rattle.scen.specs.Code.TileKeys.{number_at};
 
-use crate::Length;
 use crate::keys::{Key, NO_LENGTH, number_of};
 use crate::tightness::is_tight;
 use crate::tiles::Tiles;
 use grid::Map;
+use rows::Length;
 use std::alloc::{AllocError, Global};
 use std::marker::Model;
 
@@ -28,7 +28,7 @@ pub(crate) enum Entries {
 
 impl Model for LengthTable {
     ghost use Rattle.std.specs.Prelude.{List, Option};
-    ghost use Rattle.scen.specs.declared.length.Length.{Length};
+    ghost use Rattle.rows.specs.declared.length.Length.{Length};
 
     ghost Value = { List (Option Length) };
 

@@ -1,12 +1,12 @@
 //! The keys of a map's cells in tiles, and the numbers of all cells.
 ghost use Rattle.std.specs.Prelude.{◌≡◌, ℕ, ◌+◌, ◌-◌, ◌*◌, ◌%◌, ◌^◌, ◌<◌, ◌≤◌, IsTrue, None, length, slice_get, slice_index};
 
-use crate::Length;
 use crate::beyond::Beyond;
 use crate::distance::{flat_number, number_beyond};
 use crate::keys::{Key, NO_LENGTH, length_of};
 use crate::rounding::rounded;
 use grid::Cell;
+use rows::Length;
 use std::alloc::{AllocError, Global};
 
 /// A tile has so many rows of so many cells.

@@ -5,11 +5,11 @@ use Rattle.grid.specs.MapText.{canonical_map_text}
 use Rattle.text_io.specs.declared.counted.Counted.{Counted}
 use Rattle.grid.specs.declared.map_fault.MapFault.{MapFault}
 use Rattle.grid.specs.declared.map_fault.MapFault.TheVariants as map_fault
-use Rattle.scen.specs.FaultWords.{scen_fault_words}
-use Rattle.scen.specs.Query.{canonical_scen_text}
-use Rattle.scen.specs.ScenFault.{scen_outcome}
-use Rattle.scen.specs.declared.scen_fault.ScenFault.{ScenFault}
-use Rattle.scen.specs.declared.scen_fault.ScenFault.TheVariants as scen_fault
+use Rattle.rows.specs.FaultWords.{scen_fault_words}
+use Rattle.rows.specs.Query.{canonical_scen_text}
+use Rattle.rows.specs.ScenFault.{scen_outcome}
+use Rattle.rows.specs.declared.scen_fault.ScenFault.{ScenFault}
+use Rattle.rows.specs.declared.scen_fault.ScenFault.TheVariants as scen_fault
 use Rattle.text_commands.specs.Ending.{End, gave_up}
 use Rattle.text_commands.specs.Rewriting.{EndsBy}
 

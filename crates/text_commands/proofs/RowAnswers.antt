@@ -1,11 +1,11 @@
 -- What `mapf row` writes and answers.
-use Rattle.std.proofs.Common.{◌≡◌, ℕ, Bool, List, Option, None, Some, Result, Ok, Err, IsErrAnd, sym, subst}
+use Rattle.std.proofs.Common.{◌≡◌, ℕ, Bool, List, Option, Result, Ok, Err, IsErrAnd, sym, subst}
 use Rattle.text_io.specs.declared.counted.Counted.{Counted}
 use Rattle.text_io.specs.Counted.{counted_inner, failures_of}
 use Rattle.grid.specs.Map.{Grid}
 use Rattle.text_io.specs.Writing.{WritesText}
 use Rattle.scen.specs.Certificate.{Certifies}
-use Rattle.scen.specs.Query.{Query}
+use Rattle.rows.specs.Query.{Query}
 use Rattle.scen.specs.declared.certificate.CertFault.{CertFault}
 use Rattle.text_commands.specs.declared.row_fault.RowFault.{RowFault}
 use Rattle.text_commands.specs.declared.row_fault.RowFault.TheVariants.{Certificate}

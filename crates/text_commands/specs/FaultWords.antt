@@ -1,9 +1,10 @@
 -- The words of why a row has no answer.
-use Rattle.std.specs.Prelude.{ℕ, List, [], ◌∷◌, codes, decimal}
+use Rattle.std.specs.Prelude.{[], ◌∷◌, codes}
 use Rattle.text_io.specs.declared.failure.Failure.TheVariants as failure
 use Rattle.text_io.specs.FaultWords.{Words, text_fault, failed}
 use Rattle.grid.specs.MapFault.{map_fault_words}
-use Rattle.scen.specs.FaultWords.{scen_fault_words, cert_fault_words}
+use Rattle.rows.specs.FaultWords.{scen_fault_words}
+use Rattle.scen.specs.FaultWords.{cert_fault_words}
 use Rattle.text_commands.specs.declared.row_fault.RowFault.{RowFault}
 use Rattle.text_commands.specs.declared.row_fault.RowFault.TheVariants as row_fault
 

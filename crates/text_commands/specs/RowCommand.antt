@@ -5,15 +5,13 @@ use Rattle.text_io.specs.declared.counted.Counted.{Counted}
 use Rattle.grid.specs.Map.{Grid}
 use Rattle.grid.specs.MapFault.{ReadsMap}
 use Rattle.text_io.specs.Text.{space, line_feed}
-use Rattle.grid.specs.declared.map_fault.MapFault.{MapFault}
 use Rattle.scen.specs.Certificate.{AreOn, Certifies, IsLeast}
-use Rattle.scen.specs.Length.{Agrees}
-use Rattle.scen.specs.Query.{Query, listed_text}
-use Rattle.scen.specs.ScenFault.{ReadsScen}
+use Rattle.rows.specs.Length.{Agrees}
+use Rattle.rows.specs.Query.{Query, listed_text}
+use Rattle.rows.specs.ScenFault.{ReadsScen}
 use Rattle.scen.specs.declared.certificate.Proposal.{Proposal}
-use Rattle.scen.specs.declared.length.Length.{Length}
-use Rattle.scen.specs.declared.listed.Listed.{Listed}
-use Rattle.scen.specs.declared.scen_fault.ScenFault.{ScenFault}
+use Rattle.rows.specs.declared.length.Length.{Length}
+use Rattle.rows.specs.declared.listed.Listed.{Listed}
 use Rattle.text_commands.specs.declared.row_fault.RowFault.{RowFault}
 use Rattle.text_commands.specs.declared.row_fault.RowFault.TheVariants.{Map, Scen, NoSuchRow, SizeDiffers, OutOfMemory, Certificate}
 use Rattle.text_commands.specs.declared.row_verdict.RowVerdict.{RowVerdict}

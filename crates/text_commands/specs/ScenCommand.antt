@@ -1,10 +1,10 @@
 -- What `mapf scen` does and answers.
 use Rattle.std.specs.Prelude.{ℕ, List, Option}
 use Rattle.text_io.specs.declared.counted.Counted.{Counted}
-use Rattle.scen.specs.FaultWords.{scen_fault_words}
-use Rattle.scen.specs.Query.{canonical_scen_text}
-use Rattle.scen.specs.ScenText.{ScenText}
-use Rattle.scen.specs.ScenFault.{ScenFaultAt}
+use Rattle.rows.specs.FaultWords.{scen_fault_words}
+use Rattle.rows.specs.Query.{canonical_scen_text}
+use Rattle.rows.specs.ScenText.{ScenText}
+use Rattle.rows.specs.ScenFault.{ScenFaultAt}
 use Rattle.text_commands.specs.Ending.{End}
 use Rattle.text_commands.specs.Rewriting.{RewritesText}
 

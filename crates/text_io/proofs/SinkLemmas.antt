@@ -4,13 +4,10 @@ use Rattle.std.proofs.lemmas.Bool.{ne_eqb}
 use Rattle.std.proofs.lemmas.List.{nil_from_length, take_all, take_more}
 use Rattle.std.proofs.lemmas.List.Concat.{flat_map-append}
 use Rattle.std.proofs.lemmas.Slice.{take-put_mid}
-use Rattle.std.proofs.lemmas.Result.{on_ok_weaker, on_err_weaker}
 use Rattle.std.specs.Prelude.{Option, ◌&&◌, decimal}
 use Rattle.std.specs.List.{flat_map}
-use Rattle.std.proofs.KnownBytes.{Appends-nil, Appends-trans}
 use borrow.Rule.Slice.PartMut.{put_mid}
 use Rattle.text_io.specs.declared.sink.Sink.{Sink}
-use Rattle.text_io.specs.Counted.{Rises}
 use Rattle.text_io.specs.Sink.{held_back, sink_writer, Puts, Breaks}
 use Rattle.text_io.specs.Text.{separated}
 use Rattle.text_io.specs.Writing.{WritesText}

@@ -2,7 +2,7 @@
 use Rattle.std.specs.Prelude.{◌≡◌, ◌≢◌, ℕ, Some, Result, Ok, Err}
 use Rattle.model.specs.Costs.{cost, Solves}
 use Rattle.model.specs.Timetable.{Track, cell_at, track_of}
-use Rattle.scen.specs.Query.{Query}
+use Rattle.rows.specs.Query.{Query}
 use Rattle.plan.specs.declared.fit_fault.FitFault.{FitFault}
 use Rattle.plan.specs.declared.fit_fault.FitFault.TheVariants.{TooFewRows, AgentCount, StartDiffers, GoalDiffers, SizeDiffers}
 use Rattle.plan.specs.Checking.{Checked}

@@ -1,7 +1,7 @@
 -- Lengths as single numbers: 6625109 for a straight step, of which there is one more, and 9369319 for a diagonal one.
 use Rattle.std.specs.Prelude.{◌≡◌, ℕ, ◌+◌, ◌-◌, ◌*◌, ◌/◌, ◌%◌, ◌^◌, ◌≤◌, Bool, true, false, ◌&&◌, if◌then◌else◌, nat_lt, nat_le, Option, Some, None, refl}
 use Rattle.std.proofs.lemmas.Bool.{leb-true}
-use Rattle.scen.specs.declared.length.Length.{Length}
+use Rattle.rows.specs.declared.length.Length.{Length}
 
 -- the diagonal steps that a number tells of: 9369319 * 3880899 is 1 above a multiple of 6625109
 unfoldable pub diagonal_in : ℕ → ℕ

@@ -2,7 +2,7 @@
 use Rattle.std.specs.Prelude.{◌≡◌, ℕ, ◌+◌, ◌*◌, ◌≤◌, List, map, Option, None, Bool, true, false, nat_eq, slice_index_or}
 use Rattle.std.specs.List.{range_with_len}
 use Rattle.scen.specs.declared.beyond.Beyond.{Beyond}
-use Rattle.scen.specs.declared.length.Length.{Length}
+use Rattle.rows.specs.declared.length.Length.{Length}
 use Rattle.scen.specs.declared.tiles.Tiles.{Tiles}
 use Rattle.scen.specs.declared.length_table.Entries.{Entries}
 use Rattle.scen.specs.declared.length_table.Entries.TheVariants.{Listed, Found}

@@ -1,7 +1,7 @@
 -- What the tiles of a search say of each cell.
 use Rattle.std.specs.Prelude.{ℕ, ◌+◌, ◌*◌, ◌/◌, ◌%◌, ◌^◌, nat_lt, if◌then◌else◌, List, [], Option, None, Some, slice_get}
 use Rattle.scen.specs.declared.keys.Key.{Key}
-use Rattle.scen.specs.declared.length.Length.{Length}
+use Rattle.rows.specs.declared.length.Length.{Length}
 use Rattle.scen.specs.declared.tiles.Tile.{Tile}
 use Rattle.scen.specs.declared.tiles.Tiles.{Tiles}
 use Rattle.scen.specs.Code.KeyParts.{number_within, length_of_number}

@@ -1,4 +1,4 @@
-use Rattle.std.proofs.Common.{◌∙◌, Ok, sym, ap, subst}
+use Rattle.std.proofs.Common.{◌∙◌, sym, ap}
 use Rattle.agent_commands.specs.AgentCommand.{end_of_agent}
 use Rattle.agent_commands.proofs.agent_command.perform.Goals as goal
 

@@ -1,7 +1,7 @@
 -- The ending is that with which writing ended.
-use Rattle.std.proofs.Common.{◌∙◌, ap, refl, subst, sym}
+use Rattle.std.proofs.Common.{subst, sym}
 use Rattle.std.specs.Prelude.{is_ok}
-use Rattle.text_commands.specs.Ending.{End, end_of, gave_up}
+use Rattle.text_commands.specs.Ending.{End, end_of}
 use Rattle.text_commands.specs.Finishing.{FinishesWriting}
 use Rattle.text_commands.specs.Laws.Ending.{ends_writing}
 use Rattle.agent_commands.specs.TapeCommand.{EndsByTape}

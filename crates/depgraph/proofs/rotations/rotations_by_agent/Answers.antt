@@ -7,7 +7,8 @@ use Rattle.depgraph.specs.Rotations.{turns_of}
 use Rattle.depgraph.specs.Code.Entries.{begin_in}
 use Rattle.depgraph.specs.Code.Links.{links_in}
 use Rattle.depgraph.proofs.CycleLemmas.{found-start, turns-push}
-use Rattle.depgraph.proofs.TurnLemmas.{turn, AreTurned, few_entries, begin_up, entry_here, links_now, now_count, turned-none, turned-one, turned-all, begun_here, known_here}
+use Rattle.depgraph.proofs.TurnLemmas.{turn}
+use Rattle.depgraph.proofs.TurnedLemmas.{AreTurned, few_entries, begin_up, entry_here, links_now, now_count, turned-none, turned-one, turned-all, begun_here, known_here}
 use Rattle.depgraph.proofs.rotations.rotations_by_agent.Goals as goal
 use Rattle.depgraph.proofs.rotations.rotations_by_agent.Goals.{then-branch+in_ok-agents+in_ok-push, else-branch}
 

@@ -2,7 +2,7 @@ use Rattle.std.proofs.Common.{◌≡◌, ◌-◌, ◌≤◌, [], get_or}
 use Rattle.depgraph.specs.Code.Entries.{begin_in}
 use Rattle.depgraph.specs.Code.Links.{links_in, AreLinksIn}
 use Rattle.depgraph.specs.Rotations.{turns_of}
-use Rattle.depgraph.proofs.TurnLemmas.{AreTurned}
+use Rattle.depgraph.proofs.TurnedLemmas.{AreTurned}
 use Rattle.depgraph.proofs.rotations.rotations_by_agent.Given as goal
 
 -- the entry is the first of the agent, and all before it are walked from

@@ -1,6 +1,5 @@
 use Rattle.std.proofs.Common.{◌∙◌, List, ℕ, ap, refl, subst, sym}
 use Rattle.command_line.specs.declared.command_line.LineFault.{LineFault}
-use Rattle.command_line.specs.declared.command_line.LineFault.TheVariants.{Help}
 use Rattle.text_commands.specs.Ending.{EndsAndTells, answered_with, end_of, gave_up}
 use Rattle.text_commands.specs.Rewriting.{EndsWriting}
 use Rattle.text_commands.specs.declared.status.Status.TheVariants.{Done}

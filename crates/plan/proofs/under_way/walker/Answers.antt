@@ -1,6 +1,6 @@
 -- A start that is passable is on the map, and open.
 use Rattle.plan.specs.Laws.Walking.{on_map_from_terrain}
-use Rattle.plan.proofs.UnderWayLemmas.{may_start}
+use Rattle.plan.proofs.GroundLemmas.{may_start}
 use Rattle.plan.proofs.under_way.walker.Goals as goal
 
 pub place_on-requires : goal.place_on-requires

@@ -6,7 +6,7 @@ use Rattle.std.specs.Prelude.{slice_get}
 use Rattle.model.specs.Plan.{IsPassable}
 use Rattle.plan.specs.Code.Squares.{place_on, HasGround}
 use Rattle.plan.specs.Laws.Walking.{no_course}
-use Rattle.plan.proofs.UnderWayLemmas.{AreFirst, first-none, first-more, starts_as}
+use Rattle.plan.proofs.UnderWayStarts.{AreFirst, first-none, first-more, starts_as}
 use Rattle.plan.proofs.under_way.walkers.Goals as goal
 
 pub walker-requires : goal.walker-requires

@@ -1,4 +1,4 @@
-use Rattle.plan.proofs.UnderWayLemmas.{AreFirst}
+use Rattle.plan.proofs.UnderWayStarts.{AreFirst}
 use Rattle.plan.proofs.under_way.walkers.Given as goal
 
 abbrev pub invariant-loop-agent : goal.invariant-loop-agent

@@ -1,6 +1,5 @@
 -- The line is that of the verdict, and the ending is that with which writing ended.
 use Rattle.std.proofs.Common.{◌∙◌, ℕ, List, inl, inr, refl, ap, subst}
-use Rattle.plan_commands.specs.Code.Verdicts.{verdict_line}
 use Rattle.text_commands.specs.Ending.{end_of, gave_up}
 use Rattle.text_commands.specs.Rewriting.{EndsWriting}
 use Rattle.text_commands.specs.Laws.Ending.{ends_writing}

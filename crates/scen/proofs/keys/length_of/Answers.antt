@@ -1,7 +1,7 @@
 -- The parts that are read are those of the number, and they are within the limits.
 use Rattle.std.proofs.Common.{◌≡◌, ℕ, ◌^◌, ◌<◌, Some, None, inl, inr, arith, sym}
 use Rattle.std.specs.Prelude.{◌⊎◌, Option, MatchOption}
-use Rattle.scen.specs.declared.length.Length.{Length}
+use Rattle.rows.specs.declared.length.Length.{Length}
 use Rattle.scen.specs.Code.KeyParts.{diagonal_in, straight_in, IsKey, length_of_number}
 use Rattle.scen.proofs.KeyNumbers.{length_of_some}
 use Rattle.scen.proofs.keys.length_of.Goals as goal

@@ -1,6 +1,6 @@
 use Rattle.std.proofs.Common.{◌∙◌, Err, ap}
-use Rattle.scen.specs.FaultWords.{scen_fault_words}
-use Rattle.scen.specs.ScenFault.{scen_outcome}
+use Rattle.rows.specs.FaultWords.{scen_fault_words}
+use Rattle.rows.specs.ScenFault.{scen_outcome}
 use Rattle.text_commands.specs.Ending.{gave_up}
 use Rattle.text_commands.specs.Laws.Ending.{rewrites}
 use Rattle.text_commands.proofs.Refusals.{scen_refused}

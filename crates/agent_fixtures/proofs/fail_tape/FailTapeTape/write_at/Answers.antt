@@ -1,4 +1,4 @@
-use Rattle.std.proofs.Common.{rules, ◌≡◌, ◌∙◌, ◌+◌, ◌++◌, [], ◌∷◌, take, sym, ap, refl, arith}
+use Rattle.std.proofs.Common.{rules, ◌∙◌, ◌+◌, ◌++◌, [], ◌∷◌, take, ap, refl, arith}
 use Rattle.agent_fixtures.proofs.TornLemmas.{torn}
 use Rattle.agent_fixtures.proofs.fail_tape.FailTapeTape.write_at.Goals as goal
 

@@ -6,7 +6,8 @@ use Rattle.plan.specs.Code.Crowd.{AreActTurns, AreMarksOf, AreOldMarks, first_ma
 use Rattle.plan.specs.Code.UnderWay.{AreUnderWay}
 use Rattle.plan.specs.Code.Watching.{IsClean, IsSeen}
 use Rattle.plan.proofs.MarkLemmas.{first_mark-some, old-none}
-use Rattle.plan.proofs.UnderWayLemmas.{all_start, starts_wait, clean_at_start, if_past}
+use Rattle.plan.proofs.UnderWayLemmas.{if_past}
+use Rattle.plan.proofs.UnderWayStarts.{all_start, starts_wait, clean_at_start}
 use Rattle.plan.proofs.checker.Checker.take_starts.Goals as goal
 
 -- No square has a mark yet.

@@ -8,7 +8,7 @@ use Rattle.plan.specs.Code.Crowd.{walker_at, first_mark}
 use Rattle.plan.specs.Code.UnderWay.{AreUnderWay}
 use Rattle.plan.specs.Code.Watching.{IsSeen, AreSameAgents}
 use Rattle.plan.proofs.RowLemmas.{marks-lined}
-use Rattle.plan.proofs.UnderWayLemmas.{AreRecent, step_bound, recent-after, are_agents, block-begun, none_under_way}
+use Rattle.plan.proofs.BlockLemmas.{AreRecent, step_bound, recent-after, are_agents, block-begun, none_under_way}
 use Rattle.plan.proofs.checker.Checker.watch.Goals as goal
 
 some_from : (n : ℕ) → eqb n 0 ≡ false → 0 < n

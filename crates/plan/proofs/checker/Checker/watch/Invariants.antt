@@ -1,7 +1,7 @@
 use Rattle.std.proofs.Common.{◌+◌, ◌-◌, ◌≤◌, length}
 use Rattle.plan.specs.Code.Blocks.{block_steps, AreActRows}
 use Rattle.plan.specs.Code.Watching.{IsSeen}
-use Rattle.plan.proofs.UnderWayLemmas.{AreRecent}
+use Rattle.plan.proofs.BlockLemmas.{AreRecent}
 use Rattle.plan.proofs.checker.Checker.watch.Given as goal
 
 abbrev pub invariant-loop-courses : goal.invariant-loop-courses

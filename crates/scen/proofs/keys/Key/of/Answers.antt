@@ -1,6 +1,6 @@
 use Rattle.std.proofs.Common.{◌≡◌, ℕ, ◌^◌, ◌<◌, arith, sym, subst}
 use Rattle.std.specs.Prelude.{Option}
-use Rattle.scen.specs.declared.length.Length.{Length}
+use Rattle.rows.specs.declared.length.Length.{Length}
 use Rattle.scen.specs.Code.KeyParts.{IsKey, number_of_entry}
 use Rattle.scen.proofs.KeyNumbers.{entry_most, entry_key}
 use Rattle.scen.proofs.keys.Key.of.Goals as goal

@@ -1,0 +1,3 @@
+-- What follows from the definitions.
+-- the same added to two lengths
+pub mod LengthSums
