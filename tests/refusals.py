@@ -15,7 +15,6 @@ from harness import ROOT, Ended, Harness, Outcome, shown, side_by_side
 # What memory is refused to, by the crate of the test.
 TESTS = {
     "agent_trials": ["a_hearer", "a_tape"],
-    "dialogue_trials": ["a_dialogue"],
     "event_text_trials": ["events"],
     "memory_trials": [
         *("a_plan_that_fits", "a_run_after_its_first_messages", "command_lines", "commands"),
@@ -23,6 +22,7 @@ TESTS = {
         "what_takes_none",
     ],
     "plan_trials": ["a_check", "a_plan", "an_agent_of_a_plan"],
+    "robot_trials": ["a_dialogue"],
     "runner_trials": ["a_message", "a_message_with_entries", "a_replay", "a_replay_to_the_end", "agents_that_turn"],
     "tape_trials": ["a_tape_file"],
     "text_trials": ["a_map", "a_scenario"],

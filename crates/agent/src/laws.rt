@@ -2,8 +2,8 @@
 ghost use Rattle.std.specs.Prelude.{◌≡◌, ◌<◌, ◌^◌, ◌+◌, ◌*◌, ◌↔◌, ℕ, List, take, None, Some};
 ghost use Rattle.model.specs.declared.entry.Entry.{Entry};
 ghost use Rattle.model.specs.Messages.{message_bytes, told_bytes, AreRising};
-ghost use Rattle.agent.specs.Decoding.{wrong_entry};
-ghost use Rattle.agent.specs.Tellings.{Telling, IsInRange};
+ghost use Rattle.agent.specs.Decoding.{wrong_entry, any_fault};
+ghost use Rattle.agent.specs.Tellings.{Telling, IsInRange, BytesTell};
 
 /// Bytes tell one thing at the most: two messages with the same bytes, and numbers within their ranges, are the same.
 pub fn messages()
@@ -24,3 +24,12 @@ pub fn whole_messages()
     ensures first { (entries : List Entry) (e : ℕ) → wrong_entry 0 0 entries ≡ Some e
         → AreRising 0 (take e entries) × (AreRising 0 (take (e + 1) entries) → ⊥) }
 {}
+
+/// Bytes that tell something have no fault, and tell nothing else.
+pub fn tellings()
+    ensures fine { (bytes : List ℕ) (t : Telling) → BytesTell bytes t → any_fault bytes ≡ None }
+    ensures one { (bytes : List ℕ) (t u : Telling) → BytesTell bytes t → BytesTell bytes u → t ≡ u }
+{
+    messages();
+    whole_messages();
+}

@@ -17,9 +17,9 @@ use Rattle.agent.specs.Opening.{IsOpened, IsRefused}
 use Rattle.agent.specs.Replies.{stood}
 use Rattle.agent.specs.States.{finished_moves, held_by_tape}
 use Rattle.event_text.specs.ReplyText.{reply_line}
-use Rattle.file_tape.specs.FileTape.{file_fault_of}
-use Rattle.file_tape.specs.declared.file_tape.FileTapeFault.{FileTapeFault}
-use Rattle.file_tape.specs.declared.file_tape.FileTapeFault.TheVariants as file_fault
+use Rattle.robot.specs.FileTape.{file_fault_of}
+use Rattle.robot.specs.declared.file_tape.FileTapeFault.{FileTapeFault}
+use Rattle.robot.specs.declared.file_tape.FileTapeFault.TheVariants as file_fault
 use Rattle.agent_commands.specs.TapeCommand.{IsNotShown, IsShown, records_line, tape_of_bytes}
 use Rattle.agent_commands.specs.Code.Reports.{IsImageOf, IsNoImage, IsReported, IsReportOf, outcome_of, standing_of}
 use Rattle.agent_commands.specs.declared.agent_fault.AgentFault.{AgentFault}

@@ -4,10 +4,10 @@ use Rattle.std.specs.Prelude.{Option, option_map, IfSome, IfOk, IfErr, MatchResu
 use Rattle.std.proofs.lemmas.Option.{same_Some, none-some}
 use Rattle.model.specs.History.{record_length}
 use Rattle.model.specs.Timetable.{Track, Timetable, moves, track_of}
-use Rattle.file_tape.specs.declared.file_tape.FileTapeFault.{FileTapeFault}
-use Rattle.file_tape.specs.FileTape.{IsImage}
-use Rattle.file_tape.specs.declared.file_tape.FileTape.{FileTape}
-use Rattle.file_tape.specs.declared.file_tape.FileTapeFault.TheVariants.{TooLong, InUse, TapeFailed, OutOfMemory}
+use Rattle.robot.specs.declared.file_tape.FileTapeFault.{FileTapeFault}
+use Rattle.robot.specs.FileTape.{IsImage}
+use Rattle.robot.specs.declared.file_tape.FileTape.{FileTape}
+use Rattle.robot.specs.declared.file_tape.FileTapeFault.TheVariants.{TooLong, InUse, TapeFailed, OutOfMemory}
 use Rattle.tape_claim.specs.declared.TapeClaim.{TapeClaim}
 use Rattle.agent_commands.specs.AgentCommand.{IsClaimed, IsNoTape, IsTapeOf}
 use Rattle.agent_commands.specs.Code.Parts.{IsNotTaken, IsSameTape}

@@ -8,12 +8,12 @@ use Rattle.agent.specs.declared.refusal.OpenFault.TheVariants.{NoSuchAgent}
 use Rattle.agent.specs.Agents.{AgentOn}
 use Rattle.agent.specs.Opening.{IsOpened, IsRefused}
 use Rattle.agent.specs.Tape.{IsKept}
-use Rattle.dialogue.specs.Dialogue.{Talks}
-use Rattle.dialogue.specs.declared.talk_fault.TalkFault.{TalkFault}
-use Rattle.dialogue.specs.declared.talk_fault.TalkFault.TheVariants.{StoreFailed}
-use Rattle.file_tape.specs.FileTape.{IsImage, IsFileRead, file_state}
-use Rattle.file_tape.specs.declared.file_tape.FileTape.{FileTape}
-use Rattle.file_tape.specs.declared.file_tape.FileTapeFault.TheVariants.{TooLong}
+use Rattle.robot.specs.Dialogue.{Talks}
+use Rattle.robot.specs.declared.talk_fault.TalkFault.{TalkFault}
+use Rattle.robot.specs.declared.talk_fault.TalkFault.TheVariants.{StoreFailed}
+use Rattle.robot.specs.FileTape.{IsImage, IsFileRead, file_state}
+use Rattle.robot.specs.declared.file_tape.FileTape.{FileTape}
+use Rattle.robot.specs.declared.file_tape.FileTapeFault.TheVariants.{TooLong}
 use Rattle.planned.specs.Planned.{ReadsTimetable}
 use Rattle.planned.specs.declared.planned_fault.PlannedFault.{PlannedFault}
 use Rattle.tape_claim.specs.declared.TapeClaim.{TapeClaim}

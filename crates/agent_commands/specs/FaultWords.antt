@@ -3,8 +3,7 @@ use Rattle.std.specs.Prelude.{[], codes}
 use Rattle.text_io.specs.declared.failure.Failure.TheVariants as failure
 use Rattle.text_io.specs.FaultWords.{Words, text_fault, failed}
 use Rattle.agent.specs.FaultWords.{open_fault_words}
-use Rattle.dialogue.specs.FaultWords.{talk_fault_words}
-use Rattle.file_tape.specs.FaultWords.{file_tape_fault_words}
+use Rattle.robot.specs.FaultWords.{file_tape_fault_words, talk_fault_words}
 use Rattle.planned.specs.FaultWords.{planned_fault_words}
 use Rattle.agent_commands.specs.declared.agent_fault.AgentFault.{AgentFault}
 use Rattle.agent_commands.specs.declared.agent_fault.AgentFault.TheVariants.{Planned, OpenFailed, TapeExists, NoTape, File, Tape, Dialogue}

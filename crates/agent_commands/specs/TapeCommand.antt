@@ -13,8 +13,8 @@ use Rattle.agent.specs.MemTape.{mem_state, mem_reads}
 use Rattle.agent.specs.Opening.{IsOpened, IsRefused}
 use Rattle.agent.specs.States.{State}
 use Rattle.agent.specs.Tape.{TapeState}
-use Rattle.dialogue.specs.Turns.{state_line}
-use Rattle.file_tape.specs.declared.file_tape.FileTapeFault.TheVariants.{TooLong, TapeFailed, OutOfMemory}
+use Rattle.robot.specs.Turns.{state_line}
+use Rattle.robot.specs.declared.file_tape.FileTapeFault.TheVariants.{TooLong, TapeFailed, OutOfMemory}
 use Rattle.planned.specs.Planned.{ReadsTimetable}
 use Rattle.planned.specs.declared.planned_fault.PlannedFault.{PlannedFault}
 use Rattle.text_commands.specs.declared.status.Status.TheVariants.{Done}

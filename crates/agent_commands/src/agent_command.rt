@@ -5,15 +5,14 @@ ghost use Rattle.depgraph.specs.AgentParts.{IsPartOf};
 ghost use Rattle.text_commands.specs.Ending.{EndsAndTells, end_of};
 ghost use Rattle.agent_commands.specs.AgentCommand.{AnswersAgent, Converses, IsClaimed, IsNoTape, IsNotOnTape, IsOnTape, IsTapeOf, Serves};
 ghost use Rattle.agent_commands.specs.declared.agent_fault.AgentFault.TheVariants.{File};
-ghost use Rattle.file_tape.specs.declared.file_tape.FileTapeFault.TheVariants.{TapeFailed};
+ghost use Rattle.robot.specs.declared.file_tape.FileTapeFault.TheVariants.{TapeFailed};
 ghost use Rattle.agent_commands.specs.Code.Parts.{IsNotOpened, IsNotTaken, IsSameTape};
 
 use crate::agent_fault::AgentFault;
 use crate::agent_part::{moves_of, read_part};
 use agent::{Agent, OpenFault, RECORD_LENGTH, Tape};
 use depgraph::Part;
-use dialogue::{TalkFault, talk};
-use file_tape::{FileTape, FileTapeFault};
+use robot::{FileTape, FileTapeFault, TalkFault, talk};
 use std::fs::{self, OpenFile, OpenOptions};
 use std::io::{ErrorKind, Read, Write};
 use std::rt::Files;

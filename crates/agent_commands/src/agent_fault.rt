@@ -5,9 +5,8 @@ ghost use Rattle.agent_commands.specs.FaultWords.{agent_fault_words};
 ghost use Rattle.agent_commands.specs.declared.agent_fault.AgentFault.TheVariants as agent_fault;
 
 use agent::OpenFault;
-use dialogue::TalkFault;
-use file_tape::FileTapeFault;
 use planned::PlannedFault;
+use robot::{FileTapeFault, TalkFault};
 use std::fmt;
 use text_io::{Failure, FaultWords};
 use thiserror::Error;

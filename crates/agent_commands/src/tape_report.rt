@@ -17,7 +17,7 @@ use agent::replies::reply_to_restart;
 use agent::{Agent, Held, MemTape, RECORD_LENGTH, RECORD_SIZE, Tape};
 use depgraph::Part;
 use event_text::put_reply;
-use file_tape::FileTapeFault;
+use robot::FileTapeFault;
 use std::alloc::Global;
 use std::io::{Read, Write};
 use text_commands::put_number;

@@ -23,7 +23,7 @@ use Rattle.text_commands.specs.ScenCommand.{RewritesScen}
 use Rattle.plan_commands.specs.CheckCommand.{AnswersCheck, AnswersCheckFit}
 use Rattle.plan_commands.specs.DepsCellCommand.{AnswersDepsCell}
 use Rattle.plan_commands.specs.DepsCommand.{AnswersDeps}
-use Rattle.path_commands.specs.PathCommand.{AnswersPath}
+use Rattle.plan_commands.specs.PathCommand.{AnswersPath}
 use Rattle.run_commands.specs.RunCommand.{AnswersRun}
 use Rattle.agent_commands.specs.AgentCommand.{AnswersAgent}
 use Rattle.agent_commands.specs.TapeCommand.{AnswersTape, EndsWithoutTape}

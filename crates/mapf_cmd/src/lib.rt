@@ -8,8 +8,9 @@ mod unperformed;
 pub use agent_commands::{Seat, agent_cmd, tape_cmd};
 pub use command_line::{Asked, Line, LineFault, line};
 pub use explain::Style;
-pub use path_commands::path_cmd;
-pub use plan_commands::{Verdict, check_cmd, check_fit_cmd, deps_cell_cmd, deps_cmd, verdict_json};
+pub use plan_commands::{
+    Verdict, check_cmd, check_fit_cmd, deps_cell_cmd, deps_cmd, path_cmd, verdict_json,
+};
 pub use program::run;
 pub use run_commands::run_cmd;
 pub use tape_claim::{LockFile, TapeClaim};

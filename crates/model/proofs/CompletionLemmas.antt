@@ -7,7 +7,7 @@ use Rattle.model.specs.declared.event.Event.{Event}
 use Rattle.model.specs.declared.event.Event.TheVariants.{Start, Finish, Say, Deliver}
 use Rattle.model.specs.declared.version.Version.{Version}
 use Rattle.model.specs.Timetable.{Track, Timetable, moves, track_of, IsConflictFree, IsSwapFree}
-use Rattle.model.specs.Dependency.{Need, need, IsMet, WaitsFor, IsRotation}
+use Rattle.model.specs.Dependency.{Need, need, IsMet}
 use Rattle.model.specs.Messages.{Message}
 use Rattle.model.specs.History.{History, kept_starts, done, is_moving, messages, known}
 use Rattle.model.specs.Rules.{IsRun}
@@ -15,10 +15,10 @@ use Rattle.model.specs.Completion.{history_after, AreAccepted, HasArrived, IsCom
 use Rattle.model.specs.Ready.{IsReady, StayReady, rest_events}
 use Rattle.model.specs.Laws.After.{history-more, accepted-more, run-more}
 use Rattle.model.specs.Laws.Needs.{awaits}
-use Rattle.model.specs.Laws.Rounds.{first_that, turned, round, round-length, round-is}
+use Rattle.model.specs.Laws.Rounds.{first_that}
 use Rattle.model.specs.Laws.Runs.{progress, in_step}
 use Rattle.model.specs.Laws.Ready.{others-ready, comes_to_rest, moves_on, message, speaks_up, learns}
-use Rattle.model.specs.Laws.Waits.{last-within, waited, waited-is, rotation}
+use Rattle.model.specs.Laws.Stuck.{CanMove, HasRotation, stuck}
 
 -- ---- how many moves are left
 
@@ -91,14 +91,7 @@ module _ (v : Version) (tab : Timetable) where
   abbrev AreReady : History → Type 0
   AreReady h = (i : ℕ) (track : Track) → track_of tab i ≡ Some track → IsReady h i
 
-  -- ---- who can move
-
-  record Movable (h : History) : Type 0 where
-    agent : ℕ
-    track : Track
-    there : track_of tab agent ≡ Some track
-    left : done h agent < moves track
-    met : IsMet (done h) (need tab agent track (done h agent))
+  -- ---- a move more
 
   -- one move more is finished, and all are ready again
   record Advances (h : History) : Type 0 where
@@ -150,7 +143,7 @@ module _ (v : Version) (tab : Timetable) where
         (λ k. hears.1.finished k ∙ says.1.finished k) i track there less
         (subst (IsMet (known v tab two i)) (sym asks) (omega (arith, most, told, learned)))
 
-    advances : IsConflictFree tab → Movable h → Advances h
+    advances : IsConflictFree tab → CanMove tab (done h) → Advances h
     advances free can = by_need (need tab can.agent can.track (done h can.agent)) refl where
       by_need : (o : Option Need) → need tab can.agent can.track (done h can.agent) ≡ o → Advances h
       by_need None none =
@@ -158,77 +151,6 @@ module _ (v : Version) (tab : Timetable) where
       by_need (Some n) asks =
           let a = awaits tab can.agent can.track (done h can.agent) n free can.there can.left asks in
           tell can.agent can.track can.there can.left n asks (subst (IsMet (done h)) asks can.met) a.to a.is_to
-
-  -- ---- somebody can move, or a rotation keeps all from moving
-
-  abbrev Turns : Type 0
-  Turns = (step : ℕ) × (turning : List ℕ) × IsRotation tab step turning
-
-  abbrev IsLeft : History → ℕ → Type 0
-  IsLeft h i = (track : Track) × (track_of tab i ≡ Some track) × (done h i < moves track)
-
-  module _ (h : History) (free : IsConflictFree tab) (unswapped : IsSwapFree tab) where
-    abbrev onward : ℕ → ℕ
-    onward = waited tab (done h) free unswapped
-
-    abbrev Waits : ℕ → Type 0
-    Waits i = WaitsFor tab (done h) i (onward i)
-
-    goes_or_waits : (i : ℕ) → IsLeft h i → Movable h ⊎ (Waits i × IsLeft h (onward i))
-    goes_or_waits i left = by_need (need tab i left.0 (done h i)) refl where
-      by_need : (o : Option Need) → need tab i left.0 (done h i) ≡ o → Movable h ⊎ (Waits i × IsLeft h (onward i))
-      by_need None none = inl (record { agent = i; track = left.0; there = left.1; left = left.2; met = subst (IsMet (done h)) (sym none) tt })
-      by_need (Some n) asks = elim (cases_lt (done h n.agent) n.count) [
-        | inr met ↦ inl (record { agent = i; track = left.0; there = left.1; left = left.2; met = subst (IsMet (done h)) (sym asks) met })
-        | inl unmet ↦
-            let w : WaitsFor tab (done h) i n.agent = record { track = left.0; count = n.count; is_track = left.1; left = left.2; asks = asks; unmet = unmet } in
-            let a = awaits tab i left.0 (done h i) n free left.1 left.2 asks in
-            let within = last-within tab i left.0 (done h i) n a in
-            let count = a.count in
-            let goes = waited-is tab (done h) free unswapped i n.agent w in
-            inr (subst (WaitsFor tab (done h) i) (sym goes) w, subst (IsLeft h) (sym goes) (a.to, a.is_to, omega (arith, unmet, count, within)))
-      ]
-
-    walk : (first : ℕ) → IsLeft h first → (m : ℕ)
-        → Movable h ⊎ (((k : ℕ) → k < m → Waits (turned onward k first)) × ((k : ℕ) → k < suc m → IsLeft h (turned onward k first)))
-    walk first left zero = inr (λ k less. absurd (omega (arith, less)), λ k less. let same : 0 ≡ k = omega (arith, less) in subst (λ n. IsLeft h (turned onward n first)) same left)
-    walk first left (suc m) = elim (walk first left m) [
-      | inl can ↦ inl can
-      | inr far ↦ elim (goes_or_waits (turned onward m first) (far.1 m (omega arith))) [
-        | inl can ↦ inl can
-        | inr next ↦ inr (
-          λ k less. elim (cases_lt k m) [
-            | inl before ↦ far.0 k before
-            | inr past ↦ let same : m ≡ k = omega (arith, less, past) in subst (λ n. Waits (turned onward n first)) same next.0
-          ],
-          λ k less. elim (cases_lt k (suc m)) [
-            | inl before ↦ far.1 k before
-            | inr past ↦ let same : suc m ≡ k = omega (arith, less, past) in subst (λ n. IsLeft h (turned onward n first)) same next.1
-          ],
-        )
-      ]
-    ]
-
-    stuck : (first : ℕ) → IsLeft h first → Movable h ⊎ Turns
-    stuck first left = elim (walk first left (length tab.tracks)) [
-      | inl can ↦ inl can
-      | inr far ↦
-          let count = suc (length tab.tracks) in
-          inr (rotation tab (done h) free unswapped (round onward count first)
-          (λ place i j there next.
-          let is = round-is onward count first place i there in
-          let then = round-is onward count first (place + 1) j next in
-          let less = then.0 in
-          let one : place + 1 ≡ suc place = omega arith in
-          let goes = then.1 ∙ ap (λ n. turned onward n first) one in
-          subst (λ n. WaitsFor tab (done h) n j) (sym is.1)
-          (subst (WaitsFor tab (done h) (turned onward place first)) (sym goes) (far.0 place (omega (arith, less)))))
-          (λ place i there.
-          let is = round-is onward count first place i there in
-          let left_then = far.1 place is.0 in
-          subst (λ n. n < length tab.tracks) (sym is.1) (slice_get_within tab.tracks (turned onward place first) left_then.0 left_then.1))
-          (let size = round-length onward count first in omega (arith, size)))
-    ]
 
   -- ---- the end
 
@@ -262,14 +184,14 @@ module _ (v : Version) (tab : Timetable) where
     arrived = λ i track there. subst (λ l. HasArrived l i track) (sym (history-more v tab h first more)) (rest.arrived i track there);
   }
 
-  ends : IsConflictFree tab → IsSwapFree tab → (fuel : ℕ) (h : History) → IsRun v tab h → AreReady h → remaining tab.tracks 0 (done h) < fuel → Turns ⊎ Completes h
+  ends : IsConflictFree tab → IsSwapFree tab → (fuel : ℕ) (h : History) → IsRun v tab h → AreReady h → remaining tab.tracks 0 (done h) < fuel → HasRotation tab ⊎ Completes h
   ends free unswapped zero h run ready less = absurd (omega (arith, less))
   ends free unswapped (suc fuel) h run ready less = elim (first_that (length tab.tracks) (λ k. nat_lt (done h k) (moves_of (track_of tab k)))) [
     | inr none ↦ inr ([], all_arrived h run ready none)
     | inl found ↦
         let there = slice_get-get_or tab.tracks found.0 (record { start = record { x = 0; y = 0 }; later = [] }) found.1 in
         let left = subst (λ o. nat_lt (done h found.0) (moves_of o) ≡ true) there found.2 in
-        elim (stuck h free unswapped found.0 (_, there, ltb-true (done h found.0) _ left)) [
+        elim (stuck tab (done h) free unswapped found.0 (_, there, ltb-true (done h found.0) _ left)) [
           | inr turns ↦ inl turns
           | inl can ↦
               let goes = advances h ready run free can in
@@ -281,7 +203,7 @@ module _ (v : Version) (tab : Timetable) where
         ]
   ]
 
-  pub turns_or_ends : IsConflictFree tab → IsSwapFree tab → (h : History) → IsRun v tab h → Turns ⊎ Completes h
+  pub turns_or_ends : IsConflictFree tab → IsSwapFree tab → (h : History) → IsRun v tab h → HasRotation tab ⊎ Completes h
   turns_or_ends free unswapped h run =
       let first = first_ready (length tab.tracks) h run in
       let mid = history_after v tab h first.0 in

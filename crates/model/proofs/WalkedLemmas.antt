@@ -1,5 +1,5 @@
 -- An agent's walk is a beginning of its path: it has all that was begun, but for one move whose answer was lost.
-use Rattle.std.proofs.Common.{◌≡◌, ℕ, ◌+◌, ◌<◌, ◌≤◌, eqb, Bool, true, false, cond, List, [], ◌∷◌, ◌++◌, length, take, drop, Some, None, inl, inr, arith, refl, sym, ap, subst, ◌∙◌}
+use Rattle.std.proofs.Common.{◌≡◌, ℕ, ◌+◌, ◌<◌, ◌≤◌, eqb, Bool, true, false, cond, [], ◌∷◌, ◌++◌, length, take, drop, Some, None, inl, inr, arith, refl, sym, ap, subst, ◌∙◌}
 use Rattle.std.specs.Prelude.{Option, ◌&&◌, nat_lt}
 use Rattle.std.proofs.lemmas.Bool.{cases_Bool, cases_lt, cond-true, cond-false, cond_both, eqb-true, eqb-false, false≢true}
 use Rattle.std.proofs.lemmas.List.{take_more, take-append-drop, length-append}
@@ -10,10 +10,11 @@ use Rattle.model.specs.declared.event.Event.TheVariants.{Start, Finish, Say, Del
 use Rattle.model.specs.declared.why.Why.TheVariants.{StoreFailed, Broken, AlreadyMoving, AtEnd, Waits}
 use Rattle.model.specs.Timetable.{Track, Timetable, moves, path, track_of}
 use Rattle.model.specs.Dependency.{Need, need}
-use Rattle.model.specs.History.{Answer, moving, at, between, refused, History, Happening, armed_of, is_store_failed, is_opened, is_begun, is_ended, broken_after, is_broken, starts_of, finishes_of, kept_starts, done, is_moving, known}
+use Rattle.model.specs.History.{Answer, moving, at, between, refused, History, Happening, armed_of, is_store_failed, is_begun, is_ended, is_broken, starts_of, finishes_of, kept_starts, done, is_moving, known}
 use Rattle.model.specs.Rules.{path_cell, stored, unless_waiting, start_answer, finish_answer, restart_answer, answer, agent_of, IsRun}
-use Rattle.model.specs.Safety.{walk_after, walk, IsBeginningOf}
+use Rattle.model.specs.Safety.{walk, IsBeginningOf}
 use Rattle.model.specs.Laws.Tracks.{first_cell, length-path}
+use Rattle.model.specs.Laws.Others.{walk-other, starts-other, finishes-other, broken-other}
 use Rattle.model.specs.Laws.Runs.{Progress, progress, level, room_left, start-begun, finish-ended, answer-at}
 
 -- the walk is a beginning of the path, and has all begun moves unless the agent is broken
@@ -66,29 +67,6 @@ grows tab h i track now c was longer cell room some whole =
       most = omega (arith, count, whole);
       whole = λ sound. omega (arith, count, whole);
     }
-
--- ---- an event of another agent
-
-other_walk : (e : Event) (r : Answer) (i : ℕ) (walked : List Cell) → eqb (agent_of e) i ≡ false → walk_after e r i walked ≡ walked
-other_walk (Start j) (moving c) i walked o = cond-false (eqb j i) _ walked o
-other_walk (Start j) r i walked o = refl
-other_walk (Restart j) (between u c k) i walked o = ap (λ b. cond (b && eqb (length walked) (k + 1)) (walked ++ c ∷ []) walked) o
-other_walk (Restart j) r i walked o = refl
-other_walk e r i walked o = refl
-
-other_starts : (e : Event) (r : Answer) (i : ℕ) (a : Option ℕ) → eqb (agent_of e) i ≡ false → starts_of e r i a ≡ 0
-other_starts (Start j) r i a o = ap (λ b. cond (b && is_begun r a) 1 0) o
-other_starts e r i a o = refl
-
-other_finishes : (e : Event) (r : Answer) (i : ℕ) (a : Option ℕ) → eqb (agent_of e) i ≡ false → finishes_of e r i a ≡ 0
-other_finishes (Finish j) r i a o = ap (λ b. cond (b && is_ended r a) 1 0) o
-other_finishes e r i a o = refl
-
-other_broken : (e : Event) (r : Answer) (i : ℕ) (before : Bool) → eqb (agent_of e) i ≡ false → broken_after e r i before ≡ before
-other_broken (Start j) r i before o = ap (λ b. cond (b && is_store_failed r) true before) o
-other_broken (Finish j) r i before o = ap (λ b. cond (b && is_store_failed r) true before) o
-other_broken (Restart j) r i before o = ap (λ b. cond (b && is_opened r) false before) o
-other_broken e r i before o = refl
 
 -- ---- the answers to a start
 
@@ -225,9 +203,9 @@ walked_next v tab h i track there went was e r by_rules =
     elim (cases_Bool (eqb (agent_of e) i)) [
       | inl own ↦ walked_own v tab h i track there went was e r own by_rules
       | inr other ↦
-          stays_same tab h i track (record { event = e; answer = r }) was (other_walk e r i (walk track h i) other)
-          (other_starts e r i (armed_of h i) other) (other_finishes e r i (armed_of h i) other)
-          (λ sound. sym (other_broken e r i (is_broken h i) other) ∙ sound)
+          stays_same tab h i track (record { event = e; answer = r }) was (walk-other e r i (walk track h i) other)
+          (starts-other e r i (armed_of h i) other) (finishes-other e r i (armed_of h i) other)
+          (λ sound. sym (broken-other e r i (is_broken h i) other) ∙ sound)
     ]
 
 walked : (v : Version) (tab : Timetable) (h : History) (i : ℕ) (track : Track) → track_of tab i ≡ Some track → IsRun v tab h → Walked tab h i track

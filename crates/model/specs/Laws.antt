@@ -13,10 +13,14 @@ pub mod Entries
 pub mod Histories
 -- how far agents have come in a run
 pub mod Runs
+-- what an event of one agent leaves of the others
+pub mod Others
 -- steps that lead round
 pub mod Rounds
 -- who waits for whom leads to a rotation
 pub mod Waits
+-- somebody can move, or there is a rotation
+pub mod Stuck
 -- a rotation never begins
 pub mod Rotations
 -- agents that are ready come on

@@ -1,5 +1,12 @@
--- Lemmas on what is written for plans.
+-- Lemmas on what is written for plans, and on walks and their text.
 mod PlainText
 mod DepsLemmas
 mod DepsPuts
 mod VisitLines
+mod StrayLemmas
+mod RowLemmas
+mod WalkLemmas
+mod CellLemmas
+mod PathLines
+mod NumeralLemmas
+mod AskedLemmas

@@ -1,6 +1,7 @@
--- The words of why a plan is not accepted.
-use Rattle.std.specs.Prelude.{Bool, true, false}
-use Rattle.text_io.specs.FaultWords.{Words}
+-- The words of why a plan is not accepted, and of why no positions are written.
+use Rattle.std.specs.Prelude.{Bool, true, false, [], codes}
+use Rattle.text_io.specs.declared.failure.Failure.TheVariants as failure
+use Rattle.text_io.specs.FaultWords.{Words, text_fault, failed}
 use Rattle.model.specs.declared.plan_fault.PlanFault.TheVariants as plan_fault
 use Rattle.plan.specs.FaultWords.{fit_fault_words}
 use Rattle.planned.specs.FaultWords.{planned_fault_words}
@@ -8,6 +9,8 @@ use Rattle.planned.specs.declared.planned_fault.PlannedFault.TheVariants as plan
 use Rattle.rows.specs.FaultWords.{scen_fault_words}
 use Rattle.plan_commands.specs.declared.check_fault.CheckFault.{CheckFault}
 use Rattle.plan_commands.specs.declared.check_fault.CheckFault.TheVariants as check_fault
+use Rattle.plan_commands.specs.declared.path_fault.PathFault.{PathFault}
+use Rattle.plan_commands.specs.declared.path_fault.PathFault.TheVariants as path_fault
 
 -- those of the fault that a text or the plan has
 abbrev pub check_fault_words : CheckFault → Words
@@ -21,3 +24,8 @@ is_rejection (check_fault.Planned (planned_fault.Plan plan_fault.OutOfMemory)) =
 is_rejection (check_fault.Planned (planned_fault.Plan fault)) = true
 is_rejection (check_fault.Unfit fault) = true
 is_rejection _ = false
+
+abbrev pub path_fault_words : PathFault → Words
+path_fault_words (path_fault.Planned fault) = planned_fault_words fault
+path_fault_words path_fault.NoSuchAgent = text_fault (codes "NoSuchAgent") []
+path_fault_words path_fault.OutOfMemory = failed failure.OutOfMemory

@@ -1,7 +1,7 @@
 -- What has to be believed, in the order in which to read it: each promise of the crate is made in these words, and in those of
--- `text_commands`.
+-- `model`, `planned` and `text_commands`.
 
--- the words of a plan's fault
+-- the words of a plan's fault, and of why no positions are written
 pub mod FaultWords
 -- what is written for a plan that was checked
 pub mod VerdictText
@@ -15,5 +15,11 @@ pub mod DepsCommand
 pub mod CellVisitsText
 -- what `mapf deps --cell` does and answers
 pub mod DepsCellCommand
+-- which plans can be walked, agent by agent, and what is wrong with the others
+pub mod Walkable
+-- where the agents are at each time, and what is written of it
+pub mod PathText
+-- what `mapf path` does and answers
+pub mod PathCommand
 -- The code's own words, of which no promise speaks.
 pub mod Code

@@ -1,17 +1,25 @@
 //! The commands over plans.
 #![tactic(auto)]
 
+mod cell_text;
 pub mod check_command;
 mod check_fault;
 pub mod deps_cell_command;
 pub mod deps_command;
 mod deps_text;
 pub mod laws;
+mod numerals;
+pub mod path_command;
+mod path_fault;
+mod path_text;
+mod straying;
 mod verdict;
 mod visits_text;
+mod walk;
 
 pub use check_command::{check_cmd, check_fit_cmd};
 pub use check_fault::CheckFault;
 pub use deps_cell_command::deps_cell_cmd;
 pub use deps_command::deps_cmd;
+pub use path_command::path_cmd;
 pub use verdict::{Verdict, verdict_json};

@@ -1,16 +1,16 @@
 -- What `mapf run` does and answers.
 use Rattle.std.specs.Prelude.{◌≡◌, ℕ, Bool, true, false, List, MatchBool, Option, Result, Ok, Err}
 use Rattle.text_io.specs.declared.counted.Counted.{Counted}
-use Rattle.replay.specs.declared.completion.Completion.{Completion}
-use Rattle.replay.specs.declared.completion.Completion.TheVariants.{Ends, Blocked}
-use Rattle.replay.specs.declared.run_fault.RunFault.{RunFault}
-use Rattle.replay.specs.declared.run_fault.RunFault.TheVariants.{Planned, WriteFailed}
-use Rattle.replay.specs.Completing.{CompletesText}
-use Rattle.replay.specs.Replaying.{RunsText}
+use Rattle.runner.specs.declared.completion.Completion.{Completion}
+use Rattle.runner.specs.declared.completion.Completion.TheVariants.{Ends, Blocked}
+use Rattle.runner.specs.declared.run_fault.RunFault.{RunFault}
+use Rattle.runner.specs.declared.run_fault.RunFault.TheVariants.{Planned, WriteFailed}
+use Rattle.runner.specs.Completing.{CompletesText}
+use Rattle.runner.specs.Replaying.{RunsText}
 use Rattle.text_commands.specs.declared.status.Status.TheVariants.{Done, Fault}
 use Rattle.text_commands.specs.Ending.{End, answered_with, gave_up}
 use Rattle.text_commands.specs.Finishing.{FinishesWriting}
-use Rattle.replay.specs.FaultWords.{run_fault_words}
+use Rattle.runner.specs.FaultWords.{run_fault_words}
 
 -- The texts were read and the events were answered; where it was asked for, and there alone, it was also said how their run ends.
 abbrev pub RunsOrCompletes

@@ -3,7 +3,7 @@ ghost use Rattle.std.specs.Prelude.{◌≡◌};
 ghost use Rattle.text_commands.specs.Ending.{EndsAndTells, end_of};
 ghost use Rattle.run_commands.specs.RunCommand.{RunsOrCompletes, needs_flush, end_of_run, AnswersRun};
 
-use replay::{Completion, RunFault, complete_text, run_text};
+use runner::{Completion, RunFault, complete_text, run_text};
 use std::alloc::Global;
 use std::io::{Read, Write};
 use text_commands::{Ending, Status, conclude, finish};

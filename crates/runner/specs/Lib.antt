@@ -1,20 +1,10 @@
--- What has to be believed of the crate, beside the definitions of `model` and `agent`, in the order in which to read it.
+-- What has to be believed of the crate, beside the definitions of the crates below it, in the order in which to read it.
 
--- the tape that tears where it is told to
-pub mod SimTape
--- messages as they are kept
-pub mod SaidMessages
--- of whom an agent has heard
-pub mod Hearing
--- what a runner is, and at which history it stands
-pub mod Standing
--- what is promised of every run
-pub mod SafeRuns
--- how a run ends, or what blocks it
-pub mod Endings
--- the words of why a run is not completed
+-- what a map, a plan and events come to, as texts
+pub mod Replaying
+-- and how the run ends
+pub mod Completing
+-- the words of why a run is not replayed to its end
 pub mod FaultWords
--- the code's own words
+-- The code's own words, of which no promise speaks.
 pub mod Code
--- What follows from these definitions, each with its proof: proofs of other crates cite it, and nothing of it has to be believed.
-pub mod Laws

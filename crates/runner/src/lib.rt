@@ -1,18 +1,15 @@
-//! Whole runs: all agents of a graph over tapes that tear, and every message that was said.
+//! Runs of a plan: given as texts, or event by event. What executes them stands in a crate below.
 #![tactic(auto)]
 
-mod arrival;
-mod complete_fault;
-mod ending;
-pub mod laws;
-mod replies;
-mod runner;
-mod runs;
-mod said;
-mod sim_tape;
+mod completing;
+mod completion;
+mod replaying;
+mod run_fault;
 
-pub use complete_fault::CompleteFault;
-pub use model::{Event, Reply, Version, Why};
-pub use runner::Runner;
-pub use runs::{run, run_with};
-pub use sim_tape::SimTape;
+pub use completing::complete_text;
+pub use completion::Completion;
+pub use executor::{
+    CompleteFault, Event, Reply, Runner, SimTape, Version, Why, laws, run, run_with,
+};
+pub use replaying::{run_text, was_written};
+pub use run_fault::RunFault;

@@ -1,4 +1,4 @@
-//! Tests of the crates runner and replay: what an agent of a run holds, what a tape gives back, and runs while memory may be refused. What runs
+//! Tests of the crates runner and executor: what an agent of a run holds, what a tape gives back, and runs while memory may be refused. What runs
 //! answer, `./test` shows by `mapf run`.
 #![tactic(auto)]
 

@@ -4,7 +4,7 @@ use fakes::{BEHIND, Keeper, LANE};
 use grid::MapFault;
 use plan::{PlanFault, PlanTextFault};
 use planned::PlannedFault;
-use replay::{Completion, RunFault, complete_text, run_text};
+use runner::{Completion, RunFault, complete_text, run_text};
 use std::alloc::Global;
 use std::process::Abort;
 use std::test::Fail;

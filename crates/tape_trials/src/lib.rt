@@ -1,4 +1,4 @@
-//! Tests of the crate file_tape: tapes in files that are read and written, fail, or are cut off; and of the disk that stands in for the system's.
+//! Tests of the crate robot: tapes in files that are read and written, fail, or are cut off; and of the disk that stands in for the system's.
 #![tactic(auto)]
 
 #[cfg(test)]

@@ -3,7 +3,7 @@
 use crate::tape_files::is_left;
 use agent::Tape;
 use fakes::{FakeDisk, MOVING, bytes_of};
-use file_tape::{FileTape, FileTapeFault};
+use robot::{FileTape, FileTapeFault};
 use std::test::Fail;
 
 /// With a record and without one, nothing but memory is lacking, and the file stays as it is. The disk takes no memory to sync it.

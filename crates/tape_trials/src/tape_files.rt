@@ -1,7 +1,7 @@
 //! Files that are opened as tapes, and written.
 use agent::{Tape, TapeError};
 use fakes::{Call, DiskFile, FakeDisk, MOVED, MOVING, STANDING, bytes_of};
-use file_tape::{FileTape, FileTapeFault};
+use robot::{FileTape, FileTapeFault};
 use std::alloc::Global;
 use std::test::Fail;
 

@@ -3,9 +3,9 @@ use Rattle.std.specs.Prelude.{◌≡◌, ◌≤◌, true, length}
 use Rattle.model.specs.History.{record_length}
 use Rattle.agent_commands.specs.declared.agent_fault.AgentFault.{AgentFault}
 use Rattle.agent_commands.specs.declared.agent_fault.AgentFault.TheVariants.{OpenFailed, TapeExists, NoTape, File}
-use Rattle.file_tape.specs.FileTape.{file_state}
-use Rattle.file_tape.specs.declared.file_tape.FileTape.{FileTape}
-use Rattle.file_tape.specs.declared.file_tape.FileTapeFault.TheVariants.{TapeFailed}
+use Rattle.robot.specs.FileTape.{file_state}
+use Rattle.robot.specs.declared.file_tape.FileTape.{FileTape}
+use Rattle.robot.specs.declared.file_tape.FileTapeFault.TheVariants.{TapeFailed}
 use Rattle.tape_claim.specs.declared.TapeClaim.{TapeClaim}
 use Rattle.tape_claim.specs.declared.TapeClaim.TheVariants.{New, Kept}
 

@@ -13,8 +13,8 @@ use Rattle.agent.specs.Replies.{stood}
 use Rattle.agent.specs.States.{finished_moves}
 use Rattle.agent.specs.Tape.{whole_records}
 use Rattle.event_text.specs.ReplyText.{reply_line}
-use Rattle.file_tape.specs.declared.file_tape.FileTapeFault.{FileTapeFault}
-use Rattle.file_tape.specs.declared.file_tape.FileTapeFault.TheVariants.{TooLong, TapeFailed, OutOfMemory}
+use Rattle.robot.specs.declared.file_tape.FileTapeFault.{FileTapeFault}
+use Rattle.robot.specs.declared.file_tape.FileTapeFault.TheVariants.{TooLong, TapeFailed, OutOfMemory}
 use Rattle.agent_commands.specs.TapeCommand.{IsReadWhole, IsShown, records_line, tape_of_bytes}
 use Rattle.agent_commands.specs.declared.agent_fault.AgentFault.{AgentFault}
 use Rattle.agent_commands.specs.declared.tape_report.TapeImage.{TapeImage}

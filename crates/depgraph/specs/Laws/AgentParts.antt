@@ -13,7 +13,7 @@ use Rattle.depgraph.specs.Graphs.{IsGraphed}
 
 -- ---- how many moves there are
 
-moves-within : (c : Cell) (cells : List Cell) (t : ℕ) → moves_after c cells t ≤ length cells
+pub moves-within : (c : Cell) (cells : List Cell) (t : ℕ) → moves_after c cells t ≤ length cells
 moves-within c [] t = omega arith
 moves-within c (d ∷ cells) zero = omega arith
 moves-within c (d ∷ cells) (suc t) = elim (cases_Bool (same_cell c d)) [

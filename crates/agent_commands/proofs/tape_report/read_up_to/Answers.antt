@@ -1,6 +1,6 @@
 -- A piece more is read.
 use Rattle.std.proofs.Common.{◌∙◌}
-use Rattle.file_tape.specs.Laws.Pieces.{reads_more, within_more}
+use Rattle.robot.specs.Laws.Pieces.{reads_more, within_more}
 use Rattle.agent_commands.proofs.tape_report.read_up_to.Goals as goal
 
 pub pieces-preserved : goal.pieces-preserved

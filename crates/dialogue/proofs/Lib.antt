@@ -1,2 +1,0 @@
-mod DialogueLemmas
-mod InputLemmas

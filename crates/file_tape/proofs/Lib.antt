@@ -1,2 +1,0 @@
--- Lemmas of several files.
-pub mod ReadLemmas

@@ -1,0 +1,4 @@
+-- Lemmas of several files.
+pub mod ReadLemmas
+mod DialogueLemmas
+mod InputLemmas

@@ -1,0 +1,37 @@
+use Rattle.std.proofs.Common.{rules}
+use Rattle.robot.proofs.answering.answer_request.Goals as goal
+
+pub returns-in-Start-clause-same : goal.returns-in-Start-clause-same
+returns-in-Start-clause-same g c =
+    let done = c.start.ensures.starts c.start.ensures.within.0 c.start.ensures.within.2 in
+    search rules
+
+pub returns-in-Start-clause-counts : goal.returns-in-Start-clause-counts
+returns-in-Start-clause-counts g c =
+    let done = c.start.ensures.starts c.start.ensures.within.0 c.start.ensures.within.2 in
+    search rules
+
+pub returns-in-Start-clause-takes : goal.returns-in-Start-clause-takes
+returns-in-Start-clause-takes g c table is track there =
+    let done = c.start.ensures.starts table is in
+    search rules
+
+pub returns-in-Finish-clause-same : goal.returns-in-Finish-clause-same
+returns-in-Finish-clause-same g c =
+    let done = c.finish.ensures.finishes c.finish.ensures.within.0 c.finish.ensures.within.2 in
+    search rules
+
+pub returns-in-Finish-clause-counts : goal.returns-in-Finish-clause-counts
+returns-in-Finish-clause-counts g c =
+    let done = c.finish.ensures.finishes c.finish.ensures.within.0 c.finish.ensures.within.2 in
+    search rules
+
+pub returns-in-Finish-clause-takes : goal.returns-in-Finish-clause-takes
+returns-in-Finish-clause-takes g c table is track there =
+    let done = c.finish.ensures.finishes table is in
+    search rules
+
+pub returns-in-Held-clause-takes : goal.returns-in-Held-clause-takes
+returns-in-Held-clause-takes g c table is track there =
+    let done = c.state_answer.ensures.line table is in
+    search rules

@@ -1,0 +1,113 @@
+//! Answering an input line.
+ghost use Rattle.std.specs.Prelude.{◌≡◌, ◌≤◌, ◌*◌, false, List, ℕ, Some, length, IfSome};
+ghost use Rattle.model.specs.Timetable.{Track, Timetable, track_of};
+ghost use Rattle.depgraph.specs.AgentParts.{IsPartOf, IsOfGraph};
+ghost use Rattle.agent.specs.Agents.{state_of};
+ghost use Rattle.robot.specs.Requests.{longest_request, say, tell, hear};
+ghost use Rattle.robot.specs.Turns.{TakesRequest, IsTurn, state_line};
+ghost use Rattle.robot.specs.Code.Answering.{answer_line, says_store_failed, CountsFailures, IsSameAgent};
+ghost use Rattle.robot.specs.Code.Reading.{request_in, FitsIn, IsLineKept};
+
+use crate::line_answer::LineAnswer;
+use crate::request::{Request, read_request};
+use agent::replies::{
+    reply_to_delivery, reply_to_finish, reply_to_restart, reply_to_start, why_of,
+};
+use agent::{Agent, Tape, TellFault};
+use model::{Reply, Why};
+
+/// Answers a line that was kept in a room, so many bytes without an LF; one that was too long is not understood.
+pub(crate) fn answer_kept<T: Tape>(
+    agent: &mut Agent<'_, T>,
+    line: &[u8],
+    kept: Option<usize>,
+    room: &mut [u8],
+) -> LineAnswer
+    requires long { length line.now ≡ longest_request }
+    requires has_room { longest_request ≤ 2 * length room.old }
+    requires within { IfSome kept (λ count. count ≤ length line.now) }
+    ensures same { IsSameAgent agent.old agent.new }
+    ensures counts { CountsFailures (says_store_failed result) (T.state agent.old.tape).failures (T.state agent.new.tape).failures }
+    ensures turn { (tt : Timetable) → IsPartOf tt agent.old.part → (track : Track) (text : List ℕ) → track_of tt agent.old.part.agent ≡ Some track
+        → IsLineKept text line.now kept → IsTurn tt agent.old.part.agent track text (state_of T.state agent.old) (state_of T.state agent.new) (answer_line result) }
+{
+    match kept {
+        Some(count) => answer_text(agent, &line[..count], room),
+        None => LineAnswer::BadLine,
+    }
+}
+
+/// Answers a line without its LF.
+fn answer_text<T: Tape>(agent: &mut Agent<'_, T>, line: &[u8], room: &mut [u8]) -> LineAnswer
+    requires not_longer { length line.now ≤ longest_request }
+    requires has_room { longest_request ≤ 2 * length room.old }
+    ensures same { IsSameAgent agent.old agent.new }
+    ensures counts { CountsFailures (says_store_failed result) (T.state agent.old.tape).failures (T.state agent.new.tape).failures }
+    ensures turn { (tt : Timetable) → IsPartOf tt agent.old.part → (track : Track) → track_of tt agent.old.part.agent ≡ Some track
+        → IsTurn tt agent.old.part.agent track line.now (state_of T.state agent.old) (state_of T.state agent.new) (answer_line result) }
+{
+    match read_request(line, room) {
+        Some(request) => answer_request(agent, request, room),
+        None => LineAnswer::BadLine,
+    }
+}
+
+/// Does what is asked for; the message that is to be heard stands at the front of the room.
+fn answer_request<T: Tape>(agent: &mut Agent<'_, T>, request: Request, room: &[u8]) -> LineAnswer
+    requires { FitsIn room.now request }
+    ensures same { IsSameAgent agent.old agent.new }
+    ensures counts { CountsFailures (says_store_failed result) (T.state agent.old.tape).failures (T.state agent.new.tape).failures }
+    ensures takes { (tt : Timetable) → IsPartOf tt agent.old.part → (track : Track) → track_of tt agent.old.part.agent ≡ Some track
+        → TakesRequest tt agent.old.part.agent track (request_in room.now request) (state_of T.state agent.old) (state_of T.state agent.new) (answer_line result) }
+{
+    match request {
+        Request::Start => LineAnswer::Reply(reply_to_start(agent.start())),
+        Request::Finish => LineAnswer::Reply(reply_to_finish(agent.finish())),
+        Request::Say => answer_say(agent),
+        Request::Tell => answer_tell(agent),
+        Request::Held => state_answer(agent),
+        Request::Hear(count) => answer_hear(agent, &room[..count]),
+    }
+}
+
+fn answer_say<T: Tape>(agent: &Agent<'_, T>) -> LineAnswer
+    ensures never { says_store_failed result ≡ false }
+    ensures takes { (tt : Timetable) → IsPartOf tt agent.now.part → (track : Track) → TakesRequest tt agent.now.part.agent track say (state_of T.state agent.now) (state_of T.state agent.now) (answer_line result) }
+{
+    match agent.say() {
+        Ok(message) => LineAnswer::Said(message),
+        Err(refusal) => LineAnswer::Reply(Reply::Refused(why_of(refusal))),
+    }
+}
+
+fn answer_tell<T: Tape>(agent: &Agent<'_, T>) -> LineAnswer
+    ensures never { says_store_failed result ≡ false }
+    ensures takes { (tt : Timetable) → IsPartOf tt agent.now.part → (track : Track) → TakesRequest tt agent.now.part.agent track tell (state_of T.state agent.now) (state_of T.state agent.now) (answer_line result) }
+{
+    match agent.tell() {
+        Ok(message) => LineAnswer::Told(message),
+        Err(TellFault::Broken) => LineAnswer::Reply(Reply::Refused(Why::Broken)),
+        Err(TellFault::OutOfMemory) => LineAnswer::OutOfMemory,
+    }
+}
+
+fn answer_hear<T: Tape>(agent: &mut Agent<'_, T>, message: &[u8]) -> LineAnswer
+    ensures same { IsSameAgent agent.old agent.new }
+    ensures counts { CountsFailures (says_store_failed result) (T.state agent.old.tape).failures (T.state agent.new.tape).failures }
+    ensures takes { (tt : Timetable) → IsPartOf tt agent.old.part → (track : Track) → TakesRequest tt agent.old.part.agent track (hear message.now) (state_of T.state agent.old) (state_of T.state agent.new) (answer_line result) }
+{
+    match reply_to_delivery(agent.hear(message)) {
+        Ok(reply) => LineAnswer::Reply(reply),
+        Err(_) => LineAnswer::OutOfMemory,
+    }
+}
+
+/// Where the agent is, and how many moves it has finished.
+pub(crate) fn state_answer<T: Tape>(agent: &Agent<'_, T>) -> LineAnswer
+    ensures never { says_store_failed result ≡ false }
+    ensures line { (tt : Timetable) → IsPartOf tt agent.now.part → (track : Track) × (track_of tt agent.now.part.agent ≡ Some track)
+        × (answer_line result ≡ state_line track (state_of T.state agent.now)) }
+    ensures within { IsOfGraph agent.now.part }
+{
+    LineAnswer::Reply(reply_to_restart(agent.held(), agent.done()))
+}

@@ -1,9 +1,0 @@
-use Rattle.runner.specs.Code.Leading.{AreUnheard, HasSameStandings}
-use Rattle.runner.proofs.ending.Ending.add_places.Given as goal
-
--- nothing but places is different
-abbrev pub invariant-moves : goal.invariant-moves
-invariant-moves l = record {
-  same : HasSameStandings l.fn.self l.self;
-  none_heard : AreUnheard l.self.heard;
-}

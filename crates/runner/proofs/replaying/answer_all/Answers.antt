@@ -1,0 +1,28 @@
+-- What was put is handed on, and so written.
+use Rattle.std.proofs.Common.{ℕ, List, true, false}
+use Rattle.text_io.specs.Sink.{Puts, Breaks}
+use Rattle.text_io.specs.Source.{source_reader}
+use Rattle.runner.specs.Replaying.{AnswersEvents}
+use Rattle.runner.proofs.HandingLemmas.{written}
+use Rattle.runner.proofs.ReplyLemmas.{Wrote, handed_on, not_handed_on, left_off}
+use Rattle.runner.proofs.replaying.answer_all.Goals as goal
+
+pub returns-clause-answers : goal.returns-clause-answers
+returns-clause-answers g c =
+    let contents = g.W.Write.contents in
+    let first = c.args.sink.now in
+    let put = c.answer_events-answer.new.sink in
+    let last = c.hand_on.new.sink in
+    let left = g.E.Read.remaining in
+    let old = source_reader c.args.source.now in
+    let new = source_reader c.answer_events-answer.new.source in
+    let tt = c.args.graph.now in
+    let whole = Puts contents first put in
+    let broken = Breaks contents first put in
+    let all = λ (text : List ℕ). Wrote contents first last text true in
+    let part = λ (text : List ℕ). Wrote contents first last text false in
+    written contents first put last (AnswersEvents left tt old new) c.requires.none_held
+    (handed_on left tt old new whole broken all part)
+    (not_handed_on left tt old new whole broken part)
+    (left_off left tt old new whole broken all part)
+    c.answer_events-answer.result c.hand_on.result c.answer_events-answer.ensures.answers c.hand_on.ensures.handed
