@@ -1,5 +1,5 @@
 -- Lemmas on the command line.
 mod Stops
 mod Filled
-mod Commands
+mod RequiredWords
 mod Taken

@@ -1,13 +1,13 @@
 -- Where clap's definition of the program takes the words, they name a command and give it the words that it requires.
-use Rattle.std.proofs.Common.{◌≡◌, true, false, List, Option, Some, None, refl, rules}
-use Rattle.std.specs.Prelude.{is_some, MatchOption}
+use Rattle.std.proofs.Common.{◌≡◌, ℕ, true, false, List, [], Option, Some, None, refl, rules}
+use Rattle.std.specs.Prelude.{is_some, slice_get, unwrap_or, MatchOption}
 use Rattle.clap.specs.Simple.{App, argument_words, built, entered, is_simple, names_of, subcommand_of}
 use Rattle.clap.specs.Takes.{built_takes, entered_passes, level_passes, takes}
 use Rattle.clap.specs.Walk.{Row, Text, finished, nothing_held, walk, walk_from}
 use Rattle.clap.proofs.WalkLemmas.{both}
-use Rattle.command_line.specs.Words.{agent_command, check_command, deps_command, map_command, path_command, program_app, row_command, run_command, scen_command, tape_command}
+use Rattle.command_line.specs.Words.{Usage, commands, file_command, program_app}
 use Rattle.command_line.specs.Code.Parts.{HasWords}
-use Rattle.command_line.proofs.Commands.{command_given, level_parts, valid_parts}
+use Rattle.command_line.proofs.RequiredWords.{command_given, level_parts, valid_parts}
 use Rattle.command_line.proofs.Stops.{AreNamed, StopsAt, walk_stays}
 
 -- there is a command, and the words that it requires are among the rows
@@ -21,24 +21,28 @@ program = built program_app
 abbrev Gives : Text → Type 0
 Gives name = (words : List Text) → entered_passes program (Some (name, words)) ≡ true → IsGiven (entered program (Some (name, words)))
 
+-- the command in this place of the list
+abbrev usage : ℕ → Usage
+usage place = unwrap_or (slice_get commands place) (file_command [])
+
 commands_give : AreNamed Gives (names_of program)
 commands_give = (
-  λ other words. command_given map_command words (search rules),
+  λ other words. command_given (usage 0) words (search rules),
   (
-    λ other words. command_given scen_command words (search rules),
+    λ other words. command_given (usage 1) words (search rules),
     (
-      λ other words. command_given row_command words (search rules),
+      λ other words. command_given (usage 2) words (search rules),
       (
-        λ other words. command_given check_command words (search rules),
+        λ other words. command_given (usage 3) words (search rules),
         (
-          λ other words. command_given deps_command words (search rules),
+          λ other words. command_given (usage 4) words (search rules),
           (
-            λ other words. command_given path_command words (search rules),
+            λ other words. command_given (usage 5) words (search rules),
             (
-              λ other words. command_given run_command words (search rules),
+              λ other words. command_given (usage 6) words (search rules),
               (
-                λ other words. command_given agent_command words (search rules),
-                (λ other words. command_given tape_command words (search rules), (λ other. let bad : true ≡ false = other in cc, tt)),
+                λ other words. command_given (usage 7) words (search rules),
+                (λ other words. command_given (usage 8) words (search rules), (λ other. let bad : true ≡ false = other in cc, tt)),
               ),
             ),
           ),

@@ -11,8 +11,10 @@ use Rattle.clap.specs.declared.error.kind.ErrorKind.TheVariants as kind
 use Rattle.tape_claim.specs.declared.TapeClaim.{TapeClaim}
 use Rattle.tape_claim.specs.declared.TapeClaim.TheVariants.{Any, New, Kept}
 use Rattle.command_line.specs.declared.command_line.Asked.{Asked}
-use Rattle.command_line.specs.declared.command_line.Line.{Line}
-use Rattle.command_line.specs.declared.command_line.Line.TheVariants.{Map, Scen, Row as row_line, Check, Deps, Path, Run, Agent, Tape}
+use Rattle.command_line.specs.declared.commands.Line.{Line}
+use Rattle.command_line.specs.declared.commands.Line.TheVariants as line
+use Rattle.command_line.specs.declared.commands.PlanQuery.{PlanQuery}
+use Rattle.command_line.specs.declared.commands.PlanQuery.TheVariants as query
 use Rattle.command_line.specs.declared.command_line.LineFault.{LineFault}
 use Rattle.command_line.specs.declared.command_line.LineFault.TheVariants.{Help, BadCommand, OutOfMemory}
 
@@ -44,79 +46,61 @@ explain_flag = codes "explain"
 abbrev pub file_command : Text → Usage
 file_command name = record { name = name; required = codes "file" ∷ []; options = []; cells = []; flags = explain_flag ∷ [] }
 
-abbrev pub map_command : Usage
-map_command = file_command (codes "map")
-
-abbrev pub scen_command : Usage
-scen_command = file_command (codes "scen")
-
-abbrev pub row_command : Usage
-row_command = record {
-  name = codes "row";
-  required = codes "map" ∷ codes "scen" ∷ codes "row" ∷ [];
-  options = [];
-  cells = [];
-  flags = explain_flag ∷ [];
-}
-
-abbrev pub check_command : Usage
-check_command = record {
-  name = codes "check";
-  required = codes "map" ∷ codes "plan" ∷ [];
-  options = codes "scen" ∷ codes "agents" ∷ [];
-  cells = [];
-  flags = codes "json" ∷ explain_flag ∷ [];
-}
-
-abbrev pub deps_command : Usage
-deps_command = record {
-  name = codes "deps";
-  required = codes "map" ∷ codes "plan" ∷ [];
-  options = [];
-  cells = codes "cell" ∷ [];
-  flags = explain_flag ∷ [];
-}
-
-abbrev pub path_command : Usage
-path_command = record {
-  name = codes "path";
-  required = codes "map" ∷ codes "plan" ∷ [];
-  options = codes "agent" ∷ [];
-  cells = [];
-  flags = explain_flag ∷ [];
-}
-
-abbrev pub run_command : Usage
-run_command = record {
-  name = codes "run";
-  required = codes "map" ∷ codes "plan" ∷ codes "events" ∷ [];
-  options = [];
-  cells = [];
-  flags = codes "complete" ∷ explain_flag ∷ [];
-}
-
-abbrev pub agent_command : Usage
-agent_command = record {
-  name = codes "agent";
-  required = codes "map" ∷ codes "plan" ∷ codes "id" ∷ codes "file" ∷ [];
-  options = codes "tape" ∷ [];
-  cells = [];
-  flags = explain_flag ∷ [];
-}
-
-abbrev pub tape_command : Usage
-tape_command = record {
-  name = codes "tape";
-  required = codes "map" ∷ codes "plan" ∷ codes "id" ∷ codes "file" ∷ [];
-  options = [];
-  cells = [];
-  flags = explain_flag ∷ [];
-}
-
 -- all commands
 abbrev pub commands : List Usage
 commands =
-    map_command ∷ scen_command ∷ row_command ∷ check_command ∷ deps_command ∷ path_command ∷ run_command ∷ agent_command ∷ tape_command ∷ []
+    file_command (codes "map")
+    ∷ file_command (codes "scen")
+    ∷ record {
+      name = codes "row";
+      required = codes "map" ∷ codes "scen" ∷ codes "row" ∷ [];
+      options = [];
+      cells = [];
+      flags = explain_flag ∷ [];
+    }
+    ∷ record {
+      name = codes "check";
+      required = codes "map" ∷ codes "plan" ∷ [];
+      options = codes "scen" ∷ codes "agents" ∷ [];
+      cells = [];
+      flags = codes "json" ∷ explain_flag ∷ [];
+    }
+    ∷ record {
+      name = codes "deps";
+      required = codes "map" ∷ codes "plan" ∷ [];
+      options = [];
+      cells = codes "cell" ∷ [];
+      flags = explain_flag ∷ [];
+    }
+    ∷ record {
+      name = codes "path";
+      required = codes "map" ∷ codes "plan" ∷ [];
+      options = codes "agent" ∷ [];
+      cells = [];
+      flags = explain_flag ∷ [];
+    }
+    ∷ record {
+      name = codes "run";
+      required = codes "map" ∷ codes "plan" ∷ codes "events" ∷ [];
+      options = [];
+      cells = [];
+      flags = codes "complete" ∷ explain_flag ∷ [];
+    }
+    ∷ record {
+      name = codes "agent";
+      required = codes "map" ∷ codes "plan" ∷ codes "id" ∷ codes "file" ∷ [];
+      options = codes "tape" ∷ [];
+      cells = [];
+      flags = explain_flag ∷ [];
+    }
+    ∷ record {
+      name = codes "tape";
+      required = codes "map" ∷ codes "plan" ∷ codes "id" ∷ codes "file" ∷ [];
+      options = [];
+      cells = [];
+      flags = explain_flag ∷ [];
+    }
+    ∷ []
 
 -- one required word
 abbrev pub required_word : Text → Rule
@@ -219,34 +203,36 @@ IsFlagGiven flag rows = one_of flag rows ≡ Some (codes "true")
 abbrev pub AsksToExplain : List Row → Bool → Type 0
 AsksToExplain rows explain = explain ≡ true ↔ IsFlagGiven explain_flag rows
 
+-- the command with this name asks this of a plan, by the values that the rows give
+abbrev pub IsPlanQuery : Text → List Row → PlanQuery → Type 0
+IsPlanQuery name rows (query.Deps cell) = (name ≡ codes "deps") × MayGiveCell (codes "cell") rows cell
+IsPlanQuery name rows (query.Path agent) = (name ≡ codes "path") × MayGiveNumber (codes "agent") rows agent
+
 -- the line is the command with this name, and its words have the values that the rows give
 abbrev pub IsCommand : Text → List Row → Line → Type 0
-IsCommand name rows (Map file) =
+IsCommand name rows (line.Map file) =
     (name ≡ codes "map") × (first_of (codes "file") rows ≡ Some (string_bytes file))
-IsCommand name rows (Scen file) =
+IsCommand name rows (line.Scen file) =
     (name ≡ codes "scen") × (first_of (codes "file") rows ≡ Some (string_bytes file))
-IsCommand name rows (row_line map_file scen_file row) =
+IsCommand name rows (line.Row map_file scen_file row) =
     (name ≡ codes "row") × (first_of (codes "map") rows ≡ Some (string_bytes map_file))
     × (first_of (codes "scen") rows ≡ Some (string_bytes scen_file)) × GivesNumber (codes "row") rows row
-IsCommand name rows (Check map_file plan_file scen_file agents json) =
+IsCommand name rows (line.Check map_file plan_file scen_file agents json) =
     (name ≡ codes "check") × (first_of (codes "map") rows ≡ Some (string_bytes map_file))
     × (first_of (codes "plan") rows ≡ Some (string_bytes plan_file)) × (first_of (codes "scen") rows ≡ option_map string_bytes scen_file)
     × MayGiveNumber (codes "agents") rows agents × (json ≡ true ↔ IsFlagGiven (codes "json") rows)
-IsCommand name rows (Deps map_file plan_file cell) =
-    (name ≡ codes "deps") × (first_of (codes "map") rows ≡ Some (string_bytes map_file))
-    × (first_of (codes "plan") rows ≡ Some (string_bytes plan_file)) × MayGiveCell (codes "cell") rows cell
-IsCommand name rows (Path map_file plan_file agent) =
-    (name ≡ codes "path") × (first_of (codes "map") rows ≡ Some (string_bytes map_file))
-    × (first_of (codes "plan") rows ≡ Some (string_bytes plan_file)) × MayGiveNumber (codes "agent") rows agent
-IsCommand name rows (Run map_file plan_file events_file complete) =
+IsCommand name rows (line.Query map_file plan_file query) =
+    (first_of (codes "map") rows ≡ Some (string_bytes map_file)) × (first_of (codes "plan") rows ≡ Some (string_bytes plan_file))
+    × IsPlanQuery name rows query
+IsCommand name rows (line.Run map_file plan_file events_file complete) =
     (name ≡ codes "run") × (first_of (codes "map") rows ≡ Some (string_bytes map_file))
     × (first_of (codes "plan") rows ≡ Some (string_bytes plan_file)) × (first_of (codes "events") rows ≡ Some (string_bytes events_file))
     × (complete ≡ true ↔ IsFlagGiven (codes "complete") rows)
-IsCommand name rows (Agent map_file plan_file id tape_file claim) =
+IsCommand name rows (line.Agent map_file plan_file id tape_file claim) =
     (name ≡ codes "agent") × (first_of (codes "map") rows ≡ Some (string_bytes map_file))
     × (first_of (codes "plan") rows ≡ Some (string_bytes plan_file)) × GivesNumber (codes "id") rows id
     × (first_of (codes "file") rows ≡ Some (string_bytes tape_file)) × MakesClaim (codes "tape") rows claim
-IsCommand name rows (Tape map_file plan_file id tape_file) =
+IsCommand name rows (line.Tape map_file plan_file id tape_file) =
     (name ≡ codes "tape") × (first_of (codes "map") rows ≡ Some (string_bytes map_file))
     × (first_of (codes "plan") rows ≡ Some (string_bytes plan_file)) × GivesNumber (codes "id") rows id
     × (first_of (codes "file") rows ≡ Some (string_bytes tape_file))

@@ -4,74 +4,11 @@ ghost use Rattle.clap.specs.Words.{kind_of};
 ghost use Rattle.command_line.specs.Words.{ComesTo, SaysBad};
 ghost use Rattle.command_line.specs.declared.command_line.LineFault.TheVariants.{OutOfMemory as out_of_memory};
 
+use crate::commands::Line;
 use crate::refusal::refusal_text;
 use clap::error::{Error as ClapError, ErrorKind};
-use grid::Cell;
 use std::alloc::{AllocError, Global};
-use tape_claim::TapeClaim;
 use thiserror::Error;
-
-/// A command with what its words say.
-#[derive(Debug, Drop, PartialEq, Eq)]
-pub enum Line {
-    /// Reads a map and writes it in canonical form.
-    Map {
-        file: String,
-    },
-    /// Reads a scenario and writes it in canonical form.
-    Scen {
-        file: String,
-    },
-    /// Judges the listed length of a scenario's row, counted from 0, on a map.
-    Row {
-        map: String,
-        scen: String,
-        row: u32,
-    },
-    /// Checks a plan on a map, and perhaps that it solves the first rows of a scenario, or has so many agents; `json` asks for the answer as
-    /// JSON.
-    Check {
-        map: String,
-        plan: String,
-        scen: Option<String>,
-        agents: Option<u16>,
-        json: bool,
-    },
-    /// Says which moves of a plan wait for which, or, of a cell, who comes into it.
-    Deps {
-        map: String,
-        plan: String,
-        cell: Option<Cell>,
-    },
-    /// Writes where the agents of a plan are at each time, or where one of them is.
-    Path {
-        map: String,
-        plan: String,
-        agent: Option<u16>,
-    },
-    /// Runs a plan on the events of a text; `complete` asks for how the run ends too.
-    Run {
-        map: String,
-        plan: String,
-        events: String,
-        complete: bool,
-    },
-    /// Answers for one agent of a plan, by its tape, of which something may be claimed.
-    Agent {
-        map: String,
-        plan: String,
-        id: u16,
-        tape: String,
-        claim: TapeClaim,
-    },
-    /// Says what the tape of an agent of a plan keeps.
-    Tape {
-        map: String,
-        plan: String,
-        id: u16,
-        tape: String,
-    },
-}
 
 /// What is asked for: a command, and whether more is to be said of its fault than one line.
 #[derive(Debug, Drop, PartialEq, Eq)]

@@ -2,9 +2,11 @@
 #![tactic(auto)]
 
 mod command_line;
+mod commands;
 mod help;
 mod refusal;
 mod words;
 
-pub use command_line::{Asked, Line, LineFault};
+pub use command_line::{Asked, LineFault};
+pub use commands::{Line, PlanQuery};
 pub use words::line;

@@ -1,4 +1,5 @@
 //! What is said of words that `clap` refuses: mostly its own text.
+use crate::commands::COMMANDS;
 use crate::help;
 use crate::words::program;
 use clap::error::{Error as ClapError, ErrorKind};
@@ -49,10 +50,13 @@ fn command_name(words: &[String]) -> &str {
 /// The advice to take a command that is near, or nothing where none is.
 fn near_commands(alloc: Global, word: &str) -> Result<String, AllocError> {
     let mut near = Vec::new(alloc);
-    for command in &help::COMMANDS {
-        if is_near(word.as_bytes(), command.as_bytes()) {
-            near.push(*command)?;
+    for command in COMMANDS {
+        if is_near(word.as_bytes(), command.name.as_bytes()) {
+            near.push(command.name)?;
         }
+    }
+    if is_near(word.as_bytes(), b"help") {
+        near.push("help")?;
     }
     let mut advice = String::new(alloc);
     for (place, command) in near.iter().enumerate() {

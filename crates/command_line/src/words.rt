@@ -1,18 +1,19 @@
 //! The words of the command line.
-ghost use Rattle.std.specs.Prelude.{◌≡◌, ◌↔◌, ℕ, ◌^◌, ◌<◌, [], codes, true, false, IfOk, IfErr, OnOk, OnErr, MatchOption, IsTrue, Some, is_some, map, option_map, string_bytes};
+ghost use Rattle.std.specs.Prelude.{◌≡◌, ◌↔◌, ℕ, ◌^◌, ◌<◌, [], codes, true, false, IfOk, IfErr, OnOk, OnErr, MatchOption, IsTrue, Some, is_some, map, option_map, fold, string_bytes};
 ghost use Rattle.std.specs.Char.{is_ascii_digit};
 ghost use Rattle.std.specs.List.{list_all};
 ghost use Rattle.clap.specs.Words.{app_of, with_subcommand, first_of, found_of, rows_of, rule_of, takes, fault_of};
 ghost use Rattle.grid.specs.declared.cell.Cell.{Cell};
 ghost use Rattle.text_io.specs.Text.{SpellsNumber};
 ghost use Rattle.tape_claim.specs.declared.TapeClaim.{TapeClaim};
-ghost use Rattle.command_line.specs.Words.{program_app, AsksToExplain, IsFlagGiven, HasValues, GivesNumber, GivesNumberBelow, GiveValues, SpellsCell, MayGiveCell, GivesCells, GivesClaim, MakesClaim, SaysClaim, MayGiveNumber, GivesNumbers, IsCommand, IsAskedBy, IsLineOf, IsFaultOf};
+ghost use Rattle.command_line.specs.Words.{program_app, AsksToExplain, IsFlagGiven, HasValues, GivesNumber, GivesNumberBelow, GiveValues, SpellsCell, MayGiveCell, GivesCells, GivesClaim, MakesClaim, SaysClaim, MayGiveNumber, GivesNumbers, IsAskedBy, IsLineOf, IsFaultOf};
 ghost use Rattle.command_line.specs.Code.Parts.{HasWords, IsRefusal, rule_of_word, shape_of_text};
 
 use crate::command_line::refused;
+use crate::commands::{COMMANDS, read_command};
 use crate::help::{self, CommandText, NumberText, Word};
 use crate::refusal::shown;
-use crate::{Asked, Line, LineFault};
+use crate::{Asked, LineFault};
 use clap::{Arg, ArgAction, ArgMatches, Command};
 use grid::Cell;
 use std::alloc::{AllocError, Global};
@@ -59,15 +60,22 @@ pub(crate) fn program<'a>(alloc: Global) -> Result<Command<'a>, AllocError>
         .about(help::PROGRAM_ABOUT)
         .after_help(help::PROGRAM_AFTER_HELP)
         .subcommand_required(true);
-    let program = with_command(alloc, program, &help::MAP)?;
-    let program = with_command(alloc, program, &help::SCEN)?;
-    let program = with_command(alloc, program, &help::ROW)?;
-    let program = with_command(alloc, program, &help::CHECK)?;
-    let program = with_command(alloc, program, &help::DEPS)?;
-    let program = with_command(alloc, program, &help::PATH)?;
-    let program = with_command(alloc, program, &help::RUN)?;
-    let program = with_command(alloc, program, &help::AGENT)?;
-    with_command(alloc, program, &help::TAPE)
+    with_commands(alloc, program, COMMANDS)
+}
+
+/// The program with more commands.
+fn with_commands<'a>(
+    alloc: Global,
+    bare: Command<'a>,
+    texts: &[CommandText<'a>],
+) -> Result<Command<'a>, AllocError>
+    ensures { IfOk result (λ c. app_of c ≡ fold with_subcommand (app_of bare.entry) (map shape_of_text texts.now)) }
+{
+    let mut program = bare;
+    for text in texts {
+        program = with_command(alloc, program, text)?;
+    }
+    Ok(program)
 }
 
 /// The program with one more command.
@@ -107,136 +115,8 @@ fn argument<'a>(alloc: Global, word: &Word<'a>) -> Arg<'a>
     }
 }
 
-/// Reads the command with this name, by the words that it was given.
-fn read_command(alloc: Global, name: &str, given: &ArgMatches<'_>) -> Result<Line, LineFault>
-    ensures ok { IfOk result (IsCommand name.now (rows_of (found_of given.now))) }
-    ensures err { IfErr result (λ e. HasWords name.now (rows_of (found_of given.now)) → HasValues name.now (rows_of (found_of given.now))
-        → e ≡ LineFault.OutOfMemory) }
-    ensures refusal { IfErr result IsRefusal }
-{
-    match name {
-        "map" => Ok(Line::Map {
-            file: word(alloc, given, "file")?,
-        }),
-        "scen" => Ok(Line::Scen {
-            file: word(alloc, given, "file")?,
-        }),
-        "row" => read_row(alloc, given),
-        "check" => read_check(alloc, given),
-        "deps" => read_deps(alloc, given),
-        "path" => read_path(alloc, given),
-        "run" => read_run(alloc, given),
-        "agent" => read_agent(alloc, given),
-        "tape" => read_tape(alloc, given),
-        _ => Err(no_command(alloc)),
-    }
-}
-
-/// Reads `row` by the words that it was given.
-fn read_row(alloc: Global, given: &ArgMatches<'_>) -> Result<Line, LineFault>
-    ensures ok { IfOk result (IsCommand (codes "row") (rows_of (found_of given.now))) }
-    ensures err { IfErr result (λ e. HasWords (codes "row") (rows_of (found_of given.now)) → HasValues (codes "row") (rows_of (found_of given.now))
-        → e ≡ LineFault.OutOfMemory) }
-    ensures refusal { IfErr result IsRefusal }
-{
-    Ok(Line::Row {
-        map: word(alloc, given, "map")?,
-        scen: word(alloc, given, "scen")?,
-        row: row_number(alloc, given)?,
-    })
-}
-
-/// Reads `check` by the words that it was given.
-fn read_check(alloc: Global, given: &ArgMatches<'_>) -> Result<Line, LineFault>
-    ensures ok { IfOk result (IsCommand (codes "check") (rows_of (found_of given.now))) }
-    ensures err { IfErr result (λ e. HasWords (codes "check") (rows_of (found_of given.now)) → HasValues (codes "check") (rows_of (found_of given.now))
-        → e ≡ LineFault.OutOfMemory) }
-    ensures refusal { IfErr result IsRefusal }
-{
-    Ok(Line::Check {
-        map: word(alloc, given, "map")?,
-        plan: word(alloc, given, "plan")?,
-        scen: optional_word(alloc, given, "scen")?,
-        agents: optional_number(alloc, given, "agents", help::NO_AGENT_COUNT)?,
-        json: has_flag(given, "json"),
-    })
-}
-
-/// Reads `deps` by the words that it was given.
-fn read_deps(alloc: Global, given: &ArgMatches<'_>) -> Result<Line, LineFault>
-    ensures ok { IfOk result (IsCommand (codes "deps") (rows_of (found_of given.now))) }
-    ensures err { IfErr result (λ e. HasWords (codes "deps") (rows_of (found_of given.now)) → HasValues (codes "deps") (rows_of (found_of given.now))
-        → e ≡ LineFault.OutOfMemory) }
-    ensures refusal { IfErr result IsRefusal }
-{
-    Ok(Line::Deps {
-        map: word(alloc, given, "map")?,
-        plan: word(alloc, given, "plan")?,
-        cell: optional_cell(alloc, given)?,
-    })
-}
-
-/// Reads `path` by the words that it was given.
-fn read_path(alloc: Global, given: &ArgMatches<'_>) -> Result<Line, LineFault>
-    ensures ok { IfOk result (IsCommand (codes "path") (rows_of (found_of given.now))) }
-    ensures err { IfErr result (λ e. HasWords (codes "path") (rows_of (found_of given.now)) → HasValues (codes "path") (rows_of (found_of given.now))
-        → e ≡ LineFault.OutOfMemory) }
-    ensures refusal { IfErr result IsRefusal }
-{
-    Ok(Line::Path {
-        map: word(alloc, given, "map")?,
-        plan: word(alloc, given, "plan")?,
-        agent: optional_number(alloc, given, "agent", help::NO_AGENT_NUMBER)?,
-    })
-}
-
-/// Reads `run` by the words that it was given.
-fn read_run(alloc: Global, given: &ArgMatches<'_>) -> Result<Line, LineFault>
-    ensures ok { IfOk result (IsCommand (codes "run") (rows_of (found_of given.now))) }
-    ensures err { IfErr result (λ e. HasWords (codes "run") (rows_of (found_of given.now)) → e ≡ LineFault.OutOfMemory) }
-    ensures refusal { IfErr result IsRefusal }
-{
-    Ok(Line::Run {
-        map: word(alloc, given, "map")?,
-        plan: word(alloc, given, "plan")?,
-        events: word(alloc, given, "events")?,
-        complete: has_flag(given, "complete"),
-    })
-}
-
-/// Reads `agent` by the words that it was given.
-fn read_agent(alloc: Global, given: &ArgMatches<'_>) -> Result<Line, LineFault>
-    ensures ok { IfOk result (IsCommand (codes "agent") (rows_of (found_of given.now))) }
-    ensures err { IfErr result (λ e. HasWords (codes "agent") (rows_of (found_of given.now)) → HasValues (codes "agent") (rows_of (found_of given.now))
-        → e ≡ LineFault.OutOfMemory) }
-    ensures refusal { IfErr result IsRefusal }
-{
-    Ok(Line::Agent {
-        map: word(alloc, given, "map")?,
-        plan: word(alloc, given, "plan")?,
-        id: agent_id(alloc, given, &help::AGENT_ID)?,
-        tape: word(alloc, given, "file")?,
-        claim: tape_claim(alloc, given)?,
-    })
-}
-
-/// Reads `tape` by the words that it was given.
-fn read_tape(alloc: Global, given: &ArgMatches<'_>) -> Result<Line, LineFault>
-    ensures ok { IfOk result (IsCommand (codes "tape") (rows_of (found_of given.now))) }
-    ensures err { IfErr result (λ e. HasWords (codes "tape") (rows_of (found_of given.now)) → HasValues (codes "tape") (rows_of (found_of given.now))
-        → e ≡ LineFault.OutOfMemory) }
-    ensures refusal { IfErr result IsRefusal }
-{
-    Ok(Line::Tape {
-        map: word(alloc, given, "map")?,
-        plan: word(alloc, given, "plan")?,
-        id: agent_id(alloc, given, &help::TAPE_ID)?,
-        tape: word(alloc, given, "file")?,
-    })
-}
-
 /// The number of the row that was given.
-fn row_number(alloc: Global, given: &ArgMatches<'_>) -> Result<u32, LineFault>
+pub(crate) fn row_number(alloc: Global, given: &ArgMatches<'_>) -> Result<u32, LineFault>
     ensures ok { IfOk result (GivesNumber (codes "row") (rows_of (found_of given.now))) }
     ensures none { OnErr result (GivesNumberBelow (2 ^ 32) (codes "row") (rows_of (found_of given.now)) → ⊥) }
     ensures err { IfErr result IsRefusal }
@@ -248,7 +128,11 @@ fn row_number(alloc: Global, given: &ArgMatches<'_>) -> Result<u32, LineFault>
 }
 
 /// The number of the agent that was given.
-fn agent_id(alloc: Global, given: &ArgMatches<'_>, text: &NumberText) -> Result<u16, LineFault>
+pub(crate) fn agent_id(
+    alloc: Global,
+    given: &ArgMatches<'_>,
+    text: &NumberText,
+) -> Result<u16, LineFault>
     ensures ok { IfOk result (GivesNumber (codes "id") (rows_of (found_of given.now))) }
     ensures none { OnErr result (GivesNumberBelow (2 ^ 16) (codes "id") (rows_of (found_of given.now)) → ⊥) }
     ensures err { IfErr result IsRefusal }
@@ -260,7 +144,7 @@ fn agent_id(alloc: Global, given: &ArgMatches<'_>, text: &NumberText) -> Result<
 }
 
 /// The number that an option was given, if it was given one. The text is what is said of a word that is none.
-fn optional_number(
+pub(crate) fn optional_number(
     alloc: Global,
     given: &ArgMatches<'_>,
     name: &str,
@@ -280,7 +164,7 @@ fn optional_number(
 }
 
 /// What is claimed of a tape, if something is.
-fn tape_claim(alloc: Global, given: &ArgMatches<'_>) -> Result<TapeClaim, LineFault>
+pub(crate) fn tape_claim(alloc: Global, given: &ArgMatches<'_>) -> Result<TapeClaim, LineFault>
     ensures ok { IfOk result (MakesClaim (codes "tape") (rows_of (found_of given.now))) }
     ensures none { OnErr result (GivesClaim (codes "tape") (rows_of (found_of given.now)) → ⊥) }
     ensures err { IfErr result IsRefusal }
@@ -306,7 +190,10 @@ fn claim_of(word: &str) -> Option<TapeClaim>
 }
 
 /// The cell that was given, if one was.
-fn optional_cell(alloc: Global, given: &ArgMatches<'_>) -> Result<Option<Cell>, LineFault>
+pub(crate) fn optional_cell(
+    alloc: Global,
+    given: &ArgMatches<'_>,
+) -> Result<Option<Cell>, LineFault>
     ensures ok { IfOk result (MayGiveCell (codes "cell") (rows_of (found_of given.now))) }
     ensures none { OnErr result (GivesCells (codes "cell") (rows_of (found_of given.now)) → ⊥) }
     ensures err { IfErr result IsRefusal }
@@ -352,7 +239,7 @@ fn no_number(alloc: Global, given: &ArgMatches<'_>, name: &str, text: &NumberTex
 }
 
 /// Says that the words are no command.
-fn no_command(alloc: Global) -> LineFault
+pub(crate) fn no_command(alloc: Global) -> LineFault
     ensures { IsRefusal result }
 {
     LineFault::bad_command(alloc, help::NO_COMMAND)
@@ -399,7 +286,7 @@ fn are_digits(text: &str) -> bool
 }
 
 /// The word that an argument was given.
-fn word(alloc: Global, given: &ArgMatches<'_>, name: &str) -> Result<String, LineFault>
+pub(crate) fn word(alloc: Global, given: &ArgMatches<'_>, name: &str) -> Result<String, LineFault>
     ensures ok { IfOk result (λ s. first_of name.now (rows_of (found_of given.now)) ≡ Some (string_bytes s)) }
     ensures err { IfErr result (λ e. IsTrue (is_some (first_of name.now (rows_of (found_of given.now)))) → e ≡ LineFault.OutOfMemory) }
     ensures refusal { IfErr result IsRefusal }
@@ -411,7 +298,7 @@ fn word(alloc: Global, given: &ArgMatches<'_>, name: &str) -> Result<String, Lin
 }
 
 /// The word that an argument was given, if it was given one.
-fn optional_word(
+pub(crate) fn optional_word(
     alloc: Global,
     given: &ArgMatches<'_>,
     name: &str,
@@ -432,7 +319,7 @@ fn asks_to_explain(given: &ArgMatches<'_>) -> bool
 }
 
 /// Whether a flag was given.
-fn has_flag(given: &ArgMatches<'_>, name: &str) -> bool
+pub(crate) fn has_flag(given: &ArgMatches<'_>, name: &str) -> bool
     ensures { result ≡ true ↔ IsFlagGiven name.now (rows_of (found_of given.now)) }
 {
     // `get_flag` promises nothing where the text is neither `true` nor `false`

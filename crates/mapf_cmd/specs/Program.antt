@@ -6,10 +6,11 @@ use Rattle.text_io.specs.declared.counted.Counted.{Counted}
 use Rattle.text_io.specs.Counted.{counted_inner, failures_of}
 use Rattle.text_io.specs.Writing.{WritesText}
 use Rattle.clap.specs.Words.{Text}
-use Rattle.grid.specs.declared.cell.Cell.{Cell}
 use Rattle.command_line.specs.declared.command_line.Asked.{Asked}
-use Rattle.command_line.specs.declared.command_line.Line.{Line}
-use Rattle.command_line.specs.declared.command_line.Line.TheVariants.{Map, Scen, Row, Check, Deps, Path, Run, Agent, Tape}
+use Rattle.command_line.specs.declared.commands.Line.{Line}
+use Rattle.command_line.specs.declared.commands.Line.TheVariants as line
+use Rattle.command_line.specs.declared.commands.PlanQuery.{PlanQuery}
+use Rattle.command_line.specs.declared.commands.PlanQuery.TheVariants as query
 use Rattle.command_line.specs.declared.command_line.LineFault.{LineFault}
 use Rattle.command_line.specs.declared.command_line.LineFault.TheVariants.{Help, BadCommand, OutOfMemory}
 use Rattle.command_line.specs.Words.{IsLineOf, IsFaultOf}
@@ -59,35 +60,37 @@ CheckOn remaining contents None due json old new end =
 CheckOn remaining contents (Some scen) due json old new end =
     OnThreeFiles (λ a b c d e f. AnswersCheckFit remaining remaining remaining contents a b c d e f due json old new end)
 
--- `deps` read a map and a plan, of which it told all, or who comes into a cell
-abbrev pub DepsOn : {F W : Type 0} → (F → Option (List ℕ)) → (W → Option (List ℕ)) → Option Cell → Counted W → Counted W → End → Type 0
-DepsOn remaining contents None old new end = OnTwoFiles (λ a b c d. AnswersDeps remaining remaining contents a b c d old new end)
-DepsOn remaining contents (Some cell) old new end =
-    OnTwoFiles (λ a b c d. AnswersDepsCell remaining remaining contents cell a b c d old new end)
+-- what was asked of a plan on a map was answered, by what was read of both
+abbrev pub AnswersQuery
+    : {M P W : Type 0} → (M → Option (List ℕ)) → (P → Option (List ℕ)) → (W → Option (List ℕ)) → PlanQuery
+    → Counted M → Counted M → Counted P → Counted P → Counted W → Counted W → End → Type 0
+AnswersQuery map_left plan_left contents (query.Deps None) a b c d old new end = AnswersDeps map_left plan_left contents a b c d old new end
+AnswersQuery map_left plan_left contents (query.Deps (Some cell)) a b c d old new end =
+    AnswersDepsCell map_left plan_left contents cell a b c d old new end
+AnswersQuery map_left plan_left contents (query.Path agent) a b c d old new end =
+    AnswersPath map_left plan_left contents agent a b c d old new end
 
 -- The command ended by what it read of its files. Only an agent reads the input, and a command whose one file is it.
 abbrev pub PerformsOn
     : {F I W : Type 0} → (F → Option (List ℕ)) → (I → Option (List ℕ)) → (W → Option (List ℕ)) → Line
     → Counted I → Counted I → Counted W → Counted W → End → Type 0
-PerformsOn remaining input_left contents (Map file) old_in new_in old new end =
+PerformsOn remaining input_left contents (line.Map file) old_in new_in old new end =
     OnFileOrInput (string_bytes file) (λ a b. RewritesMap input_left contents a b old new end) (λ a b. RewritesMap remaining contents a b old new end)
     old_in new_in
-PerformsOn remaining input_left contents (Scen file) old_in new_in old new end =
+PerformsOn remaining input_left contents (line.Scen file) old_in new_in old new end =
     OnFileOrInput (string_bytes file) (λ a b. RewritesScen input_left contents a b old new end) (λ a b. RewritesScen remaining contents a b old new end)
     old_in new_in
-PerformsOn remaining input_left contents (Row map_file scen_file row) old_in new_in old new end =
+PerformsOn remaining input_left contents (line.Row map_file scen_file row) old_in new_in old new end =
     OnTwoFiles (λ a b c d. AnswersRow remaining remaining contents a b c d row old new end) × (new_in ≡ old_in)
-PerformsOn remaining input_left contents (Check map_file plan_file scen_file agents json) old_in new_in old new end =
+PerformsOn remaining input_left contents (line.Check map_file plan_file scen_file agents json) old_in new_in old new end =
     CheckOn remaining contents scen_file agents json old new end × (new_in ≡ old_in)
-PerformsOn remaining input_left contents (Deps map_file plan_file cell) old_in new_in old new end =
-    DepsOn remaining contents cell old new end × (new_in ≡ old_in)
-PerformsOn remaining input_left contents (Path map_file plan_file agent) old_in new_in old new end =
-    OnTwoFiles (λ a b c d. AnswersPath remaining remaining contents agent a b c d old new end) × (new_in ≡ old_in)
-PerformsOn remaining input_left contents (Run map_file plan_file events_file complete) old_in new_in old new end =
+PerformsOn remaining input_left contents (line.Query map_file plan_file query) old_in new_in old new end =
+    OnTwoFiles (λ a b c d. AnswersQuery remaining remaining contents query a b c d old new end) × (new_in ≡ old_in)
+PerformsOn remaining input_left contents (line.Run map_file plan_file events_file complete) old_in new_in old new end =
     OnThreeFiles (λ a b c d e f. AnswersRun remaining remaining remaining contents a b c d e f complete old new end) × (new_in ≡ old_in)
-PerformsOn remaining input_left contents (Agent map_file plan_file id tape_file claim) old_in new_in old new end =
+PerformsOn remaining input_left contents (line.Agent map_file plan_file id tape_file claim) old_in new_in old new end =
     OnTwoFiles (λ a b c d. AnswersAgent remaining remaining remaining input_left contents claim id a b c d old_in new_in old new end)
-PerformsOn remaining input_left contents (Tape map_file plan_file id tape_file) old_in new_in old new end =
+PerformsOn remaining input_left contents (line.Tape map_file plan_file id tape_file) old_in new_in old new end =
     (OnThreeFiles (λ a b c d e f. AnswersTape remaining remaining remaining contents id a b c d e f old new end) ⊎ (EndsWithoutTape end × (new ≡ old)))
     × (new_in ≡ old_in)
 

@@ -4,18 +4,17 @@ ghost use Rattle.text_commands.specs.Ending.{end_of};
 ghost use Rattle.text_commands.specs.MapCommand.{RewritesMap};
 ghost use Rattle.text_commands.specs.RowCommand.{AnswersRow};
 ghost use Rattle.text_commands.specs.ScenCommand.{RewritesScen};
-ghost use Rattle.plan_commands.specs.PathCommand.{AnswersPath};
 ghost use Rattle.run_commands.specs.RunCommand.{AnswersRun};
 ghost use Rattle.agent_commands.specs.AgentCommand.{AnswersAgent};
 ghost use Rattle.agent_commands.specs.TapeCommand.{AnswersTape, EndsWithoutTape};
-ghost use Rattle.mapf_cmd.specs.Program.{CheckOn, DepsOn, OnFileOrInput, OnTwoFiles, OnThreeFiles, PerformsOn};
+ghost use Rattle.mapf_cmd.specs.Program.{AnswersQuery, CheckOn, OnFileOrInput, OnTwoFiles, OnThreeFiles, PerformsOn};
 
 use agent_commands::{Seat, agent_command, tape_command};
-use command_line::Line;
+use command_line::{Line, PlanQuery};
 use explain::{FileKind, NamedFile};
-use grid::Cell;
-use plan_commands::{check_command, deps_cell_command, deps_command, path_command};
+use plan_commands::check_command;
 use run_commands::run_command;
+use std::alloc::Global;
 use std::io::{ErrorKind, Read, Write};
 use std::rt::Files;
 use std::{fs, io};
@@ -46,8 +45,7 @@ where
             agents,
             json,
         } => check_on_files(rt, [map, plan], scen, *agents, *json, out),
-        Line::Deps { map, plan, cell } => deps_on_files(rt, map, plan, *cell, out),
-        Line::Path { map, plan, agent } => path_on_files(rt, map, plan, *agent, out),
+        Line::Query { map, plan, query } => query_on_files(rt, map, plan, *query, out),
         Line::Run {
             map,
             plan,
@@ -166,36 +164,42 @@ fn check_on_files<R: Files + AllocGlobal, W: Write>(
     }
 }
 
-fn deps_on_files<R: Files + AllocGlobal, W: Write>(
+fn query_on_files<R: Files + AllocGlobal, W: Write>(
     rt: &R,
     map: &str,
     plan: &str,
-    cell: Option<Cell>,
+    query: PlanQuery,
     out: &mut Counted<W>,
 ) -> io::Result<Ending>
-    ensures { MatchResult result (λ ending. DepsOn R.File.remaining W.contents cell out.old out.new (end_of ending)) (λ _. out.new ≡ out.old) }
-{
-    let mut map = Counted::new(fs::open(rt, map)?);
-    let mut plan = Counted::new(fs::open(rt, plan)?);
-    match cell {
-        None => Ok(deps_command::perform(rt.alloc(), &mut map, &mut plan, out)),
-        Some(cell) => Ok(deps_cell_command::perform(rt.alloc(), &mut map, &mut plan, cell, out)),
-    }
-}
-
-fn path_on_files<R: Files + AllocGlobal, W: Write>(
-    rt: &R,
-    map: &str,
-    plan: &str,
-    agent: Option<u16>,
-    out: &mut Counted<W>,
-) -> io::Result<Ending>
-    ensures { MatchResult result (λ ending. OnTwoFiles (λ a b c d. AnswersPath R.File.remaining R.File.remaining W.contents agent a b c d out.old out.new (end_of ending)))
+    ensures { MatchResult result (λ ending. OnTwoFiles (λ a b c d. AnswersQuery R.File.remaining R.File.remaining W.contents query a b c d out.old out.new (end_of ending)))
         (λ _. out.new ≡ out.old) }
 {
     let mut map = Counted::new(fs::open(rt, map)?);
     let mut plan = Counted::new(fs::open(rt, plan)?);
-    Ok(path_command::perform(rt.alloc(), &mut map, &mut plan, agent, out))
+    Ok(answer_query(rt.alloc(), &mut map, &mut plan, query, out))
+}
+
+/// Answers a query on a plan on a map.
+fn answer_query<M: Read, P: Read, W: Write>(
+    alloc: Global,
+    map: &mut Counted<M>,
+    plan: &mut Counted<P>,
+    query: PlanQuery,
+    out: &mut Counted<W>,
+) -> Ending
+    ensures { AnswersQuery M.remaining P.remaining W.contents query map.old map.new plan.old plan.new out.old out.new (end_of result) }
+{
+    match query {
+        PlanQuery::Deps { cell: None } => {
+            plan_commands::deps_command::perform(alloc, map, plan, out)
+        }
+        PlanQuery::Deps { cell: Some(cell) } => {
+            plan_commands::deps_cell_command::perform(alloc, map, plan, cell, out)
+        }
+        PlanQuery::Path { agent } => {
+            plan_commands::path_command::perform(alloc, map, plan, agent, out)
+        }
+    }
 }
 
 fn run_on_files<R: Files + AllocGlobal, W: Write>(
@@ -283,9 +287,7 @@ pub(crate) fn files_of(
             Some(file_of(Plan, plan)),
             scen.as_ref().map(|scen| file_of(Scenario, scen)),
         ),
-        Line::Deps { map, plan, .. } | Line::Path { map, plan, .. } => {
-            (file_of(Map, map), Some(file_of(Plan, plan)), None)
-        }
+        Line::Query { map, plan, .. } => (file_of(Map, map), Some(file_of(Plan, plan)), None),
         Line::Run {
             map,
             plan,

@@ -1,12 +1,13 @@
-use Rattle.std.proofs.Common.{◌≡◌, ◌∙◌, ap, true}
+use Rattle.std.proofs.Common.{◌≡◌, ◌∙◌, List, ap, map, true}
+use Rattle.std.specs.Prelude.{fold}
 use Rattle.std.proofs.lemmas.Result.{IfOk-weaker}
 use Rattle.clap.specs.Simple.{app_of_fields, on_top}
-use Rattle.clap.specs.Words.{App, app_of, with_subcommand}
-use Rattle.command_line.specs.Words.{Usage, agent_command, bare_program, check_command, command_of, deps_command, map_command, path_command, row_command, run_command, scen_command, tape_command}
+use Rattle.clap.specs.Words.{App, Shape, app_of, with_subcommand}
+use Rattle.command_line.specs.Words.{bare_program, command_of, commands}
 use Rattle.command_line.proofs.words.program.Goals as goal
 
-abbrev with_usage : App → Usage → App
-with_usage app u = with_subcommand app (command_of u).top
+abbrev shapes : List Shape
+shapes = map (λ u. (command_of u).top) commands
 
 abbrev with_version : App → App
 with_version = on_top (λ s. record s { has_version = true })
@@ -23,12 +24,4 @@ returns c =
     = ap app_of_fields c.subcommand_required-program.ensures in
     let bare : app_of c.subcommand_required-program.result ≡ bare_program
     = required ∙ ap with_subcommand_required (after ∙ about ∙ version ∙ ap with_version c.new.ensures.app) in
-    let first = c.in_ok-program.ensures ∙ ap (λ a. with_usage a map_command) bare in
-    let second = c.in_ok-program-2.ensures ∙ ap (λ a. with_usage a scen_command) first in
-    let third = c.in_ok-program-3.ensures ∙ ap (λ a. with_usage a row_command) second in
-    let fourth = c.in_ok-program-4.ensures ∙ ap (λ a. with_usage a check_command) third in
-    let fifth = c.in_ok-program-5.ensures ∙ ap (λ a. with_usage a deps_command) fourth in
-    let sixth = c.in_ok-program-6.ensures ∙ ap (λ a. with_usage a path_command) fifth in
-    let seventh = c.in_ok-program-7.ensures ∙ ap (λ a. with_usage a run_command) sixth in
-    let eighth = c.in_ok-program-8.ensures ∙ ap (λ a. with_usage a agent_command) seventh in
-    IfOk-weaker c.with_command-9.result _ _ (λ r last. last ∙ ap (λ a. with_usage a tape_command) eighth) c.with_command-9.ensures
+    IfOk-weaker c.with_commands.result _ _ (λ program is. is ∙ ap (λ a. fold with_subcommand a shapes) bare) c.with_commands.ensures

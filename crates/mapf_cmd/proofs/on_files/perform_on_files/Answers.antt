@@ -1,7 +1,7 @@
 -- The command ends as its files say, for the line that it is.
 use Rattle.std.proofs.Common.{◌≡◌, MatchResult, refl, subst, sym}
 use Rattle.std.proofs.lemmas.Result.{MatchResult-weaker}
-use Rattle.command_line.specs.declared.command_line.Line.{Line}
+use Rattle.command_line.specs.declared.commands.Line.{Line}
 use Rattle.text_commands.specs.Ending.{end_of}
 use Rattle.mapf_cmd.specs.Program.{PerformsOn}
 use Rattle.mapf_cmd.proofs.on_files.perform_on_files.Goals as goal
@@ -13,12 +13,12 @@ returns-in-Row g c =
     (λ _. (c.args.input.now ≡ c.args.input.now) × (done.new.out ≡ c.args.out.now)) in
     subst Ends (sym c.in-Row.is) (MatchResult-weaker done.result done.ensures (λ _ on. (on, refl)) (λ _ kept. (refl, kept)))
 
-pub returns-in-Path : goal.returns-in-Path
-returns-in-Path g c =
-    let done = c.path_on_files in
+pub returns-in-Query : goal.returns-in-Query
+returns-in-Query g c =
+    let done = c.query_on_files in
     let Ends : Line → Type 0 = λ line. MatchResult done.result (λ ending. PerformsOn g.R.File.Read.remaining g.I.Read.remaining g.W.Write.contents line c.args.input.now c.args.input.now c.args.out.now done.new.out (end_of ending))
     (λ _. (c.args.input.now ≡ c.args.input.now) × (done.new.out ≡ c.args.out.now)) in
-    subst Ends (sym c.in-Path.is) (MatchResult-weaker done.result done.ensures (λ _ on. (on, refl)) (λ _ kept. (refl, kept)))
+    subst Ends (sym c.in-Query.is) (MatchResult-weaker done.result done.ensures (λ _ on. (on, refl)) (λ _ kept. (refl, kept)))
 
 pub returns-in-Run : goal.returns-in-Run
 returns-in-Run g c =
@@ -47,10 +47,3 @@ returns-in-Check g c =
     let Ends : Line → Type 0 = λ line. MatchResult done.result (λ ending. PerformsOn g.R.File.Read.remaining g.I.Read.remaining g.W.Write.contents line c.args.input.now c.args.input.now c.args.out.now done.new.out (end_of ending))
     (λ _. (c.args.input.now ≡ c.args.input.now) × (done.new.out ≡ c.args.out.now)) in
     subst Ends (sym c.in-Check.is) (MatchResult-weaker done.result done.ensures (λ _ on. (on, refl)) (λ _ kept. (refl, kept)))
-
-pub returns-in-Deps : goal.returns-in-Deps
-returns-in-Deps g c =
-    let done = c.deps_on_files in
-    let Ends : Line → Type 0 = λ line. MatchResult done.result (λ ending. PerformsOn g.R.File.Read.remaining g.I.Read.remaining g.W.Write.contents line c.args.input.now c.args.input.now c.args.out.now done.new.out (end_of ending))
-    (λ _. (c.args.input.now ≡ c.args.input.now) × (done.new.out ≡ c.args.out.now)) in
-    subst Ends (sym c.in-Deps.is) (MatchResult-weaker done.result done.ensures (λ _ on. (on, refl)) (λ _ kept. (refl, kept)))

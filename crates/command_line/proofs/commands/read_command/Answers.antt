@@ -9,7 +9,7 @@ use Rattle.clap.specs.Words.{Row, Text, first_of, found_of, rows_of}
 use Rattle.command_line.specs.Words.{Usage, commands, HasValues}
 use Rattle.command_line.specs.declared.command_line.LineFault.TheVariants.{OutOfMemory}
 use Rattle.command_line.specs.Code.Parts.{HasWords}
-use Rattle.command_line.proofs.words.read_command.Goals as goal
+use Rattle.command_line.proofs.commands.read_command.Goals as goal
 
 -- the name is that of none of these commands
 abbrev IsOther : Text → List Usage → Type 0

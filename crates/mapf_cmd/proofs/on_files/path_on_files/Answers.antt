@@ -1,4 +1,0 @@
-use Rattle.mapf_cmd.proofs.on_files.path_on_files.Goals as goal
-
-pub returns : goal.returns
-returns g c = (c.new-map.result, c.perform.new.map, c.new-plan.result, c.perform.new.plan, c.perform.ensures)
