@@ -1,0 +1,23 @@
+//! Calling `mapf_cmd`: a command over readers and writers of the caller's own.
+ghost use Rattle.std.specs.Prelude.{None, false};
+ghost use Rattle.text_commands.specs.Ending.{EndsAndTells};
+ghost use Rattle.plan_commands.specs.CheckCommand.{AnswersCheck};
+
+use mapf_cmd::check_cmd;
+use std::alloc::Global;
+use std::io::{Read, Write};
+use text_io::Counted;
+
+/// Writes the verdict on a plan in words, and answers the exit status of `mapf check`.
+pub fn verdict_on<M: Read, P: Read, W: Write, E: Write>(
+    alloc: Global,
+    texts: (&mut Counted<M>, &mut Counted<P>),
+    out: &mut Counted<W>,
+    err: &mut Counted<E>,
+) -> u8
+    ensures { EndsAndTells (AnswersCheck M.remaining P.remaining W.contents texts.0.old texts.0.new texts.1.old texts.1.new None false out.old out.new)
+        E.contents err.old err.new result }
+{
+    let (map, plan) = texts;
+    check_cmd(alloc, map, plan, None, false, out, err)
+}

@@ -1,0 +1,22 @@
+//! How each library of the product is called: a few lines a crate, with what a caller can know.
+#![tactic(auto)]
+
+mod agents;
+mod commands;
+mod dependencies;
+mod lengths;
+mod maps;
+mod plans;
+mod robots;
+mod runs;
+mod texts;
+
+pub use agents::begin_move;
+pub use commands::verdict_on;
+pub use dependencies::moves_of;
+pub use lengths::certified_length;
+pub use maps::{map_of, may_go};
+pub use plans::checked;
+pub use robots::converse;
+pub use runs::replies_to;
+pub use texts::{is_device, write_line};
