@@ -1,7 +1,7 @@
 //! Calling `agent`: one agent over its tape, on which each of its moves begins and ends.
 ghost use Rattle.model.specs.Timetable.{Timetable};
 ghost use Rattle.depgraph.specs.AgentParts.{IsPartOf};
-ghost use Rattle.agent.specs.States.{Starts};
+ghost use Rattle.agent.specs.Agents.{Starts};
 
 use agent::{Agent, Refusal, Tape};
 use grid::Cell;

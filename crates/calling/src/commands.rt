@@ -11,13 +11,13 @@ use text_io::Counted;
 /// Writes the verdict on a plan in words, and answers the exit status of `mapf check`.
 pub fn verdict_on<M: Read, P: Read, W: Write, E: Write>(
     alloc: Global,
-    texts: (&mut Counted<M>, &mut Counted<P>),
+    map: &mut Counted<M>,
+    plan: &mut Counted<P>,
     out: &mut Counted<W>,
     err: &mut Counted<E>,
 ) -> u8
-    ensures { EndsAndTells (AnswersCheck M.remaining P.remaining W.contents texts.0.old texts.0.new texts.1.old texts.1.new None false out.old out.new)
+    ensures { EndsAndTells (AnswersCheck M.remaining P.remaining W.contents map.old map.new plan.old plan.new None false out.old out.new)
         E.contents err.old err.new result }
 {
-    let (map, plan) = texts;
     check_cmd(alloc, map, plan, None, false, out, err)
 }
