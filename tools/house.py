@@ -33,7 +33,8 @@ from measures.stale_names import stale_names  # noqa: E402
 from measures.workspace import BadWorkspace, Place, Workspace  # noqa: E402
 from whole_file import draft  # noqa: E402
 
-# Each measure, what it counts, and what the last commit reached. Who brings a count down brings its limit down too.
+# Each measure, what it counts, and what the last commit reached. Who brings a count down brings its limit down too; a new promise
+# lifts those of promises.
 MEASURES: dict[str, tuple[str, int]] = {
     "specs-twice": ("names that more than one file of specs/ defines", 0),
     "foreign-proofs": ("lines by which a crate takes from another's proofs", 0),
@@ -41,8 +42,8 @@ MEASURES: dict[str, tuple[str, int]] = {
     "stale-names": ("names of the code in docs/ that stand nowhere else", 0),
     "lost-calls": ("names in the table of promises that nothing there has", 0),
     "stale-promises": ("rows of that table that house.py --write-promises would change", 0),
-    "longest-promise": ("lines of definitions that a promise reaches, at the most", 2709),
-    "all-promises": ("lines of definitions that each promise reaches, summed up", 21676),
+    "longest-promise": ("lines of definitions that a promise reaches, at the most", 2745),
+    "all-promises": ("lines of definitions that each promise reaches, summed up", 22859),
     "long-functions": (f"functions of the product with more than {MOST_LINES_OF_FUNCTION} lines", 1),
     "long-files": (f"files with more than {MOST_LINES_OF_FILE} lines", 6),
     "many-parameters": (f"functions with more than {MOST_PARAMETERS} parameters", 23),

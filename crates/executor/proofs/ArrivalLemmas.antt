@@ -5,12 +5,13 @@ use Rattle.std.proofs.lemmas.Option.{slice_get_cases, slice_get_within}
 use Rattle.model.specs.declared.version.Version.{Version}
 use Rattle.model.specs.History.{History}
 use Rattle.model.specs.Timetable.{Timetable}
-use Rattle.agent.specs.Agents.{AgentOn}
+use Rattle.agent.specs.Agents.{AgentOn, state_of}
+use Rattle.agent.specs.CountedTape.{counted_state}
 use Rattle.agent.specs.declared.counted_tape.CountedTape.{CountedTape}
-use Rattle.executor.specs.Endings.{HaveArrived}
+use Rattle.fleet.specs.Rounds.{HaveArrived}
 use Rattle.executor.specs.Code.Leading.{Begins}
 use Rattle.executor.specs.Code.Waiting.{HasStopped}
-use Rattle.executor.proofs.RuleLemmas.{done-is, moving-is}
+use Rattle.fleet.specs.Laws.Rules.{done-is, moving-is}
 
 -- where all have arrived, each has stopped
 pub stopped-is : (v : Version) (tab : Timetable) (h : History) (agents : List (AgentOn CountedTape)) (i : ℕ) (a : AgentOn CountedTape) → Begins v tab agents h
@@ -18,7 +19,7 @@ pub stopped-is : (v : Version) (tab : Timetable) (h : History) (agents : List (A
 stopped-is v tab h agents i a begins there arrived track is =
     let member = begins.members i a there in
     let end = arrived i track is in
-    (done-is v tab h begins.run i track a member ∙ end.all, moving-is v tab h begins.run i track a member ∙ end.still)
+    (done-is v tab h begins.run i track (state_of counted_state a) member.stands ∙ end.all, moving-is v tab h begins.run i track (state_of counted_state a) member.stands ∙ end.still)
 
 -- where each has stopped, all have arrived
 pub all-stopped : (v : Version) (tab : Timetable) (h : History) (agents : List (AgentOn CountedTape)) → Begins v tab agents h → length agents ≡ length tab.tracks
@@ -28,8 +29,8 @@ all-stopped v tab h agents begins count stopped i track is = elim (slice_get_cas
       let member = begins.members i a there in
       let end = stopped i a there track is in
       record {
-        all = sym (done-is v tab h begins.run i track a member) ∙ end.0;
-        still = sym (moving-is v tab h begins.run i track a member) ∙ end.1;
+        all = sym (done-is v tab h begins.run i track (state_of counted_state a) member.stands) ∙ end.0;
+        still = sym (moving-is v tab h begins.run i track (state_of counted_state a) member.stands) ∙ end.1;
       }
       )
   | inr (past, none) ↦ (let less = slice_get_within tab.tracks i track is in absurd (omega (arith, less, past, count)))

@@ -1,37 +1,36 @@
 -- How a runner goes on after a message is delivered.
-use Rattle.std.proofs.Common.{◌≡◌, ℕ, zero, suc, ◌<◌, ◌≤◌, Bool, true, false, List, [], ◌∷◌, length, set, max, nat_lt, Some, None, Result, Ok, Err, inl, inr, refl, sym, ap, subst, ◌∙◌, arith}
-use Rattle.std.specs.Prelude.{◌==◌, ◌⊎◌, ◌||◌, Option, option_map, unwrap_or, if◌then◌else◌, nat_le, slice_get, MatchBool, MatchOption, MatchResult, IfOk, OnErr}
-use Rattle.std.specs.List.{list_any}
-use Rattle.std.proofs.lemmas.Bool.{cond-true, cond-false, eq-eqb}
-use Rattle.std.proofs.lemmas.Bool.Decides.{nat_tests}
+use Rattle.std.proofs.Common.{◌≡◌, ℕ, zero, suc, ◌<◌, ◌≤◌, Bool, true, false, List, [], ◌∷◌, length, set, max, Some, None, Result, Ok, Err, inl, inr, refl, sym, ap, subst, ◌∙◌, arith}
+use Rattle.std.specs.Prelude.{◌⊎◌, Option, option_map, if◌then◌else◌, slice_get, MatchBool, MatchOption, MatchResult, IfOk, OnErr}
 use Rattle.std.proofs.lemmas.List.{append-nil}
-use Rattle.std.proofs.lemmas.Option.{slice_get-get_or, slice_get_past, slice_get_within, same_Some, none-some}
+use Rattle.std.proofs.lemmas.Option.{slice_get-get_or, slice_get_past, same_Some, none-some}
 use Rattle.model.specs.declared.entry.Entry.{Entry}
 use Rattle.model.specs.declared.event.Event.TheVariants.{Deliver}
 use Rattle.model.specs.declared.msg_fault.MsgFault.TheVariants.{BadEntry}
 use Rattle.model.specs.declared.version.Version.{Version}
-use Rattle.model.specs.declared.version.Version.TheVariants.{One, Two}
+use Rattle.model.specs.declared.version.Version.TheVariants.{Two}
 use Rattle.model.specs.declared.why.Why.{Why}
 use Rattle.model.specs.declared.why.Why.TheVariants as why
 use Rattle.model.specs.History.{Answer, History, heard, refused, done, messages, known}
 use Rattle.model.specs.Messages.{Message, AreRising, told, own_message, entries_from, message_said}
 use Rattle.model.specs.Rules.{deliver_answer, answer_by, answer, IsRun}
 use Rattle.model.specs.Speech.{WasSaid}
-use Rattle.model.specs.Timetable.{Track, Timetable, moves, track_of}
+use Rattle.model.specs.Timetable.{Track, Timetable, track_of}
 use Rattle.agent.specs.Agents.{AgentOn, state_of, HearsOf, HearsFrom}
 use Rattle.agent.specs.Tellings.{Telling}
 use Rattle.agent.specs.Counters.{known_in, Raises, TellsOfNew}
 use Rattle.agent.specs.Decoding.{wrong_entry}
-use Rattle.agent.specs.States.{State, Keeps, Refuses, names_nobody, moves_of, tells_too_many, message_refusal, telling_refusal, IsTaken}
+use Rattle.agent.specs.States.{State, Keeps, Refuses, telling_refusal, IsTaken}
 use Rattle.agent.specs.declared.finished.Finished.{Finished}
 use Rattle.agent.specs.declared.refusal.HearFault.{HearFault}
 use Rattle.agent.specs.declared.refusal.HearFault.TheVariants as fault
 use Rattle.agent.specs.declared.counted_tape.CountedTape.{CountedTape}
 use Rattle.agent.specs.Replies.{delivered}
 use Rattle.agent.specs.CountedTape.{counted_state}
+use Rattle.fleet.specs.Laws.Speaking.{raised-known}
+use Rattle.fleet.specs.Laws.Telling.{none-refused-by}
 use Rattle.executor.specs.Standing.{RunnerState, IsMember, StandsAt, TakesMemory}
 use Rattle.executor.proofs.GoesLemmas.{no_track, one-agent}
-use Rattle.executor.proofs.MessageLemmas.{raised-known, deliver-goes, deliver-refused}
+use Rattle.executor.proofs.MessageLemmas.{deliver-goes, deliver-refused}
 use Rattle.depgraph.specs.AgentParts.{IsPartOf}
 
 -- ---- what an agent answers to a message of a run
@@ -118,52 +117,6 @@ still-of table a b message answer none hears = same-agent a b hears.same (by (re
   by None takes = still-taken table (state_of counted_state a) (state_of counted_state b) (record { plan = table.number; message = message }) answer none takes
   by (Some why) refuses = refuses.1
 
--- ---- no message of a run is refused
-
-none_any : (p : Entry → Bool) (es : List Entry) → ((n : ℕ) (e : Entry) → slice_get es n ≡ Some e → p e ≡ false) → list_any p es ≡ false
-none_any p [] each = refl
-none_any p (e ∷ es) each = ap (λ b. b || list_any p es) (each 0 e refl) ∙ none_any p es (λ n. each (suc n))
-
-pub none-refused : (v : Version) (table : Timetable) (h : History) (m : ℕ) (message : Message) → message.sender < length table.tracks → WasSaid v table h m message
-    → telling_refusal table (record { plan = table.number; message = message }) ≡ None
-none-refused v table h m message sender was =
-    cond-true (table.number == table.number) (message_refusal table message) (Some fault.WrongPlan) (eq-eqb table.number table.number refl)
-    ∙ cond-false (names_nobody table message) (Some fault.NoSuchAgent) _ (known_all (length table.tracks) message.sender (list_any (λ e. nat_le (length table.tracks) e.agent) message.entries) sender named)
-    ∙ cond-false (tells_too_many table message) (Some fault.TooMany) None few
-  where
-    known_all : (count i : ℕ) (others : Bool) → i < count → others ≡ false → (nat_le count i || others) ≡ false
-    known_all count i others less none = grind (arith, nat_tests, less, none)
-
-    named : list_any (λ e. nat_le (length table.tracks) e.agent) message.entries ≡ false
-    named = none_any (λ e. nat_le (length table.tracks) e.agent) message.entries (λ n e there.
-        let own = was.entries n e there in
-        let within = slice_get_within table.tracks e.agent own.0 own.1 in
-        grind (arith, nat_tests, within))
-
-    few : tells_too_many table message ≡ false
-    few = none_any (λ e. nat_lt (moves_of table e.agent) e.done) message.entries (λ n e there.
-        let own = was.entries n e there in
-        let count : moves_of table e.agent ≡ moves own.0 = ap (λ o. unwrap_or (option_map moves o) 0) own.1 in
-        let done_within = own.2 in
-        let moves_within = own.3 in
-        grind (arith, nat_tests, count, done_within, moves_within))
-
--- the sender is one of the agents
-pub sender-there : (v : Version) (table : Timetable) (h : History) (m : ℕ) (message : Message) → WasSaid v table h m message → message.sender < length table.tracks
-sender-there v table h m message was =
-    subst (λ i. i < length table.tracks) (sender v ∙ sym (ap (λ x. x.sender) was.tells)) (slice_get_within table.tracks was.agent was.is_agent.0 was.is_agent.1)
-  where
-    sender : (w : Version) → was.agent ≡ (message_said w (length table.tracks) was.agent (done was.earlier was.agent) (known v table was.earlier was.agent)).sender
-    sender One = refl
-    sender Two = refl
-
--- nor with the plan's number
-pub none-refused-by : (v : Version) (table : Timetable) (h : History) (m plan : ℕ) (message : Message) → plan ≡ table.number → WasSaid v table h m message
-    → telling_refusal table (record { plan = plan; message = message }) ≡ None
-none-refused-by v table h m plan message number was =
-    ap (λ n. telling_refusal table (record { plan = n; message = message })) number
-    ∙ none-refused v table h m message (sender-there v table h m message was) was
-
 -- what was there is written again
 pub set-same : {X : Type 0} (l : List X) (i : ℕ) (x : X) → slice_get l i ≡ Some x → set l i x ≡ l
 set-same [] i x there = refl
@@ -215,7 +168,7 @@ module _ (r : RunnerState) (h : History) (stands : StandsAt r h) (i : ℕ) (with
     -- a broken agent hears nothing
     broken_on : a.broken ≡ true → (refused why.Broken ≡ answer r.version r.timetable h (Deliver i m)) × StandsAt r (record { event = Deliver i m; answer = refused why.Broken } ∷ h)
     broken_on broken =
-        let rule = sym (rule-message ∙ ap hearing (sym is.broken ∙ broken)) in
+        let rule = sym (rule-message ∙ ap hearing (sym is.stands.broken ∙ broken)) in
         (rule, stays why.Broken rule)
 
     -- another knows the greater numbers then
@@ -224,8 +177,8 @@ module _ (r : RunnerState) (h : History) (stands : StandsAt r h) (i : ℕ) (with
         × StandsAt (record r { agents = set r.agents i b }) (record { event = Deliver i m; answer = heard message.sender (known_in b.heard message.sender) } ∷ h)
     heard_on b whole same raises =
         let rule = ap (heard message.sender) (raised-known a.heard b.heard message.entries raises message.sender)
-        ∙ ap (λ k. heard message.sender (max k (told message message.sender))) (is.heard message.sender)
-        ∙ sym (rule-message ∙ ap hearing (sym is.broken ∙ whole)) in (
+        ∙ ap (λ k. heard message.sender (max k (told message message.sender))) (is.stands.heard message.sender)
+        ∙ sym (rule-message ∙ ap hearing (sym is.stands.broken ∙ whole)) in (
           rule,
           one-agent r h (Deliver i m) i b _ stands refl within rule (deliver-goes r.version r.timetable h i m message a b _ refl said-there is same raises) refl,
         )
@@ -285,7 +238,7 @@ module _ (r : RunnerState) (h : History) (stands : StandsAt r h) (i : ℕ) (with
                 let tells = wanting.2 in
                 let count = stands.count in (
                   omega (arith, count, within),
-                  sym is.broken ∙ wanting.0,
+                  sym is.stands.broken ∙ wanting.0,
                   message,
                   said-there,
                   (tells.0, tells.1, tells.2, tells.3, sym (is.heard_of tells.1.agent) ∙ tells.4),

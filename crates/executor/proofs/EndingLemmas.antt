@@ -6,13 +6,11 @@ use Rattle.std.proofs.lemmas.Option.{none-some, slice_get-get_or, slice_get_with
 use Rattle.model.specs.declared.version.Version.{Version}
 use Rattle.model.specs.Completion.{history_after, AreAccepted, IsCompletion}
 use Rattle.model.specs.History.{History, kept_starts, done, messages, known}
-use Rattle.model.specs.Messages.{told}
 use Rattle.model.specs.Timetable.{Track, moves, track_of}
 use Rattle.executor.specs.declared.ending.Heard.{Heard}
 use Rattle.executor.specs.declared.ending.Standing.{Standing}
 use Rattle.executor.specs.Code.Leading.{EndingState, finished_in, Begins, StandsThere, LeadsThroughTo, LeadsThrough, AreUnheard, HasSameStandings}
 use Rattle.model.specs.Laws.After.{run-more}
-use Rattle.model.specs.Laws.Ready.{message}
 use Rattle.model.specs.Laws.Runs.{progress}
 use Rattle.executor.proofs.CrewLemmas.{each-pushed}
 use Rattle.executor.proofs.NeedLemmas.{finished-is}
@@ -26,7 +24,7 @@ leads-nowhere v h s no_events nobody nothing begins said =
       said = said;
       stand = λ i x there. absurd (none-some x (sym (ap (λ l. slice_get l i) nobody) ∙ there));
       others = λ i past less. record { broken = refl; armed = refl; begun = refl; finished = refl };
-      knows = λ i a there none j. (let same = (begins.members i a there).heard j in omega (arith, same));
+      knows = λ i a there none j. (let same = (begins.members i a there).stands.heard j in omega (arith, same));
       heard = λ n x there. absurd (none-some x (sym (ap (λ l. slice_get l n) nothing) ∙ there));
     })
 

@@ -28,8 +28,9 @@ use Rattle.executor.specs.Code.Reopening.{Reopens}
 use Rattle.agent.specs.CountedTape.{counted_state, counted_armed, counted_writes, CountsFor}
 use Rattle.executor.specs.Standing.{RunnerState, IsMember, StandsAt}
 use Rattle.executor.proofs.OtherLemmas.{member-other}
-use Rattle.executor.proofs.RestartLemmas.{tear-goes, tear-refused, held-is, restart-rule, restart-goes}
-use Rattle.executor.proofs.StoreLemmas.{start-goes, finish-goes}
+use Rattle.fleet.specs.Laws.Rules.{held-is, restart-rule}
+use Rattle.executor.proofs.RestartLemmas.{tear-goes, tear-refused, restart-goes}
+use Rattle.executor.proofs.StoreLemmas.{start-member, finish-member}
 use Rattle.depgraph.specs.AgentParts.{IsPartOf}
 
 -- an element that was written is there, and the others stay
@@ -114,7 +115,7 @@ module _ (r : RunnerState) (h : History) (stands : StandsAt r h) (i : ℕ) (a b 
       let starts = starts-by r.timetable member.part in
       let track = starts.0 in
       let moves = same_refusal (λ k. start_refusal r.timetable k track (state_of counted_state a)) track starts.1 in
-      let goes = start-goes r.version r.timetable h stands.run i track a b member result moves in
+      let goes = start-member r.version r.timetable h i track a b member result stands.run moves in
       let rule = goes.0 ∙ sym (ap (answer_by r.version r.timetable h (Start i)) (own_track track starts.1.is_track)) in
       (rule, one-agent r h (Start i) i b (answered moving result) stands refl (slice_get_within r.agents i a there) rule goes.1 refl)
 
@@ -123,7 +124,7 @@ module _ (r : RunnerState) (h : History) (stands : StandsAt r h) (i : ℕ) (a b 
   finish-on finishes-by =
       let finishes = finishes-by r.timetable member.part in
       let track = finishes.0 in
-      let goes = finish-goes r.version r.timetable h stands.run i track a b member result finishes.1 in
+      let goes = finish-member r.version r.timetable h i track a b member result stands.run finishes.1 in
       let rule = goes.0 ∙ sym (ap (answer_by r.version r.timetable h (Finish i)) (own_track track finishes.1.is_track)) in
       (rule, one-agent r h (Finish i) i b (answered arrived result) stands refl (slice_get_within r.agents i a there) rule goes.1 refl)
 
@@ -182,7 +183,7 @@ restart-on r h stands i a b what k there reopens holds-by done =
     let known : track_of r.timetable i ≡ Some track = sym (ap (track_of r.timetable) (ap (λ p. p.agent) reopens.part ∙ is.id)) ∙ holds.1 in
     let stays = held-same track (state_of counted_state b) (state_of counted_state a) same in
     let rule = ap (λ w. stood w k) (holds.2 ∙ stays) ∙ ap (stood (states.held_by_tape track (state_of counted_state a))) (done ∙ ap (λ n. n / 2) same)
-    ∙ sym (restart-rule r.version r.timetable h stands.run i track a is) ∙ sym (ap (answer_by r.version r.timetable h (Restart i)) known) in (
+    ∙ sym (restart-rule r.version r.timetable h stands.run i track (state_of counted_state a) is.stands) ∙ sym (ap (answer_by r.version r.timetable h (Restart i)) known) in (
       rule,
       one-agent r h (Restart i) i b (stood what k) stands refl within rule
           (restart-goes r.version r.timetable h i a b (stood what k) (opened-stood what k) is reopens.part reopens.contents reopens.heard reopens.broken reopens.armed reopens.whose) refl,
@@ -197,4 +198,4 @@ held-on r h stands i a what there holds-by =
     let holds = holds-by r.timetable is.part in
     let track = holds.0 in
     let known : track_of r.timetable i ≡ Some track = sym (ap (track_of r.timetable) is.id) ∙ holds.1 in
-    ap (λ w. Some w) (holds.2 ∙ held-is r.version r.timetable h stands.run i track a is) ∙ sym (ap (option_map (λ t. held t h i)) known)
+    ap (λ w. Some w) (holds.2 ∙ held-is r.version r.timetable h stands.run i track (state_of counted_state a) is.stands) ∙ sym (ap (option_map (λ t. held t h i)) known)

@@ -26,7 +26,7 @@ use Rattle.model.specs.Laws.Ready.{others-ready, comes_to_rest, moves_on, messag
 use Rattle.model.specs.Laws.Runs.{in_step}
 use Rattle.executor.proofs.CrewLemmas.{each-pushed}
 use Rattle.executor.proofs.GoesLemmas.{set-at, set-other}
-use Rattle.executor.proofs.RuleLemmas.{done-is, moving-is}
+use Rattle.fleet.specs.Laws.Rules.{done-is, moving-is}
 use Rattle.executor.proofs.NeedLemmas.{finished-is, told-is}
 
 pub get-front : {X : Type 0} (xs ys : List X) (i : ℕ) → i < length xs → slice_get (xs ++ ys) i ≡ slice_get xs i
@@ -111,12 +111,12 @@ rest-on v h old new i a track x at there its table crew same_messages none_heard
     goes_now : is_moving (history_after v old.timetable h old.events) i ≡ states.is_on_the_way (state_of counted_state a)
     goes_now =
         ap (λ n. n == done (history_after v old.timetable h old.events) i + 1) untouched.begun ∙ ap (λ n. kept_starts h i == n + 1) untouched.finished
-        ∙ sym (moving-is v old.timetable h begins.run i track a is)
+        ∙ sym (moving-is v old.timetable h begins.run i track (state_of counted_state a) is.stands)
 
     sound : is_opened_anew a ≡ false → (is_broken (history_after v old.timetable h old.events) i ≡ false) × (armed_of (history_after v old.timetable h old.events) i ≡ None)
     sound none =
         let parts = or-parts a.broken (is_some (counted_armed a.tape)) none in
-        (untouched.broken ∙ sym is.broken ∙ parts.0, untouched.armed ∙ sym is.armed ∙ is_some-none (counted_armed a.tape) parts.1)
+        (untouched.broken ∙ sym is.stands.broken ∙ parts.0, untouched.armed ∙ sym is.armed ∙ is_some-none (counted_armed a.tape) parts.1)
 
     rest : AreAccepted v old.timetable (history_after v old.timetable h old.events) (rest_events (is_opened_anew a) (states.is_on_the_way (state_of counted_state a)) i)
         × ComesToRest v old.timetable (is_opened_anew a) i (history_after v old.timetable h old.events)
@@ -130,7 +130,7 @@ rest-on v h old new i a track x at there its table crew same_messages none_heard
 
     -- so many moves are finished then
     moved-is : done h i + one_if (states.is_on_the_way (state_of counted_state a)) ≡ kept_starts h i
-    moved-is = by_moving (states.is_on_the_way (state_of counted_state a)) (sym (moving-is v old.timetable h begins.run i track a is)) where
+    moved-is = by_moving (states.is_on_the_way (state_of counted_state a)) (sym (moving-is v old.timetable h begins.run i track (state_of counted_state a) is.stands)) where
       by_moving : (b : Bool) → is_moving h i ≡ b → done h i + one_if b ≡ kept_starts h i
       by_moving true e = sym (eqb-true (kept_starts h i) (done h i + 1) e)
       by_moving false e = (
@@ -176,7 +176,7 @@ rest-on v h old new i a track x at there its table crew same_messages none_heard
       own : StandsThere v old.timetable end i x
       own = record {
         ready = comes.ready;
-        finished = comes.finished ∙ untouched.begun ∙ sym moved-is ∙ ap (λ n. n + one_if (states.is_on_the_way (state_of counted_state a))) (sym (done-is v old.timetable h begins.run i track a is)) ∙ sym moved;
+        finished = comes.finished ∙ untouched.begun ∙ sym moved-is ∙ ap (λ n. n + one_if (states.is_on_the_way (state_of counted_state a))) (sym (done-is v old.timetable h begins.run i track (state_of counted_state a) is.stands)) ∙ sym moved;
         told = inl untold;
       }
 

@@ -1,7 +1,6 @@
 -- Lemmas that several proofs share.
 pub mod SimLemmas
 pub mod OtherLemmas
-pub mod RuleLemmas
 pub mod StoreLemmas
 pub mod RestartLemmas
 pub mod MessageLemmas

@@ -5,8 +5,7 @@ use Rattle.std.proofs.lemmas.Option.{same_Some, none-some, slice_get_within}
 use Rattle.model.specs.Completion.{history_after}
 use Rattle.depgraph.specs.Routes.{Route, IsRouteOf, asked, asked_by, need_at}
 use Rattle.model.specs.Dependency.{Need, IsMet, WaitsFor, need}
-use Rattle.model.specs.History.{done, known}
-use Rattle.model.specs.Messages.{told}
+use Rattle.model.specs.History.{known}
 use Rattle.model.specs.Timetable.{Track, Timetable, moves, track_of, IsConflictFree}
 use Rattle.executor.specs.declared.ending.Standing.{Standing}
 use Rattle.executor.specs.Code.Leading.{EndingState, finished_in, told_in, Teaches, TeachesNeed, NeedsNext, Awaits}

@@ -1,15 +1,14 @@
 -- How a runner goes on after a message is said.
-use Rattle.std.proofs.Common.{◌≡◌, ℕ, zero, suc, ◌+◌, ◌++◌, eqb, cond, true, false, List, [], ◌∷◌, length, Some, Result, Ok, Err, refl, sym, ap, ◌∙◌, arith}
-use Rattle.std.specs.Prelude.{◌==◌, if◌then◌else◌, slice_get, OnErr}
+use Rattle.std.proofs.Common.{◌≡◌, ℕ, ◌++◌, true, false, List, [], ◌∷◌, length, Some, Result, Ok, Err, sym, ap, ◌∙◌, arith}
+use Rattle.std.specs.Prelude.{if◌then◌else◌, slice_get, OnErr}
 use Rattle.std.proofs.lemmas.List.{append-nil}
 use Rattle.std.proofs.lemmas.Option.{slice_get-get_or, slice_get_within}
-use Rattle.model.specs.declared.entry.Entry.{Entry}
 use Rattle.model.specs.declared.event.Event.TheVariants.{Say}
 use Rattle.model.specs.declared.version.Version.TheVariants.{One, Two}
 use Rattle.model.specs.declared.why.Why.TheVariants as why
 use Rattle.model.specs.History as history
 use Rattle.model.specs.History.{History, refused, said, messages, known}
-use Rattle.model.specs.Messages.{Message, own_message, entries_from, number_told, whole_message, message_said, message_bytes, told_bytes, bytes_said}
+use Rattle.model.specs.Messages.{Message, own_message, whole_message, message_said, message_bytes, told_bytes, bytes_said}
 use Rattle.model.specs.Rules.{say_answer, answer_by, answer}
 use Rattle.model.specs.Timetable.{Track, track_of}
 use Rattle.agent.specs.Agents.{AgentOn, state_of}
@@ -17,27 +16,13 @@ use Rattle.agent.specs.Counters.{known_in}
 use Rattle.agent.specs.States as states
 use Rattle.agent.specs.declared.counted_tape.CountedTape.{CountedTape}
 use Rattle.agent.specs.CountedTape.{counted_state}
+use Rattle.fleet.specs.Laws.Rules.{done-is}
+use Rattle.fleet.specs.Laws.Speaking.{same-message}
 use Rattle.executor.specs.Standing.{RunnerState, IsMember, StandsAt, TakesMemory}
 use Rattle.executor.specs.Code.Telling.{message_told}
 use Rattle.executor.proofs.GoesLemmas.{no_track}
 use Rattle.executor.proofs.MessageLemmas.{say-goes}
-use Rattle.executor.proofs.RuleLemmas.{done-is}
 use Rattle.depgraph.specs.Laws.AgentParts.{count-agents}
-
--- ---- what is told hangs on the numbers alone
-
-same_entries : (f g : ℕ → ℕ) (first count : ℕ) → ((j : ℕ) → f j ≡ g j) → entries_from f first count ≡ entries_from g first count
-same_entries f g first zero same = refl
-same_entries f g first (suc count) same =
-    ap {A = ℕ} {B = List Entry} (λ n. cond (eqb n 0) (entries_from f (first + 1) count) (record { agent = first; done = n } ∷ entries_from f (first + 1) count)) (same first)
-    ∙ ap {A = List Entry} {B = List Entry} (λ l. cond (eqb (g first) 0) l (record { agent = first; done = g first } ∷ l)) (same_entries f g (first + 1) count same)
-
-same_numbers : (i d : ℕ) (f g : ℕ → ℕ) → ((j : ℕ) → f j ≡ g j) → (j : ℕ) → number_told i d f j ≡ number_told i d g j
-same_numbers i d f g same j = ap (λ n. if j == i then d else n) (same j)
-
-pub same-message : (agents i d : ℕ) (f g : ℕ → ℕ) → ((j : ℕ) → f j ≡ g j) → whole_message agents i d f ≡ whole_message agents i d g
-same-message agents i d f g same =
-    ap {A = List Entry} {B = Message} (λ l. record { sender = i; entries = l }) (same_entries (number_told i d f) (number_told i d g) 0 agents (same_numbers i d f g same))
 
 module _ (r : RunnerState) (h : History) (stands : StandsAt r h) (i : ℕ) (a : AgentOn CountedTape) (there : slice_get r.agents i ≡ Some a) where
   is : IsMember r.version r.timetable h i a
@@ -59,7 +44,7 @@ module _ (r : RunnerState) (h : History) (stands : StandsAt r h) (i : ℕ) (a : 
   -- a broken agent says nothing
   pub say-refused-on : a.broken ≡ true → (refused why.Broken ≡ answer r.version r.timetable h (Say i)) × StandsAt r (record { event = Say i; answer = refused why.Broken } ∷ h)
   say-refused-on broken =
-      let rule = sym (rule-say ∙ ap (λ b. if b then refused why.Broken else said (length (messages r.version r.timetable h)) due_bytes) (sym is.broken ∙ broken)) in (
+      let rule = sym (rule-say ∙ ap (λ b. if b then refused why.Broken else said (length (messages r.version r.timetable h)) due_bytes) (sym is.stands.broken ∙ broken)) in (
         rule,
         record {
           conflict_free = stands.conflict_free;
@@ -72,7 +57,7 @@ module _ (r : RunnerState) (h : History) (stands : StandsAt r h) (i : ℕ) (a : 
 
   -- another takes memory for it
   pub say-takes : a.broken ≡ false → TakesMemory r.version r.timetable h (Say i)
-  say-takes whole = (let count = stands.count in let within = slice_get_within r.agents i a there in omega (arith, count, within), sym is.broken ∙ whole)
+  say-takes whole = (let count = stands.count in let within = slice_get_within r.agents i a there in omega (arith, count, within), sym is.stands.broken ∙ whole)
 
   -- and says what it knows
   said_on : (message : Message) (bytes : List ℕ) → a.broken ≡ false → message ≡ due_message → bytes ≡ due_bytes
@@ -80,7 +65,7 @@ module _ (r : RunnerState) (h : History) (stands : StandsAt r h) (i : ℕ) (a : 
       × StandsAt (record r { messages = r.messages ++ message ∷ [] }) (record { event = Say i; answer = said (length r.messages) bytes } ∷ h)
   said_on message bytes whole same spelled =
       let rule = ap (λ l. said (length l) bytes) stands.messages ∙ ap (said (length (messages r.version r.timetable h))) spelled
-      ∙ sym (rule-say ∙ ap (λ b. if b then refused why.Broken else said (length (messages r.version r.timetable h)) due_bytes) (sym is.broken ∙ whole)) in (
+      ∙ sym (rule-say ∙ ap (λ b. if b then refused why.Broken else said (length (messages r.version r.timetable h)) due_bytes) (sym is.stands.broken ∙ whole)) in (
         rule,
         record {
           conflict_free = stands.conflict_free;
@@ -92,7 +77,7 @@ module _ (r : RunnerState) (h : History) (stands : StandsAt r h) (i : ℕ) (a : 
       )
 
   done_is : states.finished_moves (state_of counted_state a) ≡ history.done h i
-  done_is = done-is r.version r.timetable h stands.run i is_there.0 a is
+  done_is = done-is r.version r.timetable h stands.run i is_there.0 (state_of counted_state a) is.stands
 
   -- at version 1 how many moves it has finished
   pub own-on : (sender done : ℕ) → r.version ≡ One → a.broken ≡ false → sender ≡ i → done ≡ states.finished_moves (state_of counted_state a)
@@ -117,7 +102,7 @@ module _ (r : RunnerState) (h : History) (stands : StandsAt r h) (i : ℕ) (a : 
   whole_is =
       ap (λ k. whole_message (length r.timetable.tracks) k (states.finished_moves (state_of counted_state a)) (known_in a.heard)) is.id
       ∙ ap (λ d. whole_message (length r.timetable.tracks) i d (known_in a.heard)) done_is
-      ∙ same-message (length r.timetable.tracks) i (history.done h i) (known_in a.heard) (known r.version r.timetable h i) is.heard
+      ∙ same-message (length r.timetable.tracks) i (history.done h i) (known_in a.heard) (known r.version r.timetable h i) is.stands.heard
 
   -- at version 2 all that it knows
   pub told-on : r.version ≡ Two → a.broken ≡ false

@@ -2,10 +2,11 @@
 use Rattle.std.specs.Prelude.{◌≡◌, ℕ, ◌<◌, List, [], Some, Vec, Result, Ok, Err, slice_get, ⊤}
 use Rattle.model.specs.declared.event.Event.{Event}
 use Rattle.model.specs.declared.version.Version.{Version}
-use Rattle.model.specs.Completion.{IsCompletion, HasArrived, IsUnfinished}
+use Rattle.model.specs.Completion.{IsCompletion, IsUnfinished}
 use Rattle.model.specs.History.{History}
-use Rattle.model.specs.Timetable.{Track, Timetable, track_of}
+use Rattle.model.specs.Timetable.{Timetable}
 use Rattle.depgraph.specs.Rotations.{Turn, AreRotations}
+use Rattle.fleet.specs.Rounds.{HaveArrived}
 use Rattle.executor.specs.declared.complete_fault.CompleteFault.{CompleteFault}
 use Rattle.executor.specs.declared.complete_fault.CompleteFault.TheVariants.{Rotation, OutOfMemory}
 
@@ -17,10 +18,6 @@ pub record IsBlockedBy (tt : Timetable) (h : History) (number : ℕ) : Type 0 wh
   pub is_turn : slice_get turns number ≡ Some turn
   pub unfinished : IsUnfinished tt h turn.step turn.agents
   pub least : (before : ℕ) (other : Turn) → before < number → slice_get turns before ≡ Some other → IsUnfinished tt h other.step other.agents → ⊥
-
--- every agent has finished all its moves, and stands
-abbrev pub HaveArrived : Timetable → History → Type 0
-HaveArrived tt h = (i : ℕ) (track : Track) → track_of tt i ≡ Some track → HasArrived h i track
 
 -- the events complete the run; where every agent is at its end already, there is none
 pub record IsEndedBy (version : Version) (tt : Timetable) (h : History) (events : List Event) : Type 0 where

@@ -1,17 +1,17 @@
 -- What a runner is, and at which history it stands.
-use Rattle.std.specs.Prelude.{◌≡◌, ℕ, ◌+◌, ◌<◌, false, List, ◌∷◌, length, Any, Some, slice_get}
+use Rattle.std.specs.Prelude.{◌≡◌, ℕ, ◌<◌, false, List, ◌∷◌, length, Any, Some, slice_get}
 use Rattle.model.specs.declared.event.Event.{Event}
 use Rattle.model.specs.declared.event.Event.TheVariants.{Start, Finish, Say, Deliver, Restart, Tear}
 use Rattle.model.specs.declared.version.Version.{Version}
-use Rattle.model.specs.History.{Answer, History, armed_of, is_broken, kept_starts, done, messages, known}
+use Rattle.model.specs.History.{Answer, History, armed_of, is_broken, messages}
 use Rattle.model.specs.Messages.{Message}
 use Rattle.model.specs.Rules.{answer, IsRun}
 use Rattle.model.specs.Timetable.{Timetable, IsConflictFree}
-use Rattle.agent.specs.Agents.{AgentOn}
-use Rattle.agent.specs.Counters.{known_in, is_heard_of}
-use Rattle.agent.specs.Tape.{whole_records}
+use Rattle.agent.specs.Agents.{AgentOn, state_of}
+use Rattle.agent.specs.Counters.{is_heard_of}
 use Rattle.agent.specs.declared.counted_tape.CountedTape.{CountedTape}
 use Rattle.agent.specs.CountedTape.{counted_state, counted_armed, CountsFor}
+use Rattle.fleet.specs.Members.{IsLeftBy}
 use Rattle.executor.specs.Hearing.{has_heard_of}
 use Rattle.depgraph.specs.AgentParts.{IsPartOf}
 
@@ -22,17 +22,15 @@ pub record RunnerState : Type 0 where
   pub agents : List (AgentOn CountedTape)
   pub messages : List Message
 
--- An agent has its part of the timetable, and is where a history leaves it: its tape counts its own records, one for each begun and each finished move, it knows what was
--- heard and of whom, and is broken and armed by what happened.
+-- An agent has its part of the timetable, and stands where a history leaves it, by what is on its tape, what it heard and whether it is broken; its tape counts its own
+-- records, and is armed by what happened. It has heard of just those of whom it was told.
 pub record IsMember (version : Version) (tt : Timetable) (h : History) (i : ℕ) (a : AgentOn CountedTape) : Type 0 where
   pub part : IsPartOf tt a.part
   pub id : a.part.agent ≡ i
+  pub stands : IsLeftBy version tt h i (state_of counted_state a)
   pub counts : CountsFor a.part.number a.part.agent a.tape
-  pub records : whole_records (counted_state a.tape) ≡ kept_starts h i + done h i
-  pub heard : (j : ℕ) → known_in a.heard j ≡ known version tt h i j
-  pub heard_of : (j : ℕ) → is_heard_of a.heard j ≡ has_heard_of version tt h i j
-  pub broken : a.broken ≡ is_broken h i
   pub armed : counted_armed a.tape ≡ armed_of h i
+  pub heard_of : (j : ℕ) → is_heard_of a.heard j ≡ has_heard_of version tt h i j
 
 -- A runner stands at a run of its version, over a timetable without vertex conflicts: there is an agent for each track, each where the
 -- run leaves it, and just the messages of the run were said.

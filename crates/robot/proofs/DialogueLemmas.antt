@@ -15,13 +15,16 @@ use Rattle.text_io.specs.Laws.Lines.{ended_push, AllByRecursion_push, lines_of-a
 use Rattle.text_io.specs.Laws.Putting.{Puts-same, Puts-trans}
 use Rattle.model.specs.Timetable.{Track, Timetable, track_of}
 use Rattle.agent.specs.Agents.{AgentOn, state_of}
-use Rattle.agent.specs.States.{State}
+use Rattle.agent.specs.States.{State, finished_moves, held_by_tape}
 use Rattle.agent.specs.Tape.{TapeState}
 use Rattle.depgraph.specs.AgentParts.{IsPartOf}
-use Rattle.robot.specs.Turns.{IsTurn, state_line, store_failed}
-use Rattle.robot.specs.Dialogue.{AreTurns, dialogue_lines, EndsInFailedStore, AreFirst, BreaksInLast, BlamesTape, Leads, Talks}
+use Rattle.fleet.specs.Deeds.{Deed, starts, finishes, says, tells, hears, holds, Does, DoesAll}
+use Rattle.robot.specs.Requests.{Request, start, finish, say, tell, held, hear}
+use Rattle.robot.specs.Turns.{state_line, store_failed, deed_line, IsCallOf}
+use Rattle.robot.specs.Dialogue.{AreAnswersTo, dialogue_lines, EndsInFailedStore, AreFirst, BreaksInLast, BlamesTape, Leads, Talks}
 use Rattle.robot.specs.Code.Answering.{IsSameAgent, Sends, Replies}
 use Rattle.robot.specs.Code.Reading.{HasRest, IsInputOver, IsLineKept}
+use Rattle.robot.specs.Code.Turning.{TakesRequest, IsTurn, AreTurns}
 use Rattle.robot.specs.declared.talk_fault.TalkFault.{TalkFault}
 use Rattle.robot.specs.declared.talk_fault.TalkFault.TheVariants.{ReadFailed, WriteFailed, StoreFailed, OutOfMemory}
 
@@ -53,6 +56,51 @@ AreTurns-push tt i track (l ∷ lines) (t ∷ texts) line text old mid new turns
   λ e. absurd (well.0 e),
   AreTurns-push tt i track lines texts line text turns.0 mid new turns.3 well.1 turn,
 )
+
+-- ---- turns as deeds
+
+-- what was asked for and answered
+abbrev AnswersBy : Timetable → ℕ → Track → Request → State → State → List ℕ → Type 0
+AnswersBy table i track request old new text = (deed : Deed) × IsCallOf request deed × Does table i track old deed new × (text ≡ deed_line deed)
+
+answers-by : (table : Timetable) (i : ℕ) (track : Track) (request : Request) (old new : State) (text : List ℕ) → TakesRequest table i track request old new text
+    → AnswersBy table i track request old new text
+answers-by table i track start old new text takes = (starts takes.0, tt, takes.1, takes.2)
+answers-by table i track finish old new text takes = (finishes takes.0, tt, takes.1, takes.2)
+answers-by table i track say old new text takes = (says takes.0, tt, takes.1, takes.2)
+answers-by table i track tell old new text takes = (tells takes.0, tt, takes.1, takes.2)
+answers-by table i track held old new text takes = (holds (held_by_tape track old) (finished_moves old), tt, takes.0, takes.1)
+answers-by table i track (hear bytes) old new text takes = (hears bytes takes.0, refl, takes.1, takes.2)
+
+-- the turns of a dialogue, as what the agent did
+pub record DoesInTurn (table : Timetable) (i : ℕ) (track : Track) (lines texts : List (List ℕ)) (old new : State) : Type 0 where
+  pub deeds : List Deed
+  pub does : DoesAll table i track old deeds new
+  pub answers : AreAnswersTo lines texts deeds
+
+pub turns-deeds : (table : Timetable) (i : ℕ) (track : Track) (lines texts : List (List ℕ)) (old new : State) → AreTurns table i track lines texts old new
+    → DoesInTurn table i track lines texts old new
+turns-deeds table i track [] [] old new turns = record { deeds = []; does = turns; answers = refl }
+turns-deeds table i track [] (text ∷ texts) old new turns = absurd turns
+turns-deeds table i track (line ∷ lines) [] old new turns = absurd turns
+turns-deeds table i track (line ∷ lines) (text ∷ texts) old new turns =
+    let mid = turns.0 in
+    let rest = turns-deeds table i track lines texts mid new turns.3 in
+    elim turns.1 [
+      | inl asks ↦ (
+          let done = answers-by table i track asks.0 old mid text asks.2 in
+          record {
+            deeds = done.0 ∷ rest.deeds;
+            does = (mid, done.2, rest.does);
+            answers = (rest.deeds, inl (asks.0, done.0, asks.1, done.1, done.3, refl), turns.2, rest.answers);
+          }
+          )
+      | inr nothing ↦ record {
+        deeds = rest.deeds;
+        does = subst (λ s. DoesAll table i track s rest.deeds new) nothing.1 rest.does;
+        answers = (rest.deeds, inr (nothing.0, nothing.2, refl), turns.2, rest.answers);
+      }
+    ]
 
 -- where no store failed, the last answer doesn't say so
 not_last : (texts before : List (List ℕ)) → AllByRecursion GoesOn texts → texts ≡ before ++ store_failed ∷ [] → ⊥
@@ -186,7 +234,9 @@ module _
           part = refl;
           lines = [];
           texts = [];
-          turns = refl;
+          deeds = [];
+          does = refl;
+          answers = refl;
           input = read.input;
           consumed = read.consumed;
           reads = (read.are_first, read.failures);
@@ -198,6 +248,10 @@ module _
       abbrev said : List (List ℕ)
       said = dialogue_lines far.track (state_of seen old) far.texts
 
+      -- what the agent did so far
+      far_did : DoesInTurn table old.part.agent far.track far.lines far.texts (state_of seen old) (state_of seen mid)
+      far_did = turns-deeds table old.part.agent far.track far.lines far.texts (state_of seen old) (state_of seen mid) far.turns
+
       -- the input ended
       pub led_to_end : (next : Source R ahead) → IsInputOver remaining first_in next far.lines [] → Led next sink mid (Ok tt)
       led_to_end next over =
@@ -208,7 +262,9 @@ module _
             part = far.part;
             lines = far.lines;
             texts = far.texts;
-            turns = far.turns;
+            deeds = far_did.deeds;
+            does = far_did.does;
+            answers = far_did.answers;
             input = read.input;
             consumed = read.consumed;
             reads = (read.are_all, read.spent, no_failed_store far.texts far.well, read.failures);
@@ -225,7 +281,9 @@ module _
         part = far.part;
         lines = far.lines;
         texts = far.texts;
-        turns = far.turns;
+        deeds = far_did.deeds;
+        does = far_did.does;
+        answers = far_did.answers;
         input = has.delivered;
         consumed = has.consumed;
         reads = ((rest, has.in_order, has.are_lines, has.is_line), no_failed_store far.texts far.well, rises);
@@ -267,6 +325,12 @@ module _
         turns_on text turn =
             AreTurns-push table old.part.agent far.track far.lines far.texts line text (state_of seen old) (state_of seen mid) (state_of seen new) far.turns far.well turn
 
+        -- and with this turn
+        did_on : (text : List ℕ) → IsTurn table old.part.agent far.track line (state_of seen mid) (state_of seen new) text
+            → DoesInTurn table old.part.agent far.track (far.lines ++ line ∷ []) (far.texts ++ text ∷ []) (state_of seen old) (state_of seen new)
+        did_on text turn =
+            turns-deeds table old.part.agent far.track (far.lines ++ line ∷ []) (far.texts ++ text ∷ []) (state_of seen old) (state_of seen new) (turns_on text turn)
+
         put_on : (text : List ℕ) → Sends contents sink sent text
             → Puts contents first_sink sent (ended (dialogue_lines far.track (state_of seen old) (far.texts ++ text ∷ [])))
         put_on text sends = subst (Puts contents first_sink sent) (sym (ended_push said text)) (Puts-trans contents first_sink sink sent (ended said) _ far.put sends.puts)
@@ -295,7 +359,9 @@ module _
           part = same.part ∙ far.part;
           lines = far.lines ++ line ∷ [];
           texts = far.texts ++ r.0 ∷ [];
-          turns = turns_on r.0 r.1;
+          deeds = (did_on r.0 r.1).deeds;
+          does = (did_on r.0 r.1).does;
+          answers = (did_on r.0 r.1).answers;
           input = read.input;
           consumed = read.consumed;
           reads = (read.are_first, read.failures);
@@ -311,7 +377,9 @@ module _
           part = same.part ∙ far.part;
           lines = far.lines ++ line ∷ [];
           texts = far.texts ++ store_failed ∷ [];
-          turns = turns_on store_failed r.0;
+          deeds = (did_on store_failed r.0).deeds;
+          does = (did_on store_failed r.0).does;
+          answers = (did_on store_failed r.0).answers;
           input = read.input;
           consumed = read.consumed;
           reads = (read.are_first, (far.texts, refl), read.failures);
@@ -327,7 +395,9 @@ module _
           part = same.part ∙ far.part;
           lines = far.lines ++ line ∷ [];
           texts = far.texts ++ r.0 ∷ [];
-          turns = turns_on r.0 r.1;
+          deeds = (did_on r.0 r.1).deeds;
+          does = (did_on r.0 r.1).does;
+          answers = (did_on r.0 r.1).answers;
           input = read.input;
           consumed = read.consumed;
           reads = (

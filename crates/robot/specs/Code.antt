@@ -2,5 +2,7 @@
 
 -- what was taken of the input, and what it asks for
 pub mod Reading
+-- one line that is answered, and one after another
+pub mod Turning
 -- the line of an answer, and sending it
 pub mod Answering

@@ -9,16 +9,24 @@ use Rattle.model.specs.Timetable.{Track, Timetable, track_of}
 use Rattle.agent.specs.Agents.{AgentOn, state_of}
 use Rattle.agent.specs.States.{State}
 use Rattle.agent.specs.Tape.{TapeState, HasFailed}
-use Rattle.robot.specs.Turns.{IsTurn, state_line, store_failed}
+use Rattle.fleet.specs.Deeds.{Deed, DoesAll}
+use Rattle.robot.specs.Requests.{Request, AsksFor, AsksNothing}
+use Rattle.robot.specs.Turns.{state_line, not_understood, store_failed, deed_line, IsCallOf}
 use Rattle.robot.specs.declared.talk_fault.TalkFault.{TalkFault}
 use Rattle.robot.specs.declared.talk_fault.TalkFault.TheVariants.{ReadFailed, WriteFailed, StoreFailed, OutOfMemory}
 
--- each line is answered in turn, from the state that the one before left; nothing follows a store that failed
-abbrev pub AreTurns : Timetable → ℕ → Track → List (List ℕ) → List (List ℕ) → State → State → Type 0
-AreTurns tt i track [] [] old new = new ≡ old
-AreTurns tt i track (line ∷ lines) (text ∷ texts) old new =
-    (mid : State) × IsTurn tt i track line old mid text × (text ≡ store_failed → lines ≡ []) × AreTurns tt i track lines texts mid new
-AreTurns tt i track _ _ old new = ⊥
+-- the line is answered by the text: by the first of these deeds, which it asks for, before the rest; or it isn't understood, and there is no deed
+abbrev pub IsAnswerTo : List ℕ → List ℕ → List Deed → List Deed → Type 0
+IsAnswerTo line text deeds rest =
+    ((request : Request) × (deed : Deed) × AsksFor request line × IsCallOf request deed × (text ≡ deed_line deed) × (deeds ≡ deed ∷ rest))
+    ⊎ (AsksNothing line × (text ≡ not_understood) × (deeds ≡ rest))
+
+-- the lines are answered in turn, by these deeds, in order; nothing follows a store that failed
+abbrev pub AreAnswersTo : List (List ℕ) → List (List ℕ) → List Deed → Type 0
+AreAnswersTo [] [] deeds = deeds ≡ []
+AreAnswersTo (line ∷ lines) (text ∷ texts) deeds =
+    (rest : List Deed) × IsAnswerTo line text deeds rest × (text ≡ store_failed → lines ≡ []) × AreAnswersTo lines texts rest
+AreAnswersTo _ _ deeds = ⊥
 
 -- the lines of a dialogue, without their LF: the state at first, and the answers
 abbrev pub dialogue_lines : Track → State → List (List ℕ) → List (List ℕ)
@@ -69,7 +77,8 @@ BlamesTape (Err StoreFailed) old_failures new_failures = HasFailed old_failures 
 BlamesTape (Err WriteFailed) old_failures new_failures = (new_failures ≡ old_failures) ⊎ HasFailed old_failures new_failures
 BlamesTape _ old_failures new_failures = new_failures ≡ old_failures
 
--- The dialogue was led by an agent whose part is one of the timetable: its lines were written, up to the one that failed, and the agent is in the state that the last turn left.
+-- The dialogue was led by an agent whose part is one of the timetable: its lines were written, up to the one that failed, and they tell what the agent did meanwhile, which
+-- is its part of what its fleet did.
 pub record Leads
     {R W T : Type 0} (remaining : R → Option (List ℕ)) (contents : W → Option (List ℕ)) (seen : T → TapeState) (tt : Timetable) (old_in new_in : Counted R)
     (old_out new_out : Counted W) (old new : AgentOn T) (result : Result Unit TalkFault) : Type 0 where
@@ -78,7 +87,9 @@ pub record Leads
   pub part : new.part ≡ old.part
   pub lines : List (List ℕ)
   pub texts : List (List ℕ)
-  pub turns : AreTurns tt old.part.agent track lines texts (state_of seen old) (state_of seen new)
+  pub deeds : List Deed
+  pub does : DoesAll tt old.part.agent track (state_of seen old) deeds (state_of seen new)
+  pub answers : AreAnswersTo lines texts deeds
   pub input : List ℕ
   pub consumed : Consumes (remaining (counted_inner old_in)) (remaining (counted_inner new_in)) input
   pub reads : ReadsLines lines texts input (remaining (counted_inner new_in)) (failures_of old_in) (failures_of new_in) result

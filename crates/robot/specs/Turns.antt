@@ -1,18 +1,18 @@
--- How an agent answers a line. It is an agent of a timetable, and has a track.
-use Rattle.std.specs.Prelude.{◌≡◌, ℕ, ◌⊎◌, List, ◌++◌, codes, Option, None, Some, Result, Ok, Err}
+-- How an agent answers a line: it does what the line asks for, and tells the answer.
+use Rattle.std.specs.Prelude.{◌≡◌, ℕ, List, [], ◌++◌, codes, Option, None, Some, Result, Ok, Err}
 use Rattle.hex.specs.Hex.{encode_lower}
-use Rattle.grid.specs.declared.cell.Cell.{Cell}
 use Rattle.model.specs.History.{Answer, moving, arrived, refused}
-use Rattle.model.specs.Timetable.{Track, Timetable}
+use Rattle.model.specs.Timetable.{Track}
 use Rattle.model.specs.declared.why.Why.TheVariants as why
 use Rattle.agent.specs.declared.refusal.HearFault.{HearFault}
 use Rattle.agent.specs.declared.refusal.Refusal.{Refusal}
 use Rattle.agent.specs.declared.refusal.TellFault.{TellFault}
 use Rattle.agent.specs.declared.refusal.TellFault.TheVariants.{Broken, OutOfMemory}
 use Rattle.agent.specs.Replies.{answered, delivered, stood, why_of}
-use Rattle.agent.specs.States.{State, finished_moves, held_by_tape as held_in, start_refusal, finish_refusal, next_cell, Answers, IsSaid, IsToldBy, IsHeard}
+use Rattle.agent.specs.States.{State, finished_moves, held_by_tape as held_in}
 use Rattle.event_text.specs.ReplyText.{reply_line}
-use Rattle.robot.specs.Requests.{Request, start, finish, say, tell, held, hear, AsksFor, AsksNothing}
+use Rattle.fleet.specs.Deeds.{Deed, opens, starts, finishes, says, tells, hears, holds}
+use Rattle.robot.specs.Requests.{Request, start, finish, say, tell, held, hear}
 
 -- ---- lines, without their LF
 
@@ -46,21 +46,23 @@ not_understood = codes "refused BadLine"
 abbrev pub store_failed : List ℕ
 store_failed = reply_line (refused why.StoreFailed)
 
--- ---- turns
+-- the line that tells what an agent did; nobody is told that its process ended
+abbrev pub deed_line : Deed → List ℕ
+deed_line (opens what count) = reply_line (stood what count)
+deed_line (starts answer) = reply_line (answered moving answer)
+deed_line (finishes answer) = reply_line (answered arrived answer)
+deed_line (says answer) = said_line answer
+deed_line (tells answer) = told_line answer
+deed_line (hears bytes answer) = heard_line answer
+deed_line (holds what count) = reply_line (stood what count)
+deed_line _ = []
 
--- what is asked is answered by this line, as the agent's call may answer, and leaves the agent in the new state
-abbrev pub TakesRequest : Timetable → ℕ → Track → Request → State → State → List ℕ → Type 0
-TakesRequest tt i track start old new text =
-    (answer : Result Cell Refusal) × Answers (start_refusal tt i track old) old new (next_cell track old) answer × (text ≡ reply_line (answered moving answer))
-TakesRequest tt i track finish old new text =
-    (answer : Result Cell Refusal) × Answers (finish_refusal old) old new (next_cell track old) answer × (text ≡ reply_line (answered arrived answer))
-TakesRequest tt i track say old new text = (answer : Result (List ℕ) Refusal) × IsSaid tt i old answer × (new ≡ old) × (text ≡ said_line answer)
-TakesRequest tt i track tell old new text = (answer : Result (List ℕ) TellFault) × IsToldBy tt i old answer × (new ≡ old) × (text ≡ told_line answer)
-TakesRequest tt i track held old new text = (new ≡ old) × (text ≡ state_line track old)
-TakesRequest tt i track (hear bytes) old new text = (answer : Result (ℕ × ℕ) HearFault) × IsHeard tt old new bytes answer × (text ≡ heard_line answer)
-
--- a line is answered by another: what it asks for is done, or it isn't understood, and nothing happens
-abbrev pub IsTurn : Timetable → ℕ → Track → List ℕ → State → State → List ℕ → Type 0
-IsTurn tt i track line old new text =
-    ((request : Request) × AsksFor request line × TakesRequest tt i track request old new text)
-    ⊎ (AsksNothing line × (new ≡ old) × (text ≡ not_understood))
+-- the deed is the call that is asked for, with some answer
+abbrev pub IsCallOf : Request → Deed → Type 0
+IsCallOf start (starts answer) = Unit {0}
+IsCallOf finish (finishes answer) = Unit {0}
+IsCallOf say (says answer) = Unit {0}
+IsCallOf tell (tells answer) = Unit {0}
+IsCallOf held (holds what count) = Unit {0}
+IsCallOf (hear bytes) (hears given answer) = given ≡ bytes
+IsCallOf _ _ = ⊥

@@ -4,8 +4,9 @@ ghost use Rattle.model.specs.Timetable.{Track, Timetable, track_of};
 ghost use Rattle.depgraph.specs.AgentParts.{IsPartOf, IsOfGraph};
 ghost use Rattle.agent.specs.Agents.{state_of};
 ghost use Rattle.robot.specs.Requests.{longest_request, say, tell, hear};
-ghost use Rattle.robot.specs.Turns.{TakesRequest, IsTurn, state_line};
+ghost use Rattle.robot.specs.Turns.{state_line};
 ghost use Rattle.robot.specs.Code.Answering.{answer_line, says_store_failed, CountsFailures, IsSameAgent};
+ghost use Rattle.robot.specs.Code.Turning.{TakesRequest, IsTurn};
 ghost use Rattle.robot.specs.Code.Reading.{request_in, FitsIn, IsLineKept};
 
 use crate::line_answer::LineAnswer;

@@ -24,7 +24,7 @@ use text_io::{Counted, PIECE, Sink, Source, WriteFault};
 /// Leads a dialogue: first the line of the agent's state is written, and then each input line is answered by one. Each of these lines
 /// has left the writer, flushed, before the next input line is read. The dialogue ends with the input, or after the answer that a
 /// store failed. Memory is taken before anything is read or written, and then only to hear of agents not heard of before, and for what is
-/// told.
+/// told. What was answered is the agent's part of what its fleet did: `fleet::laws` say what follows.
 pub fn talk<R: Read, W: Write, T: Tape>(
     alloc: Global,
     agent: &mut Agent<'_, T>,

@@ -11,7 +11,8 @@ use Rattle.agent.specs.Agents.{AgentOn, state_of}
 use Rattle.agent.specs.States.{State}
 use Rattle.agent.specs.Tape.{TapeState, HasFailed}
 use Rattle.event_text.specs.ReplyText.{reply_line}
-use Rattle.robot.specs.Turns.{IsTurn, said_line, told_line, not_understood, state_line, store_failed}
+use Rattle.robot.specs.Turns.{said_line, told_line, not_understood, state_line, store_failed}
+use Rattle.robot.specs.Code.Turning.{IsTurn}
 use Rattle.robot.specs.declared.line_answer.LineAnswer.{LineAnswer}
 use Rattle.robot.specs.declared.line_answer.LineAnswer.TheVariants as the_answer
 use Rattle.robot.specs.declared.talk_fault.TalkFault.{TalkFault}

@@ -1,25 +1,26 @@
--- What an agent refuses is what the rules refuse, where the agent is where the history leaves it.
+-- What an agent refuses is what the rules refuse, where the agent stands at a run.
 use Rattle.std.proofs.Common.{◌≡◌, ℕ, ◌+◌, ◌*◌, ◌/◌, ◌%◌, ◌≤◌, nat_lt, Bool, true, false, Some, None, inl, inr, refl, sym, ap, ◌∙◌, arith}
 use Rattle.std.specs.Prelude.{◌==◌, Option, if◌then◌else◌}
 use Rattle.std.proofs.Math.Nat.{mul-div_cancel_left, mul-add-mod_self_left}
 use Rattle.std.proofs.lemmas.Nat.{div-mul-add}
 use Rattle.std.proofs.lemmas.Bool.{cases_lt, eq-eqb, ne_eqb}
+use Rattle.model.specs.declared.held.Held.{Held}
+use Rattle.model.specs.declared.held.Held.TheVariants.{At, Between}
 use Rattle.model.specs.declared.version.Version.{Version}
 use Rattle.model.specs.Dependency.{Need, need}
+use Rattle.model.specs.History as history
 use Rattle.model.specs.History.{Answer, History, refused, moving, arrived, armed_of, kept_starts, done, is_moving, known}
-use Rattle.model.specs.Rules.{path_cell, stored, unless_waiting, start_answer, finish_answer, IsRun}
+use Rattle.model.specs.Rules.{path_cell, stored, unless_waiting, start_answer, finish_answer, restart_answer, IsRun}
+use Rattle.model.specs.Safety.{held}
 use Rattle.model.specs.Timetable.{Track, Timetable, moves}
 use Rattle.model.specs.Laws.Runs.{in_step}
-use Rattle.agent.specs.Agents.{AgentOn, state_of}
 use Rattle.agent.specs.Counters.{known_in}
 use Rattle.agent.specs.States as states
-use Rattle.agent.specs.States.{State, waits_for, start_refusal, finish_refusal, next_cell}
+use Rattle.agent.specs.States.{State, waits_for, start_refusal, finish_refusal, next_cell, held_by_tape}
 use Rattle.agent.specs.declared.refusal.Refusal.{Refusal}
 use Rattle.agent.specs.declared.refusal.Refusal.TheVariants.{Broken, AlreadyMoving, AtEnd, Waits, NotMoving}
-use Rattle.agent.specs.declared.counted_tape.CountedTape.{CountedTape}
-use Rattle.agent.specs.Replies.{why_of, unless}
-use Rattle.agent.specs.CountedTape.{counted_state}
-use Rattle.executor.specs.Standing.{IsMember}
+use Rattle.agent.specs.Replies.{why_of, unless, stood}
+use Rattle.fleet.specs.Members.{IsLeftBy}
 
 -- ---- records as moves
 
@@ -65,10 +66,7 @@ start_by v table h i track b m k =
 abbrev finish_by : History → ℕ → Track → Bool → Bool → ℕ → Answer
 finish_by h i track b m k = if b then refused (why_of Broken) else (if m then stored (armed_of h i) (arrived (path_cell track (k + 1))) else refused (why_of NotMoving))
 
-module _ (v : Version) (table : Timetable) (h : History) (run : IsRun v table h) (i : ℕ) (track : Track) (a : AgentOn CountedTape) (is : IsMember v table h i a) where
-  abbrev s : State
-  s = state_of counted_state a
-
+module _ (v : Version) (table : Timetable) (h : History) (run : IsRun v table h) (i : ℕ) (track : Track) (s : State) (is : IsLeftBy v table h i s) where
   step : (done h i ≤ kept_starts h i) × (kept_starts h i ≤ done h i + 1)
   step = in_step v table h i run
 
@@ -78,24 +76,45 @@ module _ (v : Version) (table : Timetable) (h : History) (run : IsRun v table h)
   pub moving-is : states.is_on_the_way s ≡ is_moving h i
   moving-is = ap (λ n. n % 2 == 1) is.records ∙ odd-is (kept_starts h i) (done h i) step.0 step.1
 
-  waits-is : (o : Option Need) (r : Answer) → unless_waiting (known v table h i) o r ≡ unless (waits_for a.heard o) r
+  waits-is : (o : Option Need) (r : Answer) → unless_waiting (known v table h i) o r ≡ unless (waits_for s.heard o) r
   waits-is None r = refl
   waits-is (Some n) r =
       ap (λ k. if nat_lt k n.count then refused (why_of (Waits n.agent n.count)) else r) (sym (is.heard n.agent))
-      ∙ by_test (nat_lt (known_in a.heard n.agent) n.count) (Waits n.agent n.count) None r r refl
+      ∙ by_test (nat_lt (known_in s.heard n.agent) n.count) (Waits n.agent n.count) None r r refl
 
   -- what the rules answer to a start
   pub start-rule : start_answer v table h i track ≡ unless (start_refusal table i track s) (stored (armed_of h i) (moving (next_cell track s)))
   start-rule =
       ap (λ b. start_by v table h i track b (is_moving h i) (done h i)) (sym is.broken)
-      ∙ ap (λ m. start_by v table h i track a.broken m (done h i)) (sym moving-is)
-      ∙ ap (λ k. start_by v table h i track a.broken (states.is_on_the_way s) k) (sym done-is)
-      ∙ by_test a.broken Broken _ _ _ (by_test (states.is_on_the_way s) AlreadyMoving _ _ _ (by_test (states.finished_moves s == moves track) AtEnd _ _ _ (waits-is (need table i track (states.finished_moves s)) _)))
+      ∙ ap (λ m. start_by v table h i track s.broken m (done h i)) (sym moving-is)
+      ∙ ap (λ k. start_by v table h i track s.broken (states.is_on_the_way s) k) (sym done-is)
+      ∙ by_test s.broken Broken _ _ _ (by_test (states.is_on_the_way s) AlreadyMoving _ _ _ (by_test (states.finished_moves s == moves track) AtEnd _ _ _ (waits-is (need table i track (states.finished_moves s)) _)))
 
   -- what they answer to a finish
   pub finish-rule : finish_answer h i track ≡ unless (finish_refusal s) (stored (armed_of h i) (arrived (next_cell track s)))
   finish-rule =
       ap (λ b. finish_by h i track b (is_moving h i) (done h i)) (sym is.broken)
-      ∙ ap (λ m. finish_by h i track a.broken m (done h i)) (sym moving-is)
-      ∙ ap (λ k. finish_by h i track a.broken (states.is_on_the_way s) k) (sym done-is)
-      ∙ by_test a.broken Broken _ _ _ (unless_test (states.is_on_the_way s) NotMoving _)
+      ∙ ap (λ m. finish_by h i track s.broken m (done h i)) (sym moving-is)
+      ∙ ap (λ k. finish_by h i track s.broken (states.is_on_the_way s) k) (sym done-is)
+      ∙ by_test s.broken Broken _ _ _ (unless_test (states.is_on_the_way s) NotMoving _)
+
+  -- ---- what the agent holds
+
+  pub held-is : held_by_tape track s ≡ held track h i
+  held-is = sym (ap (λ m. held_by m (done h i)) (sym moving-is) ∙ ap (held_by (states.is_on_the_way s)) (sym done-is))
+    where
+      held_by : Bool → ℕ → Held
+      held_by m k = if m then Between (path_cell track k) (path_cell track (k + 1)) else At (path_cell track k)
+
+  -- what the rules answer to a restart
+  pub restart-rule : restart_answer h i track ≡ stood (held_by_tape track s) (states.finished_moves s)
+  restart-rule =
+      ap (λ m. restart_by m (done h i)) (sym moving-is) ∙ ap (restart_by (states.is_on_the_way s)) (sym done-is) ∙ by_moving (states.is_on_the_way s)
+    where
+      restart_by : Bool → ℕ → Answer
+      restart_by m k = if m then history.between (path_cell track k) (path_cell track (k + 1)) k else history.at (path_cell track k) k
+
+      by_moving : (m : Bool) → restart_by m (states.finished_moves s)
+          ≡ stood (if m then Between (path_cell track (states.finished_moves s)) (path_cell track (states.finished_moves s + 1)) else At (path_cell track (states.finished_moves s))) (states.finished_moves s)
+      by_moving true = refl
+      by_moving false = refl

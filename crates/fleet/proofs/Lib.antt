@@ -1,0 +1,7 @@
+-- Lemmas that several proofs share.
+pub mod SpelledLemmas
+pub mod StepLemmas
+pub mod FleetLemmas
+pub mod SafeLemmas
+pub mod RoundLemmas
+pub mod TellableLemmas

@@ -1,0 +1,16 @@
+-- What has to be believed of the crate, beside the definitions of `model` and `agent`, in the order in which to read it.
+
+-- what an agent of a fleet was asked and answered, and what befell it
+pub mod Deeds
+-- what a whole fleet did
+pub mod Fleets
+-- when a fleet is safe
+pub mod FleetSafety
+-- what a fleet did as a run
+pub mod Retelling
+-- where one agent stands at a run
+pub mod Members
+-- what has to happen so that a fleet comes on
+pub mod Rounds
+-- What follows from these definitions, each with its proof: proofs of other crates cite it, and nothing of it has to be believed.
+pub mod Laws

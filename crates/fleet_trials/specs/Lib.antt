@@ -1,0 +1,2 @@
+-- Examples of what `fleet` defines.
+pub mod Examples
