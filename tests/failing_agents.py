@@ -23,16 +23,18 @@ sys.stdout.flush()
 for line in sys.stdin.buffer:
     agent.stdin.write(line)
     agent.stdin.flush()
-    answer, chance = agent.stdout.readline(), random.random()
-    if answer.startswith((b"moving", b"arrived")) and chance < {both} + {killed} + {lost} + {stored}:
+    answer, what = agent.stdout.readline(), ""
+    if answer.startswith((b"moving", b"arrived")):
+        what = random.choices(["", *{chances}], [1 - sum({chances}.values()), *{chances}.values()])[0]
+    if what:
         agent.stdin.close()
         agent.wait()
-        if chance < {both}:
+        if what in ("torn", "lost"):
+            os.truncate(sys.argv[5], os.path.getsize(sys.argv[5]) - random.randint(1, 10))
+        if what == "both":
             os.kill(os.getppid(), 9)
-        if chance < {both} + {killed}:
+        if what in ("both", "killed", "torn"):
             os.kill(os.getpid(), 9)
-        if chance < {both} + {killed} + {lost}:
-            os.truncate(sys.argv[5], os.path.getsize(sys.argv[5]) - 10)
         print("refused StoreFailed", flush=True)
         sys.exit(3)
     sys.stdout.buffer.write(answer)
@@ -42,19 +44,21 @@ for line in sys.stdin.buffer:
 
 @dataclasses.dataclass(frozen=True)
 class Chances:
-    """How often an agent fails: its tape isn't opened; and behind a record, before anybody is told of it, it is killed, with its robot or without, or it says
-    that the record wasn't stored, which is so or not."""
+    """How often an agent fails: its tape isn't opened; behind a record, before anybody is told of it, it is killed, with its robot or without; it
+    is killed while the record is written; or it says that the record wasn't stored, which is so or not."""
 
     unopened: float = 0
     both: float = 0
     killed: float = 0
+    torn: float = 0
     lost: float = 0
     stored: float = 0
 
 
 def failing_program(harness: Harness, chances: Chances) -> pathlib.Path:
     program = harness.folder() / "mapf"
-    words = {"python": sys.executable, "program": str(harness.program), **dataclasses.asdict(chances)}
+    kinds = dataclasses.asdict(chances)
+    words = {"python": sys.executable, "program": str(harness.program), "unopened": kinds.pop("unopened"), "chances": kinds}
     program.write_text(PROGRAM.format(**words), encoding="ascii")
     program.chmod(0o755)
     return program

@@ -1,8 +1,10 @@
 """The fleet of examples/fleet: robots as processes, over links that lose messages, killed at random. Each run is watched from outside. And what a fleet says that can't be driven."""
 import functools
+import re
 import sys
 from typing import Iterator
 
+import boxes
 from failing_agents import Chances, failing_program
 from harness import ROOT, Harness, Outcome, compared, shown, side_by_side
 
@@ -15,12 +17,17 @@ SHORT = ((1, *RATES[0], ["--tell"]), (2, *RATES[1], []), (3, *RATES[0], []), (4,
 
 def drive(harness: Harness, seed: int, loss: float, kills: float, more: list[str]) -> list[Outcome]:
     words = [*more, "--seed", str(seed), "--loss", str(loss), "--kills", str(kills), "--quiet", "--program", str(harness.program)]
-    command = [sys.executable, str(FLEET), *words]
+    folder = harness.folder() / "boxes"
+    command = [sys.executable, str(FLEET), *words, "--boxes", str(folder)]
     ended = harness.run(command)
     arrived = ended.status == 0 and ended.out.startswith(f"seed {seed}: 12 robots arrived".encode())
     wrote = (ended.status, ended.out[-2000:], ended.err[-2000:])
     due = wrote if arrived else f"status 0, and a line that all 12 robots of seed {seed} arrived"
-    return [compared(" ".join([f"seed {seed}, {loss} lost, {kills} killed", *more]), shown(command), wrote, due)]
+    name = " ".join([f"seed {seed}, {loss} lost, {kills} killed", *more])
+    # As many as the fleet has killed itself.
+    kills = re.search(r"; (\d+) kills;", ended.out.decode())
+    agreed = (0, f" {int(kills[1]):,} kills, " if kills else "agreed: ")
+    return [compared(name, shown(command), wrote, due), boxes.held(harness, name, str(boxes.WAREHOUSE), folder, agreed)]
 
 
 def bad_calls(harness: Harness) -> Iterator[Outcome]:
@@ -36,6 +43,7 @@ def bad_calls(harness: Harness) -> Iterator[Outcome]:
         ("no plan", ["--plan", "no"], 3, "fleet: no: No such file or directory"),
         ("no program", ["--program", "./no"], 3, "fleet: ./no: No such file or directory"),
         ("no folder", ["--folder", "no"], 3, "No such file or directory"),
+        ("boxes that were there before", ["--boxes", "."], 3, "fleet: .: File exists"),
         ("a plan that is none", ["--plan", str(torn)], 1, "`mapf run --complete` says 'mapf: BadHeader 1'"),
         ("a rotation", turn, 1, "`mapf run --complete` says 'blocked 0'"),
     ):
@@ -49,10 +57,12 @@ def bad_calls(harness: Harness) -> Iterator[Outcome]:
 def full_disk(harness: Harness) -> Iterator[Outcome]:
     """Whatever isn't stored is waited out, and then all arrive."""
     program = failing_program(harness, Chances(unopened=0.2, lost=0.1, stored=0.1))
-    command = [sys.executable, str(FLEET), "--agents", "3", "--kills", "0", "--quiet", "--program", str(program)]
+    folder = harness.folder() / "boxes"
+    command = [sys.executable, str(FLEET), "--agents", "3", "--kills", "0", "--quiet", "--program", str(program), "--boxes", str(folder)]
     ended = harness.run(command)
     wrote = (ended.status, ended.out.startswith(b"seed 1: 3 robots arrived"), b": failed, and is started again\n" in ended.err)
     yield compared("a disk that fails at times", f"{shown(command)}, which told {ended.err[-500:]!r}", wrote, (0, True, True))
+    yield boxes.held(harness, "a disk that fails at times", str(boxes.WAREHOUSE), folder)
 
 
 def outcomes(harness: Harness) -> Iterator[Outcome]:

@@ -13,6 +13,7 @@ import sys
 import time
 from typing import Callable, Iterator, Sequence
 
+import boxes
 import watching
 from harness import ROOT, Ended, Harness, Outcome, compared, ended_as, shown
 from processes import children, processes_of, wait_until
@@ -89,7 +90,7 @@ def of_services(harness: Harness, ports: Callable[[], int]) -> list[Outcome]:
     for robot, start in enumerate(STARTS):
         drive, other = copied.folder / f"drive{robot}", f"127.0.0.1:{port + 1 - robot}"
         copied.start([sys.executable, str(copied.fleet / "own_drive.py"), str(drive), *start.split()])
-        tape, link = str(copied.make_tape(robot)), f"--listen 127.0.0.1:{port + robot} --peers {other}"
+        tape, link = str(copied.make_tape(robot)), f"--listen 127.0.0.1:{port + robot} --peers {other} --box {robot}.box"
         wait_until(drive.exists)
         settings = {"MAP": str(MAP), "PLAN": str(PLAN), "TAPE": tape, "DRIVE": str(drive), "PROGRAM": copied.program, "LINK": link}
         words = words_of_unit(settings, robot, copied.fleet)
@@ -100,7 +101,10 @@ def of_services(harness: Harness, ports: Callable[[], int]) -> list[Outcome]:
     wait_until(lambda: [copied.state_of(robot) for robot in (0, 1)] == list(ENDS))
     states = [copied.state_of(robot) for robot in (0, 1)]
     said = copied.end()
-    return [compared("robots of a copied folder, with drives of their own", f"{shown(words)}, which told {said[-800:]!r}", states, list(ENDS))]
+    name = "robots of a copied folder, with drives of their own"
+    shutil.copy(PLAN, copied.folder)
+    outcome = compared(name, f"{shown(words)}, which told {said[-800:]!r}", states, list(ENDS))
+    return [outcome, boxes.held(harness, name, str(MAP), copied.folder)]
 
 
 def of_the_unit(harness: Harness) -> list[Outcome]:

@@ -7,6 +7,7 @@ import signal
 import subprocess
 from typing import Callable, Iterator, Sequence
 
+import boxes
 from harness import ROOT, Ended, Harness, Outcome, compared, ended_as, shown
 from processes import heeding, left_in, processes_of, wait_until
 
@@ -76,9 +77,11 @@ def status_of(process: "subprocess.Popen[bytes]") -> int:
 def of_network(harness: Harness) -> list[Outcome]:
     """Three robots, each in a namespace of its own; and what is left when that is interrupted."""
     words = ["sh", str(NETWORK), "--robots", "3", "--moves", "0.1", "--kills", "2", "--seed", "5", "--program", str(harness.program)]
-    ended = harness.run(words)
+    kept = harness.folder() / "boxes"
+    ended = harness.run([*words, "--boxes", str(kept)])
     own = "arrived 3 " in ended.out.decode() and re.search(r" lost [1-9]", ended.out.decode()) is not None
     outcomes = [compared("three robots on a network", f"{shown(words)}, which told {ended.out!r} {ended.err[-800:]!r}", (ended.status, own), (0, True))]
+    outcomes += [boxes.held(harness, "three robots on a network", str(boxes.WAREHOUSE), it) for it in sorted(kept.glob("*"))]
     for number in (signal.SIGINT, signal.SIGTERM, signal.SIGHUP) if harness.is_long else ():
         pipes = {"stdin": subprocess.DEVNULL, "stdout": subprocess.DEVNULL, "stderr": subprocess.DEVNULL}
         folder = harness.folder()

@@ -67,7 +67,7 @@ PARTS: dict[str, tuple[str, Callable[[Harness], Iterator[Outcome]]]] = {
     "show": ("plans and runs as pages in a browser, and as pictures", showing.outcomes),
     "vectors": ("the answers of an independent implementation", vectors.outcomes),
     "fleet": ("robots as processes that are killed at random", fleet.outcomes),
-    "robots": ("robots on a network, over UDP and MQTT", robots.outcomes),
+    "robots": ("robots on a network, over UDP and MQTT, and their black boxes", robots.outcomes),
 }
 # The parts that look at what the gate has built, and so come last where all is proved.
 NEED_PROOF = ("dist", "memory")

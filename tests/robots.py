@@ -13,6 +13,8 @@ import threading
 import time
 from typing import Callable, Iterator, Optional, Sequence
 
+import boxes
+import campaign
 import lone_robots
 import networking
 import watching
@@ -50,6 +52,7 @@ class Fleet:
     def __init__(self, harness: Harness, words: Sequence[str], program: str = ""):
         self.harness, self.folder = harness, harness.folder()
         self.command = [sys.executable, str(ROBOTS), "--number", str(next(NUMBERS)), *words, "--keep", "kept", "--program", program or str(harness.program)]
+        self.command += ["--boxes", "boxes"]
 
     def run(self) -> Ended:
         return self.harness.run(self.command, folder=self.folder, more={"TMPDIR": str(self.folder)})
@@ -59,13 +62,20 @@ class Fleet:
         lines = [line.split() for line in ended.out.decode().splitlines() if line.startswith("run ")]
         return [{name: float(value) for name, value in zip(words[::2], words[1::2])} for words in lines]
 
+    @property
+    def map(self) -> str:
+        return self.command[self.command.index("--map") + 1] if "--map" in self.command else WAREHOUSE[0]
+
+    def boxes(self, name: str, due: tuple[int, str] = boxes.AGREES) -> list[Outcome]:
+        """What is told of the boxes of each run."""
+        return [boxes.held(self.harness, name, self.map, folder, due) for folder in sorted((self.folder / "boxes").glob("*"))]
+
     def held(self) -> list[bool]:
         """Whether `mapf run` answers each log by the replies that were seen, and finds nothing left to do."""
         found = []
         for log in sorted((self.folder / "kept").glob("*.events")):
             plan = log.with_suffix(".plan")
-            map_file = self.command[self.command.index("--map") + 1] if "--map" in self.command else WAREHOUSE[0]
-            ended = self.harness.mapf(["run", map_file, str(plan), str(log), "--complete"])
+            ended = self.harness.mapf(["run", self.map, str(plan), str(log), "--complete"])
             found.append(ended.out == log.with_suffix(".replies").read_bytes() + b"complete 0\n")
         return found
 
@@ -78,7 +88,7 @@ class Fleet:
         counted = self.counted(ended)
         wrote = (ended.status, [(run["arrived"], run["dropped"] > 0) for run in counted], self.held(), short_of(counted, least))
         ran = f"{shown(self.command)}, which told {ended.out[-1500:]!r} {ended.err[-1500:]!r}"
-        outcomes = [compared(name, ran, wrote, (0, [(robots, drops)], [True], {}))]
+        outcomes = [compared(name, ran, wrote, (0, [(robots, drops)], [True], {})), *self.boxes(name)]
         return outcomes + [compared(f"{name}: what is left", ran, left_in(self.folder), [])]
 
 
@@ -111,14 +121,16 @@ def of_udp(harness: Harness) -> Iterator[Callable[[], list[Outcome]]]:
 
 def of_numbers(harness: Harness) -> list[Outcome]:
     """Each run has a number of its own, in a call and in the next one."""
-    numbers = []
+    numbers, outcomes = [], []
     for more in (["--seconds", "1.5"], []):
         fleet = Fleet(harness, [*TWO, *more])
         at = fleet.command.index("--number")
         del fleet.command[at : at + 2]
         numbers += [int(run["run"]) for run in fleet.counted(fleet.run())]
+        outcomes += fleet.boxes("fresh numbers")
     rising = all(one < other for one, other in zip(numbers, numbers[1:]))
-    return [compared("fresh numbers", f"{shown(fleet.command)}, behind one with --seconds, with the numbers {numbers}", (len(numbers) > 1, rising), (True, True))]
+    ran = f"{shown(fleet.command)}, behind one with --seconds, with the numbers {numbers}"
+    return [*outcomes, compared("fresh numbers", ran, (len(numbers) > 1, rising), (True, True))]
 
 
 # Tapes that fail
@@ -241,7 +253,7 @@ def of_one_broker(harness: Harness, python: str) -> list[Outcome]:
         ended = again.run()
         told = (ended.status, b"which none of the fleet has said" in ended.err)
         stale = compared("MQTT, a number that isn't fresh", f"{shown(again.command)}, which told {ended.err!r}", told, (1, True))
-        return [*first, kept, *second, stale]
+        return [*first, kept, *second, stale, *again.boxes("MQTT, a number that isn't fresh", (1, "what nobody said"))]
     finally:
         broker.end()
 
@@ -314,22 +326,21 @@ def of_one_tape(harness: Harness) -> list[Outcome]:
     return [compared("one agent on a tape", shown(words), (waits, none, goes_on), (True, [], True))]
 
 
-def of_bad_calls(harness: Harness) -> list[Outcome]:
-    """One clear line and a status, whatever is wrong."""
-    outcomes = []
-    folder = harness.folder({"paho.py": b"raise ImportError\n", "tape": b"", "torn": b"x" * 10})
-    taken = free_port()
+def bad_calls(harness: Harness, taken: int) -> Iterator[tuple[str, list[str], int, str]]:
+    """Calls that can't be done, one of whose ports is taken: each with its status, and what is told."""
     link = ["--listen", f"127.0.0.1:{taken}", "--peers", "127.0.0.1:9"]
     free = ["--listen", f"127.0.0.1:{taken + 1}", "--peers", "127.0.0.1:9"]
     robot = functools.partial(robot_words, harness)
     robots = [sys.executable, str(ROBOTS), "--program", str(harness.program)]
     broker = ["--broker", f"127.0.0.1:{taken + 2}", "--patience", "0"]
-    calls: list[tuple[str, list[str], int, str]] = [
+    yield from (
         ("a port in use", robot(*link), 3, "Address already in use"),
         ("no drive", robot(*free), 3, "robot 0: no drive is at watcher"),
         ("no link", robot(), 2, "either --listen or --broker is wanted"),
         ("no peers", robot("--listen", "127.0.0.1:9"), 2, "--listen goes with either --peers or --group"),
         ("no address", robot("--listen", "127.0.0.1", "--peers", ""), 2, "is no HOST:PORT"),
+        ("no folder for its box", robot(*free, "--box", "no/box"), 3, "robot 0: no/box: No such file or directory"),
+        ("a box on a full disk", robot(*free, "--box", "/dev/full"), 3, "robot 0: /dev/full: No space left on device"),
         ("no program", [*robot(*free), "--program", "./no"], 3, "robot 0: ./no: No such file or directory"),
         ("no agent", [word if word != "0" else "2" for word in robot(*free)], 1, "robot 2: its agent doesn't start (status 1)"),
         ("a tape that is none", [word if word != "tape" else "torn" for word in robot(*free)], 1, "robot 0: its agent doesn't start (status 1)"),
@@ -340,14 +351,21 @@ def of_bad_calls(harness: Harness) -> list[Outcome]:
         ("more robots than agents", [*robots, "--robots", "13"], 3, "there are 12 agents, and 13 were due"),
         ("no such link", [*robots, "--link", "post"], 2, "invalid choice: 'post'"),
         ("no cables", [*robots, "--cuts", "1"], 2, "there are no cables here"),
-    ]
+    )
     python = with_paho()
     if python:
-        calls.append(("no broker", [python, *robot(*broker)[1:]], 3, f"robot 0: no broker answers at {broker[1]}"))
-        calls.append(("no broker for a fleet", [*robots, "--link", "mqtt", *broker[:2]], 3, f"robots: no broker answers at {broker[1]}"))
+        yield "no broker", [python, *robot(*broker)[1:]], 3, f"robot 0: no broker answers at {broker[1]}"
+        yield "no broker for a fleet", [*robots, "--link", "mqtt", *broker[:2]], 3, f"robots: no broker answers at {broker[1]}"
+
+
+def of_bad_calls(harness: Harness) -> list[Outcome]:
+    """One clear line and a status, whatever is wrong."""
+    outcomes = []
+    folder = harness.folder({"paho.py": b"raise ImportError\n", "tape": b"", "torn": b"x" * 10})
+    taken = free_port()
     with socket.socket(socket.AF_INET, socket.SOCK_DGRAM) as other:
         other.bind(("127.0.0.1", taken))
-        for name, command, status, told in calls:
+        for name, command, status, told in bad_calls(harness, taken):
             more = {"PYTHONPATH": str(folder)} if name == "no client of MQTT" else {}
             ended = harness.run(command, folder=folder, more=more)
             last = ended.err.decode().splitlines()[-1:]
@@ -382,7 +400,8 @@ def of_a_signal(harness: Harness, number: int) -> list[Outcome]:
     process.send_signal(number)
     _, err = process.communicate(timeout=60)
     name = f"{signal.Signals(number).name} to a fleet"
-    return [compared(name, shown(fleet.command), (runs, process.returncode, b"Traceback" in err, left_in(fleet.folder)), (True, 128 + number, False, []))]
+    wrote = (runs, process.returncode, b"Traceback" in err, left_in(fleet.folder))
+    return [compared(name, shown(fleet.command), wrote, (True, 128 + number, False, [])), *fleet.boxes(name)]
 
 
 def of_a_kill(harness: Harness) -> list[Outcome]:
@@ -402,9 +421,12 @@ def outcomes(harness: Harness) -> Iterator[Outcome]:
     numbers = (signal.SIGTERM, signal.SIGINT, signal.SIGHUP) if harness.is_long else (signal.SIGTERM,)
     signals = [functools.partial(of_a_signal, harness, number) for number in numbers]
     lone = lone_robots.tests(harness, free_port)
-    tests = [*of_udp(harness), *of_mqtt(harness), *alone, *signals, *lone, *networking.tests(harness), *watching.tests(harness)]
+    others = [*lone, *networking.tests(harness), *watching.tests(harness), *boxes.tests(harness)]
+    tests = [*of_udp(harness), *of_mqtt(harness), *alone, *signals, *others]
     # Robots wait most of their time, so twice as many of these tests as of others run at once.
     yield from side_by_side(functools.partial(collected, tests[place::2]) for place in (0, 1))
+    if harness.is_long:
+        yield from campaign.outcomes(harness)
 
 
 def collected(tests: Sequence[Callable[[], Sequence[Outcome]]]) -> list[Outcome]:

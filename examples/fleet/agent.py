@@ -5,6 +5,8 @@ import sys
 import time
 from typing import IO, Callable, Optional, Sequence
 
+from black_box import Note, nowhere
+
 STORE_FAILED = "refused StoreFailed"
 # Seconds after which a lock that is held is asked for again.
 LOOK = 0.05
@@ -45,25 +47,34 @@ class Lock:
 
 
 class Agent:
-    """The process, which answers each line by one."""
+    """The process, which answers each line by one. What it is asked, and what it answers, is noted first."""
 
-    def __init__(self, words: Sequence[str], lock: Lock):
+    def __init__(self, words: Sequence[str], lock: Lock, note: Note = nowhere):
+        self.note = note
         # It ignores the signal of a file that grows past its limit, as Python does: it is to answer that its record wasn't stored.
         how = {"stdin": subprocess.PIPE, "stdout": subprocess.PIPE, "pass_fds": [lock.fileno()], "restore_signals": False}
         self.process = subprocess.Popen(words, **how)
         try:
+            note("started", self.process.pid)
             self.first = self._line()
         except Ended:
             status = self.end()
             if status > 0:
                 raise Unfit(status) from None
             raise
+        except OSError:
+            # What can't be noted isn't done.
+            self.process.kill()
+            self.process.wait()
+            raise
 
     def _line(self) -> str:
         line = self.process.stdout.readline() if self.process.stdout else b""
         if not line.endswith(b"\n"):
             raise Ended
-        return line[:-1].decode("ascii")
+        text = line[:-1].decode("ascii")
+        self.note("answered", text)
+        return text
 
     def fileno(self) -> int:
         """Is readable, while nothing is asked, where the process has ended."""
@@ -71,6 +82,7 @@ class Agent:
 
     def ask(self, line: str) -> str:
         """The answer to a line."""
+        self.note("asked", line)
         try:
             self.process.stdin.write(f"{line}\n".encode("ascii"))
             self.process.stdin.flush()
@@ -85,4 +97,6 @@ class Agent:
         except OSError:
             pass
         self.process.stdout.close()
-        return self.process.wait(seconds)
+        status = self.process.wait(seconds)
+        self.note("ended", status)
+        return status

@@ -1,7 +1,8 @@
 #!/usr/bin/env python3
 """Drives a fleet: one process `mapf agent` for each agent of a plan.
 
-Usage: fleet.py [--agents N] [--seed N] [--loss RATE] [--kills RATE] [--tell] [--quiet] [--program PATH] [--plan FILE --map FILE]
+Usage: fleet.py [--agents N] [--seed N] [--loss RATE] [--kills RATE] [--tell] [--quiet] [--boxes FOLDER] [--program PATH]
+       [--plan FILE --map FILE]
 
 Each robot asks its own process when it may go on, and says to the others what it has finished, or with `--tell` all that it knows of
 anyone. The link between them loses messages, repeats them and lets them overtake one another; drives take their time; and at any moment
@@ -22,6 +23,7 @@ import tempfile
 import time
 
 sys.dont_write_bytecode = True
+from black_box import note_of  # noqa: E402
 from program import usual_program  # noqa: E402
 
 HERE = pathlib.Path(__file__).resolve().parent
@@ -59,8 +61,8 @@ class Unfit(Exception):
 class Robot:
     """A robot: its process, its drive, and what it holds as seen from outside."""
 
-    def __init__(self, words, goal, kills, rng):
-        self.words, self.goal, self.kills, self.rng = words, goal, kills, rng
+    def __init__(self, words, goal, kills, rng, note):
+        self.words, self.goal, self.kills, self.rng, self.note = words, goal, kills, rng, note
         self.process = None
         self.held = ()
         self.done = 0
@@ -72,14 +74,28 @@ class Robot:
         """Starts the process on the robot's tape. Its first line says where the robot is by what was stored."""
         while True:
             self.process = subprocess.Popen([*self.words, "--tape", tape], stdin=subprocess.PIPE, stdout=subprocess.PIPE, text=True)
-            answer = self.process.stdout.readline().split()
+            self.note("started", self.process.pid)
+            answer = self.read()
             if answer:
                 return self.stand(answer)
             self.wait_out()
 
+    def read(self):
+        """The words of the next answer, none where the process has ended."""
+        line = self.process.stdout.readline()
+        if not line.endswith("\n"):
+            return []
+        self.note("answered", line[:-1])
+        return line.split()
+
+    def end(self):
+        """Waits until the process has ended."""
+        self.process.communicate()
+        self.note("ended", self.process.returncode)
+
     def wait_out(self):
         """Whatever failed, a process that says so may be started again a little later."""
-        self.process.communicate()
+        self.end()
         if self.process.returncode != FAILED:
             raise Unfit(f"{' '.join(self.words)}: ended with status {self.process.returncode}")
         print(f"{' '.join(self.words)}: failed, and is started again", file=sys.stderr, flush=True)
@@ -96,12 +112,13 @@ class Robot:
     def die(self):
         """The process is killed, wherever it is just now, and started again."""
         self.process.kill()
-        self.process.communicate()
+        self.end()
         self.deaths += 1
         self.start("kept")
 
     def ask(self, line):
         """The words of the answer to a line."""
+        self.note("asked", line)
         with contextlib.suppress(BrokenPipeError):
             self.process.stdin.write(line + "\n")
             self.process.stdin.flush()
@@ -109,7 +126,7 @@ class Robot:
             time.sleep(self.rng.random() / 500)
             self.die()
             raise Killed
-        answer = self.process.stdout.readline().split()
+        answer = self.read()
         if answer in ([], ["refused", "StoreFailed"]):
             self.wait_out()
             self.start("kept")
@@ -134,9 +151,9 @@ class Robot:
 
     def is_home(self):
         """Whether the tape, opened once more, says that the robot stands where its course ends."""
-        self.process.communicate()
+        self.end()
         self.start("kept")
-        self.process.communicate()
+        self.end()
         return self.held == (self.goal,)
 
 
@@ -200,18 +217,26 @@ def check_plan(given, plan, nothing):
         raise Unfit(f"{given.plan}: `mapf run --complete` says '{said}'")
 
 
-def run(given, folder):
-    rng = random.Random(given.seed)
+def robots_of(given, folder, rng):
+    """The robots of the plan's first agents, each with a box of its own where these are wanted, beside the plan that it is driven by."""
     head, courses = read_courses(given.plan)
     courses = courses[:given.agents]
-    plan = folder / "fleet.plan"
+    plan = (given.boxes or folder) / "fleet.plan"
+    if given.boxes:
+        # A box that was there before is of another run.
+        given.boxes.mkdir()
     plan.write_text("\n".join([*head, f"agents {len(courses)}", *courses, ""]))
-    rows = given.map.read_text(encoding="ascii", errors="replace").splitlines()[4:]
     check_plan(given, plan, folder / "none.events")
-    robots = [
-        Robot([given.program, "agent", str(given.map), str(plan), str(n), str(folder / f"{n}.tape")], goal_of(line), given.kills, rng)
-        for n, line in enumerate(courses)
-    ]
+    files = [str(given.map), str(plan)]
+    notes = [note_of(str(given.boxes / f"{n}.box") if given.boxes else "", n, files) for n in range(len(courses))]
+    words = [[given.program, "agent", *files, str(n), str(folder / f"{n}.tape")] for n in range(len(courses))]
+    return [Robot(words[n], goal_of(line), given.kills, rng, notes[n]) for n, line in enumerate(courses)]
+
+
+def run(given, folder):
+    rng = random.Random(given.seed)
+    rows = given.map.read_text(encoding="ascii", errors="replace").splitlines()[4:]
+    robots = robots_of(given, folder, rng)
     link = Link(given.loss, rng)
     step = 0
     arrived = set()
@@ -282,6 +307,7 @@ def main():
     parser.add_argument("--map", type=pathlib.Path, default=HERE / "warehouse.map")
     parser.add_argument("--plan", type=pathlib.Path, default=HERE / "warehouse.plan")
     parser.add_argument("--folder", type=pathlib.Path, help="where a folder for the tapes is made, as on a disk that is full (where temporary files are)")
+    parser.add_argument("--boxes", type=pathlib.Path, help="a new folder, for the plan and the robots' boxes")
     given = parser.parse_args()
     try:
         with tempfile.TemporaryDirectory(dir=given.folder) as folder:

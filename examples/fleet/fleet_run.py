@@ -49,6 +49,8 @@ class Settings:
     slips: float
     rates: dict[str, float]
     limit: float
+    # A folder for the robots' boxes, if these are wanted.
+    boxes: Optional[pathlib.Path]
 
 
 def said_by(process: "subprocess.Popen[bytes]") -> str:
@@ -99,6 +101,7 @@ class Run:
         settings, place = self.settings, self.place
         words = [settings.python, HERE / "robot.py", settings.map, self.plan, robot, self.tape(robot), "--drive", self.socket]
         words += ["--every", settings.every, "--program", settings.program, *(["--tell"] if settings.tells else [])]
+        words += ["--box", settings.boxes / f"{robot}.box"] if settings.boxes else []
         if settings.link == "mqtt":
             words += ["--broker", place.broker, "--patience", PATIENCE]
         elif settings.link == "multicast":

@@ -24,6 +24,7 @@ from typing import Counter, Optional, Sequence, Union
 sys.dont_write_bytecode = True
 from addresses import address, addresses  # noqa: E402
 from agent import STORE_FAILED, Agent, Ended, Lock, Unfit  # noqa: E402
+from black_box import note_of  # noqa: E402
 from drive import Cell, NoDrive, Wire  # noqa: E402
 from leaving import heed_signals  # noqa: E402
 from letters import Letter  # noqa: E402
@@ -67,6 +68,7 @@ def read_words(words: Sequence[str]) -> argparse.Namespace:
     parser.add_argument("--patience", type=seconds, default=10.0, metavar="S", help="how long a broker may be away at first (%(default)g)")
     parser.add_argument("--tell", action="store_true", help="says all that it knows, and not only what it has finished")
     parser.add_argument("--every", type=seconds, default=0.2, metavar="S", help="says so again after so many seconds (%(default)g)")
+    parser.add_argument("--box", default="", metavar="FILE", help="its black box; it ends where that can't be written (none)")
     parser.add_argument("--program", default=usual_program(), metavar="PATH", help="the program mapf (%(default)s)")
     given = parser.parse_args(words)
     if (given.broker is None) == (given.listen is None):
@@ -222,11 +224,13 @@ def drive(given: argparse.Namespace) -> None:
     """One agent after another, each started when the one before has ended."""
     supervisor = Supervisor()
     lock = Lock(f"{given.tape}.lock", f"robot {given.id}: waits until the robot before it and its agent have ended", supervisor.lives)
+    note = note_of(given.box, given.id, (given.map, given.plan))
+    words = [given.program, "agent", given.map, given.plan, str(given.id)]
     with contextlib.closing(link_of(given)) as link:
         world = World(link, Wire(given.drive, given.id), supervisor, Dropped(given.id))
         while True:
             with contextlib.suppress(Ended):
-                agent = Agent([given.program, "agent", given.map, given.plan, str(given.id), given.tape, "--tape", "kept", "--explain"], lock)
+                agent = Agent([*words, given.tape, "--tape", "kept", "--explain"], lock, note)
                 try:
                     Robot(given, world, agent).live()
                 finally:

@@ -13,6 +13,7 @@ Status 0: all have arrived, no two were in one cell, and `mapf run` answers the 
 import argparse
 import collections
 import contextlib
+import dataclasses
 import itertools
 import pathlib
 import shutil
@@ -71,6 +72,7 @@ def read_words(words: Sequence[str]) -> argparse.Namespace:
     parser.add_argument("--broker", type=address, metavar="HOST:PORT", help="a broker that is there (one is started)")
     parser.add_argument("--port", type=int, default=0, metavar="N", help="the first of the ports on this machine (any that are free)")
     parser.add_argument("--keep", type=pathlib.Path, metavar="FOLDER", help="keeps the plan, the log and the replies of each run there")
+    parser.add_argument("--boxes", type=pathlib.Path, metavar="FOLDER", help="keeps the plan and the black boxes of each run there")
     parser.add_argument("--map", type=pathlib.Path, default=HERE / "warehouse.map")
     parser.add_argument("--plan", type=pathlib.Path, default=HERE / "warehouse.plan")
     parser.add_argument("--program", default=usual_program(), metavar="PATH", help="the program mapf (%(default)s)")
@@ -153,7 +155,7 @@ class Fleet:
             text = "\n".join(["mapf-plan 1", f"number {number}", f"agents {len(self.courses)}", *self.courses, ""])
             (folder / "run.plan").write_text(text, encoding="ascii")
             check_plan(self.settings, self.given.plan, folder / "run.plan", folder / "nothing")
-            run = Run(self.settings, self.place, self.cables, broker, seed, folder)
+            run = Run(self.with_boxes(number, folder / "run.plan"), self.place, self.cables, broker, seed, folder)
             try:
                 counted = run.drive()
                 has_arrived = counted["arrived"] != "0"
@@ -166,6 +168,15 @@ class Fleet:
         self.unfinished += not has_arrived
         self.sums.update({name: float(value) for name, value in counted.items()})
         print(f"run {number} seed {seed}", *(f"{name} {value}" for name, value in counted.items()), flush=True)
+
+    def with_boxes(self, number: int, plan: pathlib.Path) -> Settings:
+        """The settings of a run, with a new folder for its boxes where these are wanted."""
+        if not self.given.boxes:
+            return self.settings
+        boxes = self.given.boxes / str(number)
+        boxes.mkdir(parents=True)
+        shutil.copyfile(plan, boxes / plan.name)
+        return dataclasses.replace(self.settings, boxes=boxes.absolute())
 
     def drive(self, broker: Optional[Broker]) -> None:
         begun, numbers = time.monotonic(), fresh_numbers(self.given.number)
@@ -188,7 +199,7 @@ def drive(given: argparse.Namespace) -> int:
     has_own_broker = given.link == "mqtt" and not given.broker
     rates = {"kills": given.kills, "cuts": given.cuts, "stops": given.stops if has_own_broker else 0.0}
     own = (given.link, given.tell, given.every, given.moves, given.slips, rates, given.limit)
-    settings = Settings(given.program, python, given.map, len(courses), *own)
+    settings = Settings(given.program, python, given.map, len(courses), *own, boxes=None)
     place: Place = Namespaces(given.namespaces) if given.namespaces else Loopback(len(courses), given.port)
     broker = None
     with tempfile.TemporaryDirectory(prefix="mapf-broker-") as folder:

@@ -1,0 +1,273 @@
+#!/usr/bin/env python3
+"""Checks what the black boxes of a fleet have: whether all that its agents answered is what the event rules give, by `mapf run`.
+
+Usage: check_boxes.py MAP PLAN BOX.. [--agent N [--last N]] [--events FILE] [--program PATH]
+
+A BOX is what `robot.py --box` wrote; MAP and PLAN are the files by which the fleet was driven, with tapes that were new. All that was asked
+and answered becomes one list of events, which `mapf run` answers, and these answers have to be the agents' own. With --agent stands before
+that what one agent was asked last, what it answered, and what it held then by the rules.
+
+Status 0: they agree, in one line. 1: they don't; the first difference is shown whole. 2: a bad command line; or boxes that can't be read,
+don't go together, or don't fit the map and the plan. 3: another file or the program failed.
+"""
+import argparse
+import collections
+import dataclasses
+import datetime
+import pathlib
+import subprocess
+import sys
+import tempfile
+from typing import Iterator, Optional, Sequence
+
+sys.dont_write_bytecode = True
+from agent import STORE_FAILED  # noqa: E402
+from black_box import digest  # noqa: E402
+from dialogues import OPENED, BadBox, Box, Moment, Process, Turn, read_boxes  # noqa: E402
+from history import DELIVER, SAY, SAYS, History, Step, find_unanswered, history_of, state_after  # noqa: E402
+from leaving import heed_signals  # noqa: E402
+from program import usual_program  # noqa: E402
+
+DIFFER, UNFIT, FAILED = 1, 2, 3
+# How many calls of an agent are shown.
+LAST = 20
+# How much of a line is shown in an account.
+SHOWN = 60
+
+
+class Failed(Exception):
+    """The program has failed."""
+
+
+def number(word: str) -> int:
+    if not word.isascii() or not word.isdigit() or len(word) > 9:
+        raise argparse.ArgumentTypeError(f"a number is wanted, and '{word[:40]}' is none")
+    return int(word)
+
+
+def read_words(words: Sequence[str]) -> argparse.Namespace:
+    parser = argparse.ArgumentParser(prog="check_boxes.py", description=__doc__, formatter_class=argparse.RawDescriptionHelpFormatter)
+    parser.add_argument("map", metavar="MAP")
+    parser.add_argument("plan", metavar="PLAN")
+    parser.add_argument("boxes", nargs="+", metavar="BOX", help="the box of a robot; whose box isn't given is taken to have said nothing")
+    parser.add_argument("--agent", type=number, metavar="N", help="shows what this agent was asked last")
+    parser.add_argument("--last", type=number, default=LAST, metavar="N", help="how many calls of it are shown (%(default)s)")
+    parser.add_argument("--events", type=pathlib.Path, metavar="FILE", help="writes the list there, as a text of events for `mapf run`")
+    parser.add_argument("--program", default=usual_program(), metavar="PATH", help="the program mapf (%(default)s)")
+    return parser.parse_args(words)
+
+
+class Rules:
+    """What the program answers."""
+
+    def __init__(self, given: argparse.Namespace, version: int, folder: str):
+        self.program, self.files, self.version, self.folder = given.program, [given.map, given.plan], version, pathlib.Path(folder)
+
+    def _lines(self, words: Sequence[str], text: bytes = b"") -> list[str]:
+        try:
+            ended = subprocess.run([self.program, *words], input=text, capture_output=True, check=False)
+        except OSError as fault:
+            raise Failed(f"{self.program}: {fault.strerror}") from None
+        if ended.returncode:
+            told = (ended.stderr or ended.stdout).decode(errors="replace").partition("\n")[0]
+            raise (BadBox if ended.returncode == 1 else Failed)(f"{' '.join(self.files)}: `mapf {words[0]}` says '{told}'")
+        return ended.stdout.decode("ascii").splitlines()
+
+    def agents(self) -> int:
+        """How many there are. A plan that isn't accepted has no runs."""
+        return int(self._lines(["check", *self.files])[0].split()[2])
+
+    def text(self, events: Sequence[str]) -> str:
+        return "\n".join([f"mapf-events {self.version}", *events, ""])
+
+    def replies(self, events: Sequence[str]) -> list[str]:
+        file = self.folder / "events"
+        file.write_text(self.text(events), encoding="ascii")
+        found = self._lines(["run", *self.files, str(file)])
+        if len(found) != len(events):
+            raise Failed(f"`mapf run` answers {len(events)} events by {len(found)} lines")
+        # How many messages there were before isn't told to an agent.
+        return [" ".join(["said", *it.split()[2:]]) if it.startswith("said ") else it for it in found]
+
+    def alike(self, agent: int, lines: Sequence[str]) -> dict[str, str]:
+        """What any agent answers to these lines, since none of them is for it."""
+        text = "".join(f"{line}\n" for line in lines).encode(errors="replace")
+        told = self._lines(["agent", *self.files, str(agent), str(self.folder / "tape"), "--tape", "new"], text) if lines else [""]
+        return dict(zip(lines, told[1:]))
+
+
+@dataclasses.dataclass(frozen=True)
+class Judged:
+    """A step, what the rules give, and what its agent holds then by them."""
+
+    step: Step
+    rules: str
+    state: str
+
+    @property
+    def differs(self) -> bool:
+        return bool(self.step.fault) or self.step.answer not in (None, self.rules)
+
+
+def judged(rules: Rules, history: History) -> Iterator[Judged]:
+    replies = iter(rules.replies(history.events))
+    strange = [it.turn for it in history.steps if not it.event and not it.fault]
+    alike = rules.alike(strange[0].agent if strange else 0, list(dict.fromkeys(it.asked for it in strange)))
+    states: dict[int, str] = collections.defaultdict(str)
+    for step in history.steps:
+        agent = step.turn.agent
+        if step.is_event:
+            given = next(replies)
+            states[agent] = state_after(states[agent], given)
+        else:
+            given = states[agent] if step.event else alike.get(step.turn.asked, "")
+        yield Judged(step, given, states[agent])
+
+
+def hold_boxes(given: argparse.Namespace, boxes: Sequence[Box], agents: int) -> None:
+    """They have to be of this map, this plan and one version."""
+    due = {"map": digest(given.map), "plan": digest(given.plan)}
+    for box in boxes:
+        if box.agent >= agents:
+            raise BadBox(f"{box.path}: it is of agent {box.agent}, and {given.plan} has {agents} agents")
+        for name, value in due.items():
+            if any(about.get(name, value) != value for about in box.about):
+                raise BadBox(f"{box.path}: its agent was given another {name} than {getattr(given, name)}")
+
+
+def version_of(boxes: Sequence[Box]) -> int:
+    kinds = {turn.asked for box in boxes for turn in box.calls} & set(SAYS)
+    if len(kinds) > 1:
+        raise BadBox("some were asked `say` and some `tell`: such a fleet isn't covered")
+    return 2 if "tell" in kinds else 1
+
+
+# What is told
+
+
+def clock(at: Moment) -> str:
+    return datetime.datetime.fromtimestamp(at.wall, datetime.timezone.utc).strftime("%Y-%m-%d %H:%M:%S.%f")
+
+
+def shown(text: Optional[str]) -> str:
+    """A line as it was, where it can be shown."""
+    return "no answer" if text is None else text if text.isascii() and text.isprintable() else ascii(text)
+
+
+def difference(it: Judged, path: str) -> Iterator[str]:
+    step, turn = it.step, it.step.turn
+    if step.fault:
+        yield f"agent {turn.agent} heard at {clock(turn.at)} {step.fault}: {step.digits}"
+        yield f"line {turn.line} of {path}"
+        return
+    yield f"agent {turn.agent} differs at {clock(turn.at)}, line {turn.line} of {path}"
+    yield f"asked      {shown(turn.asked) if turn.asked != OPENED else '(its first line)'}"
+    yield f"answered   {shown(step.answer)}"
+    yield f"the rules  {it.rules}"
+
+
+def is_killed(process: Process, is_last: bool) -> bool:
+    """By a signal; or with its robot, which then couldn't say how it ended."""
+    return process.status is None and not is_last or (process.status or 0) < 0
+
+
+def summary(boxes: Sequence[Box], agents: int, history: History) -> str:
+    """What agrees, counted."""
+    calls = [turn for box in boxes for turn in box.calls]
+    unanswered = sum(turn.answer is None for turn in calls)
+    stored = sum(it.answer is None for it in history.steps)
+    counts = {
+        "restarts": sum(max(len(box.opened) - 1, 0) for box in boxes),
+        "kills": sum(is_killed(it, it is box.processes[-1]) for box in boxes for it in box.processes),
+        "calls": len(calls),
+        "unanswered": unanswered,
+        "of them stored": stored,
+        "failed writes": sum(turn.answer == STORE_FAILED for turn in calls),
+        "said": sum(it.event.startswith(SAY) for it in history.steps),
+        "heard": sum(it.event.startswith(DELIVER) for it in history.steps),
+        "strangers' lines": sum(not it.event for it in history.steps),
+    }
+    who = f"{agents} agents" if len(boxes) == agents else f"{len(boxes)} of {agents} agents"
+    told = ", ".join([who, *(f"{count:,} {name}" for name, count in counts.items())])
+    return f"agreed: {told}" + (f"; clocks are off by {history.most_early:.3f} seconds or more" if history.most_early > 0 else "")
+
+
+def holds(state: str) -> str:
+    """What an agent holds, if that is known."""
+    words = state.split()
+    behind = f" and {' '.join(words[3:5])}" if words[:1] == ["between"] else ""
+    return f"; it holds {' '.join(words[1:3])}{behind}" if words else ""
+
+
+def cut(text: str) -> str:
+    return text if len(text) <= SHOWN else f"{text[:SHOWN]}.. ({len(text)} bytes)"
+
+
+def told_of_a_turn(turn: Turn, process: int, it: Optional[Judged], state: str) -> str:
+    name = cut(shown(turn.asked)) if turn.asked != OPENED else f"(process {process})"
+    wrong = f"; {it.step.fault or f'by the rules {cut(it.rules)}'}" if it and it.differs else ""
+    return f"{clock(turn.at)}  {name}: {cut(shown(turn.answer))}{wrong}{holds(state)}"
+
+
+def account(box: Box, last: int, found: Sequence[Judged]) -> Iterator[str]:
+    """The last moments of an agent."""
+    by_line = {it.step.turn.line: it for it in found if it.step.turn.agent == box.agent}
+    state, lines = "", []
+    for process in box.processes:
+        for turn in process.turns:
+            it = by_line.get(turn.line)
+            state = it.state if it else state
+            lines.append(told_of_a_turn(turn, process.number, it, state))
+        if process.over:
+            status = process.status or 0
+            how = f"signal {-status}" if status < 0 else f"status {status}"
+            lines.append(f"{clock(process.over)}  (process {process.number}) ended with {how}")
+        else:
+            lines.append(f"{'':26}  (process {process.number}) its end isn't in the box")
+    yield f"agent {box.agent}, by {box.path}"
+    yield from lines[-last:] if last else []
+
+
+def check(given: argparse.Namespace, folder: str) -> int:
+    boxes = read_boxes(given.boxes)
+    rules = Rules(given, version_of(boxes), folder)
+    agents = rules.agents()
+    hold_boxes(given, boxes, agents)
+    find_unanswered(boxes, rules.replies)
+    history = history_of(boxes)
+    if given.events:
+        given.events.write_text(rules.text(history.events), encoding="ascii")
+    found = list(judged(rules, history))
+    by_agent = {box.agent: box for box in boxes}
+    if given.agent is not None:
+        if given.agent not in by_agent:
+            raise BadBox(f"no box is of agent {given.agent}")
+        print("\n".join(account(by_agent[given.agent], given.last, found)))
+    wrong = [it for it in found if it.differs]
+    if not wrong:
+        print(summary(boxes, agents, history))
+        return 0
+    print("\n".join(difference(wrong[0], by_agent[wrong[0].step.turn.agent].path)))
+    if len(wrong) > 1:
+        print(f"and {len(wrong) - 1} more")
+    return DIFFER
+
+
+def main(words: Sequence[str]) -> int:
+    given = read_words(words)
+    try:
+        with tempfile.TemporaryDirectory(prefix="mapf-boxes-") as folder:
+            return check(given, folder)
+    except BadBox as fault:
+        why, status = str(fault), UNFIT
+    except Failed as fault:
+        why, status = str(fault), FAILED
+    except OSError as fault:
+        why, status = f"{fault.filename or given.events or 'standard output'}: {fault.strerror or fault}", FAILED
+    print(f"check_boxes: {why}", file=sys.stderr)
+    return status
+
+
+if __name__ == "__main__":
+    heed_signals()
+    sys.exit(main(sys.argv[1:]))

@@ -1,0 +1,169 @@
+"""What black boxes have, read: the processes of an agent, and the dialogue with each. black_box.py says how a box is written."""
+import dataclasses
+import json
+import sys
+from typing import Any, Iterator, NamedTuple, Optional, Sequence
+
+# What the first line of a process answers.
+OPENED = ""
+# In the year 5138.
+LATEST = 1e11
+WORDS = {"started": dict, "asked": str, "answered": str, "ended": int}
+
+
+class BadBox(Exception):
+    """A box has a fault, or boxes don't go together."""
+
+
+class Moment(NamedTuple):
+    """By the machine's own clock, and by that on the wall."""
+
+    clock: float
+    wall: float
+
+
+@dataclasses.dataclass
+class Turn:
+    """A line that an agent was asked, and its answer, unless that never came."""
+
+    agent: int
+    asked: str
+    # When the answer came, or else when the line was asked.
+    at: Moment
+    # The line of the box that says so.
+    line: int
+    answer: Optional[str] = None
+    # The message that it said all the same where the answer never came, as others heard.
+    unanswered: str = ""
+
+
+@dataclasses.dataclass
+class Process:
+    number: int
+    turns: list[Turn]
+    # How it ended, and when, if its robot has lived to say so.
+    status: Optional[int] = None
+    over: Optional[Moment] = None
+
+    @property
+    def first(self) -> Optional[str]:
+        """Its first line, none where it ended before."""
+        return self.turns[0].answer
+
+
+@dataclasses.dataclass
+class Box:
+    path: str
+    agent: int
+    processes: list[Process]
+    # What was said of each start: the machine's boot, and digests of the files.
+    about: list[dict[str, object]]
+
+    @property
+    def opened(self) -> list[Process]:
+        """The processes that have opened the tape."""
+        return [it for it in self.processes if it.first is not None]
+
+    @property
+    def calls(self) -> Iterator[Turn]:
+        """All that the agent was asked."""
+        for process in self.processes:
+            yield from process.turns[1:]
+
+
+@dataclasses.dataclass(frozen=True)
+class Line:
+    """A line of a box: what happened, and when."""
+
+    number: int
+    at: Moment
+    agent: int
+    process: int
+    word: str
+    value: Any
+
+
+def line_of(number: int, text: bytes) -> Optional[Line]:
+    """None where it is no line of a box."""
+    try:
+        fields = json.loads(text)
+        at = Moment(float(fields["clock"]), float(fields["wall"]))
+        word = next(it for it in WORDS if it in fields)
+        agent, process, value = fields["agent"], fields["process"], fields[word]
+    except (ValueError, TypeError, KeyError, StopIteration, OverflowError, RecursionError):
+        return None
+    is_whole = text.endswith(b"\n") and "\n" not in str(value) and all(0 <= it < LATEST for it in at)
+    is_right = is_whole and type(agent) is int and agent >= 0 and type(process) is int and isinstance(value, WORDS[word])
+    return Line(number, at, agent, process, word, value) if is_right else None
+
+
+class Reader:
+    """Puts the lines of a box together."""
+
+    def __init__(self, path: str):
+        self.path = path
+        self.box: Optional[Box] = None
+        # The line that is none, if the last one is.
+        self.torn = 0
+
+    def fault(self, line: int, what: str) -> BadBox:
+        return BadBox(f"{self.path}: line {line} {what}")
+
+    def take(self, number: int, text: bytes) -> None:
+        line = line_of(number, text)
+        if self.torn and (line is None or line.word != "started"):
+            raise self.fault(self.torn, "is no line of a box")
+        # Who wrote it was killed, before anything was done with what it says: then nothing follows, or another start.
+        self.torn = number if line is None else 0
+        if line:
+            self.add(line)
+
+    def add(self, line: Line) -> None:
+        self.box = self.box or Box(self.path, line.agent, [], [])
+        if line.agent != self.box.agent:
+            raise self.fault(line.number, f"is of agent {line.agent}, and those before of agent {self.box.agent}")
+        if line.word == "started":
+            self.box.processes.append(Process(line.process, [Turn(line.agent, OPENED, line.at, line.number)]))
+            self.box.about.append(line.value)
+            return
+        process = self.box.processes[-1] if self.box.processes else None
+        if not process or process.number != line.process or process.over:
+            raise self.fault(line.number, f"is of a process that wasn't started: {line.process}")
+        self.go_on(process, line)
+
+    def go_on(self, process: Process, line: Line) -> None:
+        last = process.turns[-1]
+        if line.word == "ended":
+            process.status, process.over = line.value, line.at
+        elif line.word == "asked":
+            if last.answer is None:
+                raise self.fault(line.number, "asks before the line before it was answered")
+            process.turns.append(Turn(line.agent, sys.intern(line.value), line.at, line.number))
+        else:
+            if last.answer is not None:
+                raise self.fault(line.number, "answers what nobody asked")
+            last.answer, last.at, last.line = sys.intern(line.value), line.at, line.number
+
+
+def read_box(path: str) -> Optional[Box]:
+    """None of a robot that was killed before it started an agent."""
+    reader = Reader(path)
+    try:
+        with open(path, "rb") as lines:
+            for number, text in enumerate(lines, 1):
+                reader.take(number, text)
+    except OSError as fault:
+        raise BadBox(f"{path}: {fault.strerror}") from None
+    if reader.torn and not reader.box:
+        raise BadBox(f"{path}: there is no line of a box")
+    return reader.box
+
+
+def read_boxes(paths: Sequence[str]) -> list[Box]:
+    """One for each agent, in order."""
+    boxes: dict[int, Box] = {}
+    for box in filter(None, map(read_box, paths)):
+        other = boxes.setdefault(box.agent, box)
+        if other is not box:
+            raise BadBox(f"{box.path}: it is a box of agent {box.agent}, as {other.path} is")
+    return [boxes[agent] for agent in sorted(boxes)]
