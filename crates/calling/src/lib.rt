@@ -3,6 +3,7 @@
 
 mod agents;
 mod commands;
+mod continuing_plans;
 mod dependencies;
 mod lengths;
 mod maps;
@@ -13,6 +14,7 @@ mod texts;
 
 pub use agents::begin_move;
 pub use commands::verdict_on;
+pub use continuing_plans::goes_on;
 pub use dependencies::moves_of;
 pub use lengths::certified_length;
 pub use maps::{map_of, may_go};

@@ -1,0 +1,5 @@
+-- Lemmas that several proofs share.
+pub mod CourseLemmas
+pub mod ApartLemmas
+pub mod ElsewhereLemmas
+pub mod AgreeingLemmas

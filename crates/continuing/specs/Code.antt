@@ -1,0 +1,2 @@
+-- What contracts of private functions say.
+pub mod Apart

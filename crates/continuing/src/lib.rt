@@ -1,0 +1,9 @@
+//! Plans that go on from plans.
+#![tactic(auto)]
+
+mod continue_fault;
+mod departing;
+pub mod laws;
+
+pub use continue_fault::ContinueFault;
+pub use departing::continues;
