@@ -3,3 +3,4 @@ pub mod CourseLemmas
 pub mod ApartLemmas
 pub mod ElsewhereLemmas
 pub mod AgreeingLemmas
+pub mod CutLemmas

@@ -1,7 +1,7 @@
 -- When a plan goes on from another: it begins as that one, and may add to its end.
 use Rattle.std.specs.Prelude.{◌≡◌, ℕ, ◌≤◌, List, [], ◌∷◌, length, map, take}
 use Rattle.grid.specs.declared.cell.Cell.{Cell}
-use Rattle.model.specs.Plan.{Position, Plan, IsAt, longest_of}
+use Rattle.model.specs.Plan.{Position, Course, Plan, IsAt, longest_of}
 use Rattle.model.specs.Timetable.{Timetable, Stands}
 
 -- The plans have one number and as many agents, and up to the end of the longest course of the old one every agent is where that
@@ -22,10 +22,12 @@ abbrev pub last_plan : Plan → List Plan → Plan
 last_plan plan [] = plan
 last_plan plan (next ∷ plans) = last_plan next plans
 
--- the plan with what each agent does from a time on left out
+-- the course, and the plan, with what is done from a time on left out
+abbrev pub cut_course : ℕ → Course → Course
+cut_course time course = record { start = course.start; acts = take time course.acts }
+
 abbrev pub cut_at : ℕ → Plan → Plan
-cut_at time plan =
-    record { number = plan.number; courses = map (λ course. record { start = course.start; acts = take time course.acts }) plan.courses }
+cut_at time plan = record { number = plan.number; courses = map (cut_course time) plan.courses }
 
 -- up to the time all agents stand where the first timetable has them
 pub record AgreesUpTo (time : ℕ) (old new : Timetable) : Type 0 where

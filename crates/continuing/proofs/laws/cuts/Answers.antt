@@ -3,11 +3,8 @@ use Rattle.std.proofs.Common.{◌≡◌, ℕ, zero, suc, ◌≤◌, List, [], �
 use Rattle.std.specs.Prelude.{MatchOption, map, take, slice_get}
 use Rattle.model.specs.declared.act.Act.{Act}
 use Rattle.model.specs.Plan.{Position, position_of, moved, Course, position_after, position_at, longest_of}
+use Rattle.continuing.specs.Continuing.{cut_course}
 use Rattle.continuing.proofs.laws.cuts.Goals as goal
-
--- the course with its first so many acts
-abbrev cut : ℕ → Course → Course
-cut time course = record { start = course.start; acts = take time course.acts }
 
 place-same : (time : ℕ) (p : Position) (acts : List Act) (t : ℕ) → t ≤ time → position_after p (take time acts) t ≡ position_after p acts t
 place-same zero p [] zero most = refl
@@ -17,24 +14,24 @@ place-same (suc time) p [] t most = refl
 place-same (suc time) p (a ∷ acts) zero most = refl
 place-same (suc time) p (a ∷ acts) (suc t) most = place-same time (moved a p) acts t (omega (arith, most))
 
-few-acts : (time : ℕ) (acts : List Act) → length (take time acts) ≤ time
-few-acts zero acts = omega arith
-few-acts (suc time) [] = omega arith
-few-acts (suc time) (a ∷ acts) = let rest = few-acts time acts in omega (arith, rest)
+no-later : (time : ℕ) (acts : List Act) → length (take time acts) ≤ time
+no-later zero acts = omega arith
+no-later (suc time) [] = omega arith
+no-later (suc time) (a ∷ acts) = let rest = no-later time acts in omega (arith, rest)
 
-ends : (time : ℕ) (courses : List Course) → longest_of (map (cut time) courses) ≤ time
+ends : (time : ℕ) (courses : List Course) → longest_of (map (cut_course time) courses) ≤ time
 ends time [] = omega arith
 ends time (course ∷ courses) =
-    let first = few-acts time course.acts in
+    let first = no-later time course.acts in
     let rest = ends time courses in
     omega (arith, first, rest)
 
-count-same : (time : ℕ) (courses : List Course) → length (map (cut time) courses) ≡ length courses
+count-same : (time : ℕ) (courses : List Course) → length (map (cut_course time) courses) ≡ length courses
 count-same time [] = refl
 count-same time (course ∷ courses) = let rest = count-same time courses in omega (arith, rest)
 
 at-same : (time : ℕ) (courses : List Course) (i t : ℕ) (place : Position) → t ≤ time
-    → MatchOption (slice_get (map (cut time) courses) i) ⊥ (λ course. position_at course t ≡ place)
+    → MatchOption (slice_get (map (cut_course time) courses) i) ⊥ (λ course. position_at course t ≡ place)
     → MatchOption (slice_get courses i) ⊥ (λ course. position_at course t ≡ place)
 at-same time [] i t place most at = at
 at-same time (course ∷ courses) zero t place most at = sym (place-same time (position_of course.start) course.acts t most) ∙ at
