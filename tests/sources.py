@@ -37,6 +37,7 @@ MADE = {
     "command_line/command_line.rt: LineFault: bad_command": NO_TEXT,
     "command_line/command_line.rt: refused": "has no memory for the text of clap's answer, or clap had none",
     "command_line/words.rt: no_number": NO_TEXT,
+    "continuing/cutting.rt: first_acts": NAMED_ANEW,
     "event_text/event_fault.rt: From<AllocError> for EventFault: from": NAMED_ANEW,
     "executor/complete_fault.rt: From<AllocError> for CompleteFault: from": NAMED_ANEW,
     "executor/runner.rt: Runner<'g>: over": "was given an agent back that there was no room for",
