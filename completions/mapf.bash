@@ -4,7 +4,7 @@
 _mapf() {
     local word=${COMP_WORDS[COMP_CWORD]} before=${COMP_WORDS[COMP_CWORD - 1]}
     local command='' offers='' at
-    local commands='map scen row check deps path run agent tape help'
+    local commands='map scen row check deps path cut run agent tape help'
     local faults='AgentCount AlreadyMoving AtEnd BadAct BadAgent BadEntry BadEvent BadHeader
         BadLength BadLine BadMagic BadMove BadNumber BadStart BadTable BadTear BadTerrain BadVersion
         BadWalk Broken Damaged FieldCount GoalDiffers LineTooLong LongRow MissingRows NoHeader
@@ -36,6 +36,7 @@ _mapf() {
         check) offers='--scen --agents --json --explain -h --help' ;;
         deps) offers='--cell --explain -h --help' ;;
         path) offers='--agent --explain -h --help' ;;
+        cut) offers='--explain -h --help' ;;
         run) offers='--complete --explain -h --help' ;;
         agent) offers='--tape --explain -h --help' ;;
         tape) offers='--explain -h --help' ;;

@@ -597,6 +597,25 @@ def of_maps_and_rows(harness: Harness) -> Iterator[Outcome]:
         yield asked(harness, f"row M S {row}", {"M": map_text, "S": scen_text}, answer(status, due))
 
 
+def without_later_acts(text: str, time: int) -> str:
+    """The text of a plan in which each agent has its first acts alone, so many."""
+    lines = []
+    for line in text.splitlines():
+        word, *others = line.split(" ")
+        if word == "agent":
+            *place, acts = others
+            line = " ".join([word, *place, acts.strip("=")[:time] or "="])
+        lines.append(f"{line}\n")
+    return "".join(lines)
+
+
+def of_cuts(harness: Harness) -> Iterator[Outcome]:
+    for text, _, fault, numbers in VERDICTS:
+        for time in range(5):
+            due = answer(0, without_later_acts(text, time)) if numbers else answer(1, fault)
+            yield asked(harness, f"cut M P {time}", {"M": LANE, "P": text}, due)
+
+
 def of_checks(harness: Harness) -> Iterator[Outcome]:
     for text, status, words, numbers in VERDICTS:
         files = {"M": LANE, "P": text, "S": "no scenario"}
@@ -610,7 +629,7 @@ def of_checks(harness: Harness) -> Iterator[Outcome]:
         files = {"M": LANE, "P": BEHIND, "S": text}
         yield asked(harness, "check M P --scen S", files, answer(status, due))
     for map_text, text, fault in TEXT_FAULTS:
-        for words in ("check M P", "check M P --json", "check M P --scen S", "deps M P", "deps M P --cell 0 0", "path M P", "path M P --agent 9", *RUNNING):
+        for words in ("check M P", "check M P --json", "check M P --scen S", "deps M P", "deps M P --cell 0 0", "path M P", "path M P --agent 9", "cut M P 9", *RUNNING):
             yield asked(harness, words, {"M": map_text, "P": text, "S": TASKS, "E": "no events"}, answer(1, fault))
 
 
@@ -628,7 +647,7 @@ def of_graphs_and_runs(harness: Harness) -> Iterator[Outcome]:
     for text, count in ((NOBODY, 0), (BEHIND, 2), (SWAP, 2)):
         yield asked(harness, f"path M P --agent {count}", {"M": LANE, "P": text}, answer(1, "NoSuchAgent"))
     for text, fault in PLAN_FAULTS:
-        for words in ("deps M P", "deps M P --cell 0 0", *RUNNING):
+        for words in ("deps M P", "deps M P --cell 0 0", "cut M P 0", "cut M P 9", *RUNNING):
             yield asked(harness, words, {"M": LANE, "P": text, "E": "no events"}, answer(1, fault))
     for map_text, text, lines, replies in RUNS:
         files = {"M": map_text, "P": text, "E": events(*lines)}
@@ -769,6 +788,7 @@ def digits_of_both_cases(harness: Harness) -> Iterator[Outcome]:
 def outcomes(harness: Harness) -> Iterator[Outcome]:
     yield from of_maps_and_rows(harness)
     yield from of_checks(harness)
+    yield from of_cuts(harness)
     yield from of_graphs_and_runs(harness)
     yield from of_agents(harness)
     yield from of_claims(harness)

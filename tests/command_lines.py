@@ -25,6 +25,9 @@ NEEDS = "agents 2 moves 2 needs 1 rotations 0\nneed 1 0 0 1\n"
 VISITS = "visit 0 0 0\nvisit 1 1 1\n"
 ROWS = "0 1 0 0 0\n1 2 0 1 0\n2 2 0 1 0\n"
 ROW_OF_1 = "0 0 0\n1 1 0\n"
+CUT_AT_0 = "mapf-plan 1\nnumber 7\nagents 2\nagent 1 0 =\nagent 0 0 =\n"
+CUT_AT_1 = "mapf-plan 1\nnumber 7\nagents 2\nagent 1 0 e\nagent 0 0 e\n"
+UNCUT = "mapf-plan 1\nnumber 7\nagents 2\nagent 1 0 e-\nagent 0 0 e\n"
 KEPT = "at 1 0 done 0\nrecords 0 torn 0\n"
 
 # Words that are a command, and what it writes. After `--` each word is a word, and none an option.
@@ -88,6 +91,16 @@ COMMANDS = [
     ("path M P --agent 000000000000000001", ROW_OF_1),
     ("path M P --agent=0", "0 1 0\n1 2 0\n2 2 0\n"),
     ("path M O", ""),
+    ("cut M P 0", CUT_AT_0),
+    ("cut M P 1", CUT_AT_1),
+    ("cut M -- --json 1", CUT_AT_1),
+    ("cut -- -h P 1", CUT_AT_1),
+    ("cut M P 000000000000000001", CUT_AT_1),
+    ("cut M P 2", UNCUT),
+    ("cut M P 65535", UNCUT),
+    ("cut M P 65536", UNCUT),
+    ("cut M P 4294967295", UNCUT),
+    ("cut M P 1 --explain", CUT_AT_1),
     ("run M P E", "moving 2 0\n"),
     ("run M P -", "moving 2 0\n"),
     ("run -- -h --json -", "moving 2 0\n"),
@@ -142,6 +155,8 @@ OTHER_FILES = [
     ("path M P --agent 10000", 1, "NoSuchAgent"),
     ("path M P --agent 65535", 1, "NoSuchAgent"),
     ("path P M --agent 2", 1, "BadHeader 1"),
+    ("cut P M 0", 1, "BadHeader 1"),
+    ("cut M M 0", 1, "BadHeader 1"),
     ("run P M E", 1, "BadHeader 1"),
     ("run M E P", 1, "BadHeader 1"),
     ("run M P P", 1, "NoHeader"),
@@ -169,6 +184,8 @@ OTHER_FILES = [
     ("path N P", 3, "OpenFailed"),
     ("path M N", 3, "OpenFailed"),
     ("path M N --agent 0", 3, "OpenFailed"),
+    ("cut N P 0", 3, "OpenFailed"),
+    ("cut M N 0", 3, "OpenFailed"),
     ("run N P E", 3, "OpenFailed"),
     ("run M N E", 3, "OpenFailed"),
     ("run S S N", 3, "OpenFailed"),
@@ -303,6 +320,15 @@ BAD = [
     ("path M P --agent 1.0", "--agent", "from 0 to 65535"),
     ("path M P --agent \u0661", "--agent", "from 0 to 65535"),
     ("path M P -a 0", "-a", "Usage: mapf path"),
+    ("cut", "<map>", "Usage: mapf cut <map> <plan> <time>"),
+    ("cut M", "<plan>", "Usage: mapf cut <map> <plan> <time>"),
+    ("cut M P", "<time>", "Usage: mapf cut <map> <plan> <time>"),
+    ("cut M P 0 1", "'1'", "Usage: mapf cut [OPTIONS] <map> <plan> <time>"),
+    ("cut M P -1", "'-1'", "--help"),
+    ("cut M P +1", "'+1'", "from 0 to 4294967295"),
+    ("cut M P 1x", "'1x'", "from 0 to 4294967295"),
+    ("cut M P 4294967296", "'4294967296'", "from 0 to 4294967295"),
+    ("cut M P --agent 0 1", "'--agent'", "Usage: mapf cut"),
     ("deps M P --agent 0", "'--agent'", "Usage: mapf deps"),
     ("agent M P 0 T --agent 0", "'--agent'", "Usage: mapf agent"),
     ("run", "<map>", "Usage: mapf run"),
@@ -354,7 +380,7 @@ def refusal(why: str, usage: str = "") -> bytes:
 
 # What is told in full.
 WHOLE = {
-    "": refusal("'mapf' requires a subcommand but one was not provided\n  [subcommands: map, scen, row, check, deps, path, run, agent, tape, help]", "<COMMAND>"),
+    "": refusal("'mapf' requires a subcommand but one was not provided\n  [subcommands: map, scen, row, check, deps, path, cut, run, agent, tape, help]", "<COMMAND>"),
     "nope": refusal("unrecognized subcommand 'nope'", "<COMMAND>"),
     # Clap's own advice, by another measure.
     "mapp_": refusal("unrecognized subcommand 'mapp_'\n\n  tip: a similar subcommand exists: 'map'", "<COMMAND>"),

@@ -45,6 +45,7 @@ WRITING = [
     ("deps M P --cell 1 0", "visit 0 0 0\nvisit 1 1 1\n"),
     ("path M P", "0 1 0 0 0\n1 2 0 1 0\n2 2 0 1 0\n"),
     ("path M P --agent 1", "0 0 0\n1 1 0\n"),
+    ("cut M P 1", "mapf-plan 1\nnumber 7\nagents 2\nagent 1 0 e\nagent 0 0 e\n"),
     ("run M P E", REPLIES),
     ("run M P J", "moving 2 0\n"),
     ("run M O E --complete", "refused NoSuchAgent\n" * 4 + "complete 0\n"),
@@ -62,6 +63,7 @@ FAULTY = [
     ("deps M X", "mapf: Swap 0 1 0\n"),
     ("deps M X --cell 1 0", "mapf: Swap 0 1 0\n"),
     ("path M P --agent 2", "mapf: NoSuchAgent\n"),
+    ("cut M X 1", "mapf: Swap 0 1 0\n"),
     ("run M X E", "mapf: Swap 0 1 0\n"),
     ("run M X E --complete", "mapf: Swap 0 1 0\n"),
     ("agent M P 2 T", "mapf: NoSuchAgent\n"),
@@ -94,15 +96,15 @@ ODD_STREAMS = [
 # Commands that read a folder.
 UNREADABLE = [
     *("map D", "scen D", "row D S 0", "row C D 0", "check D P", "check M D", "check M P --scen D"),
-    *("deps D P", "deps M D", "deps M D --cell 1 0", "path D P", "path M D", "run D P E", "run M D E", "run M P D", "run M P D --complete", "agent D P 0 T", "agent M D 0 T"),
+    *("deps D P", "deps M D", "deps M D --cell 1 0", "path D P", "path M D", "cut D P 0", "cut M D 0", "run D P E", "run M D E", "run M P D", "run M P D --complete", "agent D P 0 T", "agent M D 0 T"),
 ]
 # Commands with a file that is not there, and one in front of it, which is opened all the same, or behind it, which is not.
 OPENED = [
     *(("row M no 0", "M"), ("check M no", "M"), ("check M P --scen no", "M"), ("check M P --scen no", "P")),
-    *(("deps M no", "M"), ("path M no", "M"), ("run M no E", "M"), ("run M P no", "P"), ("agent M no 0 T", "M")),
+    *(("deps M no", "M"), ("path M no", "M"), ("cut M no 0", "M"), ("run M no E", "M"), ("run M P no", "P"), ("agent M no 0 T", "M")),
 ]
 NOT_OPENED = [
-    *(("row no S 0", "S"), ("check no P", "P"), ("check M no --scen F", "F"), ("deps no P", "P"), ("path no P", "P")),
+    *(("row no S 0", "S"), ("check no P", "P"), ("check M no --scen F", "F"), ("deps no P", "P"), ("path no P", "P"), ("cut no P 0", "P")),
     *(("run no P E", "P"), ("run M no E", "E"), ("agent no P 0 T", "P")),
 ]
 

@@ -117,6 +117,8 @@ CASES = [
     Case("path Q P", answer(1, "BadMove 0 0")),
     Case("path M P --agent 1", answer(0, "0 0 0\n1 1 0\n")),
     Case("path M P --agent 2", answer(1, "NoSuchAgent")),
+    Case("cut M P 1", answer(0, "mapf-plan 1\nnumber 7\nagents 2\nagent 1 0 e\nagent 0 0 e\n")),
+    Case("cut M X 1", answer(1, "Swap 0 1 0")),
     Case("run M P E", answer(0, REPLIES)),
     Case("run M P E2", answer(0, TELLING)),
     Case("run M P J", Ended(1, b"moving 2 0\n", b"mapf: BadEvent 3\n")),

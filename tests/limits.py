@@ -176,6 +176,9 @@ def of_long_plans(harness: Harness) -> list[Outcome]:
     to_the_end = {"M": LANE.encode(), "P": plan("2 0 =", f"0 0 {to_and_fro}e").encode()}
     rows = lines(*(f"{time} 2 0 {time % 2} 0" for time in range(most + 1)))
     outcomes.append(asked(harness, f"where two agents are at {most + 1} times", "path M P", to_the_end, Ended(0, rows, b"")))
+    for time, kept in ((most - 1, to_and_fro), (most, f"{to_and_fro}e"), (0, "=")):
+        due = Ended(0, plan("2 0 =", f"0 0 {kept}").encode(), b"")
+        outcomes.append(asked(harness, f"a plan of {most} acts, cut at {time}", f"cut M P {time}", to_the_end, due))
     for acts, fault in ((f"{to_and_fro}n", f"BadMove 1 {most - 1}"), (f"{'-' * (most - 1)}w", f"BadMove 1 {most - 1}")):
         spoiled = {"M": LANE.encode(), "P": plan("2 0 =", f"0 0 {acts}").encode()}
         outcomes.append(asked(harness, f"a path with {fault}", "path M P", spoiled, answer(1, fault)))
@@ -216,6 +219,8 @@ def of_most_acts(harness: Harness) -> list[Outcome]:
         ((f"0 0 {walk}e", f"2 {full + 1} {walk}e"), f"rejected BadStart {other}"),
     ):
         outcomes.append(checked(harness, f"{MOST_ACTS_OF_ALL} acts, {verdict}", {"M": map_bytes, "P": text(*last_two)}, verdict))
+    files = {"M": map_bytes, "P": text(f"0 0 {walk}e", f"2 0 {walk}e")}
+    outcomes.append(asked(harness, f"{MOST_ACTS_OF_ALL} acts, not cut", f"cut M P {steps}", files, Ended(0, files["P"], b"")))
     for last_two, due in (
         ((f"0 0 {wait}e", f"2 0 {walk}w"), Ended(0, lines(*(f"{time} {2 + time % 2 if time < steps else 1} 0" for time in range(steps + 1))), b"")),
         ((f"0 0 {walk}e", f"2 0 {walk}n"), answer(1, f"BadMove {other} {steps - 1}")),
@@ -309,8 +314,10 @@ def of_a_line(harness: Harness) -> list[Outcome]:
     count = MOST_AGENTS
     last = count - 1
     files = {"M": map_text(["." * (count + 1)]), "P": plan(*(f"{x} 0 e" for x in range(count))).encode()}
+    cut = Ended(0, plan(*(f"{x} 0 =" for x in range(count))).encode(), b"")
     needs = lines(f"agents {count} moves {count} needs {last} rotations 0", *(f"need {i} 0 {i + 1} 1" for i in range(last)))
     outcomes = [asked(harness, f"deps of {count} agents", "deps M P", files, Ended(0, needs, b""))]
+    outcomes.append(asked(harness, f"a plan of {count} agents, cut at 0", "cut M P 0", files, cut))
     turns = [
         ("start 0", "refused Waits 1 1"),
         (f"start {last - 1}", f"refused Waits {last} 1"),

@@ -80,6 +80,13 @@ commands =
       flags = explain_flag ∷ [];
     }
     ∷ record {
+      name = codes "cut";
+      required = codes "map" ∷ codes "plan" ∷ codes "time" ∷ [];
+      options = [];
+      cells = [];
+      flags = explain_flag ∷ [];
+    }
+    ∷ record {
       name = codes "run";
       required = codes "map" ∷ codes "plan" ∷ codes "events" ∷ [];
       options = [];
@@ -181,7 +188,7 @@ MakesClaim option rows claim = (word : Text) × (first_of option rows ≡ Some w
 abbrev pub GivesClaim : Text → List Row → Type 0
 GivesClaim option rows = (word : Text) → first_of option rows ≡ Some word → (claim : TapeClaim) × SaysClaim claim word
 
--- The values that the command with this name wants, if it wants some, are such: the number of a row is spelled, and is below 2^32, that of an
+-- The values that the command with this name wants, if it wants some, are such: the number of a row, or a time, is spelled, and is below 2^32, that of an
 -- agent, with its tape too, below 2^16, and those of a cell, of one agent, or of how many there are, where one is given; and what is claimed of
 -- a tape is said.
 abbrev pub HasValues : Text → List Row → Type 0
@@ -189,7 +196,7 @@ HasValues name rows =
     (name ≡ codes "row" → GivesNumberBelow (2 ^ 32) (codes "row") rows) × (name ≡ codes "agent" → GivesNumberBelow (2 ^ 16) (codes "id") rows)
     × (name ≡ codes "deps" → GivesCells (codes "cell") rows) × (name ≡ codes "path" → GivesNumbers (2 ^ 16) (codes "agent") rows)
     × (name ≡ codes "agent" → GivesClaim (codes "tape") rows) × (name ≡ codes "tape" → GivesNumberBelow (2 ^ 16) (codes "id") rows)
-    × (name ≡ codes "check" → GivesNumbers (2 ^ 16) (codes "agents") rows)
+    × (name ≡ codes "check" → GivesNumbers (2 ^ 16) (codes "agents") rows) × (name ≡ codes "cut" → GivesNumberBelow (2 ^ 32) (codes "time") rows)
 
 -- the same of the words of the command line
 abbrev pub GiveValues : List Text → Type 0
@@ -207,6 +214,7 @@ AsksToExplain rows explain = explain ≡ true ↔ IsFlagGiven explain_flag rows
 abbrev pub IsPlanQuery : Text → List Row → PlanQuery → Type 0
 IsPlanQuery name rows (query.Deps cell) = (name ≡ codes "deps") × MayGiveCell (codes "cell") rows cell
 IsPlanQuery name rows (query.Path agent) = (name ≡ codes "path") × MayGiveNumber (codes "agent") rows agent
+IsPlanQuery name rows (query.Cut time) = (name ≡ codes "cut") × GivesNumber (codes "time") rows time
 
 -- the line is the command with this name, and its words have the values that the rows give
 abbrev pub IsCommand : Text → List Row → Line → Type 0

@@ -5,11 +5,11 @@ ghost use Rattle.command_line.specs.Words.{HasValues, IsCommand};
 ghost use Rattle.command_line.specs.Code.Parts.{HasWords, IsRefusal};
 
 use crate::LineFault;
+use crate::agent_words::{read_agent, read_tape};
 use crate::help::Word::{Cell as CellOption, Flag, Named, Required};
 use crate::help::{self, CommandText, EXPLAIN};
 use crate::words::{
-    agent_id, has_flag, no_command, optional_cell, optional_number, optional_word, row_number,
-    tape_claim, word,
+    has_flag, long_number, no_command, optional_cell, optional_number, optional_word, word,
 };
 use clap::ArgMatches;
 use grid::Cell;
@@ -79,6 +79,8 @@ pub enum PlanQuery {
     Deps { cell: Option<Cell> },
     /// Where the agents are at each time, or where one of them is.
     Path { agent: Option<u16> },
+    /// The plan without what its agents do from a time on.
+    Cut { time: u32 },
 }
 
 /// All commands, in the order in which help lists them.
@@ -230,6 +232,30 @@ Example:
         ],
     },
     CommandText {
+        name: "cut",
+        about: "Checks a plan on a map, and writes it without the acts from a time on",
+        after_help: "\
+Standard output is the canonical text of the plan, in which each agent has its
+first T acts, or all where it has no more. The plan goes on from what is
+written, which is a valid plan too.
+
+Status:
+  0  the text is written
+  1  a text or the plan has a fault: one line on standard error
+  2  a bad command line
+  3  a file can't be opened (--explain says which, and why), a device failed, or
+     memory was refused
+
+Example:
+  mapf cut examples/plain.map examples/behind.plan 2",
+        words: &[
+            Required("map", "The file of the map"),
+            Required("plan", "The file of the plan"),
+            Required("time", "The time from which on acts are left out"),
+            EXPLAIN,
+        ],
+    },
+    CommandText {
         name: "run",
         about: "Checks a plan on a map, and answers the events of a run of it",
         after_help: "\
@@ -359,6 +385,7 @@ pub(crate) fn read_command(
         "check" => read_check(alloc, given),
         "deps" => read_deps(alloc, given),
         "path" => read_path(alloc, given),
+        "cut" => read_cut(alloc, given),
         "run" => read_run(alloc, given),
         "agent" => read_agent(alloc, given),
         "tape" => read_tape(alloc, given),
@@ -376,7 +403,7 @@ fn read_row(alloc: Global, given: &ArgMatches<'_>) -> Result<Line, LineFault>
     Ok(Line::Row {
         map: word(alloc, given, "map")?,
         scen: word(alloc, given, "scen")?,
-        row: row_number(alloc, given)?,
+        row: long_number(alloc, given, "row", &help::ROW_NUMBER)?,
     })
 }
 
@@ -428,6 +455,22 @@ fn read_path(alloc: Global, given: &ArgMatches<'_>) -> Result<Line, LineFault>
     })
 }
 
+/// Reads `cut` by the words that it was given.
+fn read_cut(alloc: Global, given: &ArgMatches<'_>) -> Result<Line, LineFault>
+    ensures ok { IfOk result (IsCommand (codes "cut") (rows_of (found_of given.now))) }
+    ensures err { IfErr result (λ e. HasWords (codes "cut") (rows_of (found_of given.now)) → HasValues (codes "cut") (rows_of (found_of given.now))
+        → e ≡ LineFault.OutOfMemory) }
+    ensures refusal { IfErr result IsRefusal }
+{
+    Ok(Line::Query {
+        map: word(alloc, given, "map")?,
+        plan: word(alloc, given, "plan")?,
+        query: PlanQuery::Cut {
+            time: long_number(alloc, given, "time", &help::CUT_TIME)?,
+        },
+    })
+}
+
 /// Reads `run` by the words that it was given.
 fn read_run(alloc: Global, given: &ArgMatches<'_>) -> Result<Line, LineFault>
     ensures ok { IfOk result (IsCommand (codes "run") (rows_of (found_of given.now))) }
@@ -439,36 +482,5 @@ fn read_run(alloc: Global, given: &ArgMatches<'_>) -> Result<Line, LineFault>
         plan: word(alloc, given, "plan")?,
         events: word(alloc, given, "events")?,
         complete: has_flag(given, "complete"),
-    })
-}
-
-/// Reads `agent` by the words that it was given.
-fn read_agent(alloc: Global, given: &ArgMatches<'_>) -> Result<Line, LineFault>
-    ensures ok { IfOk result (IsCommand (codes "agent") (rows_of (found_of given.now))) }
-    ensures err { IfErr result (λ e. HasWords (codes "agent") (rows_of (found_of given.now)) → HasValues (codes "agent") (rows_of (found_of given.now))
-        → e ≡ LineFault.OutOfMemory) }
-    ensures refusal { IfErr result IsRefusal }
-{
-    Ok(Line::Agent {
-        map: word(alloc, given, "map")?,
-        plan: word(alloc, given, "plan")?,
-        id: agent_id(alloc, given, &help::AGENT_ID)?,
-        tape: word(alloc, given, "file")?,
-        claim: tape_claim(alloc, given)?,
-    })
-}
-
-/// Reads `tape` by the words that it was given.
-fn read_tape(alloc: Global, given: &ArgMatches<'_>) -> Result<Line, LineFault>
-    ensures ok { IfOk result (IsCommand (codes "tape") (rows_of (found_of given.now))) }
-    ensures err { IfErr result (λ e. HasWords (codes "tape") (rows_of (found_of given.now)) → HasValues (codes "tape") (rows_of (found_of given.now))
-        → e ≡ LineFault.OutOfMemory) }
-    ensures refusal { IfErr result IsRefusal }
-{
-    Ok(Line::Tape {
-        map: word(alloc, given, "map")?,
-        plan: word(alloc, given, "plan")?,
-        id: agent_id(alloc, given, &help::TAPE_ID)?,
-        tape: word(alloc, given, "file")?,
     })
 }

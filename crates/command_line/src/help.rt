@@ -54,9 +54,16 @@ pub(crate) struct NumberText {
     pub(crate) usage: &'static str,
 }
 
+const NUMBER_WANTED: &str = "a number from 0 to 4294967295 is wanted";
+
 pub(crate) const ROW_NUMBER: NumberText = NumberText {
-    wanted: "a number from 0 to 4294967295 is wanted",
+    wanted: NUMBER_WANTED,
     usage: "mapf row [OPTIONS] <map> <scen> <row>",
+};
+
+pub(crate) const CUT_TIME: NumberText = NumberText {
+    wanted: NUMBER_WANTED,
+    usage: "mapf cut [OPTIONS] <map> <plan> <time>",
 };
 
 const AGENT_WANTED: &str = "the number of an agent, from 0 to 65535, is wanted";

@@ -1,6 +1,7 @@
 //! The command line of `mapf` as a value.
 #![tactic(auto)]
 
+mod agent_words;
 mod command_line;
 mod commands;
 mod help;

@@ -126,7 +126,7 @@ fn unknown_argument(
 fn takes_number(words: &[String]) -> bool {
     matches!(
         command_name(words),
-        "row" | "check" | "deps" | "path" | "agent" | "tape"
+        "row" | "check" | "deps" | "path" | "cut" | "agent" | "tape"
     )
 }
 

@@ -116,14 +116,19 @@ fn argument<'a>(alloc: Global, word: &Word<'a>) -> Arg<'a>
 }
 
 /// The number of the row that was given.
-pub(crate) fn row_number(alloc: Global, given: &ArgMatches<'_>) -> Result<u32, LineFault>
-    ensures ok { IfOk result (GivesNumber (codes "row") (rows_of (found_of given.now))) }
-    ensures none { OnErr result (GivesNumberBelow (2 ^ 32) (codes "row") (rows_of (found_of given.now)) → ⊥) }
+pub(crate) fn long_number(
+    alloc: Global,
+    given: &ArgMatches<'_>,
+    name: &str,
+    text: &NumberText,
+) -> Result<u32, LineFault>
+    ensures ok { IfOk result (GivesNumber name.now (rows_of (found_of given.now))) }
+    ensures none { OnErr result (GivesNumberBelow (2 ^ 32) name.now (rows_of (found_of given.now)) → ⊥) }
     ensures err { IfErr result IsRefusal }
 {
-    match number(given, "row") {
-        Some(row) => Ok(row),
-        None => Err(no_number(alloc, given, "row", &help::ROW_NUMBER)),
+    match number(given, name) {
+        Some(number) => Ok(number),
+        None => Err(no_number(alloc, given, name, text)),
     }
 }
 

@@ -22,6 +22,7 @@ use Rattle.text_commands.specs.MapCommand.{RewritesMap}
 use Rattle.text_commands.specs.RowCommand.{AnswersRow}
 use Rattle.text_commands.specs.ScenCommand.{RewritesScen}
 use Rattle.plan_commands.specs.CheckCommand.{AnswersCheck, AnswersCheckFit}
+use Rattle.plan_commands.specs.CutCommand.{AnswersCut}
 use Rattle.plan_commands.specs.DepsCellCommand.{AnswersDepsCell}
 use Rattle.plan_commands.specs.DepsCommand.{AnswersDeps}
 use Rattle.plan_commands.specs.PathCommand.{AnswersPath}
@@ -69,6 +70,7 @@ AnswersQuery map_left plan_left contents (query.Deps (Some cell)) a b c d old ne
     AnswersDepsCell map_left plan_left contents cell a b c d old new end
 AnswersQuery map_left plan_left contents (query.Path agent) a b c d old new end =
     AnswersPath map_left plan_left contents agent a b c d old new end
+AnswersQuery map_left plan_left contents (query.Cut time) a b c d old new end = AnswersCut map_left plan_left contents time a b c d old new end
 
 -- The command ended by what it read of its files. Only an agent reads the input, and a command whose one file is it.
 abbrev pub PerformsOn

@@ -199,6 +199,9 @@ fn answer_query<M: Read, P: Read, W: Write>(
         PlanQuery::Path { agent } => {
             plan_commands::path_command::perform(alloc, map, plan, agent, out)
         }
+        PlanQuery::Cut { time } => {
+            plan_commands::cut_command::perform(alloc, map, plan, time, out)
+        }
     }
 }
 

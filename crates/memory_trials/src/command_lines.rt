@@ -1,7 +1,7 @@
 //! The program over its words, with fake files.
 use crate::endings::{End, Ended};
 use crate::texts::{
-    ACCEPTED, ACCEPTED_JSON, AGREES, ANSWERED, ASKED, COMPLETED, EVENTS, NEEDS, PATH, PATHS,
+    ACCEPTED, ACCEPTED_JSON, AGREES, ANSWERED, ASKED, COMPLETED, CUT, EVENTS, NEEDS, PATH, PATHS,
     REJECTED, REPLIES, SWAP, VISITS,
 };
 use fakes::{
@@ -14,7 +14,7 @@ use std::test::Fail;
 use text_io::Counted;
 
 /// Command lines with their status and what they write.
-static LINES: [(&str, u8, &str); 15] = [
+static LINES: [(&str, u8, &str); 16] = [
     ("map C", 0, CORNER_WRITTEN),
     ("scen S", 0, ROW_WRITTEN),
     ("row C S 0", 0, AGREES),
@@ -26,6 +26,7 @@ static LINES: [(&str, u8, &str); 15] = [
     ("deps M P --cell 1 0", 0, VISITS),
     ("path M P", 0, PATHS),
     ("path M P --agent 1", 0, PATH),
+    ("cut M P 1", 0, CUT),
     ("run M P E", 0, REPLIES),
     ("run M P E --complete", 0, COMPLETED),
     ("agent M P 0 T", 0, ANSWERED),

@@ -39,4 +39,7 @@ pub const PATHS: &str = "0 1 0 0 0\n1 2 0 1 0\n2 2 0 1 0\n";
 /// The path of agent 1.
 pub const PATH: &str = "0 0 0\n1 1 0\n";
 
+/// The plan BEHIND, cut at time 1.
+pub const CUT: &str = "mapf-plan 1\nnumber 7\nagents 2\nagent 1 0 e\nagent 0 0 e\n";
+
 pub const VISITS: &str = "visit 0 0 0\nvisit 1 1 1\n";

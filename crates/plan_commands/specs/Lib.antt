@@ -21,5 +21,7 @@ pub mod Walkable
 pub mod PathText
 -- what `mapf path` does and answers
 pub mod PathCommand
+-- what `mapf cut` does and answers
+pub mod CutCommand
 -- The code's own words, of which no promise speaks.
 pub mod Code

@@ -4,6 +4,7 @@
 mod cell_text;
 pub mod check_command;
 mod check_fault;
+pub mod cut_command;
 pub mod deps_cell_command;
 pub mod deps_command;
 mod deps_text;
@@ -19,6 +20,7 @@ mod walk;
 
 pub use check_command::{check_cmd, check_fit_cmd};
 pub use check_fault::CheckFault;
+pub use cut_command::cut_cmd;
 pub use deps_cell_command::deps_cell_cmd;
 pub use deps_command::deps_cmd;
 pub use path_command::path_cmd;

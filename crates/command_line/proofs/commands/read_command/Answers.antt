@@ -32,12 +32,27 @@ returns-in_default-clause-err c = λ words numbers. absurd (no_words c.args.name
   c.in_default.not-map,
   (
     c.in_default.not-scen,
-    (c.in_default.not-row, (c.in_default.not-check, (c.in_default.not-deps, (c.in_default.not-path, (c.in_default.not-run, (c.in_default.not-agent, (c.in_default.not-tape, tt))))))),
+    (c.in_default.not-row, (c.in_default.not-check, (c.in_default.not-deps, (c.in_default.not-path, (c.in_default.not-cut, (c.in_default.not-run, (c.in_default.not-agent, (c.in_default.not-tape, tt)))))))),
   ),
 ) words)
 
--- the search gives up on the check's values
+-- the search gives up on the values of these
+pub returns-in-row-clause-err : goal.returns-in-row-clause-err
+returns-in-row-clause-err c =
+    let rows = rows_of (found_of c.args.given.now) in
+    subst (λ name. IfErr c.read_row.result (λ e. HasWords name rows → HasValues name rows → e ≡ OutOfMemory)) (sym c.in-row.is) c.read_row.ensures.err
+
 pub returns-in-check-clause-err : goal.returns-in-check-clause-err
 returns-in-check-clause-err c =
     let rows = rows_of (found_of c.args.given.now) in
     subst (λ name. IfErr c.read_check.result (λ e. HasWords name rows → HasValues name rows → e ≡ OutOfMemory)) (sym c.in-check.is) c.read_check.ensures.err
+
+pub returns-in-deps-clause-err : goal.returns-in-deps-clause-err
+returns-in-deps-clause-err c =
+    let rows = rows_of (found_of c.args.given.now) in
+    subst (λ name. IfErr c.read_deps.result (λ e. HasWords name rows → HasValues name rows → e ≡ OutOfMemory)) (sym c.in-deps.is) c.read_deps.ensures.err
+
+pub returns-in-cut-clause-err : goal.returns-in-cut-clause-err
+returns-in-cut-clause-err c =
+    let rows = rows_of (found_of c.args.given.now) in
+    subst (λ name. IfErr c.read_cut.result (λ e. HasWords name rows → HasValues name rows → e ≡ OutOfMemory)) (sym c.in-cut.is) c.read_cut.ensures.err
