@@ -2,5 +2,5 @@
 pub mod CourseLemmas
 pub mod ApartLemmas
 pub mod ElsewhereLemmas
-pub mod AgreeingLemmas
 pub mod CutLemmas
+pub mod AddingLemmas

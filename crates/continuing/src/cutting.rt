@@ -5,7 +5,7 @@ ghost use Rattle.continuing.specs.Continuing.{cut_at};
 
 use model::Act;
 use plan_text::{Plan, PushFault};
-use std::alloc::{AllocError, Global};
+use std::alloc::Global;
 
 /// The plan without what its agents do from the time on; the plan itself goes on from it. Only memory can lack.
 pub fn cut(alloc: Global, plan: &Plan, time: u32) -> Result<Plan, PushFault>

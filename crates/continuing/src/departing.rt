@@ -1,5 +1,5 @@
 //! Whether a plan goes on from another, and where it departs from it.
-ghost use Rattle.std.specs.Prelude.{◌≡◌, ◌≤◌, ◌+◌, ◌↔◌, IsTrue, length};
+ghost use Rattle.std.specs.Prelude.{◌≡◌, length};
 ghost use Rattle.model.specs.Plan.{longest_of};
 ghost use Rattle.continuing.specs.Departing.{AnswersContinue};
 ghost use Rattle.continuing.specs.Code.Apart.{act_in_step, IsFirstOther, IsFirstApart, IsFirstOf};
@@ -25,8 +25,8 @@ pub fn continues(old: &Plan, new: &Plan) -> Result<(), ContinueFault>
     }
 }
 
-/// The greatest number of acts.
-fn longest(courses: &[Course]) -> usize
+/// The greatest number of acts: up to that time a plan has the agents' places, and another adds to it.
+pub fn longest(courses: &[Course]) -> usize
     ensures { result ≡ longest_of courses.now }
 {
     let mut longest = 0;

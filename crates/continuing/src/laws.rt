@@ -42,12 +42,15 @@ pub fn moves_stay()
 {}
 
 /// Of plans each of which goes on from the one before, where the last is valid, all are; and what one of them has an agent move, the last does so too, at the same time:
-/// up to the end of that step all agents are where the one plan has them. The last need not go on from the first: what that only waits at its end may change.
+/// up to the end of that step all agents are where the one plan has them, and they begin there. The last need not go on from the first: what that only waits at its end may
+/// change.
 pub fn chains_of_plans()
     ensures valid { (map : Grid) (plan : Plan) (plans : List Plan) → IsChain plan plans → IsValid map (last_plan plan plans) → IsValid map plan }
     ensures agrees { (map : Grid) (plan : Plan) (plans : List Plan) (before after : Timetable) (i k : ℕ) (track : Track) → IsChain plan plans
         → IsValid map (last_plan plan plans) → IsTimetableOf plan before → IsTimetableOf (last_plan plan plans) after → track_of before i ≡ Some track → k < moves track
         → AgreesUpTo (step_of track k + 1) before after }
+    ensures begins { (map : Grid) (plan : Plan) (plans : List Plan) (before after : Timetable) → IsChain plan plans → IsValid map (last_plan plan plans)
+        → IsTimetableOf plan before → IsTimetableOf (last_plan plan plans) after → AgreesUpTo 0 before after }
 {
     model::laws::timetables();
     valid_before();

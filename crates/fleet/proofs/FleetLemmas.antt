@@ -24,16 +24,16 @@ use Rattle.fleet.proofs.StepLemmas.{deed-on}
 
 -- ---- a fleet before its last deed
 
-own-deeds : (now : Logged) (log : Log) (i : ℕ) → now.agent ≡ i → deeds_of (now ∷ log) i ≡ deeds_of log i ++ now.deed ∷ []
+pub own-deeds : (now : Logged) (log : Log) (i : ℕ) → now.agent ≡ i → deeds_of (now ∷ log) i ≡ deeds_of log i ++ now.deed ∷ []
 own-deeds now log i own = cond-true (eqb now.agent i) _ _ (eq-eqb now.agent i own)
 
-other-deeds : (now : Logged) (log : Log) (i : ℕ) → (now.agent ≡ i → ⊥) → deeds_of (now ∷ log) i ≡ deeds_of log i
+pub other-deeds : (now : Logged) (log : Log) (i : ℕ) → (now.agent ≡ i → ⊥) → deeds_of (now ∷ log) i ≡ deeds_of log i
 other-deeds now log i other = cond-false (eqb now.agent i) _ _ (ne_eqb now.agent i other)
 
-state-own : (states : ℕ → State) (i : ℕ) (s : State) → with_state states i s i ≡ s
+pub state-own : (states : ℕ → State) (i : ℕ) (s : State) → with_state states i s i ≡ s
 state-own states i s = cond-true (eqb i i) s (states i) (eq-eqb i i refl)
 
-state-other : (states : ℕ → State) (i k : ℕ) (s : State) → (i ≡ k → ⊥) → with_state states i s k ≡ states k
+pub state-other : (states : ℕ → State) (i k : ℕ) (s : State) → (i ≡ k → ⊥) → with_state states i s k ≡ states k
 state-other states i k s other = cond-false (eqb i k) s (states k) (ne_eqb i k other)
 
 -- The last deed is that of an agent that there is, and the fleet was one before it.

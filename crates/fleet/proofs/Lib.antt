@@ -5,3 +5,7 @@ pub mod FleetLemmas
 pub mod SafeLemmas
 pub mod RoundLemmas
 pub mod TellableLemmas
+pub mod SharedMoves
+pub mod OwnPlanLemmas
+pub mod LeadingOn
+pub mod BehindLemmas

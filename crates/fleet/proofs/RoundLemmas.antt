@@ -25,7 +25,7 @@ use Rattle.fleet.specs.Rounds.{is_restart, IsCalm, Occurs, IsRound, HasRounds, H
 abbrev pub records : History → ℕ → ℕ
 records h i = kept_starts h i + done h i
 
-done-later : (later earlier : History) (i : ℕ) → done earlier i ≤ done (later ++ earlier) i
+pub done-later : (later earlier : History) (i : ℕ) → done earlier i ≤ done (later ++ earlier) i
 done-later [] earlier i = omega arith
 done-later (now ∷ later) earlier i = (let before = done-later later earlier i in omega (arith, before))
 

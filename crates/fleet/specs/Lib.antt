@@ -12,5 +12,7 @@ pub mod Retelling
 pub mod Members
 -- what has to happen so that a fleet comes on
 pub mod Rounds
+-- what a fleet did whose processes run by plans of their own
+pub mod OwnPlans
 -- What follows from these definitions, each with its proof: proofs of other crates cite it, and nothing of it has to be believed.
 pub mod Laws

@@ -1,11 +1,12 @@
 //! What is promised of agents that each run by themselves: laws, which hold of every fleet and need no code.
-ghost use Rattle.std.specs.Prelude.{◌≡◌, ℕ, ◌+◌, ◌*◌, ◌<◌, ◌≤◌, ◌⊎◌, List, ◌∷◌, ◌++◌, length, Some, Result, sum_by};
+ghost use Rattle.std.specs.Prelude.{◌≡◌, ℕ, false, ◌+◌, ◌*◌, ◌<◌, ◌≤◌, ◌⊎◌, List, ◌∷◌, ◌++◌, length, Some, Result, slice_get, sum_by};
 ghost use Rattle.grid.specs.declared.cell.Cell.{Cell};
 ghost use Rattle.grid.specs.Map.{Grid};
 ghost use Rattle.model.specs.declared.held.Held.{Held};
 ghost use Rattle.model.specs.declared.version.Version.{Version};
 ghost use Rattle.model.specs.Dependency.{IsRotation};
 ghost use Rattle.model.specs.History.{History, kept_starts, done};
+ghost use Rattle.model.specs.Messages.{told};
 ghost use Rattle.model.specs.Plan.{Plan, IsValid, IsTimetableOf};
 ghost use Rattle.model.specs.Rules.{IsRun};
 ghost use Rattle.model.specs.Timetable.{Track, Timetable, moves, track_of, IsConflictFree, IsSwapFree};
@@ -14,13 +15,16 @@ ghost use Rattle.agent.specs.Agents.{AgentOn, state_of, Starts, Finishes, Says, 
 ghost use Rattle.agent.specs.Opening.{IsOpened};
 ghost use Rattle.agent.specs.States.{State, finished_moves, held_by_tape};
 ghost use Rattle.agent.specs.Tape.{whole_records};
+ghost use Rattle.agent.specs.Tellings.{Telling, BytesTell};
 ghost use Rattle.agent.specs.declared.refusal.HearFault.{HearFault};
 ghost use Rattle.agent.specs.declared.refusal.Refusal.{Refusal};
 ghost use Rattle.agent.specs.declared.refusal.TellFault.{TellFault};
+ghost use Rattle.continuing.specs.Continuing.{Continues, IsChain, last_plan};
 ghost use Rattle.fleet.specs.Deeds.{Deed, opens, starts, finishes, says, tells, hears, holds, Does};
 ghost use Rattle.fleet.specs.Fleets.{Log, spoken, IsHonest, IsFleet, with_state, IsTellable};
 ghost use Rattle.fleet.specs.FleetSafety.{IsFleetSafe};
 ghost use Rattle.fleet.specs.Members.{IsLeftBy};
+ghost use Rattle.fleet.specs.OwnPlans.{Doings, log_of, begun_moves, AreLedOn, IsFleetBy, SharesMoves, IsOfChain, LeavesOut, StandsAs};
 ghost use Rattle.fleet.specs.Retelling.{Retells};
 ghost use Rattle.fleet.specs.Rounds.{IsRound, HasRounds, HaveArrived};
 
@@ -65,6 +69,63 @@ pub fn rounds()
         → ((step : ℕ) (agents : List ℕ) → IsRotation tt step agents → ⊥) → IsRun version tt h → HasRounds version tt n h → 2 * sum_by moves tt.tracks ≤ n → HaveArrived tt h }
 {}
 
+/// A fleet whose processes run by plans of their own is one of a last plan, as long as each process, at each move that it begins, runs by a plan in which everybody is, up to
+/// the end of that move, where the last plan has them. Its answers are those of the last plan but for some that moved nobody: refusals that hang on the end of a plan, and
+/// starts whose write failed, with what was refused then. Where nobody is broken, it is from there on a fleet of the last plan, to which all other laws apply.
+pub fn fleets_of_plans()
+    ensures kept { (version : Version) (last : Timetable) (doings : Doings) (states : ℕ → State) → IsTellable last → IsFleetBy (SharesMoves last) version doings states
+        → (kept : Log) × (others : ℕ → State) × (LeavesOut (log_of doings) kept × IsFleet version last kept others × ((i : ℕ) → StandsAs (states i) (others i))) }
+    ensures whole { (version : Version) (last : Timetable) (doings : Doings) (states : ℕ → State) → IsTellable last → IsFleetBy (SharesMoves last) version doings states
+        → ((i : ℕ) → (states i).broken ≡ false) → (kept : Log) × LeavesOut (log_of doings) kept × IsFleet version last kept states }
+{
+    model::laws::messages_of_runs();
+    agent::laws::tellings();
+}
+
+/// So it is safe, where the checker accepts the last plan.
+pub fn changing_fleets_are_safe()
+    ensures { (map : Grid) (plan : Plan) (last : Timetable) (version : Version) (doings : Doings) (states : ℕ → State) → IsPlan plan → IsValid map plan → IsTimetableOf plan last
+        → IsFleetBy (SharesMoves last) version doings states → IsFleetSafe last (log_of doings) states }
+{
+    model::laws::timetables();
+    model::laws::messages_of_runs();
+    agent::laws::tellings();
+    every_fleet_is_safe();
+}
+
+/// A fleet may be extended: each process runs by some plan of a chain, each of which goes on from the one before, whoever has which of them, and whoever restarts with an
+/// older one that has the moves on its tape.
+pub fn extending()
+    ensures { (map : Grid) (plan : Plan) (plans : List Plan) (last : Timetable) (version : Version) (doings : Doings) (states : ℕ → State) → IsChain plan plans
+        → IsValid map (last_plan plan plans) → IsTimetableOf (last_plan plan plans) last → IsFleetBy (IsOfChain plan plans) version doings states
+        → IsFleetBy (SharesMoves last) version doings states }
+{
+    continuing::laws::chains_of_plans();
+}
+
+/// What was given out may be taken back: where nobody's tape has more than a cut of the old plan, any plan that goes on from the cut may follow, as long as nobody runs by the
+/// old one from then on, unless it shares with the new one what is begun.
+pub fn taking_back()
+    ensures { (cut old new : Plan) (left before last : Timetable) (version : Version) (earlier later : Doings) (mid states : ℕ → State) → Continues cut old → Continues cut new
+        → IsTimetableOf cut left → IsTimetableOf old before → IsTimetableOf new last → IsFleetBy (SharesMoves before) version earlier mid
+        → ((i : ℕ) (track : Track) → track_of left i ≡ Some track → begun_moves (mid i) ≤ moves track)
+        → AreLedOn (SharesMoves last) version (spoken (log_of earlier)) mid later states → IsFleetBy (SharesMoves last) version (later ++ earlier) states }
+{
+    continuing::laws::moves_stay();
+}
+
+/// Nobody says that an agent has finished more moves than its own tape has. So an agent that hears so has an older tape than its own, or somebody forges.
+pub fn no_tape_is_behind()
+    ensures fleet { (version : Version) (tt : Timetable) (log : Log) (states : ℕ → State) (i : ℕ) (track : Track) (m : ℕ) (bytes : List ℕ) (t : Telling) → IsTellable tt
+        → IsFleet version tt log states → track_of tt i ≡ Some track → slice_get (spoken log) m ≡ Some bytes → BytesTell bytes t → told t.message i ≤ finished_moves (states i) }
+    ensures of_plans { (version : Version) (last : Timetable) (doings : Doings) (states : ℕ → State) (i : ℕ) (track : Track) (m : ℕ) (bytes : List ℕ) (t : Telling) → IsTellable last
+        → IsFleetBy (SharesMoves last) version doings states → track_of last i ≡ Some track → slice_get (spoken (log_of doings)) m ≡ Some bytes → BytesTell bytes t
+        → told t.message i ≤ finished_moves (states i) }
+{
+    model::laws::messages_of_runs();
+    agent::laws::tellings();
+}
+
 /// What each call of an agent answers is a deed that leads it from the state before to the state after, over any tape: so an agent whose answers are told has told its part of
 /// what its fleet did. A tape is opened by a process with as many records as the one before left on it.
 pub fn calls_are_deeds<T: Tape>()
@@ -84,4 +145,13 @@ pub fn calls_are_deeds<T: Tape>()
     ensures holds { (tt : Timetable) (a : AgentOn T) (what : Held) → IsHolding T.state tt a what
         → (track : Track) × (track_of tt a.part.agent ≡ Some track)
         × Does tt a.part.agent track (state_of T.state a) (holds what (finished_moves (state_of T.state a))) (state_of T.state a) }
+{}
+
+/// A tape that was opened has no more than its plan's moves, and no deed by that plan goes past them. So what has to be seen to of a plan is only that the moves which a tape
+/// has are those of the last plan too.
+pub fn tapes_stay_within<T: Tape>()
+    ensures opened { (tt : Timetable) (i : ℕ) (track : Track) (tape : T) (agent : AgentOn T) → IsOpened T.state T.may_read tt i tape agent → track_of tt i ≡ Some track
+        → (state_of T.state agent).records ≤ 2 * moves track }
+    ensures led { (tt : Timetable) (i : ℕ) (track : Track) (old : State) (deed : Deed) (new : State) → old.records ≤ 2 * moves track → Does tt i track old deed new
+        → new.records ≤ 2 * moves track }
 {}

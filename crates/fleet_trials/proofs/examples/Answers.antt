@@ -1,14 +1,17 @@
-use Rattle.std.proofs.Common.{◌≡◌, ℕ, zero, suc, Bool, true, false, [], ◌∷◌, Some, None, max, eqb, inl, inr, refl, subst, lit<, arith}
+use Rattle.std.proofs.Common.{◌≡◌, ◌≢◌, ℕ, zero, suc, ◌≤◌, Bool, true, false, [], ◌∷◌, Some, None, max, eqb, inl, inr, refl, ap, subst, lit<, arith}
 use Rattle.std.specs.Prelude.{◌||◌, if◌then◌else◌}
-use Rattle.std.proofs.lemmas.Bool.{ne_eqb}
+use Rattle.std.proofs.lemmas.Bool.{cond-false, ne_eqb}
 use Rattle.std.proofs.lemmas.Option.{same_Some, none-some}
 use Rattle.model.specs.Examples.{leader, follower, row}
 use Rattle.model.specs.Messages.{own_message}
-use Rattle.model.specs.Timetable.{Track, track_of}
+use Rattle.model.specs.Timetable.{Track, track_of, Stands}
 use Rattle.agent.specs.States.{State}
+use Rattle.grid.specs.declared.cell.Cell.{Cell}
+use Rattle.continuing.specs.Laws.Agreeing.{agrees-itself}
 use Rattle.fleet.specs.Deeds.{DoesAll}
 use Rattle.fleet.specs.Fleets.{deeds_of, fresh}
-use Rattle.fleet_trials.specs.Examples.{led, led_states}
+use Rattle.fleet.specs.OwnPlans.{SharesMoves}
+use Rattle.fleet_trials.specs.Examples.{led, led_states, bare_row, extended_states, other_row}
 use Rattle.fleet_trials.proofs.examples.Goals as goal
 
 pub returns-clause-unheard : goal.returns-clause-unheard
@@ -92,3 +95,60 @@ returns-clause-led c = record {
   nobody_else = nobody;
   honest = (tt, ((0, refl), (tt, (tt, (refl, (tt, (tt, (tt, (tt, tt)))))))));
 }
+
+-- ---- plans of their own
+
+begun-there : (i t : ℕ) (c : Cell) → t ≤ 0 → Stands bare_row i t c → Stands row i t c
+begun-there zero zero c most stands = stands
+begun-there (suc zero) zero c most stands = stands
+begun-there (suc (suc i)) zero c most stands = stands
+begun-there i (suc t) c most stands = absurd (omega (arith, most))
+
+abbrev at_first : ℕ → State
+at_first i = state 0 false
+
+only_leader : (k : ℕ) → k ≢ 0 → extended_states k ≡ at_first k
+only_leader zero other = absurd (other refl)
+only_leader (suc k) other = ap (λ n. state n false) (cond-false (eqb (suc k) 0) 1 0 (ne_eqb (suc k) 0 (λ e. omega (arith, e))))
+
+pub returns-clause-extended : goal.returns-clause-extended
+returns-clause-extended c = (
+  at_first,
+  (
+    at_first,
+    (
+      at_first,
+      (
+        at_first,
+        λ i. refl,
+        record { track = _; is_track = refl; fits = bare; honest = tt; does = (refl, refl, refl); others = λ k other. refl },
+      ),
+      record { track = _; is_track = refl; fits = bare; honest = tt; does = (refl, refl); others = λ k other. refl },
+    ),
+    record { track = leader; is_track = refl; fits = record { has = omega arith; agrees = agrees-itself 0 row }; honest = tt; does = (refl, refl, refl); others = λ k other. refl },
+  ),
+  record {
+    track = leader;
+    is_track = refl;
+    fits = record { has = omega arith; agrees = agrees-itself 1 row };
+    honest = tt;
+    does = record { heard = refl; outcome = inl (refl, refl, refl) };
+    others = only_leader;
+  },
+) where
+  bare : SharesMoves row bare_row 1 (record { start = record { x = 0; y = 0 }; later = [] }) 0
+  bare = record { has = omega arith; agrees = record { number = refl; agents = refl; same = begun-there } }
+
+others-begin : (i t : ℕ) (c : Cell) → t ≤ 0 → Stands other_row i t c → Stands row i t c
+others-begin zero zero c most stands = stands
+others-begin (suc zero) zero c most stands = stands
+others-begin (suc (suc i)) zero c most stands = stands
+others-begin i (suc t) c most stands = absurd (omega (arith, most))
+
+pub returns-clause-other_ways : goal.returns-clause-other_ways
+returns-clause-other_ways c = (
+  λ shares. apart (shares.agrees.same 0 1 (record { x = 1; y = 1 }) (omega arith) refl),
+  record { has = omega arith; agrees = record { number = refl; agents = refl; same = others-begin } },
+) where
+  apart : Stands row 0 1 (record { x = 1; y = 1 }) → ⊥
+  apart same = (let e = ap (λ c. c.x) same in omega (arith, e))

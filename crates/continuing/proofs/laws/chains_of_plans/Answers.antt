@@ -1,20 +1,11 @@
 -- From plan to plan.
-use Rattle.std.proofs.Common.{◌≡◌, ℕ, ◌+◌, ◌<◌, ◌≤◌, List, [], ◌∷◌, Some, arith, refl, subst, ◌∙◌}
+use Rattle.std.proofs.Common.{◌≡◌, ℕ, ◌+◌, ◌<◌, List, [], ◌∷◌, Some, arith, subst}
 use Rattle.model.specs.Timetable.{Track, Timetable, moves, step_of, track_of}
 use Rattle.grid.specs.Map.{Grid}
 use Rattle.model.specs.Plan.{Plan, IsValid, longest_of, IsTimetableOf}
 use Rattle.continuing.specs.Continuing.{Continues, IsChain, last_plan, AgreesUpTo}
+use Rattle.continuing.specs.Laws.Agreeing.{agrees-sooner, agrees-on, agrees-itself}
 use Rattle.continuing.proofs.laws.chains_of_plans.Goals as goal
-
-agrees-sooner : (s t : ℕ) (before after : Timetable) → s ≤ t → AgreesUpTo t before after → AgreesUpTo s before after
-agrees-sooner s t before after less h = record { number = h.number; agents = h.agents; same = λ i r c most stands. h.same i r c (omega (arith, most, less)) stands }
-
-agrees-on : (t : ℕ) (a b c : Timetable) → AgreesUpTo t a b → AgreesUpTo t b c → AgreesUpTo t a c
-agrees-on t a b c h k = record {
-  number = k.number ∙ h.number;
-  agents = k.agents ∙ h.agents;
-  same = λ i s d most stands. k.same i s d most (h.same i s d most stands);
-}
 
 all_valid : ((map : Grid) (old new : Plan) → Continues old new → IsValid map new → IsValid map old)
     → (map : Grid) (plan : Plan) (plans : List Plan) → IsChain plan plans → IsValid map (last_plan plan plans) → IsValid map plan
@@ -31,7 +22,7 @@ returns-clause-agrees c = agrees where
       → AgreesUpTo (step_of track k + 1) before after
   agrees map plan [] before after i k track chain valid is will there less =
       subst (AgreesUpTo (step_of track k + 1) before) (c.timetables.ensures.one plan before after is will)
-      (record { number = refl; agents = refl; same = λ j t cell most stands. stands })
+      (agrees-itself (step_of track k + 1) before)
   agrees map plan (next ∷ plans) before after i k track chain valid is will there less =
       let time = step_of track k + 1 in
       let between = c.timetables.ensures.some map next (all_valid (c.valid_before.ensures) map next plans chain.1 valid) in
@@ -42,3 +33,14 @@ returns-clause-agrees c = agrees where
       let rest = agrees map next plans between.0 after i k other.0 chain.1 valid between.1 will other.1 move.0 in
       agrees-on time before between.0 after (agrees-sooner time (longest_of plan.courses) before between.0 (omega (arith, early)) first)
       (subst (λ step. AgreesUpTo (step + 1) between.0 after) move.1 rest)
+
+pub returns-clause-begins : goal.returns-clause-begins
+returns-clause-begins c = begins where
+  begins : (map : Grid) (plan : Plan) (plans : List Plan) (before after : Timetable) → IsChain plan plans → IsValid map (last_plan plan plans)
+      → IsTimetableOf plan before → IsTimetableOf (last_plan plan plans) after → AgreesUpTo 0 before after
+  begins map plan [] before after chain valid is will = subst (AgreesUpTo 0 before) (c.timetables.ensures.one plan before after is will) (agrees-itself 0 before)
+  begins map plan (next ∷ plans) before after chain valid is will =
+      let between = c.timetables.ensures.some map next (all_valid (c.valid_before.ensures) map next plans chain.1 valid) in
+      let first = c.moves_stay.ensures.agrees plan next before between.0 chain.0 is between.1 in
+      agrees-on 0 before between.0 after (agrees-sooner 0 (longest_of plan.courses) before between.0 (omega arith) first)
+      (begins map next plans between.0 after chain.1 valid between.1 will)

@@ -10,7 +10,7 @@ use Rattle.model.specs.Laws.Places.{same_place, position_after-end}
 use Rattle.model.specs.Laws.Needs.{stands-track, stands-from}
 use Rattle.model.specs.Laws.Tracks.{step-of_move, moving_step}
 use Rattle.continuing.specs.Continuing.{Continues, AgreesUpTo}
-use Rattle.continuing.proofs.AgreeingLemmas.{moves-along, same-move, along, other-track, need-same}
+use Rattle.continuing.specs.Laws.Agreeing.{moves-along, same-move, along, other-track, need-same}
 use Rattle.continuing.proofs.CourseLemmas.{longest-most}
 use Rattle.continuing.proofs.laws.moves_stay.Goals as goal
 

@@ -1,8 +1,8 @@
 -- Tracks and timetables that agree up to a time.
-use Rattle.std.proofs.Common.{◌≡◌, ℕ, zero, suc, ◌+◌, ◌<◌, ◌≤◌, List, [], ◌∷◌, length, Some, None, inl, inr, arith, refl, sym, ap, ◌∙◌}
+use Rattle.std.proofs.Common.{◌≡◌, ℕ, zero, suc, ◌+◌, ◌<◌, ◌≤◌, List, [], ◌∷◌, length, get_or, Some, None, inl, inr, arith, refl, sym, ap, ◌∙◌}
 use Rattle.std.specs.Prelude.{Option, if◌then◌else◌, ◌==◌, slice_get}
 use Rattle.std.proofs.lemmas.Bool.{cases_Bool, false≢true}
-use Rattle.std.proofs.lemmas.Option.{same_Some}
+use Rattle.std.proofs.lemmas.Option.{same_Some, slice_get_within, slice_get-get_or}
 use Rattle.grid.specs.declared.cell.Cell.{Cell}
 use Rattle.model.specs.Timetable.{Track, Timetable, same_cell, cell_at, moves_before, moves, step_of, track_of}
 use Rattle.model.specs.Dependency.{Stand, stander_among, stander, stand_or, last_stand, moves_in, moves_to, need_by, need}
@@ -111,3 +111,31 @@ module _ (time : ℕ) (before after : Timetable) (agrees : AgreesUpTo time befor
       ∙ ap (λ d. need_by after i (last_stand after d step)) (follows (step + 1) (omega (arith, early)))
       ∙ ap (need_by after i) (last_stand-same c step (omega (arith, early)))
       ∙ asks-same i c step early (last_stand before c step) (last_stand-is before c step)
+
+-- ---- one of them after another
+
+pub agrees-sooner : (s t : ℕ) (before after : Timetable) → s ≤ t → AgreesUpTo t before after → AgreesUpTo s before after
+agrees-sooner s t before after less h = record { number = h.number; agents = h.agents; same = λ i r c most stands. h.same i r c (omega (arith, most, less)) stands }
+
+pub agrees-on : (t : ℕ) (a b c : Timetable) → AgreesUpTo t a b → AgreesUpTo t b c → AgreesUpTo t a c
+agrees-on t a b c h k = record {
+  number = k.number ∙ h.number;
+  agents = k.agents ∙ h.agents;
+  same = λ i s d most stands. k.same i s d most (h.same i s d most stands);
+}
+
+pub agrees-itself : (t : ℕ) (a : Timetable) → AgreesUpTo t a a
+agrees-itself t a = record { number = refl; agents = refl; same = λ i s c most stands. stands }
+
+-- nobody is in two cells, so it holds the other way round too
+pub agrees-back : (t : ℕ) (a b : Timetable) → AgreesUpTo t a b → AgreesUpTo t b a
+agrees-back t a b h = record {
+  number = sym h.number;
+  agents = sym h.agents;
+  same = λ i s c most stands.
+      (let found = stands-track b i s c stands in
+      let within = slice_get_within b.tracks i found.0 found.1 in
+      let track = get_or a.tracks i found.0 in
+      let there : track_of a i ≡ Some track = slice_get-get_or a.tracks i found.0 (omega (arith, within, h.agents)) in
+      stands-from a i s c track there (sym (along t a b h i track found.0 there found.1 s most) ∙ found.2));
+}
