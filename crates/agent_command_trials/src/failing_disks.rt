@@ -182,8 +182,9 @@ fn goes_on(alloc: Global, disk: &FakeDisk, records: usize) -> Result<bool, Alloc
 }
 
 /// The calls that fail, and how many of each kind there may be.
-static FAILING: [(Call, u32); 8] = [
+static FAILING: [(Call, u32); 9] = [
     (Call::Lock, 1),
+    (Call::LookUp, 3),
     (Call::Read, 9),
     (Call::Seek, 3),
     (Call::Write, 7),
@@ -238,6 +239,8 @@ fn failing_disks(rt: HostRuntime) -> Result<(), Fail> {
 #[test]
 fn failing_stores(rt: HostRuntime) -> Result<(), Fail> {
     for (call, calls, records) in [
+        (Call::LookUp, 0, 0),
+        (Call::LookUp, 1, 1),
         (Call::Seek, 0, 0),
         (Call::Seek, 1, 1),
         (Call::Write, 0, 0),

@@ -2,3 +2,5 @@
 mod TapeLemmas
 -- and of what their tapes keep
 mod ReportLemmas
+-- a tape with a guard, and without
+mod GuardLemmas

@@ -1,5 +1,5 @@
 -- What `mapf agent` does and answers.
-use Rattle.std.specs.Prelude.{◌≡◌, ℕ, ◌+◌, ◌*◌, ◌<◌, ◌≤◌, ◌⊎◌, true, List, length, Option, None, Some, IfSome, Result, Ok, Err, MatchResult}
+use Rattle.std.specs.Prelude.{◌≡◌, ℕ, ◌+◌, ◌*◌, ◌<◌, ◌≤◌, ◌⊎◌, Bool, true, false, List, length, Option, None, Some, IfSome, Result, Ok, Err, MatchResult}
 use Rattle.text_io.specs.declared.counted.Counted.{Counted}
 use Rattle.model.specs.History.{record_length}
 use Rattle.model.specs.Timetable.{Track, Timetable, moves, track_of}
@@ -10,7 +10,7 @@ use Rattle.agent.specs.Opening.{IsOpened, IsRefused}
 use Rattle.agent.specs.Tape.{IsKept}
 use Rattle.robot.specs.Dialogue.{Talks}
 use Rattle.robot.specs.declared.talk_fault.TalkFault.{TalkFault}
-use Rattle.robot.specs.declared.talk_fault.TalkFault.TheVariants.{StoreFailed}
+use Rattle.robot.specs.declared.talk_fault.TalkFault.TheVariants.{StoreFailed, StaleTape}
 use Rattle.robot.specs.FileTape.{IsImage, IsFileRead, file_state}
 use Rattle.robot.specs.declared.file_tape.FileTape.{FileTape}
 use Rattle.robot.specs.declared.file_tape.FileTapeFault.TheVariants.{TooLong}
@@ -74,6 +74,11 @@ abbrev pub IsNotOnTape : {F : Type 0} → (F → Option (List ℕ)) → TapeClai
 IsNotOnTape remaining claim tt i fault =
     IsNoTape remaining claim tt i fault ⊎ ((refusal : OpenFault) × (fault ≡ Tape refusal) × IsRefusedTape remaining claim tt i refusal)
 
+-- what others say of a tape is heeded where it was kept: a new one has nothing that anybody could have heard
+abbrev pub heeds : TapeClaim → Bool
+heeds Kept = true
+heeds _ = false
+
 -- what a dialogue comes to
 abbrev pub told_of_dialogue : Result Unit TalkFault → Result Unit AgentFault
 told_of_dialogue (Ok done) = Ok done
@@ -87,7 +92,7 @@ pub record Converses
   pub opens : MatchResult opened (IsOnTape remaining claim tt i) (IsNotOnTape remaining claim tt i)
   pub ends : MatchResult opened
       (λ agent. (answer : Result Unit TalkFault) × (after : AgentOn (FileTape F))
-      × Talks input_left contents file_state tt old_in new_in old_out new_out agent after answer × (result ≡ told_of_dialogue answer))
+      × Talks input_left contents file_state (heeds claim) tt old_in new_in old_out new_out agent after answer × (result ≡ told_of_dialogue answer))
       (λ fault. (result ≡ Err fault) × (new_in ≡ old_in) × (new_out ≡ old_out))
 
 -- The map and the plan were read and the plan was checked; where it is valid, the agent answered, and else neither input nor output
@@ -102,10 +107,11 @@ pub record Serves
       (λ tt. Converses remaining input_left contents claim tt i old_in new_in old_out new_out result)
       (λ fault. (result ≡ Err (Planned fault)) × (new_in ≡ old_in) × (new_out ≡ old_out))
 
--- How the command ends by what it came to: where the tape failed in the dialogue, the last answer said it.
+-- How the command ends by what it came to: where the tape failed or was an older one, the last answer said it.
 abbrev pub end_of_agent : Result Unit AgentFault → End
 end_of_agent (Ok done) = answered_with Done
 end_of_agent (Err (Dialogue StoreFailed)) = answered_with Failure
+end_of_agent (Err (Dialogue StaleTape)) = answered_with Failure
 end_of_agent (Err fault) = gave_up (agent_fault_words fault)
 
 -- The texts were read and the agent answered, and the command ended by what that came to.

@@ -1,20 +1,17 @@
 //! `mapf agent`: answers for one agent of a plan, by its tape.
-ghost use Rattle.std.specs.Prelude.{◌≡◌, IfErr, IfOk, MatchResult};
+ghost use Rattle.std.specs.Prelude.{◌≡◌, is_some, IfSome};
 ghost use Rattle.model.specs.Timetable.{Timetable};
 ghost use Rattle.depgraph.specs.AgentParts.{IsPartOf};
 ghost use Rattle.text_commands.specs.Ending.{EndsAndTells, end_of};
-ghost use Rattle.agent_commands.specs.AgentCommand.{AnswersAgent, Converses, IsClaimed, IsNoTape, IsNotOnTape, IsOnTape, IsTapeOf, Serves};
-ghost use Rattle.agent_commands.specs.declared.agent_fault.AgentFault.TheVariants.{File};
-ghost use Rattle.robot.specs.declared.file_tape.FileTapeFault.TheVariants.{TapeFailed};
-ghost use Rattle.agent_commands.specs.Code.Parts.{IsNotOpened, IsNotTaken, IsSameTape};
+ghost use Rattle.agent_commands.specs.AgentCommand.{AnswersAgent, Converses, Serves, heeds};
 
 use crate::agent_fault::AgentFault;
-use crate::agent_part::{moves_of, read_part};
-use agent::{Agent, OpenFault, RECORD_LENGTH, Tape};
-use depgraph::Part;
-use robot::{FileTape, FileTapeFault, TalkFault, talk};
-use std::fs::{self, OpenFile, OpenOptions};
-use std::io::{ErrorKind, Read, Write};
+use crate::agent_part::read_part;
+use crate::opening::open_agent;
+use agent::OpenFault;
+use depgraph::{OwnPart, Part};
+use robot::{TalkFault, Talker, talk};
+use std::io::{Read, Write};
 use std::rt::Files;
 use tape_claim::{LockFile, TapeClaim};
 use text_commands::{Ending, Status, conclude};
@@ -75,7 +72,9 @@ where
     match serve(rt, map, plan, seat, input, out) {
         Ok(()) => Ending::answered_with(Status::Done),
         // The last answer said it.
-        Err(AgentFault::Dialogue(TalkFault::StoreFailed)) => Ending::answered_with(Status::Failure),
+        Err(AgentFault::Dialogue(TalkFault::StoreFailed | TalkFault::StaleTape)) => {
+            Ending::answered_with(Status::Failure)
+        }
         Err(fault) => Ending::gave_up(fault.words()),
     }
 }
@@ -97,152 +96,34 @@ where
     let Some(own) = read_part(rt.alloc(), map, plan, seat.id)? else {
         return Err(AgentFault::Tape(OpenFault::NoSuchAgent));
     };
-    converse(rt, own.part(), seat, input, out)
+    converse(rt, &own, seat, input, out)
 }
 
 /// Answers for an agent.
 fn converse<R: Files + AllocGlobal, I: Read, W: Write>(
     rt: &R,
-    part: Part<'_>,
+    own: &OwnPart,
     seat: Seat<'_>,
     input: &mut Counted<I>,
     out: &mut Counted<W>,
 ) -> Result<(), AgentFault>
 where
     R::File: LockFile,
-    ensures { (tt : Timetable) → IsPartOf tt part.entry → Converses R.File.remaining I.remaining W.contents seat.entry.claim tt part.entry.agent input.old input.new out.old out.new result }
+    ensures { (tt : Timetable) → IsPartOf tt own.now → Converses R.File.remaining I.remaining W.contents seat.entry.claim tt own.now.agent input.old input.new out.old out.new result }
 {
-    let mut agent = open_agent(rt, part, seat.path, seat.claim)?;
-    talk(rt.alloc(), &mut agent, input, out)?;
+    let heeded = heeded_part(own, seat.claim);
+    let agent = open_agent(rt, own.part(), seat.path, seat.claim)?;
+    talk(rt.alloc(), &mut Talker { agent, heeded }, input, out)?;
     Ok(())
 }
 
-/// Opens an agent over its tape file.
-fn open_agent<'g, R: Files + AllocGlobal>(
-    rt: &R,
-    part: Part<'g>,
-    path: &str,
-    claim: TapeClaim,
-) -> Result<Agent<'g, FileTape<R::File>>, AgentFault>
-where
-    R::File: LockFile,
-    ensures part { IfOk result (λ agent. agent.part ≡ part.entry) }
-    ensures opened { (tt : Timetable) → IsPartOf tt part.entry
-        → MatchResult result (IsOnTape R.File.remaining claim tt part.entry.agent) (IsNotOnTape R.File.remaining claim tt part.entry.agent) }
-{
-    let tape = open_tape(rt, &part, path, claim)?;
-    match Agent::open_part(rt.alloc(), part, tape) {
-        Ok(agent) => Ok(agent),
-        Err((fault, _)) => Err(AgentFault::Tape(fault)),
-    }
-}
-
-/// Opens the tape file of an agent, with room for two records a move.
-fn open_tape<R: Files + AllocGlobal>(
-    rt: &R,
-    part: &Part<'_>,
-    path: &str,
-    claim: TapeClaim,
-) -> Result<FileTape<R::File>, AgentFault>
-where
-    R::File: LockFile,
-    ensures { (tt : Timetable) → IsPartOf tt part.now
-        → MatchResult result (λ tape. IsTapeOf R.File.remaining tt part.now.agent tape × IsClaimed claim tape) (IsNoTape R.File.remaining claim tt part.now.agent) }
-{
-    let moves = moves_of(part);
-    let file = open_file(rt, path, claim)?;
-    let tape = FileTape::open(rt.alloc(), file, 2 * RECORD_LENGTH * moves)?;
-    take_tape(rt, path, tape, claim)
-}
-
-/// Opens a tape file, which is made where there is none, unless it was to be kept.
-fn open_file<R: Files>(rt: &R, path: &str, claim: TapeClaim) -> Result<R::File, AgentFault>
-    ensures { IfErr result (IsNotOpened claim) }
-{
-    let makes = !matches!(claim, TapeClaim::Kept);
-    let opened = OpenOptions::new()
-        .read(true)
-        .write(true)
-        .create(makes)
-        .open(rt, path);
-    match opened {
-        Ok(file) if is_regular(&file) => Ok(file),
-        Err(error) if !makes && error.kind() == ErrorKind::NotFound => Err(AgentFault::NoTape),
-        _ => Err(AgentFault::OpenFailed),
-    }
-}
-
-/// Whether it is a file like others. Reading a device or a pipe might wait for ever, and what was written there could not be read back.
-fn is_regular<F: OpenFile>(file: &F) -> bool {
-    match file.metadata() {
-        Ok(metadata) => metadata.is_file(),
-        Err(_) => false,
-    }
-}
-
-/// Takes the tape of a file that was opened, if what is claimed of it holds.
-fn take_tape<R: Files>(
-    rt: &R,
-    path: &str,
-    tape: FileTape<R::File>,
-    claim: TapeClaim,
-) -> Result<FileTape<R::File>, AgentFault>
-    ensures ok { IfOk result (λ taken. IsSameTape tape taken × IsClaimed claim taken) }
-    ensures err { IfErr result (IsNotTaken claim tape) }
+/// The part of an agent whose tape was kept: what others say of it is heeded.
+fn heeded_part<'g>(own: &'g OwnPart, claim: TapeClaim) -> Option<Part<'g>>
+    ensures part { IfSome result (λ part. part ≡ own.now) }
+    ensures heeds { is_some result ≡ heeds claim }
 {
     match claim {
-        TapeClaim::New => take_new_tape(rt, path, tape),
-        TapeClaim::Any | TapeClaim::Kept => take_any_tape(rt, path, tape),
-    }
-}
-
-/// Takes a tape without a record, and syncs it and its folder.
-fn take_new_tape<R: Files>(
-    rt: &R,
-    path: &str,
-    mut tape: FileTape<R::File>,
-) -> Result<FileTape<R::File>, AgentFault>
-    ensures ok { IfOk result (λ taken. IsSameTape tape taken × IsClaimed TapeClaim.New taken) }
-    ensures err { IfErr result (IsNotTaken TapeClaim.New tape) }
-{
-    if tape.len() >= RECORD_LENGTH {
-        return Err(AgentFault::TapeExists);
-    }
-    tape.sync()?;
-    keep_name(rt, path)?;
-    Ok(tape)
-}
-
-/// Takes a tape, and syncs its folder if it has no record: the file may just have been made, and a power cut could take away a name that
-/// isn't synced.
-fn take_any_tape<R: Files>(
-    rt: &R,
-    path: &str,
-    tape: FileTape<R::File>,
-) -> Result<FileTape<R::File>, AgentFault>
-    ensures ok { IfOk result (λ taken. taken ≡ tape) }
-    ensures err { IfErr result (λ fault. fault ≡ File TapeFailed) }
-{
-    if tape.len() < RECORD_LENGTH {
-        keep_name(rt, path)?;
-    }
-    Ok(tape)
-}
-
-/// Syncs the folder of a file, which has the file's name.
-fn keep_name<R: Files>(rt: &R, path: &str) -> Result<(), FileTapeFault>
-    ensures { IfErr result (λ fault. fault ≡ FileTapeFault.TapeFailed) }
-{
-    let folder = fs::open(rt, folder_of(path))?;
-    folder.sync_all()?;
-    Ok(())
-}
-
-/// The folder of the file that a path names.
-fn folder_of(path: &str) -> &str {
-    match path.rsplit_once('/') {
-        Some((folder, _)) if folder.is_empty() => "/",
-        Some((folder, _)) => folder,
-        None => ".",
+        TapeClaim::Kept => Some(own.part()),
+        TapeClaim::Any | TapeClaim::New => None,
     }
 }

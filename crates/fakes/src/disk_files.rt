@@ -85,7 +85,10 @@ impl<'a> Files for DiskFiles<'a> {
     }
 
     fn metadata(&self, path: &str) -> io::Result<Metadata> {
-        Err(self.unexpected(path))
+        match self.disk(path) {
+            Some(disk) if disk.is_tape() => disk.look_up(),
+            _ => Err(self.unexpected(path)),
+        }
     }
 
     fn symlink_metadata(&self, path: &str) -> io::Result<Metadata> {

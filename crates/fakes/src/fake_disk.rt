@@ -16,6 +16,8 @@ const ROOM: usize = 256;
 pub enum Call {
     Open,
     Metadata,
+    /// A look at the file by its name.
+    LookUp,
     Lock,
     Read,
     Seek,
@@ -210,6 +212,19 @@ impl FakeDisk {
     /// What kind of file it is.
     pub(crate) fn metadata(&self) -> io::Result<Metadata> {
         self.answer(Call::Metadata)?;
+        self.kind_of_file()
+    }
+
+    /// The same of the file by its name.
+    pub(crate) fn look_up(&self) -> io::Result<Metadata> {
+        self.answer(Call::LookUp)?;
+        if !self.is_made.get() {
+            return Err(io::Error::from(ErrorKind::NotFound));
+        }
+        self.kind_of_file()
+    }
+
+    fn kind_of_file(&self) -> io::Result<Metadata> {
         if self.is_regular.get() {
             Ok(Metadata::of_file(0))
         } else {

@@ -1,5 +1,5 @@
 -- A dialogue, turn by turn, and what its end leaves.
-use Rattle.std.proofs.Common.{◌≡◌, ℕ, ◌<◌, List, [], ◌∷◌, ◌++◌, length, Option, Some, Result, Ok, Err, get_or, drop, refl, sym, ap, subst, ◌∙◌, inl, inr, arith, append-nil}
+use Rattle.std.proofs.Common.{◌≡◌, ℕ, ◌<◌, Bool, List, [], ◌∷◌, ◌++◌, length, Option, Some, Result, Ok, Err, get_or, drop, refl, sym, ap, subst, ◌∙◌, inl, inr, arith, append-nil}
 use Rattle.std.specs.List.{AllByRecursion}
 use Rattle.std.specs.Io.KnownBytes.{Appends, Consumes, IsAtEnd as IsSpent}
 use Rattle.std.proofs.KnownBytes.{Appends-trans}
@@ -21,21 +21,14 @@ use Rattle.depgraph.specs.AgentParts.{IsPartOf}
 use Rattle.fleet.specs.Deeds.{Deed, starts, finishes, says, tells, hears, holds, Does, DoesAll}
 use Rattle.robot.specs.Requests.{Request, start, finish, say, tell, held, hear}
 use Rattle.robot.specs.Turns.{state_line, store_failed, deed_line, IsCallOf}
-use Rattle.robot.specs.Dialogue.{AreAnswersTo, dialogue_lines, EndsInFailedStore, AreFirst, BreaksInLast, BlamesTape, Leads, Talks}
+use Rattle.robot.specs.Dialogue.{AreAnswersTo, IsHeedful, AreHeedful, IsStaleAnswer, EndStale, dialogue_lines, EndsInFailedStore, AreFirst, BreaksInLast, BlamesTape, Leads, Talks}
 use Rattle.robot.specs.Code.Answering.{IsSameAgent, Sends, Replies}
 use Rattle.robot.specs.Code.Reading.{HasRest, IsInputOver, IsLineKept}
-use Rattle.robot.specs.Code.Turning.{TakesRequest, IsTurn, AreTurns}
+use Rattle.robot.specs.Code.Turning.{TakesRequest, IsHeedfulOf, IsTurn, AreTurns}
 use Rattle.robot.specs.declared.talk_fault.TalkFault.{TalkFault}
-use Rattle.robot.specs.declared.talk_fault.TalkFault.TheVariants.{ReadFailed, WriteFailed, StoreFailed, OutOfMemory}
+use Rattle.robot.specs.declared.talk_fault.TalkFault.TheVariants.{ReadFailed, WriteFailed, StoreFailed, StaleTape, OutOfMemory}
 
 -- ---- turns
-
-pub replied-store_failed
-    : {W : Type 0} (contents : W → Option (List ℕ)) (tt : Timetable) (i : ℕ) (track : Track) (line : List ℕ) (old new : State) (old_sink new_sink : Sink W)
-    (text : List ℕ) → text ≡ store_failed → IsTurn tt i track line old new text → Sends contents old_sink new_sink text
-    → Replies contents tt i track line old new old_sink new_sink (Err StoreFailed)
-replied-store_failed contents tt i track line old new old_sink new_sink text e turn sends =
-    (subst (IsTurn tt i track line old new) e turn, subst (Sends contents old_sink new_sink) e sends)
 
 -- an answer that doesn't end the dialogue
 abbrev pub GoesOn : List ℕ → Type 0
@@ -43,61 +36,65 @@ GoesOn text = text ≡ store_failed → ⊥
 
 -- one turn more
 pub AreTurns-push
-    : (tt : Timetable) (i : ℕ) (track : Track) (lines texts : List (List ℕ)) (line text : List ℕ) (old mid new : State)
-    → AreTurns tt i track lines texts old mid → AllByRecursion GoesOn texts → IsTurn tt i track line mid new text
-    → AreTurns tt i track (lines ++ line ∷ []) (texts ++ text ∷ []) old new
-AreTurns-push tt i track [] [] line text old mid new turns well turn =
-    (new, subst (λ s. IsTurn tt i track line s new text) turns turn, λ _. refl, refl)
-AreTurns-push tt i track [] (t ∷ texts) line text old mid new turns well turn = absurd turns
-AreTurns-push tt i track (l ∷ lines) [] line text old mid new turns well turn = absurd turns
-AreTurns-push tt i track (l ∷ lines) (t ∷ texts) line text old mid new turns well turn = (
+    : (heeds : Bool) (tt : Timetable) (i : ℕ) (track : Track) (lines texts : List (List ℕ)) (line text : List ℕ) (old mid new : State)
+    → AreTurns heeds tt i track lines texts old mid → AllByRecursion GoesOn texts → IsTurn heeds tt i track line mid new text
+    → AreTurns heeds tt i track (lines ++ line ∷ []) (texts ++ text ∷ []) old new
+AreTurns-push heeds tt i track [] [] line text old mid new turns well turn =
+    (new, subst (λ s. IsTurn heeds tt i track line s new text) turns turn, λ _. refl, refl)
+AreTurns-push heeds tt i track [] (t ∷ texts) line text old mid new turns well turn = absurd turns
+AreTurns-push heeds tt i track (l ∷ lines) [] line text old mid new turns well turn = absurd turns
+AreTurns-push heeds tt i track (l ∷ lines) (t ∷ texts) line text old mid new turns well turn = (
   turns.0,
   turns.1,
   λ e. absurd (well.0 e),
-  AreTurns-push tt i track lines texts line text turns.0 mid new turns.3 well.1 turn,
+  AreTurns-push heeds tt i track lines texts line text turns.0 mid new turns.3 well.1 turn,
 )
 
 -- ---- turns as deeds
 
 -- what was asked for and answered
-abbrev AnswersBy : Timetable → ℕ → Track → Request → State → State → List ℕ → Type 0
-AnswersBy table i track request old new text = (deed : Deed) × IsCallOf request deed × Does table i track old deed new × (text ≡ deed_line deed)
+abbrev AnswersBy : Bool → Timetable → ℕ → Track → Request → State → State → List ℕ → Type 0
+AnswersBy heeds table i track request old new text =
+    (deed : Deed) × IsCallOf request deed × Does table i track old deed new × (text ≡ deed_line deed) × IsHeedful heeds table i old deed
 
-answers-by : (table : Timetable) (i : ℕ) (track : Track) (request : Request) (old new : State) (text : List ℕ) → TakesRequest table i track request old new text
-    → AnswersBy table i track request old new text
-answers-by table i track start old new text takes = (starts takes.0, tt, takes.1, takes.2)
-answers-by table i track finish old new text takes = (finishes takes.0, tt, takes.1, takes.2)
-answers-by table i track say old new text takes = (says takes.0, tt, takes.1, takes.2)
-answers-by table i track tell old new text takes = (tells takes.0, tt, takes.1, takes.2)
-answers-by table i track held old new text takes = (holds (held_by_tape track old) (finished_moves old), tt, takes.0, takes.1)
-answers-by table i track (hear bytes) old new text takes = (hears bytes takes.0, refl, takes.1, takes.2)
+answers-by : (heeds : Bool) (table : Timetable) (i : ℕ) (track : Track) (request : Request) (old new : State) (text : List ℕ) → IsHeedfulOf heeds table i old request
+    → TakesRequest table i track request old new text → AnswersBy heeds table i track request old new text
+answers-by heeds table i track start old new text heedful takes = (starts takes.0, tt, takes.1, takes.2, tt)
+answers-by heeds table i track finish old new text heedful takes = (finishes takes.0, tt, takes.1, takes.2, tt)
+answers-by heeds table i track say old new text heedful takes = (says takes.0, tt, takes.1, takes.2, tt)
+answers-by heeds table i track tell old new text heedful takes = (tells takes.0, tt, takes.1, takes.2, tt)
+answers-by heeds table i track held old new text heedful takes = (holds (held_by_tape track old) (finished_moves old), tt, takes.0, takes.1, tt)
+answers-by heeds table i track (hear bytes) old new text heedful takes = (hears bytes takes.0, refl, takes.1, takes.2, heedful)
 
 -- the turns of a dialogue, as what the agent did
-pub record DoesInTurn (table : Timetable) (i : ℕ) (track : Track) (lines texts : List (List ℕ)) (old new : State) : Type 0 where
+pub record DoesInTurn (heeds : Bool) (table : Timetable) (i : ℕ) (track : Track) (lines texts : List (List ℕ)) (old new : State) : Type 0 where
   pub deeds : List Deed
   pub does : DoesAll table i track old deeds new
+  pub heedful : AreHeedful heeds table i track old deeds new
   pub answers : AreAnswersTo lines texts deeds
 
-pub turns-deeds : (table : Timetable) (i : ℕ) (track : Track) (lines texts : List (List ℕ)) (old new : State) → AreTurns table i track lines texts old new
-    → DoesInTurn table i track lines texts old new
-turns-deeds table i track [] [] old new turns = record { deeds = []; does = turns; answers = refl }
-turns-deeds table i track [] (text ∷ texts) old new turns = absurd turns
-turns-deeds table i track (line ∷ lines) [] old new turns = absurd turns
-turns-deeds table i track (line ∷ lines) (text ∷ texts) old new turns =
+pub turns-deeds : (heeds : Bool) (table : Timetable) (i : ℕ) (track : Track) (lines texts : List (List ℕ)) (old new : State) → AreTurns heeds table i track lines texts old new
+    → DoesInTurn heeds table i track lines texts old new
+turns-deeds heeds table i track [] [] old new turns = record { deeds = []; does = turns; heedful = turns; answers = refl }
+turns-deeds heeds table i track [] (text ∷ texts) old new turns = absurd turns
+turns-deeds heeds table i track (line ∷ lines) [] old new turns = absurd turns
+turns-deeds heeds table i track (line ∷ lines) (text ∷ texts) old new turns =
     let mid = turns.0 in
-    let rest = turns-deeds table i track lines texts mid new turns.3 in
+    let rest = turns-deeds heeds table i track lines texts mid new turns.3 in
     elim turns.1 [
       | inl asks ↦ (
-          let done = answers-by table i track asks.0 old mid text asks.2 in
+          let done = answers-by heeds table i track asks.0 old mid text asks.2 asks.3 in
           record {
             deeds = done.0 ∷ rest.deeds;
             does = (mid, done.2, rest.does);
+            heedful = (mid, done.2, done.4, rest.heedful);
             answers = (rest.deeds, inl (asks.0, done.0, asks.1, done.1, done.3, refl), turns.2, rest.answers);
           }
           )
       | inr nothing ↦ record {
         deeds = rest.deeds;
         does = subst (λ s. DoesAll table i track s rest.deeds new) nothing.1 rest.does;
+        heedful = subst (λ s. AreHeedful heeds table i track s rest.deeds new) nothing.1 rest.heedful;
         answers = (rest.deeds, inr (nothing.0, nothing.2, refl), turns.2, rest.answers);
       }
     ]
@@ -145,14 +142,14 @@ module _ {W : Type 0} (contents : W → Option (List ℕ)) (first : Sink W) (non
 
 -- These lines were read and answered, and the answers sent.
 pub record SoFar
-    {R W T : Type 0} {ahead : ℕ} (remaining : R → Option (List ℕ)) (contents : W → Option (List ℕ)) (seen : T → TapeState) (table : Timetable) (first_in : Counted R)
+    {R W T : Type 0} {ahead : ℕ} (remaining : R → Option (List ℕ)) (contents : W → Option (List ℕ)) (seen : T → TapeState) (heeds : Bool) (table : Timetable) (first_in : Counted R)
     (source : Source R ahead) (first_sink sink : Sink W) (old new : AgentOn T) : Type 0 where
   pub track : Track
   pub is_track : track_of table old.part.agent ≡ Some track
   pub part : new.part ≡ old.part
   pub lines : List (List ℕ)
   pub texts : List (List ℕ)
-  pub turns : AreTurns table old.part.agent track lines texts (state_of seen old) (state_of seen new)
+  pub turns : AreTurns heeds table old.part.agent track lines texts (state_of seen old) (state_of seen new)
   pub failures : (seen new.tape).failures ≡ (seen old.tape).failures
   pub well : AllByRecursion GoesOn texts
   pub taken : HasTaken remaining first_in source lines
@@ -213,14 +210,14 @@ module _ {R : Type 0} {ahead : ℕ} (remaining : R → Option (List ℕ)) (first
       record { input = all.input; consumed = all.consumed; are_first = inr (all.are_all, all.spent); failures = all.failures }
 
 module _
-    {R W T : Type 0} {ahead : ℕ} (remaining : R → Option (List ℕ)) (contents : W → Option (List ℕ)) (seen : T → TapeState) (table : Timetable) (first_in : Counted R)
+    {R W T : Type 0} {ahead : ℕ} (remaining : R → Option (List ℕ)) (contents : W → Option (List ℕ)) (seen : T → TapeState) (heeds : Bool) (table : Timetable) (first_in : Counted R)
     (first_sink : Sink W) (none : held_back first_sink ≡ []) (old : AgentOn T)
   where
     abbrev Far : Source R ahead → Sink W → AgentOn T → Type 0
-    Far source sink new = SoFar remaining contents seen table first_in source first_sink sink old new
+    Far source sink new = SoFar remaining contents seen heeds table first_in source first_sink sink old new
 
     abbrev Led : Source R ahead → Sink W → AgentOn T → Result Unit TalkFault → Type 0
-    Led source sink new result = Leads remaining contents seen table first_in (source_reader source) (sink_writer first_sink) (sink_writer sink) old new result
+    Led source sink new result = Leads remaining contents seen heeds table first_in (source_reader source) (sink_writer first_sink) (sink_writer sink) old new result
 
     -- the writer failed at the first line
     pub state_not_said : (source : Source R ahead) (sink : Sink W) (track : Track) → track_of table old.part.agent ≡ Some track
@@ -236,7 +233,8 @@ module _
           texts = [];
           deeds = [];
           does = refl;
-          answers = refl;
+          heedful = refl;
+          answers = inl refl;
           input = read.input;
           consumed = read.consumed;
           reads = (read.are_first, read.failures);
@@ -249,8 +247,8 @@ module _
       said = dialogue_lines far.track (state_of seen old) far.texts
 
       -- what the agent did so far
-      far_did : DoesInTurn table old.part.agent far.track far.lines far.texts (state_of seen old) (state_of seen mid)
-      far_did = turns-deeds table old.part.agent far.track far.lines far.texts (state_of seen old) (state_of seen mid) far.turns
+      far_did : DoesInTurn heeds table old.part.agent far.track far.lines far.texts (state_of seen old) (state_of seen mid)
+      far_did = turns-deeds heeds table old.part.agent far.track far.lines far.texts (state_of seen old) (state_of seen mid) far.turns
 
       -- the input ended
       pub led_to_end : (next : Source R ahead) → IsInputOver remaining first_in next far.lines [] → Led next sink mid (Ok tt)
@@ -264,6 +262,7 @@ module _
             texts = far.texts;
             deeds = far_did.deeds;
             does = far_did.does;
+            heedful = far_did.heedful;
             answers = far_did.answers;
             input = read.input;
             consumed = read.consumed;
@@ -283,6 +282,7 @@ module _
         texts = far.texts;
         deeds = far_did.deeds;
         does = far_did.does;
+        heedful = far_did.heedful;
         answers = far_did.answers;
         input = has.delivered;
         consumed = has.consumed;
@@ -293,7 +293,7 @@ module _
 
       module _ (line : List ℕ) (next : Source R ahead) (sent : Sink W) (new : AgentOn T) (same : IsSameAgent mid new) where
         abbrev Replied : Result Unit TalkFault → Type 0
-        Replied result = Replies contents table old.part.agent far.track line (state_of seen mid) (state_of seen new) sink sent result
+        Replied result = Replies contents heeds table old.part.agent far.track line (state_of seen mid) (state_of seen new) sink sent result
 
         -- what is said of the tape, as of that of the first
         abbrev Blames : Result Unit TalkFault → Type 0
@@ -303,33 +303,35 @@ module _
         blamed result blames = subst (λ n. BlamesTape result n (seen new.tape).failures) far.failures blames
 
         -- the answer as one to the agent of the first
-        pub replied : (room : List ℕ) (kept : Option ℕ) (result : Result Unit TalkFault)
+        pub replied : (now : Bool) → now ≡ heeds → (room : List ℕ) (kept : Option ℕ) (result : Result Unit TalkFault)
             → ((tab : Timetable) → IsPartOf tab mid.part → (track : Track) (text : List ℕ) → track_of tab mid.part.agent ≡ Some track → IsLineKept text room kept
-            → Replies contents tab mid.part.agent track text (state_of seen mid) (state_of seen new) sink sent result)
+            → Replies contents now tab mid.part.agent track text (state_of seen mid) (state_of seen new) sink sent result)
             → IsPartOf table old.part → IsLineKept line room kept → Replied result
-        replied room kept result replies is is_kept =
+        replied now heeded room kept result replies is is_kept =
             let own : mid.part.agent ≡ old.part.agent = ap (λ p. p.agent) far.part in
             let is_track : track_of table mid.part.agent ≡ Some far.track = ap (track_of table) own ∙ far.is_track in
-            subst (λ i. Replies contents table i far.track line (state_of seen mid) (state_of seen new) sink sent result) own
-            (replies table (subst (IsPartOf table) (sym far.part) is) far.track line is_track is_kept)
+            subst (λ i. Replies contents heeds table i far.track line (state_of seen mid) (state_of seen new) sink sent result) own
+            (subst (λ b. Replies contents b table mid.part.agent far.track line (state_of seen mid) (state_of seen new) sink sent result) heeded
+            (replies table (subst (IsPartOf table) (sym far.part) is) far.track line is_track is_kept))
 
         pub same_writer : (result : Result Unit TalkFault) → Replied result → sent.writer.ghost_name ≡ first_sink.writer.ghost_name
         same_writer (Ok done) r = r.2.puts.same_writer ∙ far.put.same_writer
         same_writer (Err WriteFailed) r = r.2.same_writer ∙ far.put.same_writer
         same_writer (Err StoreFailed) r = r.1.puts.same_writer ∙ far.put.same_writer
+        same_writer (Err StaleTape) r = r.3.puts.same_writer ∙ far.put.same_writer
         same_writer (Err ReadFailed) r = absurd r
         same_writer (Err OutOfMemory) r = absurd r
 
-        turns_on : (text : List ℕ) → IsTurn table old.part.agent far.track line (state_of seen mid) (state_of seen new) text
-            → AreTurns table old.part.agent far.track (far.lines ++ line ∷ []) (far.texts ++ text ∷ []) (state_of seen old) (state_of seen new)
+        turns_on : (text : List ℕ) → IsTurn heeds table old.part.agent far.track line (state_of seen mid) (state_of seen new) text
+            → AreTurns heeds table old.part.agent far.track (far.lines ++ line ∷ []) (far.texts ++ text ∷ []) (state_of seen old) (state_of seen new)
         turns_on text turn =
-            AreTurns-push table old.part.agent far.track far.lines far.texts line text (state_of seen old) (state_of seen mid) (state_of seen new) far.turns far.well turn
+            AreTurns-push heeds table old.part.agent far.track far.lines far.texts line text (state_of seen old) (state_of seen mid) (state_of seen new) far.turns far.well turn
 
         -- and with this turn
-        did_on : (text : List ℕ) → IsTurn table old.part.agent far.track line (state_of seen mid) (state_of seen new) text
-            → DoesInTurn table old.part.agent far.track (far.lines ++ line ∷ []) (far.texts ++ text ∷ []) (state_of seen old) (state_of seen new)
+        did_on : (text : List ℕ) → IsTurn heeds table old.part.agent far.track line (state_of seen mid) (state_of seen new) text
+            → DoesInTurn heeds table old.part.agent far.track (far.lines ++ line ∷ []) (far.texts ++ text ∷ []) (state_of seen old) (state_of seen new)
         did_on text turn =
-            turns-deeds table old.part.agent far.track (far.lines ++ line ∷ []) (far.texts ++ text ∷ []) (state_of seen old) (state_of seen new) (turns_on text turn)
+            turns-deeds heeds table old.part.agent far.track (far.lines ++ line ∷ []) (far.texts ++ text ∷ []) (state_of seen old) (state_of seen new) (turns_on text turn)
 
         put_on : (text : List ℕ) → Sends contents sink sent text
             → Puts contents first_sink sent (ended (dialogue_lines far.track (state_of seen old) (far.texts ++ text ∷ [])))
@@ -351,22 +353,80 @@ module _
           none_held = r.2.none_held;
         }
 
+        -- this turn ends it so: the tape is an older one, and the agent is as it was
+        ends_stale : (text : List ℕ) → IsStaleAnswer heeds table old.part.agent (state_of seen mid) line text → state_of seen new ≡ state_of seen mid
+            → EndStale heeds table old.part.agent (state_of seen new) (far.lines ++ line ∷ []) (far.texts ++ text ∷ []) far_did.deeds
+        ends_stale text stale left = record {
+          before = far.lines;
+          line = line;
+          are_lines = refl;
+          answered = far.texts;
+          text = text;
+          are_texts = refl;
+          answers = far_did.answers;
+          stale = subst (λ s. IsStaleAnswer heeds table old.part.agent s line text) (sym left) stale;
+        }
+
+        does_left : state_of seen new ≡ state_of seen mid → DoesAll table old.part.agent far.track (state_of seen old) far_did.deeds (state_of seen new)
+        does_left left = subst (DoesAll table old.part.agent far.track (state_of seen old) far_did.deeds) (sym left) far_did.does
+
+        heedful_left : state_of seen new ≡ state_of seen mid → AreHeedful heeds table old.part.agent far.track (state_of seen old) far_did.deeds (state_of seen new)
+        heedful_left left = subst (AreHeedful heeds table old.part.agent far.track (state_of seen old) far_did.deeds) (sym left) far_did.heedful
+
         -- the answer could not be written
         pub led_to_broken : HasRead remaining first_in next (far.lines ++ line ∷ []) → Blames (Err WriteFailed) → Replied (Err WriteFailed) → Led next sent new (Err WriteFailed)
-        led_to_broken read blames r = record {
+        led_to_broken read blames r = elim r.1 [
+          | inl turn ↦ record {
+            track = far.track;
+            is_track = far.is_track;
+            part = same.part ∙ far.part;
+            lines = far.lines ++ line ∷ [];
+            texts = far.texts ++ r.0 ∷ [];
+            deeds = (did_on r.0 turn).deeds;
+            does = (did_on r.0 turn).does;
+            heedful = (did_on r.0 turn).heedful;
+            answers = inl (did_on r.0 turn).answers;
+            input = read.input;
+            consumed = read.consumed;
+            reads = (read.are_first, read.failures);
+            blames = blamed (Err WriteFailed) blames;
+            written = broke contents first_sink none sink sent said r.0 far.none_held far.put r.2;
+          }
+          | inr stale ↦ record {
+            track = far.track;
+            is_track = far.is_track;
+            part = same.part ∙ far.part;
+            lines = far.lines ++ line ∷ [];
+            texts = far.texts ++ r.0 ∷ [];
+            deeds = far_did.deeds;
+            does = does_left stale.1;
+            heedful = heedful_left stale.1;
+            answers = inr (ends_stale r.0 stale.0 stale.1);
+            input = read.input;
+            consumed = read.consumed;
+            reads = (read.are_first, read.failures);
+            blames = blamed (Err WriteFailed) blames;
+            written = broke contents first_sink none sink sent said r.0 far.none_held far.put r.2;
+          }
+        ]
+
+        -- the answer is that the tape is an older one
+        pub led_to_stale : HasRead remaining first_in next (far.lines ++ line ∷ []) → Blames (Err StaleTape) → Replied (Err StaleTape) → Led next sent new (Err StaleTape)
+        led_to_stale read blames r = record {
           track = far.track;
           is_track = far.is_track;
           part = same.part ∙ far.part;
           lines = far.lines ++ line ∷ [];
           texts = far.texts ++ r.0 ∷ [];
-          deeds = (did_on r.0 r.1).deeds;
-          does = (did_on r.0 r.1).does;
-          answers = (did_on r.0 r.1).answers;
+          deeds = far_did.deeds;
+          does = does_left r.2;
+          heedful = heedful_left r.2;
+          answers = ends_stale r.0 r.1 r.2;
           input = read.input;
           consumed = read.consumed;
           reads = (read.are_first, read.failures);
-          blames = blamed (Err WriteFailed) blames;
-          written = broke contents first_sink none sink sent said r.0 far.none_held far.put r.2;
+          blames = blamed (Err StaleTape) blames;
+          written = wrote contents first_sink none sent _ r.3.none_held (put_on r.0 r.3);
         }
 
         -- the answer is that a store failed
@@ -379,6 +439,7 @@ module _
           texts = far.texts ++ store_failed ∷ [];
           deeds = (did_on store_failed r.0).deeds;
           does = (did_on store_failed r.0).does;
+          heedful = (did_on store_failed r.0).heedful;
           answers = (did_on store_failed r.0).answers;
           input = read.input;
           consumed = read.consumed;
@@ -397,6 +458,7 @@ module _
           texts = far.texts ++ r.0 ∷ [];
           deeds = (did_on r.0 r.1).deeds;
           does = (did_on r.0 r.1).does;
+          heedful = (did_on r.0 r.1).heedful;
           answers = (did_on r.0 r.1).answers;
           input = read.input;
           consumed = read.consumed;
@@ -415,6 +477,7 @@ module _
         led_to_fault ReadFailed read blames r = absurd r
         led_to_fault WriteFailed read blames r = led_to_broken read blames r
         led_to_fault StoreFailed read blames r = led_to_failed_store read blames r
+        led_to_fault StaleTape read blames r = led_to_stale read blames r
         led_to_fault OutOfMemory read blames r = absurd r
 
         -- the last line, whatever came of its answer
@@ -424,11 +487,12 @@ module _
 
 -- a dialogue that was led is one
 pub talk_of
-    : {R W T : Type 0} (remaining : R → Option (List ℕ)) (contents : W → Option (List ℕ)) (seen : T → TapeState) (table : Timetable) (old_in new_in : Counted R)
+    : {R W T : Type 0} (remaining : R → Option (List ℕ)) (contents : W → Option (List ℕ)) (seen : T → TapeState) (heeds : Bool) (table : Timetable) (old_in new_in : Counted R)
     (old_out new_out : Counted W) (old new : AgentOn T) (result : Result Unit TalkFault)
-    → Leads remaining contents seen table old_in new_in old_out new_out old new result → Talks remaining contents seen table old_in new_in old_out new_out old new result
-talk_of remaining contents seen table old_in new_in old_out new_out old new (Ok done) led = led
-talk_of remaining contents seen table old_in new_in old_out new_out old new (Err ReadFailed) led = led
-talk_of remaining contents seen table old_in new_in old_out new_out old new (Err WriteFailed) led = led
-talk_of remaining contents seen table old_in new_in old_out new_out old new (Err StoreFailed) led = led
-talk_of remaining contents seen table old_in new_in old_out new_out old new (Err OutOfMemory) led = absurd led.reads
+    → Leads remaining contents seen heeds table old_in new_in old_out new_out old new result → Talks remaining contents seen heeds table old_in new_in old_out new_out old new result
+talk_of remaining contents seen heeds table old_in new_in old_out new_out old new (Ok done) led = led
+talk_of remaining contents seen heeds table old_in new_in old_out new_out old new (Err ReadFailed) led = led
+talk_of remaining contents seen heeds table old_in new_in old_out new_out old new (Err WriteFailed) led = led
+talk_of remaining contents seen heeds table old_in new_in old_out new_out old new (Err StoreFailed) led = led
+talk_of remaining contents seen heeds table old_in new_in old_out new_out old new (Err StaleTape) led = led
+talk_of remaining contents seen heeds table old_in new_in old_out new_out old new (Err OutOfMemory) led = absurd led.reads

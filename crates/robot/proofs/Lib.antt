@@ -2,3 +2,5 @@
 pub mod ReadLemmas
 mod DialogueLemmas
 mod InputLemmas
+mod StaleLemmas
+mod TurnLemmas

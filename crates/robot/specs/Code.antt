@@ -2,6 +2,8 @@
 
 -- what was taken of the input, and what it asks for
 pub mod Reading
+-- what a message tells its hearer of itself
+pub mod Telling
 -- one line that is answered, and one after another
 pub mod Turning
 -- the line of an answer, and sending it

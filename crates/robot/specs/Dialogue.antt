@@ -1,5 +1,5 @@
 -- What a whole dialogue comes to.
-use Rattle.std.specs.Prelude.{◌≡◌, ℕ, ◌⊎◌, List, [], ◌∷◌, ◌++◌, Option, Some, Result, Ok, Err}
+use Rattle.std.specs.Prelude.{◌≡◌, ℕ, ◌⊎◌, Bool, true, List, [], ◌∷◌, ◌++◌, Option, Some, Result, Ok, Err}
 use Rattle.std.specs.List.{AllByRecursion}
 use Rattle.std.specs.Io.KnownBytes.{Appends, Consumes, IsAtEnd as IsSpent}
 use Rattle.text_io.specs.declared.counted.Counted.{Counted}
@@ -9,11 +9,12 @@ use Rattle.model.specs.Timetable.{Track, Timetable, track_of}
 use Rattle.agent.specs.Agents.{AgentOn, state_of}
 use Rattle.agent.specs.States.{State}
 use Rattle.agent.specs.Tape.{TapeState, HasFailed}
-use Rattle.fleet.specs.Deeds.{Deed, DoesAll}
-use Rattle.robot.specs.Requests.{Request, AsksFor, AsksNothing}
-use Rattle.robot.specs.Turns.{state_line, not_understood, store_failed, deed_line, IsCallOf}
+use Rattle.fleet.specs.Deeds.{Deed, hears, Does, DoesAll}
+use Rattle.robot.specs.Requests.{Request, hear, AsksFor, AsksNothing}
+use Rattle.robot.specs.Stale.{IsStale, IsHeeded}
+use Rattle.robot.specs.Turns.{state_line, not_understood, store_failed, stale_tape, deed_line, IsCallOf}
 use Rattle.robot.specs.declared.talk_fault.TalkFault.{TalkFault}
-use Rattle.robot.specs.declared.talk_fault.TalkFault.TheVariants.{ReadFailed, WriteFailed, StoreFailed, OutOfMemory}
+use Rattle.robot.specs.declared.talk_fault.TalkFault.TheVariants.{ReadFailed, WriteFailed, StoreFailed, StaleTape, OutOfMemory}
 
 -- the line is answered by the text: by the first of these deeds, which it asks for, before the rest; or it isn't understood, and there is no deed
 abbrev pub IsAnswerTo : List ℕ → List ℕ → List Deed → List Deed → Type 0
@@ -27,6 +28,44 @@ AreAnswersTo [] [] deeds = deeds ≡ []
 AreAnswersTo (line ∷ lines) (text ∷ texts) deeds =
     (rest : List Deed) × IsAnswerTo line text deeds rest × (text ≡ store_failed → lines ≡ []) × AreAnswersTo lines texts rest
 AreAnswersTo _ _ deeds = ⊥
+
+-- the deed hears nothing that shows the tape to be an older one, where that is heeded
+abbrev pub IsHeedful : Bool → Timetable → ℕ → State → Deed → Type 0
+IsHeedful heeds tt i s (hears bytes answer) = IsHeeded heeds tt i s bytes
+IsHeedful heeds tt i s _ = Unit {0}
+
+-- none of the deeds does, each in the state that those before it left
+abbrev pub AreHeedful : Bool → Timetable → ℕ → Track → State → List Deed → State → Type 0
+AreHeedful heeds tt i track old [] new = new ≡ old
+AreHeedful heeds tt i track old (deed ∷ deeds) new =
+    (mid : State) × Does tt i track old deed mid × IsHeedful heeds tt i old deed × AreHeedful heeds tt i track mid deeds new
+
+-- The line is a message that shows the tape to be an older one, which is heeded, and the text says so.
+pub record IsStaleAnswer (heeds : Bool) (tt : Timetable) (i : ℕ) (s : State) (line text : List ℕ) : Type 0 where
+  pub heeded : heeds ≡ true
+  pub bytes : List ℕ
+  pub asks : AsksFor (hear bytes) line
+  pub sender : ℕ
+  pub number : ℕ
+  pub stale : IsStale tt i s bytes sender number
+  pub is_text : text ≡ stale_tape sender number
+
+-- All lines but the last are answered by these deeds; the last is answered so, without a deed, and the agent is as it was.
+pub record EndStale (heeds : Bool) (tt : Timetable) (i : ℕ) (s : State) (lines texts : List (List ℕ)) (deeds : List Deed) : Type 0 where
+  pub before : List (List ℕ)
+  pub line : List ℕ
+  pub are_lines : lines ≡ before ++ line ∷ []
+  pub answered : List (List ℕ)
+  pub text : List ℕ
+  pub are_texts : texts ≡ answered ++ text ∷ []
+  pub answers : AreAnswersTo before answered deeds
+  pub stale : IsStaleAnswer heeds tt i s line text
+
+-- how the lines are answered, by how the dialogue ended, in which state
+abbrev pub AreAnsweredSo : Bool → Timetable → ℕ → State → List (List ℕ) → List (List ℕ) → List Deed → Result Unit TalkFault → Type 0
+AreAnsweredSo heeds tt i s lines texts deeds (Err StaleTape) = EndStale heeds tt i s lines texts deeds
+AreAnsweredSo heeds tt i s lines texts deeds (Err WriteFailed) = AreAnswersTo lines texts deeds ⊎ EndStale heeds tt i s lines texts deeds
+AreAnsweredSo heeds tt i s lines texts deeds _ = AreAnswersTo lines texts deeds
 
 -- the lines of a dialogue, without their LF: the state at first, and the answers
 abbrev pub dialogue_lines : Track → State → List (List ℕ) → List (List ℕ)
@@ -51,6 +90,8 @@ ReadsLines lines texts input left old_failures new_failures (Err ReadFailed) =
     × (EndsInFailedStore texts → ⊥) × Rises old_failures new_failures
 ReadsLines lines texts input left old_failures new_failures (Err StoreFailed) =
     AreFirst lines input left × EndsInFailedStore texts × (new_failures ≡ old_failures)
+ReadsLines lines texts input left old_failures new_failures (Err StaleTape) =
+    AreFirst lines input left × (new_failures ≡ old_failures)
 ReadsLines lines texts input left old_failures new_failures (Err WriteFailed) =
     AreFirst lines input left × (new_failures ≡ old_failures)
 ReadsLines lines texts input left old_failures new_failures (Err OutOfMemory) = ⊥
@@ -78,9 +119,9 @@ BlamesTape (Err WriteFailed) old_failures new_failures = (new_failures ≡ old_f
 BlamesTape _ old_failures new_failures = new_failures ≡ old_failures
 
 -- The dialogue was led by an agent whose part is one of the timetable: its lines were written, up to the one that failed, and they tell what the agent did meanwhile, which
--- is its part of what its fleet did.
+-- is its part of what its fleet did. Where it heeds what others say of its tape, it heard nothing that shows it to be an older one, and ended at the first message that does.
 pub record Leads
-    {R W T : Type 0} (remaining : R → Option (List ℕ)) (contents : W → Option (List ℕ)) (seen : T → TapeState) (tt : Timetable) (old_in new_in : Counted R)
+    {R W T : Type 0} (remaining : R → Option (List ℕ)) (contents : W → Option (List ℕ)) (seen : T → TapeState) (heeds : Bool) (tt : Timetable) (old_in new_in : Counted R)
     (old_out new_out : Counted W) (old new : AgentOn T) (result : Result Unit TalkFault) : Type 0 where
   pub track : Track
   pub is_track : track_of tt old.part.agent ≡ Some track
@@ -89,7 +130,8 @@ pub record Leads
   pub texts : List (List ℕ)
   pub deeds : List Deed
   pub does : DoesAll tt old.part.agent track (state_of seen old) deeds (state_of seen new)
-  pub answers : AreAnswersTo lines texts deeds
+  pub heedful : AreHeedful heeds tt old.part.agent track (state_of seen old) deeds (state_of seen new)
+  pub answers : AreAnsweredSo heeds tt old.part.agent (state_of seen new) lines texts deeds result
   pub input : List ℕ
   pub consumed : Consumes (remaining (counted_inner old_in)) (remaining (counted_inner new_in)) input
   pub reads : ReadsLines lines texts input (remaining (counted_inner new_in)) (failures_of old_in) (failures_of new_in) result
@@ -99,8 +141,8 @@ pub record Leads
 
 -- What a dialogue comes to: memory was refused before anything was read or written, or it was led.
 abbrev pub Talks
-    : {R W T : Type 0} → (R → Option (List ℕ)) → (W → Option (List ℕ)) → (T → TapeState) → Timetable → Counted R → Counted R → Counted W → Counted W
+    : {R W T : Type 0} → (R → Option (List ℕ)) → (W → Option (List ℕ)) → (T → TapeState) → Bool → Timetable → Counted R → Counted R → Counted W → Counted W
     → AgentOn T → AgentOn T → Result Unit TalkFault → Type 0
-Talks remaining contents seen tt old_in new_in old_out new_out old new (Err OutOfMemory) = (new_in ≡ old_in) × (new_out ≡ old_out) × (new ≡ old)
-Talks remaining contents seen tt old_in new_in old_out new_out old new result =
-    Leads remaining contents seen tt old_in new_in old_out new_out old new result
+Talks remaining contents seen heeds tt old_in new_in old_out new_out old new (Err OutOfMemory) = (new_in ≡ old_in) × (new_out ≡ old_out) × (new ≡ old)
+Talks remaining contents seen heeds tt old_in new_in old_out new_out old new result =
+    Leads remaining contents seen heeds tt old_in new_in old_out new_out old new result

@@ -17,4 +17,5 @@ abbrev pub talk_fault_words : TalkFault → Words
 talk_fault_words talk_fault.ReadFailed = failed failure.ReadFailed
 talk_fault_words talk_fault.WriteFailed = failed failure.WriteFailed
 talk_fault_words talk_fault.StoreFailed = failed failure.StoreFailed
+talk_fault_words talk_fault.StaleTape = text_fault (codes "StaleTape") []
 talk_fault_words talk_fault.OutOfMemory = failed failure.OutOfMemory

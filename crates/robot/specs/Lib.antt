@@ -4,8 +4,12 @@
 pub mod Stored
 -- the tape in a file
 pub mod FileTape
+-- and one that a guard watches
+pub mod GuardedTape
 -- what an input line asks of an agent
 pub mod Requests
+-- when a message shows that a tape is an older one
+pub mod Stale
 -- how an agent answers a line
 pub mod Turns
 -- what a whole dialogue comes to

@@ -148,6 +148,20 @@ fn lock<F: LockFile>(file: &F) -> Result<(), FileTapeFault>
     }
 }
 
+impl<F> FileTape<F> {
+    ghost use Rattle.agent.specs.Tape.{HasFailed, IsKept};
+    ghost use Rattle.robot.specs.FileTape.{file_state};
+
+    /// Counts a write that failed before any call on the file.
+    pub(crate) fn count_failure(&mut self)
+        ensures disk { self.new.disk ≡ self.old.disk }
+        ensures kept { IsKept (file_state self.old) (file_state self.new) }
+        ensures fails { HasFailed (file_state self.old).failures (file_state self.new).failures }
+    {
+        self.failures = self.failures.saturating_add(1);
+    }
+}
+
 impl<F: Read + Write + Seek + OpenFile> Tape for FileTape<F> {
     ghost use Rattle.robot.specs.FileTape.{file_state, IsFileRead, IsFileWrite, file_within, file_is_read, file_is_write};
 
@@ -171,7 +185,7 @@ impl<F: Read + Write + Seek + OpenFile> Tape for FileTape<F> {
 
     fn write_at(&mut self, at: u32, bytes: &[u8; RECORD_SIZE]) -> Result<(), TapeError> {
         if self.disk.store(at, bytes).is_err() {
-            self.failures = self.failures.saturating_add(1);
+            self.count_failure();
             return Err(TapeError);
         }
         self.image.write_at(at, bytes)

@@ -4,12 +4,15 @@
 mod answering;
 mod disk;
 mod file_tape;
+mod guarded_tape;
 mod input_lines;
 mod line_answer;
 mod request;
+mod stale;
 mod talk_fault;
 mod talking;
 
 pub use file_tape::{FileTape, FileTapeFault};
+pub use guarded_tape::{Guard, GuardedTape};
 pub use talk_fault::TalkFault;
-pub use talking::talk;
+pub use talking::{Talker, talk};

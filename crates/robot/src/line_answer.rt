@@ -2,9 +2,10 @@
 ghost use Rattle.std.specs.Prelude.{◌≡◌, ◌++◌, [], ◌∷◌, ◌↔◌, IsTrue, OnOk, OnErr, Ok};
 ghost use Rattle.text_io.specs.Text.{line_feed};
 ghost use Rattle.text_io.specs.Sink.{held_back, Puts, Breaks};
-ghost use Rattle.robot.specs.Turns.{said_line, store_failed};
-ghost use Rattle.robot.specs.Code.Answering.{answer_line, says_store_failed};
+ghost use Rattle.robot.specs.Turns.{said_line, stale_tape, store_failed};
+ghost use Rattle.robot.specs.Code.Answering.{answer_line, says_stale, says_store_failed};
 
+use crate::stale::StaleWord;
 use event_text::{put_hexadecimal, put_reply};
 use model::{Reply, Why};
 use std::io::Write;
@@ -18,6 +19,8 @@ pub(crate) enum LineAnswer {
     Said([u8; 12]),
     /// The message of version 2.
     Told(Vec<u8>),
+    /// The tape is an older one, as a message shows.
+    StaleTape(StaleWord),
     /// Memory is wanting for what was heard, or for what is to be told.
     OutOfMemory,
     /// The line is not understood.
@@ -31,6 +34,13 @@ impl LineAnswer {
         ensures says { result ≡ says_store_failed self.now }
     {
         matches!(self, LineAnswer::Reply(Reply::Refused(Why::StoreFailed)))
+    }
+
+    /// Whether it says that the tape is an older one.
+    pub(crate) fn says_stale(&self) -> bool
+        ensures { result ≡ says_stale self.now }
+    {
+        matches!(self, LineAnswer::StaleTape(_))
     }
 }
 
@@ -55,9 +65,20 @@ fn put_answer<W: Write>(sink: &mut Sink<'_, W>, answer: &LineAnswer) -> Result<(
         LineAnswer::Reply(reply) => put_reply(sink, reply),
         LineAnswer::Said(message) => put_said(sink, message),
         LineAnswer::Told(message) => put_said(sink, message),
+        LineAnswer::StaleTape(word) => put_stale(sink, *word),
         LineAnswer::OutOfMemory => sink.put(b"refused OutOfMemory\n"),
         LineAnswer::BadLine => sink.put(b"refused BadLine\n"),
     }
+}
+
+/// Puts who says that the agent has finished how many moves.
+fn put_stale<W: Write>(sink: &mut Sink<'_, W>, word: StaleWord) -> Result<(), WriteFault>
+    ensures ok { OnOk result (Puts W.contents sink.old sink.new (stale_tape word.sender word.number ++ line_feed ∷ [])) }
+    ensures err { OnErr result (Breaks W.contents sink.old sink.new (stale_tape word.sender word.number ++ line_feed ∷ [])) }
+{
+    let numbers = [u64::from(word.sender), u64::from(word.number)];
+    sink.put_numbers(b"refused StaleTape", b' ', &numbers)?;
+    sink.put(b"\n")
 }
 
 fn put_said<W: Write>(sink: &mut Sink<'_, W>, message: &[u8]) -> Result<(), WriteFault>

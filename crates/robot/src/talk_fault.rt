@@ -16,6 +16,8 @@ pub enum TalkFault {
     WriteFailed,
     /// The agent's tape failed, and that was answered.
     StoreFailed,
+    /// A message showed the agent's tape to be an older one, and that was answered.
+    StaleTape,
     /// Nothing was read or written.
     OutOfMemory,
 }
@@ -29,6 +31,7 @@ impl TalkFault {
             TalkFault::ReadFailed => Failure::ReadFailed.words(),
             TalkFault::WriteFailed => Failure::WriteFailed.words(),
             TalkFault::StoreFailed => Failure::StoreFailed.words(),
+            TalkFault::StaleTape => FaultWords::new("StaleTape", &[]),
             TalkFault::OutOfMemory => Failure::OutOfMemory.words(),
         }
     }

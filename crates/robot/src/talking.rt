@@ -1,5 +1,5 @@
 //! The dialogue with an agent.
-ghost use Rattle.std.specs.Prelude.{◌≡◌, ◌≤◌, ◌*◌, ◌++◌, ℕ, List, [], ◌∷◌, Some, length, IfOk, IfSome};
+ghost use Rattle.std.specs.Prelude.{◌≡◌, ◌≤◌, ◌*◌, ◌++◌, ℕ, List, [], ◌∷◌, Some, length, is_some, IfOk, IfSome};
 ghost use Rattle.text_io.specs.Lines.{HasTaken};
 ghost use Rattle.text_io.specs.Sink.{held_back, sink_writer};
 ghost use Rattle.text_io.specs.Source.{source_reader};
@@ -17,25 +17,37 @@ use crate::input_lines::{NextLine, next_line};
 use crate::line_answer::send_answer;
 use crate::request::LONGEST_LINE;
 use agent::{Agent, Tape};
+use depgraph::Part;
 use std::alloc::{AllocError, Global};
 use std::io::{Read, Write};
 use text_io::{Counted, PIECE, Sink, Source, WriteFault};
 
+/// An agent in a dialogue.
+#[derive(Drop)]
+pub struct Talker<'g, T: Tape> {
+    pub agent: Agent<'g, T>,
+    /// The agent's part, where its tape was kept: what others say of it is heeded.
+    pub heeded: Option<Part<'g>>,
+}
+
 /// Leads a dialogue: first the line of the agent's state is written, and then each input line is answered by one. Each of these lines
 /// has left the writer, flushed, before the next input line is read. The dialogue ends with the input, or after the answer that a
-/// store failed. Memory is taken before anything is read or written, and then only to hear of agents not heard of before, and for what is
+/// store failed, or that the tape is an older one. Memory is taken before anything is read or written, and then only to hear of agents not heard of before, and for what is
 /// told. What was answered is the agent's part of what its fleet did: `fleet::laws` say what follows.
 pub fn talk<R: Read, W: Write, T: Tape>(
     alloc: Global,
-    agent: &mut Agent<'_, T>,
+    talker: &mut Talker<'_, T>,
     input: &mut Counted<R>,
     output: &mut Counted<W>,
 ) -> Result<(), TalkFault>
-    ensures { (tt : Timetable) → IsPartOf tt agent.old.part → Talks R.remaining W.contents T.state tt input.old input.new output.old output.new agent.old agent.new result }
+    requires { IfSome talker.old.heeded (λ p. p ≡ talker.old.agent.part) }
+    ensures heeded { talker.new.heeded ≡ talker.old.heeded }
+    ensures talks { (tt : Timetable) → IsPartOf tt talker.old.agent.part
+        → Talks R.remaining W.contents T.state (is_some talker.old.heeded) tt input.old input.new output.old output.new talker.old.agent talker.new.agent result }
 {
     let mut line = room(alloc, LONGEST_LINE)?;
     let mut message = room(alloc, LONGEST_LINE / 2)?;
-    talk_with_room(agent, input, output, &mut line, &mut message)
+    talk_with_room(talker, input, output, &mut line, &mut message)
 }
 
 /// Room for so many bytes.
@@ -49,7 +61,7 @@ fn room(alloc: Global, count: usize) -> Result<Vec<u8>, AllocError>
 // Compiled by itself, for its room on the stack.
 #[inline(never)]
 fn talk_with_room<R: Read, W: Write, T: Tape>(
-    agent: &mut Agent<'_, T>,
+    talker: &mut Talker<'_, T>,
     input: &mut Counted<R>,
     output: &mut Counted<W>,
     line: &mut [u8],
@@ -57,16 +69,19 @@ fn talk_with_room<R: Read, W: Write, T: Tape>(
 ) -> Result<(), TalkFault>
     requires long { length line.old ≡ longest_request }
     requires has_room { longest_request ≤ 2 * length message.old }
-    ensures { (tt : Timetable) → IsPartOf tt agent.old.part → Leads R.remaining W.contents T.state tt input.old input.new output.old output.new agent.old agent.new result }
+    requires own { IfSome talker.old.heeded (λ p. p ≡ talker.old.agent.part) }
+    ensures heeded { talker.new.heeded ≡ talker.old.heeded }
+    ensures leads { (tt : Timetable) → IsPartOf tt talker.old.agent.part
+        → Leads R.remaining W.contents T.state (is_some talker.old.heeded) tt input.old input.new output.old output.new talker.old.agent talker.new.agent result }
 {
     let mut source = Source::new(input);
     let mut sink = Sink::new(output);
-    lead(agent, &mut source, &mut sink, line, message)
+    lead(talker, &mut source, &mut sink, line, message)
 }
 
 /// Leads a dialogue over a source and a sink of which nothing was taken or put.
 fn lead<R: Read, W: Write, T: Tape>(
-    agent: &mut Agent<'_, T>,
+    talker: &mut Talker<'_, T>,
     source: &mut Source<'_, R, PIECE>,
     sink: &mut Sink<'_, W>,
     line: &mut [u8],
@@ -76,16 +91,18 @@ fn lead<R: Read, W: Write, T: Tape>(
     requires none_held { held_back sink.old ≡ [] }
     requires long { length line.old ≡ longest_request }
     requires has_room { longest_request ≤ 2 * length message.old }
+    requires own { IfSome talker.old.heeded (λ p. p ≡ talker.old.agent.part) }
+    ensures heeded { talker.new.heeded ≡ talker.old.heeded }
     ensures same_reader { source.new.reader.ghost_name ≡ source.old.reader.ghost_name }
     ensures same_writer { sink.new.writer.ghost_name ≡ sink.old.writer.ghost_name }
-    ensures leads { (tt : Timetable) → IsPartOf tt agent.old.part
-        → Leads R.remaining W.contents T.state tt (source_reader source.old) (source_reader source.new) (sink_writer sink.old) (sink_writer sink.new) agent.old agent.new result }
+    ensures leads { (tt : Timetable) → IsPartOf tt talker.old.agent.part
+        → Leads R.remaining W.contents T.state (is_some talker.old.heeded) tt (source_reader source.old) (source_reader source.new) (sink_writer sink.old) (sink_writer sink.new) talker.old.agent talker.new.agent result }
 {
-    say_state(agent, sink)?;
+    say_state(&talker.agent, sink)?;
     'lines: loop {
         match next_line(source, line) {
-            NextLine::Line(kept) => reply(agent, sink, line, kept, message)?,
-            NextLine::LastLine(kept) => return reply(agent, sink, line, kept, message),
+            NextLine::Line(kept) => reply(talker, sink, line, kept, message)?,
+            NextLine::LastLine(kept) => return reply(talker, sink, line, kept, message),
             NextLine::End => return Ok(()),
             NextLine::Failed => return Err(TalkFault::ReadFailed),
         }
@@ -105,7 +122,7 @@ fn say_state<W: Write, T: Tape>(
 
 /// Answers a line that was kept in a room, or was too long for it, and sends the answer.
 fn reply<W: Write, T: Tape>(
-    agent: &mut Agent<'_, T>,
+    talker: &mut Talker<'_, T>,
     sink: &mut Sink<'_, W>,
     line: &[u8],
     kept: Option<usize>,
@@ -114,15 +131,20 @@ fn reply<W: Write, T: Tape>(
     requires long { length line.now ≡ longest_request }
     requires has_room { longest_request ≤ 2 * length message.old }
     requires within { IfSome kept (λ count. count ≤ length line.now) }
-    ensures same { IsSameAgent agent.old agent.new }
-    ensures blames { BlamesTape result (T.state agent.old.tape).failures (T.state agent.new.tape).failures }
-    ensures replies { (tt : Timetable) → IsPartOf tt agent.old.part → (track : Track) (text : List ℕ) → track_of tt agent.old.part.agent ≡ Some track → IsLineKept text line.now kept
-        → Replies W.contents tt agent.old.part.agent track text (state_of T.state agent.old) (state_of T.state agent.new) sink.old sink.new result }
+    requires own { IfSome talker.old.heeded (λ p. p ≡ talker.old.agent.part) }
+    ensures same { IsSameAgent talker.old.agent talker.new.agent }
+    ensures heeded { talker.new.heeded ≡ talker.old.heeded }
+    ensures blames { BlamesTape result (T.state talker.old.agent.tape).failures (T.state talker.new.agent.tape).failures }
+    ensures replies { (tt : Timetable) → IsPartOf tt talker.old.agent.part → (track : Track) (text : List ℕ) → track_of tt talker.old.agent.part.agent ≡ Some track → IsLineKept text line.now kept
+        → Replies W.contents (is_some talker.old.heeded) tt talker.old.agent.part.agent track text (state_of T.state talker.old.agent) (state_of T.state talker.new.agent) sink.old sink.new result }
 {
-    let answer = answer_kept(agent, line, kept, message);
+    let answer = answer_kept(&mut talker.agent, &talker.heeded, line, kept, message);
     send_answer(sink, &answer)?;
     if answer.says_store_failed() {
         return Err(TalkFault::StoreFailed);
+    }
+    if answer.says_stale() {
+        return Err(TalkFault::StaleTape);
     }
     Ok(())
 }

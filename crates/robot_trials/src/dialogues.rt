@@ -1,9 +1,11 @@
 //! A dialogue with an agent: its lines and what comes of them.
+ghost use Rattle.std.specs.Prelude.{◌≡◌, None};
+
 use agent::{Agent, MemTape, Tape};
 use agent_fixtures::{FailTape, graph_of, new_agent};
 use depgraph::{Graph, OutOfMemory};
 use fakes::{BEHIND, Keeper, LANE, MOVED, Record};
-use robot::talk;
+use robot::{Talker, talk};
 use std::alloc::{AllocError, Global};
 use text_io::Counted;
 
@@ -56,12 +58,26 @@ pub fn torn_agent(
     Agent::open(alloc, graph, 0, tape).map_err(|_| OutOfMemory)
 }
 
+/// An agent that heeds nothing that is said of its tape.
+pub fn talker_of<'g, T: Tape>(agent: Agent<'g, T>) -> Talker<'g, T>
+    ensures agent { result.agent ≡ agent.entry }
+    ensures heeded { result.heeded ≡ None }
+{
+    Talker {
+        agent,
+        heeded: None,
+    }
+}
+
 /// Whether a dialogue with an agent to the end of its input writes this.
-fn writes<T: Tape>(alloc: Global, agent: &mut Agent<'_, T>, asked: &[u8], due: &[u8]) -> bool {
+fn writes<T: Tape>(alloc: Global, talker: &mut Talker<'_, T>, asked: &[u8], due: &[u8]) -> bool
+    requires { talker.old.heeded ≡ None }
+    ensures { talker.new.heeded ≡ None }
+{
     let mut out = Keeper::of_size(512);
     let end = talk(
         alloc,
-        agent,
+        talker,
         &mut Counted::new(asked),
         &mut Counted::new(&mut out),
     );
@@ -70,11 +86,11 @@ fn writes<T: Tape>(alloc: Global, agent: &mut Agent<'_, T>, asked: &[u8], due: &
 
 /// Whether what was heard in a dialogue is known in the next one with the same agent.
 fn knows_what_was_heard(alloc: Global, graph: &Graph) -> Result<bool, OutOfMemory> {
-    let mut agent = new_agent(alloc, graph, 1)?;
+    let mut talker = talker_of(new_agent(alloc, graph, 1)?);
     let heard = b"hear 460100000000000700000001\n";
-    let has_heard = writes(alloc, &mut agent, heard, b"at 0 0 done 0\nheard 0 1\n");
+    let has_heard = writes(alloc, &mut talker, heard, b"at 0 0 done 0\nheard 0 1\n");
     let due = b"at 0 0 done 0\nmoving 1 0\n";
-    Ok(has_heard && writes(alloc, &mut agent, b"start\n", due))
+    Ok(has_heard && writes(alloc, &mut talker, b"start\n", due))
 }
 
 /// Lines for an agent of which a write failed before the dialogue, and their answers: nothing but what it holds is known of it.
@@ -86,24 +102,26 @@ const BROKEN: &[u8] =
 
 fn is_broken(alloc: Global, graph: &Graph) -> Result<bool, OutOfMemory> {
     let mut agent = torn_agent(alloc, graph, 0, 4)?;
-    Ok(agent.start().is_err() && writes(alloc, &mut agent, ASKED_WHEN_BROKEN, BROKEN))
+    let is_failing = agent.start().is_err();
+    Ok(is_failing && writes(alloc, &mut talker_of(agent), ASKED_WHEN_BROKEN, BROKEN))
 }
 
 /// Whether the answers leave the writer, one by one, before the next line is read.
-fn answers_in_order(alloc: Global, agent: &mut Agent<'_, MemTape>) -> Result<bool, AllocError> {
+fn answers_in_order(alloc: Global, agent: Agent<'_, MemTape>) -> Result<bool, AllocError> {
+    let mut talker = talker_of(agent);
     let record = Record::new(alloc)?;
     let end = talk(
         alloc,
-        agent,
+        &mut talker,
         &mut Counted::new(record.reader(LINES)),
         &mut Counted::new(record.writer()),
     );
-    Ok(end == Ok(()) && record.is(NOTED) && has_stored(agent.tape(), COUNT))
+    Ok(end == Ok(()) && record.is(NOTED) && has_stored(talker.agent.tape(), COUNT))
 }
 
 fn are_in_order(alloc: Global, graph: &Graph) -> Result<bool, OutOfMemory> {
-    let mut agent = new_agent(alloc, graph, 0)?;
-    Ok(answers_in_order(alloc, &mut agent)?)
+    let agent = new_agent(alloc, graph, 0)?;
+    Ok(answers_in_order(alloc, agent)?)
 }
 
 fn all_on_graph(alloc: Global) -> Result<[Result<bool, OutOfMemory>; 3], OutOfMemory> {

@@ -1,10 +1,12 @@
 //! Dialogues with agents whose tapes fail.
-use crate::dialogues::torn_agent;
+ghost use Rattle.std.specs.Prelude.{◌≡◌, None};
+
+use crate::dialogues::{talker_of, torn_agent};
 use agent::Agent;
 use agent_fixtures::{FailTape, graph_of};
 use depgraph::{Graph, OutOfMemory};
 use fakes::{LANE, Record};
-use robot::{TalkFault, talk};
+use robot::{TalkFault, Talker, talk};
 use std::alloc::Global;
 use text_io::Counted;
 
@@ -22,13 +24,15 @@ static NOTED: [&[u8]; 4] = [
 /// Whether the answer says that the store failed, and nothing is read or written behind it.
 fn ends_there(
     alloc: Global,
-    agent: &mut Agent<'_, FailTape>,
+    talker: &mut Talker<'_, FailTape>,
     record: &Record,
     noted: &[u8],
-) -> bool {
+) -> bool
+    requires { talker.old.heeded ≡ None }
+{
     let end = talk(
         alloc,
-        agent,
+        talker,
         &mut Counted::new(record.reader(b"start\nfinish\nstart\nfinish\nheld\nsay\n")),
         &mut Counted::new(record.writer()),
     );
@@ -50,10 +54,10 @@ fn is_torn(
     noted: &[u8],
 ) -> Result<bool, OutOfMemory> {
     let record = Record::new(alloc)?;
-    let mut agent = torn_agent(alloc, graph, write, bytes)?;
+    let mut talker = talker_of(torn_agent(alloc, graph, write, bytes)?);
     let whole = write.saturating_add(u32::from(bytes == 10));
-    let has_ended = ends_there(alloc, &mut agent, &record, noted);
-    Ok(has_ended && has_stored(&mut agent, whole))
+    let has_ended = ends_there(alloc, &mut talker, &record, noted);
+    Ok(has_ended && has_stored(&mut talker.agent, whole))
 }
 
 /// The first write, and the bytes that it stores, of which that isn't so.

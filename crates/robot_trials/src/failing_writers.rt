@@ -1,5 +1,5 @@
 //! Dialogues whose writer is slow or fails.
-use crate::dialogues::{ANSWERS, COUNT, LINES, first_lines, has_stored};
+use crate::dialogues::{ANSWERS, COUNT, LINES, first_lines, has_stored, talker_of};
 use agent::{Agent, MemTape};
 use agent_fixtures::{graph_of, new_agent};
 use depgraph::{Graph, OutOfMemory};
@@ -18,19 +18,20 @@ type Due = (Result<(), TalkFault>, usize, usize);
 /// Whether a dialogue ends so.
 fn ends_with(
     alloc: Global,
-    mut agent: Agent<'_, MemTape>,
+    agent: Agent<'_, MemTape>,
     record: &Record,
     mut out: Keeper,
     (end, taken, lines): Due,
 ) -> bool {
+    let mut talker = talker_of(agent);
     let found = talk(
         alloc,
-        &mut agent,
+        &mut talker,
         &mut Counted::new(record.reader(LINES)),
         &mut Counted::new(&mut out),
     );
     let has_taken = Some(out.kept()) == ANSWERS.get(..taken);
-    let has_read = record.is(first_lines(READ, lines)) && has_stored(agent.tape(), lines);
+    let has_read = record.is(first_lines(READ, lines)) && has_stored(talker.agent.tape(), lines);
     found == end && has_taken && has_read
 }
 

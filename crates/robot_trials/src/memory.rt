@@ -1,4 +1,5 @@
 //! Dialogues while memory may be refused, as `./test --prove` refuses each allocation of these tests in turn: at the most one in a run.
+use crate::dialogues::talker_of;
 use agent::{Agent, MemTape};
 use agent_fixtures::{graph_of, new_agent};
 use depgraph::{Graph, OutOfMemory};
@@ -42,15 +43,16 @@ fn is_one_of(text: &[u8], answers: &[&[u8]]) -> bool {
 fn talk_or_lack_memory(
     rt: &impl Abort,
     alloc: Global,
-    agent: &mut Agent<'_, MemTape>,
+    agent: Agent<'_, MemTape>,
     asked: &[u8],
     answers: &[&[u8]],
 ) -> Result<(), OutOfMemory> {
+    let mut talker = talker_of(agent);
     let mut rest = asked;
     let mut out = Keeper::of_size(512);
     let end = talk(
         alloc,
-        agent,
+        &mut talker,
         &mut Counted::new(&mut rest),
         &mut Counted::new(&mut out),
     );
@@ -71,8 +73,8 @@ fn lead(
     asked: &[u8],
     answers: &[&[u8]],
 ) -> Result<(), OutOfMemory> {
-    let mut agent = new_agent(alloc, graph, 1)?;
-    talk_or_lack_memory(rt, alloc, &mut agent, asked, answers)
+    let agent = new_agent(alloc, graph, 1)?;
+    talk_or_lack_memory(rt, alloc, agent, asked, answers)
 }
 
 /// An agent is told of another, and tells of it.

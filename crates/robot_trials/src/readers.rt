@@ -1,5 +1,5 @@
 //! Dialogues whose lines come in pieces, and whose reader fails.
-use crate::dialogues::{ANSWERS, COUNT, LINES, first_lines, has_stored};
+use crate::dialogues::{ANSWERS, COUNT, LINES, first_lines, has_stored, talker_of};
 use agent::{Agent, MemTape};
 use agent_fixtures::{graph_of, new_agent};
 use depgraph::{Graph, OutOfMemory};
@@ -25,20 +25,21 @@ fn ends(
 
 fn ends_with(
     alloc: Global,
-    mut agent: Agent<'_, MemTape>,
+    agent: Agent<'_, MemTape>,
     input: Pieces<'_>,
     end: Result<(), TalkFault>,
     lines: usize,
 ) -> bool {
     let mut out = Keeper::of_size(512);
+    let mut talker = talker_of(agent);
     let found = talk(
         alloc,
-        &mut agent,
+        &mut talker,
         &mut Counted::new(input),
         &mut Counted::new(&mut out),
     );
     let due = first_lines(ANSWERS, lines.saturating_add(1));
-    found == end && out.kept() == due && has_stored(agent.tape(), lines)
+    found == end && out.kept() == due && has_stored(talker.agent.tape(), lines)
 }
 
 /// The first place at which a text is cut in two pieces and not answered in full, if there is one; the same of pieces of one byte to five.
@@ -113,13 +114,14 @@ fn long_line(
 }
 
 /// Whether a dialogue ends where its reader fails behind some bytes, with this answer behind where the agent is.
-fn ends_behind(alloc: Global, mut agent: Agent<'_, MemTape>, line: &[u8], answer: &[u8]) -> bool {
+fn ends_behind(alloc: Global, agent: Agent<'_, MemTape>, line: &[u8], answer: &[u8]) -> bool {
     let mut out = Keeper::of_size(512);
     // In pieces of one byte the call behind the last byte is the next one.
     let call = (line.len() as u64).saturating_add(1);
+    let mut talker = talker_of(agent);
     let end = talk(
         alloc,
-        &mut agent,
+        &mut talker,
         &mut Counted::new(Pieces::of_size(line, 1).failing_at(call, ErrorKind::Other)),
         &mut Counted::new(&mut out),
     );

@@ -129,7 +129,7 @@ fn misuse(files: &DiskFiles<'_>, disk: &FakeDisk, number: u32) -> io::Result<()>
         0 => files.remove_file(TAPE),
         1 => files.rename(TAPE, "other.tape"),
         2 => files.create_dir("tapes"),
-        3 => files.metadata(TAPE).map(|_| ()),
+        3 => files.metadata("other.tape").map(|_| ()),
         4 => fs::open(files, TAPE).map(|_| ()),
         5 => fs::open(files, "other.tape").map(|_| ()),
         6 => OpenOptions::new()

@@ -1,10 +1,12 @@
 -- What the parts of the opening of a tape file owe each other.
 use Rattle.std.specs.Prelude.{◌≡◌, ◌≤◌, true, length}
 use Rattle.model.specs.History.{record_length}
+use Rattle.agent.specs.Agents.{AgentOn}
 use Rattle.agent_commands.specs.declared.agent_fault.AgentFault.{AgentFault}
 use Rattle.agent_commands.specs.declared.agent_fault.AgentFault.TheVariants.{OpenFailed, TapeExists, NoTape, File}
 use Rattle.robot.specs.FileTape.{file_state}
 use Rattle.robot.specs.declared.file_tape.FileTape.{FileTape}
+use Rattle.robot.specs.declared.guarded_tape.GuardedTape.{GuardedTape}
 use Rattle.robot.specs.declared.file_tape.FileTapeFault.TheVariants.{TapeFailed}
 use Rattle.tape_claim.specs.declared.TapeClaim.{TapeClaim}
 use Rattle.tape_claim.specs.declared.TapeClaim.TheVariants.{New, Kept}
@@ -14,6 +16,10 @@ abbrev pub IsNotOpened : TapeClaim → AgentFault → Type 0
 IsNotOpened claim OpenFailed = Unit {0}
 IsNotOpened claim NoTape = claim ≡ Kept
 IsNotOpened claim _ = ⊥
+
+-- an agent over a tape in a file, whatever guards that
+abbrev pub unguarded : {F G : Type 0} → AgentOn (GuardedTape F G) → AgentOn (FileTape F)
+unguarded a = record { part = a.part; tape = a.tape.tape; heard = a.heard; broken = a.broken }
 
 -- the same tape, which may have been synced since
 pub record IsSameTape {F : Type 0} (old new : FileTape F) : Type 0 where

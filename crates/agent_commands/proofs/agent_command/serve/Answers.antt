@@ -1,7 +1,6 @@
 -- The agent's part was taken, and it answered; or there is no such agent.
-use Rattle.std.proofs.Common.{Ok, Err, inl, refl, sym, subst, ◌∙◌, ap}
+use Rattle.std.proofs.Common.{Ok, Err, inl, refl, subst}
 use Rattle.std.proofs.lemmas.Result.{err_from_is_err_and}
-use Rattle.depgraph.specs.AgentParts.{IsPartOf}
 use Rattle.agent_commands.specs.AgentCommand.{Converses}
 use Rattle.agent_commands.specs.Code.Reading.{IsPartFor}
 use Rattle.agent_commands.proofs.agent_command.serve.Goals as goal
@@ -21,11 +20,9 @@ pub returns : goal.returns
 returns g c =
     let read = c.in_ok-own.ensures in
     let part = subst (IsPartFor read.0 c.args.seat.id) c.in-Some.is read.2 in
-    let lent = c.part.ensures in
-    let is = subst (IsPartOf read.0) (sym lent) part.0 in
     record {
       read = Ok read.0;
       reads = read.1;
       ends = subst (λ i. Converses g.R.File.Read.remaining g.I.Read.remaining g.W.Write.contents c.args.seat.claim read.0 i c.args.input.now c.converse.new.input c.args.out.now c.converse.new.out c.converse.result)
-          (ap (λ p. p.agent) lent ∙ part.1) (c.converse.ensures read.0 is);
+          part.1 (c.converse.ensures read.0 part.0);
     }

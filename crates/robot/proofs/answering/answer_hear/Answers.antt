@@ -1,4 +1,4 @@
-use Rattle.std.proofs.Common.{rules}
+use Rattle.std.proofs.Common.{rules, refl}
 use Rattle.robot.proofs.answering.answer_hear.Goals as goal
 
 pub returns-in-Ok-clause-same : goal.returns-in-Ok-clause-same
@@ -30,3 +30,6 @@ pub returns-in-Err-clause-takes : goal.returns-in-Err-clause-takes
 returns-in-Err-clause-takes g c table is track =
     let done = c.hear.ensures.hears table is in
     search rules
+
+pub returns-in-Some-clause-takes : goal.returns-in-Some-clause-takes
+returns-in-Some-clause-takes g c table is track = (c.args.message.now, refl, c.in-Some.ensures.heeded, c.in-Some.ensures.word table is, refl)

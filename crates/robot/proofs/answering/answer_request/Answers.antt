@@ -1,4 +1,5 @@
 use Rattle.std.proofs.Common.{rules}
+use Rattle.std.specs.Prelude.{is_some}
 use Rattle.robot.proofs.answering.answer_request.Goals as goal
 
 pub returns-in-Start-clause-same : goal.returns-in-Start-clause-same
@@ -35,3 +36,14 @@ pub returns-in-Held-clause-takes : goal.returns-in-Held-clause-takes
 returns-in-Held-clause-takes g c table is track there =
     let done = c.state_answer.ensures.line table is in
     search rules
+
+pub returns-in-Say-clause-takes : goal.returns-in-Say-clause-takes
+returns-in-Say-clause-takes g c table is track there = rw c.in-Say.is (c.answer_say.ensures.takes (is_some c.args.heeded.now) table is track)
+
+pub returns-in-Tell-clause-takes : goal.returns-in-Tell-clause-takes
+returns-in-Tell-clause-takes g c table is track there = rw c.in-Tell.is (c.answer_tell.ensures.takes (is_some c.args.heeded.now) table is track)
+
+pub returns-in-Hear-clause-takes : goal.returns-in-Hear-clause-takes
+returns-in-Hear-clause-takes g c table is track there =
+    let done = c.answer_hear.ensures.takes table is track in
+    rw c.in-Hear.is done

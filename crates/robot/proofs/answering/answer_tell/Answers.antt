@@ -5,11 +5,11 @@ use Rattle.agent.specs.declared.refusal.TellFault.TheVariants.{Broken, OutOfMemo
 use Rattle.robot.proofs.answering.answer_tell.Goals as goal
 
 pub returns-in-Err-Broken-clause-takes : goal.returns-in-Err-Broken-clause-takes
-returns-in-Err-Broken-clause-takes g c table is track =
+returns-in-Err-Broken-clause-takes g c heeds table is track =
     let a = c.args.agent.now in
-    (Err Broken, (subst (λ f. IsToldBy table a.part.agent (state_of g.T.Tape.state a) (Err f)) c.in-Err-Broken.field-0-is (c.in-Err-Broken.ensures.tells table is), refl), refl)
+    (tt, (Err Broken, (subst (λ f. IsToldBy table a.part.agent (state_of g.T.Tape.state a) (Err f)) c.in-Err-Broken.field-0-is (c.in-Err-Broken.ensures.tells table is), refl), refl))
 
 pub returns-in-Err-OutOfMemory-clause-takes : goal.returns-in-Err-OutOfMemory-clause-takes
-returns-in-Err-OutOfMemory-clause-takes g c table is track =
+returns-in-Err-OutOfMemory-clause-takes g c heeds table is track =
     let a = c.args.agent.now in
-    (Err OutOfMemory, (subst (λ f. IsToldBy table a.part.agent (state_of g.T.Tape.state a) (Err f)) c.in-Err-OutOfMemory.field-0-is (c.in-Err-OutOfMemory.ensures.tells table is), refl), refl)
+    (tt, (Err OutOfMemory, (subst (λ f. IsToldBy table a.part.agent (state_of g.T.Tape.state a) (Err f)) c.in-Err-OutOfMemory.field-0-is (c.in-Err-OutOfMemory.ensures.tells table is), refl), refl))

@@ -1,17 +1,18 @@
 use Rattle.std.proofs.Common.{inl, inr, refl}
 use Rattle.std.proofs.lemmas.Result.{err_from_is_err_and}
-use Rattle.agent_commands.proofs.agent_command.open_agent.Goals as goal
+use Rattle.agent_commands.proofs.GuardLemmas.{unguard_opened, unguard_refused}
+use Rattle.agent_commands.proofs.opening.open_agent.Goals as goal
 
 pub returns-clause-opened : goal.returns-clause-opened
 returns-clause-opened g c table is = inr (
   c.in-Err.fault,
   refl,
   record {
-    tape = c.in_ok-tape.tape;
+    tape = c.in_ok-tape.tape.tape;
     is_tape = (c.in_ok-tape.ensures table is).0;
     claimed = (c.in_ok-tape.ensures table is).1;
-    after = c.in-Err.field-0-1;
-    refused = c.in-Err.ensures.refused table is;
+    after = c.in-Err.field-0-1.tape;
+    refused = unguard_refused table _ c.in_ok-tape.tape c.in-Err.field-0-1 c.in-Err.fault (c.in-Err.ensures.refused table is);
     kept = c.in-Err.ensures.kept;
   },
 )
@@ -24,4 +25,4 @@ returns-in_err-tape-clause-opened g c table is =
 pub returns-in-Ok-clause-opened : goal.returns-in-Ok-clause-opened
 returns-in-Ok-clause-opened g c table is =
     let tape = c.in_ok-tape.ensures table is in
-    (c.in_ok-tape.tape, tape.0, tape.1, c.in-Ok.ensures.opened table is)
+    (c.in_ok-tape.tape.tape, tape.0, tape.1, unguard_opened table _ c.in_ok-tape.tape c.in-Ok.agent (c.in-Ok.ensures.opened table is))

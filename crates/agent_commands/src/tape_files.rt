@@ -1,0 +1,85 @@
+//! The file of a tape, and its folder.
+ghost use Rattle.std.specs.Prelude.{◌≡◌, IfErr};
+ghost use Rattle.agent_commands.specs.Code.Parts.{IsNotOpened};
+
+use crate::agent_fault::AgentFault;
+use robot::FileTapeFault;
+use std::fs;
+use std::fs::{Metadata, OpenFile, OpenOptions};
+use std::io::ErrorKind;
+use std::os::unix::fs::MetadataExt;
+use std::rt::Files;
+use tape_claim::TapeClaim;
+
+/// Which file it is: the number of its device, and its own number there.
+#[derive(Clone, Copy, Debug, PartialEq, Eq)]
+pub(crate) struct FileId {
+    device: u64,
+    node: u64,
+}
+
+impl FileId {
+    pub(crate) fn of(metadata: &Metadata) -> FileId {
+        FileId {
+            device: metadata.dev(),
+            node: metadata.ino(),
+        }
+    }
+}
+
+/// An open file, and which file it is.
+#[derive(Drop)]
+pub(crate) struct HeldFile<F> {
+    pub(crate) file: F,
+    pub(crate) id: FileId,
+}
+
+/// Opens a tape file, which is made where there is none, unless it was to be kept.
+pub(crate) fn open_file<R: Files>(
+    rt: &R,
+    path: &str,
+    claim: TapeClaim,
+) -> Result<HeldFile<R::File>, AgentFault>
+    ensures { IfErr result (IsNotOpened claim) }
+{
+    let makes = !matches!(claim, TapeClaim::Kept);
+    let opened = OpenOptions::new()
+        .read(true)
+        .write(true)
+        .create(makes)
+        .open(rt, path);
+    match opened {
+        Ok(file) => match regular_id(&file) {
+            Some(id) => Ok(HeldFile { file, id }),
+            None => Err(AgentFault::OpenFailed),
+        },
+        Err(error) if !makes && error.kind() == ErrorKind::NotFound => Err(AgentFault::NoTape),
+        Err(_) => Err(AgentFault::OpenFailed),
+    }
+}
+
+/// Which file it is, if it is one like others. Reading a device or a pipe might wait for ever, and what was written there could not be read back.
+fn regular_id<F: OpenFile>(file: &F) -> Option<FileId> {
+    match file.metadata() {
+        Ok(metadata) if metadata.is_file() => Some(FileId::of(&metadata)),
+        _ => None,
+    }
+}
+
+/// Syncs the folder of a file, which has the file's name.
+pub(crate) fn keep_name<R: Files>(rt: &R, path: &str) -> Result<(), FileTapeFault>
+    ensures { IfErr result (λ fault. fault ≡ FileTapeFault.TapeFailed) }
+{
+    let folder = fs::open(rt, folder_of(path))?;
+    folder.sync_all()?;
+    Ok(())
+}
+
+/// The folder of the file that a path names.
+fn folder_of(path: &str) -> &str {
+    match path.rsplit_once('/') {
+        Some((folder, _)) if folder.is_empty() => "/",
+        Some((folder, _)) => folder,
+        None => ".",
+    }
+}
