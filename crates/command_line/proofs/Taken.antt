@@ -44,7 +44,10 @@ commands_give = (
                 λ other words. command_given (usage 7) words (search rules),
                 (
                   λ other words. command_given (usage 8) words (search rules),
-                  (λ other words. command_given (usage 9) words (search rules), (λ other. let bad : true ≡ false = other in cc, tt)),
+                  (
+                    λ other words. command_given (usage 9) words (search rules),
+                    (λ other words. command_given (usage 10) words (search rules), (λ other. let bad : true ≡ false = other in cc, tt)),
+                  ),
                 ),
               ),
             ),

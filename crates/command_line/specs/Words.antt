@@ -87,6 +87,13 @@ commands =
       flags = explain_flag ∷ [];
     }
     ∷ record {
+      name = codes "continues";
+      required = codes "map" ∷ codes "old" ∷ codes "new" ∷ [];
+      options = [];
+      cells = [];
+      flags = explain_flag ∷ [];
+    }
+    ∷ record {
       name = codes "run";
       required = codes "map" ∷ codes "plan" ∷ codes "events" ∷ [];
       options = [];
@@ -232,6 +239,9 @@ IsCommand name rows (line.Check map_file plan_file scen_file agents json) =
 IsCommand name rows (line.Query map_file plan_file query) =
     (first_of (codes "map") rows ≡ Some (string_bytes map_file)) × (first_of (codes "plan") rows ≡ Some (string_bytes plan_file))
     × IsPlanQuery name rows query
+IsCommand name rows (line.Continues map_file old_file new_file) =
+    (name ≡ codes "continues") × (first_of (codes "map") rows ≡ Some (string_bytes map_file))
+    × (first_of (codes "old") rows ≡ Some (string_bytes old_file)) × (first_of (codes "new") rows ≡ Some (string_bytes new_file))
 IsCommand name rows (line.Run map_file plan_file events_file complete) =
     (name ≡ codes "run") × (first_of (codes "map") rows ≡ Some (string_bytes map_file))
     × (first_of (codes "plan") rows ≡ Some (string_bytes plan_file)) × (first_of (codes "events") rows ≡ Some (string_bytes events_file))

@@ -1,16 +1,15 @@
 //! The commands: the value of each, what help says of it, and how it is read.
-ghost use Rattle.std.specs.Prelude.{◌≡◌, codes, IfOk, IfErr};
+ghost use Rattle.std.specs.Prelude.{◌≡◌, codes, drop, map, take, IfOk, IfErr};
 ghost use Rattle.clap.specs.Words.{found_of, rows_of};
-ghost use Rattle.command_line.specs.Words.{HasValues, IsCommand};
-ghost use Rattle.command_line.specs.Code.Parts.{HasWords, IsRefusal};
+ghost use Rattle.command_line.specs.Words.{HasValues, IsCommand, commands};
+ghost use Rattle.command_line.specs.Code.Parts.{HasWords, IsRefusal, shape_of_text, shapes_of};
 
 use crate::LineFault;
 use crate::agent_words::{read_agent, read_tape};
 use crate::help::Word::{Cell as CellOption, Flag, Named, Required};
 use crate::help::{self, CommandText, EXPLAIN};
-use crate::words::{
-    has_flag, long_number, no_command, optional_cell, optional_number, optional_word, word,
-};
+use crate::plan_words::{read_continues, read_cut, read_deps, read_path};
+use crate::words::{has_flag, long_number, no_command, optional_number, optional_word, word};
 use clap::ArgMatches;
 use grid::Cell;
 use std::alloc::Global;
@@ -48,6 +47,12 @@ pub enum Line {
         plan: String,
         query: PlanQuery,
     },
+    /// Says whether a plan on a map goes on from another.
+    Continues {
+        map: String,
+        old: String,
+        new: String,
+    },
     /// Runs a plan on the events of a text; `complete` asks for how the run ends too.
     Run {
         map: String,
@@ -83,8 +88,29 @@ pub enum PlanQuery {
     Cut { time: u32 },
 }
 
-/// All commands, in the order in which help lists them.
-pub(crate) const COMMANDS: &[CommandText<'static>] = &[
+/// The commands over maps and scenarios, in the order in which help lists them. Those over plans follow, and then those of runs: as one list they
+/// would be too much for one proof.
+pub(crate) fn text_commands() -> &'static [CommandText<'static>]
+    ensures { map shape_of_text result.now ≡ shapes_of (take 3 commands) }
+{
+    TEXT_COMMANDS
+}
+
+/// The commands over plans.
+pub(crate) fn plan_commands() -> &'static [CommandText<'static>]
+    ensures { map shape_of_text result.now ≡ shapes_of (take 5 (drop 3 commands)) }
+{
+    PLAN_COMMANDS
+}
+
+/// The commands of runs and agents.
+pub(crate) fn run_commands() -> &'static [CommandText<'static>]
+    ensures { map shape_of_text result.now ≡ shapes_of (drop 8 commands) }
+{
+    RUN_COMMANDS
+}
+
+const TEXT_COMMANDS: &[CommandText<'static>] = &[
     CommandText {
         name: "map",
         about: "Reads a map and writes it in canonical form",
@@ -147,6 +173,9 @@ Example:
             EXPLAIN,
         ],
     },
+];
+
+const PLAN_COMMANDS: &[CommandText<'static>] = &[
     CommandText {
         name: "check",
         about: "Checks a plan on a map, and perhaps that it solves a scenario",
@@ -233,7 +262,7 @@ Example:
     },
     CommandText {
         name: "cut",
-        about: "Checks a plan on a map, and writes it without the acts from a time on",
+        about: "Checks a plan on a map, and writes it without acts from a time on",
         after_help: "\
 Standard output is the canonical text of the plan, in which each agent has its
 first T acts, or all where it has no more. The plan goes on from what is
@@ -247,7 +276,7 @@ Status:
      memory was refused
 
 Example:
-  mapf cut examples/plain.map examples/behind.plan 2",
+  mapf cut examples/plain.map examples/behind.plan 1",
         words: &[
             Required("map", "The file of the map"),
             Required("plan", "The file of the plan"),
@@ -255,6 +284,35 @@ Example:
             EXPLAIN,
         ],
     },
+    CommandText {
+        name: "continues",
+        about: "Says whether a plan on a map goes on from another, and what it adds",
+        after_help: "\
+The new plan goes on from the old one where both have the same number and as
+many agents, and each agent is in the same cell by both at each time up to T,
+the most acts of an agent of the old plan. Then standard output is one line:
+  continues from T, adds M moves   M is how many moves the new plan has more
+
+Status:
+  0  the line is written
+  1  a text or a plan has a fault, or the new plan doesn't go on from the old
+     one: one line on standard error, as `mapf: Departs 0 5`
+  2  a bad command line
+  3  a file can't be opened (--explain says which, and why), a device failed, or
+     memory was refused
+
+Example:
+  mapf continues examples/plain.map examples/behind.plan examples/onward.plan",
+        words: &[
+            Required("map", "The file of the map"),
+            Required("old", "The file of the plan that is gone on from"),
+            Required("new", "The file of the plan that goes on"),
+            EXPLAIN,
+        ],
+    },
+];
+
+const RUN_COMMANDS: &[CommandText<'static>] = &[
     CommandText {
         name: "run",
         about: "Checks a plan on a map, and answers the events of a run of it",
@@ -386,6 +444,7 @@ pub(crate) fn read_command(
         "deps" => read_deps(alloc, given),
         "path" => read_path(alloc, given),
         "cut" => read_cut(alloc, given),
+        "continues" => read_continues(alloc, given),
         "run" => read_run(alloc, given),
         "agent" => read_agent(alloc, given),
         "tape" => read_tape(alloc, given),
@@ -420,54 +479,6 @@ fn read_check(alloc: Global, given: &ArgMatches<'_>) -> Result<Line, LineFault>
         scen: optional_word(alloc, given, "scen")?,
         agents: optional_number(alloc, given, "agents", help::NO_AGENT_COUNT)?,
         json: has_flag(given, "json"),
-    })
-}
-
-/// Reads `deps` by the words that it was given.
-fn read_deps(alloc: Global, given: &ArgMatches<'_>) -> Result<Line, LineFault>
-    ensures ok { IfOk result (IsCommand (codes "deps") (rows_of (found_of given.now))) }
-    ensures err { IfErr result (λ e. HasWords (codes "deps") (rows_of (found_of given.now)) → HasValues (codes "deps") (rows_of (found_of given.now))
-        → e ≡ LineFault.OutOfMemory) }
-    ensures refusal { IfErr result IsRefusal }
-{
-    Ok(Line::Query {
-        map: word(alloc, given, "map")?,
-        plan: word(alloc, given, "plan")?,
-        query: PlanQuery::Deps {
-            cell: optional_cell(alloc, given)?,
-        },
-    })
-}
-
-/// Reads `path` by the words that it was given.
-fn read_path(alloc: Global, given: &ArgMatches<'_>) -> Result<Line, LineFault>
-    ensures ok { IfOk result (IsCommand (codes "path") (rows_of (found_of given.now))) }
-    ensures err { IfErr result (λ e. HasWords (codes "path") (rows_of (found_of given.now)) → HasValues (codes "path") (rows_of (found_of given.now))
-        → e ≡ LineFault.OutOfMemory) }
-    ensures refusal { IfErr result IsRefusal }
-{
-    Ok(Line::Query {
-        map: word(alloc, given, "map")?,
-        plan: word(alloc, given, "plan")?,
-        query: PlanQuery::Path {
-            agent: optional_number(alloc, given, "agent", help::NO_AGENT_NUMBER)?,
-        },
-    })
-}
-
-/// Reads `cut` by the words that it was given.
-fn read_cut(alloc: Global, given: &ArgMatches<'_>) -> Result<Line, LineFault>
-    ensures ok { IfOk result (IsCommand (codes "cut") (rows_of (found_of given.now))) }
-    ensures err { IfErr result (λ e. HasWords (codes "cut") (rows_of (found_of given.now)) → HasValues (codes "cut") (rows_of (found_of given.now))
-        → e ≡ LineFault.OutOfMemory) }
-    ensures refusal { IfErr result IsRefusal }
-{
-    Ok(Line::Query {
-        map: word(alloc, given, "map")?,
-        plan: word(alloc, given, "plan")?,
-        query: PlanQuery::Cut {
-            time: long_number(alloc, given, "time", &help::CUT_TIME)?,
-        },
     })
 }
 

@@ -5,6 +5,7 @@ mod agent_words;
 mod command_line;
 mod commands;
 mod help;
+mod plan_words;
 mod refusal;
 mod words;
 

@@ -1,6 +1,6 @@
 //! What is said of words that `clap` refuses: mostly its own text.
-use crate::commands::COMMANDS;
-use crate::help;
+use crate::commands::{plan_commands, run_commands, text_commands};
+use crate::help::{self, CommandText};
 use crate::words::program;
 use clap::error::{Error as ClapError, ErrorKind};
 use std::alloc::{AllocError, Global};
@@ -50,10 +50,8 @@ fn command_name(words: &[String]) -> &str {
 /// The advice to take a command that is near, or nothing where none is.
 fn near_commands(alloc: Global, word: &str) -> Result<String, AllocError> {
     let mut near = Vec::new(alloc);
-    for command in COMMANDS {
-        if is_near(word.as_bytes(), command.name.as_bytes()) {
-            near.push(command.name)?;
-        }
+    for commands in [text_commands(), plan_commands(), run_commands()] {
+        push_near(&mut near, word, commands)?;
     }
     if is_near(word.as_bytes(), b"help") {
         near.push("help")?;
@@ -68,6 +66,20 @@ fn near_commands(alloc: Global, word: &str) -> Result<String, AllocError> {
         write!(advice, "'{command}'")?;
     }
     Ok(advice)
+}
+
+/// Adds the names of the commands that are near.
+fn push_near(
+    near: &mut Vec<&'static str>,
+    word: &str,
+    commands: &[CommandText<'static>],
+) -> Result<(), AllocError> {
+    for command in commands {
+        if is_near(word.as_bytes(), command.name.as_bytes()) {
+            near.push(command.name)?;
+        }
+    }
+    Ok(())
 }
 
 /// Whether one letter more, less or other, or two that are exchanged, make the one of the other.

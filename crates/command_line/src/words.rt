@@ -10,7 +10,7 @@ ghost use Rattle.command_line.specs.Words.{program_app, AsksToExplain, IsFlagGiv
 ghost use Rattle.command_line.specs.Code.Parts.{HasWords, IsRefusal, rule_of_word, shape_of_text};
 
 use crate::command_line::refused;
-use crate::commands::{COMMANDS, read_command};
+use crate::commands::{plan_commands, read_command, run_commands, text_commands};
 use crate::help::{self, CommandText, NumberText, Word};
 use crate::refusal::shown;
 use crate::{Asked, LineFault};
@@ -60,7 +60,9 @@ pub(crate) fn program<'a>(alloc: Global) -> Result<Command<'a>, AllocError>
         .about(help::PROGRAM_ABOUT)
         .after_help(help::PROGRAM_AFTER_HELP)
         .subcommand_required(true);
-    with_commands(alloc, program, COMMANDS)
+    let program = with_commands(alloc, program, text_commands())?;
+    let program = with_commands(alloc, program, plan_commands())?;
+    with_commands(alloc, program, run_commands())
 }
 
 /// The program with more commands.

@@ -31,7 +31,7 @@ const OF_ANOTHER_PLAN: &str =
 const CHANGED_ON_THE_WAY: &str =
     "Nothing was heard. Drop it: its bytes were changed on the way, or are another program's.\n";
 
-static ADVICE: [Advice; 23] = [
+static ADVICE: [Advice; 24] = [
     Advice {
         of: "a command",
         name: "OpenFailed",
@@ -121,6 +121,11 @@ static ADVICE: [Advice; 23] = [
         of: REPLY,
         name: "StoreFailed",
         text: "Don't drive. Start the agent again on its tape, and go by its first line; look at the disk.\n",
+    },
+    Advice {
+        of: REPLY,
+        name: "StaleTape",
+        text: "Stop the robot: its tape is lost, and others may have entered the cells that it gave up.\n",
     },
     Advice {
         of: REPLY,

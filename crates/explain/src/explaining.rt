@@ -4,6 +4,7 @@ ghost use Rattle.text_io.specs.Counted.{counted_inner};
 ghost use Rattle.text_io.specs.Sink.{sink_writer};
 ghost use Rattle.explain.specs.Explaining.{AddsMore};
 
+use crate::departing::explain_departing;
 use crate::devices::explain_device;
 use crate::faults::Fault;
 use crate::files::{FileKind, NamedFile};
@@ -84,6 +85,9 @@ fn put_fault<R: Files>(
         Fault::NoSuchAgent => no_such_agent(rt, files, page),
         Fault::BadStart | Fault::BadMove | Fault::Vertex | Fault::Swap => {
             explain_plan(rt, files, told, page);
+        }
+        Fault::OtherNumber | Fault::OtherCount | Fault::Departs => {
+            explain_departing(rt, files, told, page);
         }
         _ => put_fault_of_file(rt, alloc, files, told, page),
     }

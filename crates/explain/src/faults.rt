@@ -12,6 +12,9 @@ pub(crate) enum Fault {
     BadMove,
     Vertex,
     Swap,
+    OtherNumber,
+    OtherCount,
+    Departs,
     Damaged,
     WrongPlan,
     WrongAgent,
@@ -43,7 +46,7 @@ pub(crate) enum Fault {
     Other,
 }
 
-static NAMED: [(&str, Fault); 37] = [
+static NAMED: [(&str, Fault); 40] = [
     ("OpenFailed", Fault::OpenFailed),
     ("ReadFailed", Fault::ReadFailed),
     ("NoSuchRow", Fault::NoSuchRow),
@@ -53,6 +56,9 @@ static NAMED: [(&str, Fault); 37] = [
     ("BadMove", Fault::BadMove),
     ("Vertex", Fault::Vertex),
     ("Swap", Fault::Swap),
+    ("OtherNumber", Fault::OtherNumber),
+    ("OtherCount", Fault::OtherCount),
+    ("Departs", Fault::Departs),
     ("Damaged", Fault::Damaged),
     ("WrongPlan", Fault::WrongPlan),
     ("WrongAgent", Fault::WrongAgent),

@@ -47,7 +47,7 @@ pub(crate) fn shown_path<'a>(file: NamedFile<'a>) -> &'a str {
 }
 
 /// Opens a file once more. What is no file of bytes may wait for ever, and has lost what was read of it: so it is not opened.
-pub(crate) fn open_again<R: Files>(rt: &R, path: &str) -> Option<R::File> {
+pub fn open_again<R: Files>(rt: &R, path: &str) -> Option<R::File> {
     let metadata = fs::metadata(rt, path).ok()?;
     if metadata.is_file() {
         fs::open(rt, path).ok()

@@ -3,6 +3,7 @@
 
 mod advice;
 mod beginning;
+mod departing;
 mod devices;
 mod event_words;
 mod explaining;
@@ -28,6 +29,6 @@ mod told;
 mod walks;
 
 pub use explaining::explain;
-pub use files::{FileKind, NamedFile};
+pub use files::{FileKind, NamedFile, open_again};
 pub use help::{FaultHelp, fault_help};
 pub use page::Style;

@@ -80,6 +80,35 @@ static FITS: [Entry; 5] = [
     },
 ];
 
+/// The faults of a plan that doesn't go on from another.
+pub(crate) fn departing_entries() -> &'static [Entry] {
+    &DEPARTINGS
+}
+
+static DEPARTINGS: [Entry; 3] = [
+    Entry {
+        name: "OtherNumber",
+        numbers: "",
+        sentence: "The new plan has another number than the old one.",
+        example: "",
+        answer: "OtherNumber",
+    },
+    Entry {
+        name: "OtherCount",
+        numbers: "",
+        sentence: "The new plan has more or fewer agents than the old one.",
+        example: "",
+        answer: "OtherCount",
+    },
+    Entry {
+        name: "Departs",
+        numbers: "agent time",
+        sentence: "At this time, not past the old plan's last act, the agent is in another cell by the new one, and nobody is earlier.",
+        example: "",
+        answer: "Departs 0 1",
+    },
+];
+
 /// The faults of a command.
 pub(crate) fn command_entries() -> &'static [Entry] {
     &COMMANDS
@@ -284,13 +313,20 @@ pub(crate) fn reply_entries() -> &'static [Entry] {
     &REPLIES
 }
 
-static REPLIES: [Entry; 9] = [
+static REPLIES: [Entry; 10] = [
     Entry {
         name: "BadLine",
         numbers: "",
         sentence: "The line is none that an agent answers, or is too long.",
         example: "",
         answer: "refused BadLine",
+    },
+    Entry {
+        name: "StaleTape",
+        numbers: "agent count",
+        sentence: "The other agent says that this one has finished so many moves, and its tape, which was to be kept, has fewer: it is an older one.",
+        example: "",
+        answer: "refused StaleTape 0 1",
     },
     Entry {
         name: "NoSuchMessage",

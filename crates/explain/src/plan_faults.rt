@@ -31,12 +31,13 @@ pub(crate) fn explain_plan<R: Files>(
     let plan = file_of(files, FileKind::Plan);
     if let (Some(map), Some(plan)) = (map, plan) {
         put_title(map, plan, told.number(0), page);
-        explain_on_map(rt, map.path, plan.path, told, page);
+        explain_on_map(rt, [map.path, plan.path], told, page);
     }
 }
 
 /// Explains a fault of a plan, with the line of the first agent that it names.
-fn explain_on_map<R: Files>(rt: &R, map: &str, plan: &str, told: &Told<'_>, page: &mut Page) {
+fn explain_on_map<R: Files>(rt: &R, paths: [&str; 2], told: &Told<'_>, page: &mut Page) {
+    let [_, plan] = paths;
     let number = told.number(0);
     let mut line = Line::new();
     find_agent(rt, plan, number, &mut line);
@@ -47,7 +48,7 @@ fn explain_on_map<R: Files>(rt: &R, map: &str, plan: &str, told: &Told<'_>, page
                 number,
                 course,
             };
-            explain_agent(rt, map, plan, first, told, page);
+            explain_agent(rt, paths, first, told, page);
         }
         None => {
             page.say("The plan can't be read once more here.\n");
@@ -58,16 +59,16 @@ fn explain_on_map<R: Files>(rt: &R, map: &str, plan: &str, told: &Told<'_>, page
 
 fn explain_agent<R: Files>(
     rt: &R,
-    map: &str,
-    plan: &str,
+    paths: [&str; 2],
     first: Agent<'_>,
     told: &Told<'_>,
     page: &mut Page,
 ) {
+    let [map, _] = paths;
     match told.fault {
         Fault::BadStart => bad_start(rt, map, first, page),
         Fault::BadMove => bad_move(rt, map, first, told.number(1), page),
-        _ => explain_both(rt, map, plan, first, told, page),
+        _ => explain_both(rt, paths, first, told, page),
     }
 }
 
@@ -225,12 +226,12 @@ fn put_refused<R: Files>(rt: &R, map: &str, to: Place, page: &mut Page) {
 /// Explains a fault that names two agents.
 fn explain_both<R: Files>(
     rt: &R,
-    map: &str,
-    plan: &str,
+    paths: [&str; 2],
     first: Agent<'_>,
     told: &Told<'_>,
     page: &mut Page,
 ) {
+    let [map, plan] = paths;
     let number = told.number(1);
     let mut line = Line::new();
     find_agent(rt, plan, number, &mut line);

@@ -1,7 +1,8 @@
 //! All faults and refusals, with a sentence and, where texts show it, a smallest example.
 use crate::files::FileKind;
 use crate::other_faults::{
-    command_entries, course_entries, fit_entries, message_entries, reply_entries, tape_entries,
+    command_entries, course_entries, departing_entries, fit_entries, message_entries,
+    reply_entries, tape_entries,
 };
 use crate::page::Page;
 use crate::text_faults::{event_entries, map_entries, plan_entries, scenario_entries};
@@ -19,7 +20,7 @@ pub(crate) struct Entry {
 }
 
 /// How many groups of faults there are.
-pub(crate) const GROUPS: usize = 10;
+pub(crate) const GROUPS: usize = 11;
 
 /// What the faults of a group are faults of.
 pub(crate) fn group_name(group: usize) -> &'static str {
@@ -30,9 +31,10 @@ pub(crate) fn group_name(group: usize) -> &'static str {
         3 => "a list of events",
         4 => "a plan on its map",
         5 => "a plan beside a scenario",
-        6 => "a command",
-        7 => "a tape",
-        8 => "a message",
+        6 => "a plan beside an older one",
+        7 => "a command",
+        8 => "a tape",
+        9 => "a message",
         _ => "a reply",
     }
 }
@@ -46,9 +48,10 @@ pub(crate) fn group_entries(group: usize) -> &'static [Entry] {
         3 => event_entries(),
         4 => course_entries(),
         5 => fit_entries(),
-        6 => command_entries(),
-        7 => tape_entries(),
-        8 => message_entries(),
+        6 => departing_entries(),
+        7 => command_entries(),
+        8 => tape_entries(),
+        9 => message_entries(),
         _ => reply_entries(),
     }
 }

@@ -22,6 +22,7 @@ use Rattle.text_commands.specs.MapCommand.{RewritesMap}
 use Rattle.text_commands.specs.RowCommand.{AnswersRow}
 use Rattle.text_commands.specs.ScenCommand.{RewritesScen}
 use Rattle.plan_commands.specs.CheckCommand.{AnswersCheck, AnswersCheckFit}
+use Rattle.plan_commands.specs.ContinuesCommand.{AnswersContinues}
 use Rattle.plan_commands.specs.CutCommand.{AnswersCut}
 use Rattle.plan_commands.specs.DepsCellCommand.{AnswersDepsCell}
 use Rattle.plan_commands.specs.DepsCommand.{AnswersDeps}
@@ -88,6 +89,8 @@ PerformsOn remaining input_left contents (line.Check map_file plan_file scen_fil
     CheckOn remaining contents scen_file agents json old new end × (new_in ≡ old_in)
 PerformsOn remaining input_left contents (line.Query map_file plan_file query) old_in new_in old new end =
     OnTwoFiles (λ a b c d. AnswersQuery remaining remaining contents query a b c d old new end) × (new_in ≡ old_in)
+PerformsOn remaining input_left contents (line.Continues map_file old_file new_file) old_in new_in old new end =
+    OnThreeFiles (λ a b c d e f. AnswersContinues remaining remaining remaining contents a b c d e f old new end) × (new_in ≡ old_in)
 PerformsOn remaining input_left contents (line.Run map_file plan_file events_file complete) old_in new_in old new end =
     OnThreeFiles (λ a b c d e f. AnswersRun remaining remaining remaining contents a b c d e f complete old new end) × (new_in ≡ old_in)
 PerformsOn remaining input_left contents (line.Agent map_file plan_file id tape_file claim) old_in new_in old new end =

@@ -1,6 +1,7 @@
 //! The program `mapf` over its words. Its command line and its commands stand in crates below.
 #![tactic(auto)]
 
+mod blamed_plan;
 mod on_files;
 mod program;
 mod unperformed;
@@ -9,7 +10,8 @@ pub use agent_commands::{Seat, agent_cmd, tape_cmd};
 pub use command_line::{Asked, Line, LineFault, PlanQuery, line};
 pub use explain::Style;
 pub use plan_commands::{
-    Verdict, check_cmd, check_fit_cmd, cut_cmd, deps_cell_cmd, deps_cmd, path_cmd, verdict_json,
+    Verdict, check_cmd, check_fit_cmd, continues_cmd, cut_cmd, deps_cell_cmd, deps_cmd, path_cmd,
+    verdict_json,
 };
 pub use program::run;
 pub use run_commands::run_cmd;

@@ -4,6 +4,7 @@ ghost use Rattle.text_commands.specs.Ending.{end_of};
 ghost use Rattle.text_commands.specs.MapCommand.{RewritesMap};
 ghost use Rattle.text_commands.specs.RowCommand.{AnswersRow};
 ghost use Rattle.text_commands.specs.ScenCommand.{RewritesScen};
+ghost use Rattle.plan_commands.specs.ContinuesCommand.{AnswersContinues};
 ghost use Rattle.run_commands.specs.RunCommand.{AnswersRun};
 ghost use Rattle.agent_commands.specs.AgentCommand.{AnswersAgent};
 ghost use Rattle.agent_commands.specs.TapeCommand.{AnswersTape, EndsWithoutTape};
@@ -12,7 +13,7 @@ ghost use Rattle.mapf_cmd.specs.Program.{AnswersQuery, CheckOn, OnFileOrInput, O
 use agent_commands::{Seat, agent_command, tape_command};
 use command_line::{Line, PlanQuery};
 use explain::{FileKind, NamedFile};
-use plan_commands::check_command;
+use plan_commands::{check_command, continues_command};
 use run_commands::run_command;
 use std::alloc::Global;
 use std::io::{ErrorKind, Read, Write};
@@ -46,6 +47,7 @@ where
             json,
         } => check_on_files(rt, [map, plan], scen, *agents, *json, out),
         Line::Query { map, plan, query } => query_on_files(rt, map, plan, *query, out),
+        Line::Continues { map, old, new } => continues_on_files(rt, [map, old, new], out),
         Line::Run {
             map,
             plan,
@@ -205,6 +207,21 @@ fn answer_query<M: Read, P: Read, W: Write>(
     }
 }
 
+fn continues_on_files<R: Files + AllocGlobal, W: Write>(
+    rt: &R,
+    paths: [&str; 3],
+    out: &mut Counted<W>,
+) -> io::Result<Ending>
+    ensures { MatchResult result (λ ending. OnThreeFiles (λ a b c d e f. AnswersContinues R.File.remaining R.File.remaining R.File.remaining W.contents a b c d e f out.old out.new (end_of ending)))
+        (λ _. out.new ≡ out.old) }
+{
+    let [map, old, new] = paths;
+    let mut map = Counted::new(fs::open(rt, map)?);
+    let mut old = Counted::new(fs::open(rt, old)?);
+    let mut new = Counted::new(fs::open(rt, new)?);
+    Ok(continues_command::perform(rt.alloc(), &mut map, &mut old, &mut new, out))
+}
+
 fn run_on_files<R: Files + AllocGlobal, W: Write>(
     rt: &R,
     paths: [&str; 3],
@@ -291,6 +308,11 @@ pub(crate) fn files_of(
             scen.as_ref().map(|scen| file_of(Scenario, scen)),
         ),
         Line::Query { map, plan, .. } => (file_of(Map, map), Some(file_of(Plan, plan)), None),
+        Line::Continues { map, old, new } => (
+            file_of(Map, map),
+            Some(file_of(Plan, old)),
+            Some(file_of(Plan, new)),
+        ),
         Line::Run {
             map,
             plan,

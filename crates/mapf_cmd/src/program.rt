@@ -5,6 +5,7 @@ ghost use Rattle.text_io.specs.Counted.{counted_inner};
 ghost use Rattle.text_commands.specs.Ending.{end_of};
 ghost use Rattle.mapf_cmd.specs.Program.{AnswersLine, AnswersWords, Performs};
 
+use crate::blamed_plan::is_of_new;
 use crate::on_files::{files_of, perform_on_files};
 use crate::unperformed::end_unperformed;
 use command_line::{Asked, Line, line};
@@ -89,11 +90,15 @@ fn explain_fault<R: Files + AllocGlobal, E: Write>(
 )
     ensures { AddsMore (E.contents (counted_inner err.old)) (E.contents (counted_inner err.new)) }
 {
-    match files_of(line) {
-        (first, Some(second), Some(third)) => {
+    match (line, files_of(line)) {
+        (Line::Continues { map, old, new }, (first, _, Some(third)))
+            if is_of_new(rt, [map, old, new], &words) => {
+            explain(rt, &[first, third], words, style, err);
+        }
+        (_, (first, Some(second), Some(third))) => {
             explain(rt, &[first, second, third], words, style, err);
         }
-        (first, Some(second), None) => explain(rt, &[first, second], words, style, err),
-        (first, None, _) => explain(rt, &[first], words, style, err),
+        (_, (first, Some(second), None)) => explain(rt, &[first, second], words, style, err),
+        (_, (first, None, _)) => explain(rt, &[first], words, style, err),
     }
 }

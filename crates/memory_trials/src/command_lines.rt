@@ -1,8 +1,8 @@
 //! The program over its words, with fake files.
 use crate::endings::{End, Ended};
 use crate::texts::{
-    ACCEPTED, ACCEPTED_JSON, AGREES, ANSWERED, ASKED, COMPLETED, CUT, EVENTS, NEEDS, PATH, PATHS,
-    REJECTED, REPLIES, SWAP, VISITS,
+    ACCEPTED, ACCEPTED_JSON, AGREES, ANSWERED, ASKED, COMPLETED, CONTINUED, CUT, EVENTS, NEEDS,
+    PATH, PATHS, REJECTED, REPLIES, SWAP, VISITS,
 };
 use fakes::{
     BEHIND, CORNER, CORNER_WRITTEN, DiskFiles, FakeDisk, Keeper, LANE, ROW, ROW_WRITTEN, TASKS,
@@ -14,7 +14,7 @@ use std::test::Fail;
 use text_io::Counted;
 
 /// Command lines with their status and what they write.
-static LINES: [(&str, u8, &str); 16] = [
+static LINES: [(&str, u8, &str); 17] = [
     ("map C", 0, CORNER_WRITTEN),
     ("scen S", 0, ROW_WRITTEN),
     ("row C S 0", 0, AGREES),
@@ -27,13 +27,14 @@ static LINES: [(&str, u8, &str); 16] = [
     ("path M P", 0, PATHS),
     ("path M P --agent 1", 0, PATH),
     ("cut M P 1", 0, CUT),
+    ("continues M P P", 0, CONTINUED),
     ("run M P E", 0, REPLIES),
     ("run M P E --complete", 0, COMPLETED),
     ("agent M P 0 T", 0, ANSWERED),
     (
         "--version",
         0,
-        "mapf 0.1.0\nproved by rattle-kit-13f logic dac8208d650f15bf\n",
+        "mapf 0.1.0\nproved by rattle-kit-13b logic dac8208d650f15bf\n",
     ),
 ];
 

@@ -1,16 +1,16 @@
 //! Each command of the program, called as the program calls it.
 use crate::endings::{End, Ended};
 use crate::texts::{
-    ACCEPTED, ACCEPTED_JSON, AGREES, ANSWERED, ASKED, COMPLETED, CUT, EVENTS, KEPT, NEEDS, PATH,
-    PATHS, REJECTED, REJECTED_JSON, REPLIES, SWAP, VISITS,
+    ACCEPTED, ACCEPTED_JSON, AGREES, ANSWERED, ASKED, COMPLETED, CONTINUED, CUT, EVENTS, KEPT,
+    NEEDS, PATH, PATHS, REJECTED, REJECTED_JSON, REPLIES, SWAP, VISITS,
 };
 use fakes::{
     BEHIND, CORNER, CORNER_WRITTEN, DiskFiles, FakeDisk, Keeper, LANE, ROW, ROW_WRITTEN, TASKS,
 };
 use grid::Cell;
 use mapf_cmd::{
-    agent_cmd, check_cmd, check_fit_cmd, cut_cmd, deps_cell_cmd, deps_cmd, map_cmd, path_cmd,
-    row_cmd, run_cmd, scen_cmd, tape_cmd,
+    agent_cmd, check_cmd, check_fit_cmd, continues_cmd, cut_cmd, deps_cell_cmd, deps_cmd, map_cmd,
+    path_cmd, row_cmd, run_cmd, scen_cmd, tape_cmd,
 };
 use std::alloc::Global;
 use std::test::Fail;
@@ -31,6 +31,8 @@ enum Command {
     Path(Option<u16>),
     /// Cuts the plan at time 1.
     Cut,
+    /// Asks whether the plan goes on from itself.
+    Continues,
     /// Perhaps says how the run ends.
     Run(bool),
     Agent,
@@ -39,7 +41,7 @@ enum Command {
 }
 
 /// Each command with its status and what it writes: last the one that writes the tape.
-static COMMANDS: [(Command, u8, &str); 18] = [
+static COMMANDS: [(Command, u8, &str); 19] = [
     (Command::Map, 0, CORNER_WRITTEN),
     (Command::Scen, 0, ROW_WRITTEN),
     (Command::Row, 0, AGREES),
@@ -54,6 +56,7 @@ static COMMANDS: [(Command, u8, &str); 18] = [
     (Command::Path(None), 0, PATHS),
     (Command::Path(Some(1)), 0, PATH),
     (Command::Cut, 0, CUT),
+    (Command::Continues, 0, CONTINUED),
     (Command::Run(false), 0, REPLIES),
     (Command::Run(true), 0, COMPLETED),
     (Command::Tape, 0, KEPT),
@@ -98,6 +101,7 @@ fn perform_on_plan(alloc: Global, command: Command, out: &mut Out<'_>, err: &mut
         Command::DepsOfCell => deps_cell_cmd(alloc, map, plan, Cell { x: 1, y: 0 }, out, err),
         Command::Path(agent) => path_cmd(alloc, map, plan, agent, out, err),
         Command::Cut => cut_cmd(alloc, map, plan, 1, out, err),
+        Command::Continues => continues_cmd(alloc, map, plan, &mut reader(BEHIND), out, err),
         Command::Run(complete) => {
             run_cmd(alloc, map, plan, &mut reader(EVENTS), complete, out, err)
         }

@@ -42,4 +42,7 @@ pub const PATH: &str = "0 0 0\n1 1 0\n";
 /// The plan BEHIND, cut at time 1.
 pub const CUT: &str = "mapf-plan 1\nnumber 7\nagents 2\nagent 1 0 e\nagent 0 0 e\n";
 
+/// What is said of the plan BEHIND as one that goes on from itself.
+pub const CONTINUED: &str = "continues from 2, adds 0 moves\n";
+
 pub const VISITS: &str = "visit 0 0 0\nvisit 1 1 1\n";

@@ -7,6 +7,7 @@ mod StrayLemmas
 mod RowLemmas
 mod WalkLemmas
 mod CellLemmas
+mod ContinuesLemmas
 mod PathLines
 mod NumeralLemmas
 mod AskedLemmas

@@ -1,7 +1,7 @@
 -- What has to be believed, in the order in which to read it: each promise of the crate is made in these words, and in those of
 -- `model`, `planned` and `text_commands`.
 
--- the words of a plan's fault, and of why no positions are written
+-- the words of a plan's fault, and of why no positions are written, or a plan continues no other
 pub mod FaultWords
 -- what is written for a plan that was checked
 pub mod VerdictText
@@ -23,5 +23,7 @@ pub mod PathText
 pub mod PathCommand
 -- what `mapf cut` does and answers
 pub mod CutCommand
+-- what `mapf continues` does and answers
+pub mod ContinuesCommand
 -- The code's own words, of which no promise speaks.
 pub mod Code

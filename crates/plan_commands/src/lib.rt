@@ -4,6 +4,8 @@
 mod cell_text;
 pub mod check_command;
 mod check_fault;
+mod continuation_fault;
+pub mod continues_command;
 pub mod cut_command;
 pub mod deps_cell_command;
 pub mod deps_command;
@@ -20,6 +22,7 @@ mod walk;
 
 pub use check_command::{check_cmd, check_fit_cmd};
 pub use check_fault::CheckFault;
+pub use continues_command::continues_cmd;
 pub use cut_command::cut_cmd;
 pub use deps_cell_command::deps_cell_cmd;
 pub use deps_command::deps_cmd;

@@ -9,7 +9,7 @@ use Rattle.command_line.specs.declared.command_line.LineFault.TheVariants.{BadCo
 use Rattle.command_line.specs.declared.help.CommandText.{CommandText}
 use Rattle.command_line.specs.declared.help.Word.{Word}
 use Rattle.command_line.specs.declared.help.Word.TheVariants.{Cell, Flag, Named, Required}
-use Rattle.command_line.specs.Words.{commands, named_cell, named_flag, named_option, required_word}
+use Rattle.command_line.specs.Words.{Usage, command_of, commands, named_cell, named_flag, named_option, required_word}
 
 -- a fault that is no want of help
 abbrev pub IsRefusal : LineFault → Type 0
@@ -30,3 +30,7 @@ rule_of_word (Flag name help) = named_flag name.now
 -- a command as clap takes it
 abbrev pub shape_of_text : CommandText → Shape
 shape_of_text text = record (new_app text.name.now).top { rules = map rule_of_word text.words.now }
+
+-- these commands as clap takes them
+abbrev pub shapes_of : List Usage → List Shape
+shapes_of usages = map (λ u. (command_of u).top) usages

@@ -32,7 +32,7 @@ returns-in_default-clause-err c = λ words numbers. absurd (no_words c.args.name
   c.in_default.not-map,
   (
     c.in_default.not-scen,
-    (c.in_default.not-row, (c.in_default.not-check, (c.in_default.not-deps, (c.in_default.not-path, (c.in_default.not-cut, (c.in_default.not-run, (c.in_default.not-agent, (c.in_default.not-tape, tt)))))))),
+    (c.in_default.not-row, (c.in_default.not-check, (c.in_default.not-deps, (c.in_default.not-path, (c.in_default.not-cut, (c.in_default.not-continues, (c.in_default.not-run, (c.in_default.not-agent, (c.in_default.not-tape, tt))))))))),
   ),
 ) words)
 

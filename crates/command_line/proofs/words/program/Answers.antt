@@ -1,19 +1,26 @@
-use Rattle.std.proofs.Common.{◌≡◌, ◌∙◌, List, ap, map, true}
-use Rattle.std.specs.Prelude.{fold}
+-- The commands are those of the three lists, one behind another.
+use Rattle.std.proofs.Common.{◌≡◌, ◌∙◌, List, ap, ap₂, true}
+use Rattle.std.specs.Prelude.{drop, fold, take}
 use Rattle.std.proofs.lemmas.Result.{IfOk-weaker}
 use Rattle.clap.specs.Simple.{app_of_fields, on_top}
 use Rattle.clap.specs.Words.{App, Shape, app_of, with_subcommand}
-use Rattle.command_line.specs.Words.{bare_program, command_of, commands}
+use Rattle.command_line.specs.Words.{bare_program, commands, program_app}
+use Rattle.command_line.specs.Code.Parts.{shapes_of}
 use Rattle.command_line.proofs.words.program.Goals as goal
-
-abbrev shapes : List Shape
-shapes = map (λ u. (command_of u).top) commands
 
 abbrev with_version : App → App
 with_version = on_top (λ s. record s { has_version = true })
 
 abbrev with_subcommand_required : App → App
 with_subcommand_required = on_top (λ s. record s { subcommand_required = true })
+
+abbrev with_all : App → List Shape → App
+with_all app shapes = fold with_subcommand app shapes
+
+all_lists : (bare first second third : App) (xs ys zs : List Shape) → bare ≡ bare_program → first ≡ with_all bare xs → second ≡ with_all first ys
+    → third ≡ with_all second zs → xs ≡ shapes_of (take 3 commands) → ys ≡ shapes_of (take 5 (drop 3 commands)) → zs ≡ shapes_of (drop 8 commands)
+    → third ≡ program_app
+all_lists bare first second third xs ys zs b f s t x y z = t ∙ ap₂ with_all (s ∙ ap₂ with_all (f ∙ ap₂ with_all b x) y) z
 
 pub returns : goal.returns
 returns c =
@@ -24,4 +31,5 @@ returns c =
     = ap app_of_fields c.subcommand_required-program.ensures in
     let bare : app_of c.subcommand_required-program.result ≡ bare_program
     = required ∙ ap with_subcommand_required (after ∙ about ∙ version ∙ ap with_version c.new.ensures.app) in
-    IfOk-weaker c.with_commands.result _ _ (λ program is. is ∙ ap (λ a. fold with_subcommand a shapes) bare) c.with_commands.ensures
+    IfOk-weaker c.with_commands-3.result _ _ (λ program is.
+    all_lists _ _ _ _ _ _ _ bare c.in_ok-program.ensures c.in_ok-program-2.ensures is c.text_commands.ensures c.plan_commands.ensures c.run_commands.ensures) c.with_commands-3.ensures

@@ -20,6 +20,13 @@ returns-in-Query g c =
     (λ _. (c.args.input.now ≡ c.args.input.now) × (done.new.out ≡ c.args.out.now)) in
     subst Ends (sym c.in-Query.is) (MatchResult-weaker done.result done.ensures (λ _ on. (on, refl)) (λ _ kept. (refl, kept)))
 
+pub returns-in-Continues : goal.returns-in-Continues
+returns-in-Continues g c =
+    let done = c.continues_on_files in
+    let Ends : Line → Type 0 = λ line. MatchResult done.result (λ ending. PerformsOn g.R.File.Read.remaining g.I.Read.remaining g.W.Write.contents line c.args.input.now c.args.input.now c.args.out.now done.new.out (end_of ending))
+    (λ _. (c.args.input.now ≡ c.args.input.now) × (done.new.out ≡ c.args.out.now)) in
+    subst Ends (sym c.in-Continues.is) (MatchResult-weaker done.result done.ensures (λ _ on. (on, refl)) (λ _ kept. (refl, kept)))
+
 pub returns-in-Run : goal.returns-in-Run
 returns-in-Run g c =
     let done = c.run_on_files in
