@@ -1,7 +1,7 @@
 #!/usr/bin/env python3
 """Converts what planners write to a plan, `mapf-plan 1`, and back. docs/CONVERTING.md says more.
 
-Usage: convert.py FILE [-o PLAN] [--from FORMAT] [--map MAP] [--scen SCEN] [--number N]
+Usage: convert.py FILE [-o PLAN] [--from FORMAT] [--map MAP] [--scen SCEN] [--number N|new]
                        [--fill-waits]
        convert.py PLAN --to FORMAT [-o FILE] [--map MAP] [--scen SCEN]
        convert.py MAP [-o MAP]
@@ -22,6 +22,7 @@ Status 0: done. 1: a text has a fault, told in one line as `FILE:LINE: what is w
 import argparse
 import contextlib
 import pathlib
+import secrets
 import shutil
 import sys
 from typing import Optional, Sequence
@@ -37,6 +38,8 @@ from whole_file import Draft, draft  # noqa: E402
 
 ROOT = pathlib.Path(__file__).resolve().parent.parent
 REFUSED, BAD_LINE, FAILED = 1, 2, 3
+# In place of a number: one that nobody had before.
+NEW = "new"
 
 
 class BadLine(Exception):
@@ -56,8 +59,10 @@ def say(text: str) -> None:
 
 
 def number(word: str) -> int:
+    if word == NEW:
+        return secrets.randbelow(MOST_NUMBER + 1)
     if not word.isascii() or not word.isdigit() or int(word[:20]) > MOST_NUMBER:
-        raise argparse.ArgumentTypeError(f"a number from 0 to {MOST_NUMBER} is wanted, and '{word[:40]}' is none")
+        raise argparse.ArgumentTypeError(f"a number from 0 to {MOST_NUMBER} or '{NEW}' is wanted, and '{word[:40]}' is neither")
     return int(word)
 
 
@@ -92,7 +97,7 @@ def read_words(words: Sequence[str]) -> argparse.Namespace:
     parser.add_argument("--to", choices=names, metavar="FORMAT", help="converts a plan to this format")
     parser.add_argument("--map", metavar="MAP", help="the map of the plan; what it doesn't allow is said")
     parser.add_argument("--scen", metavar="SCEN", help="the scenario that the plan is to solve")
-    parser.add_argument("--number", type=number, metavar="N", help="the plan's number (CRC-32 of its text with number 0)")
+    parser.add_argument("--number", type=number, metavar="N", help=f"the plan's number, or {NEW}: one that is drawn, for a plan to drive (CRC-32 of its text with number 0)")
     parser.add_argument("--fill-waits", action="store_true", help="an agent waits at times that a schedule leaves out")
     parser.add_argument("--program", type=pathlib.Path, default=ROOT / "mapf", metavar="PATH", help="the program mapf (that of this checkout)")
     page = "shows what is to be known of a format, and ends"

@@ -8,6 +8,7 @@ from typing import IO, Callable, Optional, Sequence
 from black_box import Note, nowhere
 
 STORE_FAILED = "refused StoreFailed"
+STALE_TAPE = "refused StaleTape"
 # Seconds after which a lock that is held is asked for again.
 LOOK = 0.05
 
@@ -22,6 +23,13 @@ class Unfit(Exception):
     def __init__(self, status: int):
         super().__init__(f"its agent doesn't start (status {status})")
         self.status = status
+
+
+class Stale(Exception):
+    """Somebody says that the robot has finished more moves than its tape has, which is an older one: no start mends that."""
+
+    def __init__(self, answer: str):
+        super().__init__(f"its tape is an older one ({answer})")
 
 
 class Lock:

@@ -64,6 +64,9 @@ def said_by(process: "subprocess.Popen[bytes]") -> str:
 class Run:
     """The processes of a run, in a folder of its own."""
 
+    # What else the watcher is told.
+    watcher_words: Sequence[str] = ()
+
     def __init__(self, settings: Settings, place: Place, cables: Cables, broker: Optional[Broker], seed: int, folder: pathlib.Path):
         self.settings, self.place, self.cables, self.broker, self.seed, self.folder = settings, place, cables, broker, seed, folder
         self.plan, self.log, self.replies, self.socket = (folder / name for name in ("run.plan", "run.events", "run.replies", "watcher"))
@@ -84,22 +87,26 @@ class Run:
             if ended.returncode:
                 raise Failed(f"the tape of robot {robot} isn't made (status {ended.returncode})")
 
+    def plan_of(self, robot: int) -> pathlib.Path:
+        """The plan by which a robot drives: all have one."""
+        return self.plan
+
     def agent_words(self, robot: int) -> list[str]:
         settings = self.settings
-        return [settings.program, "agent", str(settings.map), str(self.plan), str(robot), str(self.tape(robot))]
+        return [settings.program, "agent", str(settings.map), str(self.plan_of(robot)), str(robot), str(self.tape(robot))]
 
     def _start_watcher(self) -> "subprocess.Popen[bytes]":
         settings = self.settings
         words = [sys.executable, HERE / "watcher.py", settings.map, self.plan, self.socket, "--log", self.log, "--replies", self.replies]
         words += ["--moves", settings.moves, "--slips", settings.slips, "--seed", self.seed, "--program", settings.program]
-        command = [*map(str, words), *(["--tell"] if settings.tells else [])]
+        command = [*map(str, words), *(["--tell"] if settings.tells else []), *self.watcher_words]
         process = subprocess.Popen(command, stdin=subprocess.PIPE, stdout=subprocess.PIPE, start_new_session=True)
         os.set_blocking(process.stdout.fileno(), False)
         return process
 
     def words_of(self, robot: int) -> list[str]:
         settings, place = self.settings, self.place
-        words = [settings.python, HERE / "robot.py", settings.map, self.plan, robot, self.tape(robot), "--drive", self.socket]
+        words = [settings.python, HERE / "robot.py", settings.map, self.plan_of(robot), robot, self.tape(robot), "--drive", self.socket]
         words += ["--every", settings.every, "--program", settings.program, *(["--tell"] if settings.tells else [])]
         words += ["--box", settings.boxes / f"{robot}.box"] if settings.boxes else []
         if settings.link == "mqtt":
@@ -183,6 +190,10 @@ class Run:
                 harm.do_what_is_due()
         return True
 
+    def is_over(self) -> bool:
+        """Whether the watcher says that all have arrived."""
+        return "arrived" in self.told
+
     def drive(self) -> dict[str, str]:
         """Runs the fleet until all have arrived, or the time is over, and answers what was counted."""
         if not self.wait_for(lambda: "ready" in self.told, GRACE):
@@ -192,7 +203,7 @@ class Run:
             self.start_robot(robot)
         harm = Harm(self.settings.rates, self.settings.robots, self.cable_names(), self.seed, self)
         try:
-            arrived = self.wait_for(lambda: "arrived" in self.told, self.settings.limit, harm)
+            arrived = self.wait_for(self.is_over, self.settings.limit, harm)
         finally:
             harm.undo()
         after = self.cables.counts()

@@ -35,10 +35,14 @@ def cell_of(words: Sequence[str]) -> Cell:
     return int(words[0]), int(words[1])
 
 
+# Refusals that hang on where a plan ends: another plan may not give them.
+RIM = ("refused AtEnd", "refused Waits ")
+
+
 class Journal:
-    def __init__(self, starts: Sequence[Cell], version: int, events: IO[str], replies: IO[str]):
+    def __init__(self, starts: Sequence[Cell], version: int, events: IO[str], replies: IO[str], has_many_plans: bool = False):
         self.agents = [Known(start) for start in starts]
-        self.events, self.replies = events, replies
+        self.events, self.replies, self.has_many_plans = events, replies, has_many_plans
         # The last message with these digits, counted as messages of a run are.
         self.message: dict[str, int] = {}
         self.said = self.heard = self.restarts = self.unreported = 0
@@ -82,6 +86,8 @@ class Journal:
         known = self.agents[robot]
         if answer == STORE_FAILED:
             known.failed = "start"
+            return
+        if self.has_many_plans and answer.startswith(RIM):
             return
         self.put(f"start {robot}", answer)
         if answer.startswith("moving "):

@@ -6,8 +6,8 @@ Usage: robot.py MAP PLAN ID TAPE --drive SOCKET --listen HOST:PORT (--peers HOST
 
 It knows its own agent, its own drive and a link on which it says what it has finished and hears what others say; it may be killed at any moment
 and started again. Its tape was made before, once, by `mapf agent MAP PLAN ID TAPE --tape new`. What arrives on the link is given to the agent alone:
-bytes that are no message of the plan are dropped, and the tenth of a kind is told, the hundredth and so on. As a service of systemd it says that it
-lives.
+bytes that are no message of the plan are dropped, and the tenth of a kind is told, the hundredth and so on. Where another plan, one that goes on from
+the one before, is put in the place of PLAN (by a rename), it goes over to that between two questions. As a service of systemd it says that it lives.
 
 Status 1: the map, the plan or the tape has a fault. 2: a bad command line. 3: a file, a socket or a program failed. It ends when it is asked to.
 """
@@ -15,6 +15,7 @@ import argparse
 import collections
 import contextlib
 import dataclasses
+import os
 import random
 import selectors
 import sys
@@ -23,7 +24,7 @@ from typing import Counter, Optional, Sequence, Union
 
 sys.dont_write_bytecode = True
 from addresses import address, addresses  # noqa: E402
-from agent import STORE_FAILED, Agent, Ended, Lock, Unfit  # noqa: E402
+from agent import STALE_TAPE, STORE_FAILED, Agent, Ended, Lock, Stale, Unfit  # noqa: E402
 from black_box import note_of  # noqa: E402
 from drive import Cell, NoDrive, Wire  # noqa: E402
 from leaving import heed_signals  # noqa: E402
@@ -111,6 +112,27 @@ class Dropped:
             print(f"robot {self.robot}: {self.counts[kind]} messages were dropped: {kind}", file=sys.stderr, flush=True)
 
 
+class PlanFile:
+    """The file of the plan, and whether there is another one in its place since an agent was started."""
+
+    def __init__(self, path: str):
+        self.path = path
+        self.last = self._look()
+
+    def _look(self) -> tuple[int, int, int]:
+        found = os.stat(self.path)
+        return found.st_dev, found.st_ino, found.st_mtime_ns
+
+    def take(self) -> None:
+        self.last = self._look()
+
+    def is_another(self) -> bool:
+        # While it is being replaced in some other way there may be none.
+        with contextlib.suppress(FileNotFoundError):
+            return self._look() != self.last
+        return False
+
+
 @dataclasses.dataclass(frozen=True)
 class World:
     """What a robot keeps while one agent ends and the next is started."""
@@ -119,6 +141,7 @@ class World:
     wire: Wire
     supervisor: Supervisor
     dropped: Dropped
+    plan: PlanFile
 
 
 class Robot:
@@ -126,6 +149,7 @@ class Robot:
 
     def __init__(self, given: argparse.Namespace, world: World, agent: Agent):
         self.link, self.wire, self.supervisor, self.dropped, self.agent = world.link, world.wire, world.supervisor, world.dropped, agent
+        self.plan = world.plan
         self.question, self.every = "tell" if given.tell else "say", given.every
         # Where the drive is to go, and whether something has changed since a start was refused.
         self.target: Optional[Cell] = None
@@ -169,6 +193,8 @@ class Robot:
             self.may_start = True
         else:
             self.wire.tell(f"dropped {answer}")
+            if answer.startswith(STALE_TAPE):
+                raise Stale(answer)
             self.dropped.take(answer)
 
     def start(self) -> None:
@@ -201,12 +227,12 @@ class Robot:
             self.say()
 
     def live(self) -> None:
-        """Until the agent ends, or the robot is asked to."""
+        """Until the agent ends, there is another plan, or the robot is asked to end."""
         self.begin()
         with selectors.DefaultSelector() as selector:
             for source in (self.agent, self.link, self.wire):
                 selector.register(source.fileno(), selectors.EVENT_READ, source)
-            while True:
+            while not self.plan.is_another():
                 self.do_what_is_due()
                 self.supervisor.lives()
                 due = self.says_at if self.target is None else min(self.says_at, self.goes_at)
@@ -227,8 +253,9 @@ def drive(given: argparse.Namespace) -> None:
     note = note_of(given.box, given.id, (given.map, given.plan))
     words = [given.program, "agent", given.map, given.plan, str(given.id)]
     with contextlib.closing(link_of(given)) as link:
-        world = World(link, Wire(given.drive, given.id), supervisor, Dropped(given.id))
+        world = World(link, Wire(given.drive, given.id), supervisor, Dropped(given.id), PlanFile(given.plan))
         while True:
+            world.plan.take()
             with contextlib.suppress(Ended):
                 agent = Agent([*words, given.tape, "--tape", "kept", "--explain"], lock, note)
                 try:
@@ -244,7 +271,7 @@ def main(words: Sequence[str]) -> int:
         drive(given)
     except Unfit as fault:
         why, status = str(fault), fault.status
-    except (NoClient, NoBroker, NoDrive, Misplaced) as fault:
+    except (NoClient, NoBroker, NoDrive, Misplaced, Stale) as fault:
         why, status = str(fault), FAILED
     except OSError as fault:
         where = fault.filename or (given.listen and "{}:{}".format(*given.listen)) or given.tape

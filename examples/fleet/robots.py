@@ -1,11 +1,12 @@
 #!/usr/bin/env python3
 """Drives a fleet of robots, each a process of its own with `mapf agent` beside it, over a real link, and holds what came of it against `mapf run`.
 
-Usage: robots.py [--link udp|multicast|mqtt] [--tell] [--robots N] [--seed N] [--kills RATE] [--stops RATE] [--seconds S] [OPTIONS]
+Usage: robots.py [--link udp|multicast|mqtt] [--tell] [--robots N] [--seed N] [--kills RATE] [--stops RATE] [--seconds S] [--orders N] [OPTIONS]
 
-All run on this machine, over its loopback; network.sh gives each a network of its own. Each run has a plan with a fresh number, which all its robots
-get, so that nothing said in another run is heard. With --seconds a fleet that has arrived is started again, until so much time is over. A line of
-names and numbers is written for each run, and one of their sums.
+All run on this machine, over its loopback; network.sh gives each a network of its own. Each run has a plan with a number that is drawn for it, which all
+its robots get, so that nothing said in another run is heard. With --seconds a fleet that has arrived is started again, until so much time is over. A line of
+names and numbers is written for each run, and one of their sums. With --orders the robots carry out N orders in each run, without a stop: they get plan
+after plan, each of which goes on from the one before, and the log is held against the last one.
 
 Status 0: all have arrived, no two were in one cell, and `mapf run` answers the log as the robots were answered. 1: they weren't, or it doesn't.
 2: a bad command line. 3: something failed, is not here, or the time of a run was over.
@@ -16,6 +17,8 @@ import contextlib
 import dataclasses
 import itertools
 import pathlib
+import random
+import secrets
 import shutil
 import socket
 import subprocess
@@ -30,6 +33,8 @@ import cables as cable_kinds  # noqa: E402
 from addresses import Address, address  # noqa: E402
 from broker import Broker, NoBroker  # noqa: E402
 from fleet_run import Failed, Run, Settings, Wrong  # noqa: E402
+from ordered_run import OrderedRun  # noqa: E402
+from orders import NoPlan, Orders  # noqa: E402
 from leaving import heed_signals  # noqa: E402
 from places import Loopback, Namespaces, NoRoom, Place  # noqa: E402
 from program import usual_program  # noqa: E402
@@ -39,6 +44,8 @@ WRONG, FAILED = 1, 3
 DEBIAN_PYTHON = "/usr/bin/python3"
 # Seconds within which a broker answers.
 PATIENCE = 5
+# How many numbers a plan may have.
+NUMBERS = 1 << 32
 
 
 def amount(word: str) -> float:
@@ -49,8 +56,8 @@ def amount(word: str) -> float:
 
 
 def plan_number(word: str) -> int:
-    if not word.isascii() or not word.isdigit() or int(word[:20]) >= 1 << 32:
-        raise argparse.ArgumentTypeError(f"a number below {1 << 32} is wanted, and '{word[:40]}' is none")
+    if not word.isascii() or not word.isdigit() or int(word[:20]) >= NUMBERS:
+        raise argparse.ArgumentTypeError(f"a number below {NUMBERS} is wanted, and '{word[:40]}' is none")
     return int(word)
 
 
@@ -68,7 +75,8 @@ def read_words(words: Sequence[str]) -> argparse.Namespace:
     parser.add_argument("--every", type=amount, default=0.2, metavar="S", help="a robot speaks so often, and behind each move (%(default)g seconds)")
     parser.add_argument("--limit", type=amount, default=300.0, metavar="S", help="the longest time of a run (%(default)g seconds)")
     parser.add_argument("--seconds", type=amount, default=0.0, metavar="S", help="starts again until so much time is over (0: one run)")
-    parser.add_argument("--number", type=plan_number, metavar="N", help="the plan number of the first run; the others count on (the seconds since 1970)")
+    parser.add_argument("--orders", type=int, metavar="N", help="how many orders are carried out in a run (the robots drive the plan)")
+    parser.add_argument("--number", type=plan_number, metavar="N", help="the plan number of the first run; the others count on (each is drawn)")
     parser.add_argument("--broker", type=address, metavar="HOST:PORT", help="a broker that is there (one is started)")
     parser.add_argument("--port", type=int, default=0, metavar="N", help="the first of the ports on this machine (any that are free)")
     parser.add_argument("--keep", type=pathlib.Path, metavar="FOLDER", help="keeps the plan, the log and the replies of each run there")
@@ -81,6 +89,8 @@ def read_words(words: Sequence[str]) -> argparse.Namespace:
     given = parser.parse_args(words)
     if given.robots is not None and given.robots < 1:
         parser.error("--robots: a number above 0 is wanted")
+    if given.orders is not None and (given.orders < 1 or given.boxes):
+        parser.error("--orders: a number above 0 is wanted, and no --boxes, since a box is of one plan")
     if given.cuts and not given.cables:
         parser.error("--cuts: there are no cables here, which network.sh makes")
     if given.port and not 1024 <= given.port < 65_000:
@@ -115,13 +125,9 @@ def look_for_broker(where: Address) -> None:
 
 
 def fresh_numbers(first: Optional[int]) -> Iterator[int]:
-    """The next second since 1970, once it has begun: so no run has a number of one before it, also where that was stopped at once."""
+    """A number that is drawn for each run, so that nobody had it before, whatever clocks say."""
     for number in itertools.count(first or 0):
-        if first is None:
-            number = int(time.time()) + 1
-            while time.time() < number:
-                time.sleep(max(number - time.time(), 0))
-        yield number % (1 << 32)
+        yield (secrets.randbelow(NUMBERS) if first is None else number) % NUMBERS
 
 
 def check_plan(settings: Settings, given: pathlib.Path, plan: pathlib.Path, nothing: pathlib.Path) -> None:
@@ -151,11 +157,7 @@ class Fleet:
 
     def run(self, number: int, seed: int, broker: Optional[Broker]) -> None:
         with tempfile.TemporaryDirectory(prefix="mapf-fleet-") as name:
-            folder = pathlib.Path(name)
-            text = "\n".join(["mapf-plan 1", f"number {number}", f"agents {len(self.courses)}", *self.courses, ""])
-            (folder / "run.plan").write_text(text, encoding="ascii")
-            check_plan(self.settings, self.given.plan, folder / "run.plan", folder / "nothing")
-            run = Run(self.with_boxes(number, folder / "run.plan"), self.place, self.cables, broker, seed, folder)
+            run = (self._ordered_run if self.given.orders else self._run)(number, seed, broker, pathlib.Path(name))
             try:
                 counted = run.drive()
                 has_arrived = counted["arrived"] != "0"
@@ -168,6 +170,19 @@ class Fleet:
         self.unfinished += not has_arrived
         self.sums.update({name: float(value) for name, value in counted.items()})
         print(f"run {number} seed {seed}", *(f"{name} {value}" for name, value in counted.items()), flush=True)
+
+    def _run(self, number: int, seed: int, broker: Optional[Broker], folder: pathlib.Path) -> Run:
+        text = "\n".join(["mapf-plan 1", f"number {number}", f"agents {len(self.courses)}", *self.courses, ""])
+        (folder / "run.plan").write_text(text, encoding="ascii")
+        check_plan(self.settings, self.given.plan, folder / "run.plan", folder / "nothing")
+        return Run(self.with_boxes(number, folder / "run.plan"), self.place, self.cables, broker, seed, folder)
+
+    def _ordered_run(self, number: int, seed: int, broker: Optional[Broker], folder: pathlib.Path) -> Run:
+        """From where the plan has its agents begin, with the first orders."""
+        starts = [(int(x), int(y)) for _, x, y, *_ in map(str.split, self.courses)]
+        orders = Orders(self.settings.program, self.settings.map, folder, number, starts, random.Random(f"orders {seed}"))
+        orders.give_out()
+        return OrderedRun(orders, self.given.orders, self.settings, self.place, self.cables, broker, seed, folder=folder)
 
     def with_boxes(self, number: int, plan: pathlib.Path) -> Settings:
         """The settings of a run, with a new folder for its boxes where these are wanted."""
@@ -224,7 +239,7 @@ def main(words: Sequence[str]) -> int:
     except Wrong as fault:
         print(f"robots: {fault}", file=sys.stderr)
         return WRONG
-    except (Failed, NoBroker, NoRoom, cable_kinds.Broken) as fault:
+    except (Failed, NoBroker, NoPlan, NoRoom, cable_kinds.Broken) as fault:
         print(f"robots: {fault}", file=sys.stderr)
     except OSError as fault:
         print(f"robots: {fault.filename or given.plan}: {fault.strerror or fault}", file=sys.stderr)

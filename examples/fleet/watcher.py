@@ -6,6 +6,7 @@ Usage: watcher.py MAP PLAN SOCKET --log EVENTS --replies REPLIES [--tell] [--mov
 Each drive says here, directly and in order, which cell it enters before it moves, and which it has left after it arrived: no two may ever be in one
 cell. What robots report comes in one queue too, and becomes the events of the run (`mapf-events 1`, with --tell 2) and the replies that were seen: so
 `mapf run` has to answer the events by just these replies. When all agents are at their ends, it says so in a line, and goes on until its input ends.
+With --orders plans follow one another: PLAN is the first, and what hangs on the end of one is no part of the log.
 
 Status 0: all have arrived. 1: two robots were in one cell, a drive moved without leave, or a report can't be true. 3: a file failed, or not all have
 arrived.
@@ -47,6 +48,7 @@ def read_words(words: Sequence[str]) -> argparse.Namespace:
     parser.add_argument("--moves", type=float, default=0.05, metavar="S", help="how long a move takes, in the mean (%(default)g seconds)")
     parser.add_argument("--slips", type=float, default=0.05, metavar="RATE", help="how many moves slip (%(default)g)")
     parser.add_argument("--seed", type=int, default=1)
+    parser.add_argument("--orders", action="store_true", help="the robots get plans that go on from PLAN")
     parser.add_argument("--program", default=usual_program(), metavar="PATH", help="the program mapf (%(default)s)")
     return parser.parse_args(words)
 
@@ -153,7 +155,7 @@ class Watcher:
 
     def look_for_the_end(self) -> None:
         """Says once that all are at their ends."""
-        if self.arrived_after or not all(known.is_at_end for known in self.journal.agents):
+        if self.given.orders or self.arrived_after or not all(known.is_at_end for known in self.journal.agents):
             return
         astray = [drive for drive, goal in zip(self.drives, self.goals) if drive.cell != goal or drive.to is not None]
         if astray:
@@ -194,13 +196,14 @@ def watch(given: argparse.Namespace) -> int:
         with socket.socket(socket.AF_UNIX, socket.SOCK_DGRAM) as queue:
             queue.bind(given.socket)
             try:
-                watcher = Watcher(given, Journal(starts, 2 if given.tell else 1, events, replies), goals, queue)
+                journal = Journal(starts, 2 if given.tell else 1, events, replies, given.orders)
+                watcher = Watcher(given, journal, goals, queue)
                 print("ready", flush=True)
                 watcher.watch()
             finally:
                 os.unlink(given.socket)
         print(watcher.summary(), flush=True)
-    return 0 if watcher.arrived_after else FAILED
+    return 0 if watcher.arrived_after or given.orders else FAILED
 
 
 def main(words: Sequence[str]) -> int:
