@@ -9,6 +9,7 @@ from texts import (
     CORNER_WRITTEN,
     LANE,
     NOBODY,
+    ONWARD,
     RELAY,
     ROW,
     ROW_WRITTEN,
@@ -129,6 +130,26 @@ RUNNING = ("run M P E", "agent M P 0 T", "agent M P 65535 T")
 
 # Plans that are not valid on the map LANE: a verdict of `check` alone, and a fault of the other commands.
 PLAN_FAULTS = [(SWAP, "Swap 0 1 0"), (VERTEX, "Vertex 0 1 2 0 0"), (plan("0 1 ="), "BadStart 0"), (plan("0 0 -n"), "BadMove 0 1")]
+
+# Plans on the map LANE, and what is told of them: waits at an end count, and the first time comes before the first agent.
+CONTINUATIONS = [
+    (BEHIND, BEHIND, "continues from 2, adds 0 moves\n"),
+    (BEHIND, ONWARD, "continues from 2, adds 2 moves\n"),
+    (ONWARD, BEHIND, "Departs 0 4"),
+    (NOBODY, NOBODY, "continues from 0, adds 0 moves\n"),
+    (plan("1 0 =", "0 0 ="), BEHIND, "continues from 0, adds 2 moves\n"),
+    (plan("1 0 e", "0 0 e"), ONWARD, "continues from 1, adds 2 moves\n"),
+    (plan("1 0 e---", "0 0 e"), ONWARD, "Departs 0 4"),
+    (plan("1 0 e---", "0 0 e-----"), BEHIND, "continues from 6, adds 0 moves\n"),
+    (plan("1 0 e", "0 0 --"), plan("1 0 -e", "0 0 -"), "Departs 0 1"),
+    (plan("2 0 =", "0 0 --"), plan("2 0 -w", "0 0 ="), "Departs 0 2"),
+    (plan("2 0 =", "0 0 ---"), plan("2 0 --w", "0 0 ew"), "Departs 1 1"),
+    (plan("2 0 =", "1 0 ="), plan("1 0 =", "2 0 ="), "Departs 0 0"),
+    (plan("2 0 =", "1 0 ="), plan("2 0 =", "0 0 ="), "Departs 1 0"),
+    (plan("2 0 =", number=0), plan("1 0 =", "0 0 =", number=4_294_967_295), "OtherNumber"),
+    (plan("2 0 ="), plan("1 0 =", "0 0 ="), "OtherCount"),
+    (BEHIND, NOBODY, "OtherCount"),
+]
 
 DEPS = [
     (LANE, BEHIND, "agents 2 moves 2 needs 1 rotations 0\nneed 1 0 0 1\n"),
@@ -514,6 +535,31 @@ TOLD_TURNS = [
     ("tell", "said 46020001000000070002000000000001000100000001"),
 ]
 
+# What is said to agent 0, which makes one move, by how many moves it has finished: how it answers, and by whom its tape is found to be an older one where it was kept.
+STALE_WORDS: list[tuple[int, str, str, Optional[int]]] = [
+    (0, "460100000000000700000000", "heard 0 0", None),
+    (0, "460100000000000700000001", "heard 0 1", 0),
+    (1, "460100000000000700000001", "heard 0 1", None),
+    (0, "460100010000000700000001", "heard 1 1", None),
+    (0, "46020000000000070000", "heard 0 0", None),
+    (0, "46020000000000070001000000000001", "heard 0 1", 0),
+    (1, "46020000000000070001000000000001", "heard 0 1", None),
+    (0, "46020001000000070001000000000001", "heard 1 0", 1),
+    (0, "46020001000000070002000000000001000100000001", "heard 1 1", 1),
+    (1, "46020001000000070002000000000001000100000001", "heard 1 1", None),
+    (0, "46020001000000070001000100000001", "heard 1 1", None),
+    # What refuses the message comes first.
+    (0, "460100000000000700000002", "refused TooMany", None),
+    (0, "46020001000000070002000000000002000100000001", "refused TooMany", None),
+    (0, "46020001000000070002000000000001000100000002", "refused TooMany", None),
+    (0, "46020002000000070001000000000001", "refused NoSuchAgent", None),
+    (0, "46020001000000070002000000000001000200000001", "refused NoSuchAgent", None),
+    (0, "46020001000000080001000000000001", "refused WrongPlan", None),
+    (0, "460100000000000800000001", "refused WrongPlan", None),
+    (0, "46020001000000070002000100000001000000000001", "refused BadEntry 1", None),
+    (0, "4602000100000007000100000000000100", "refused BadLength", None),
+]
+
 # Lines that are not understood.
 NO_REQUESTS = [
     *(b"", b" ", b"\0", b"\xff", b"s", b"star", b"starts", b"Start", b"START", b" start", b"start ", b"start\r", b"start\0", b"start 0"),
@@ -616,6 +662,18 @@ def of_cuts(harness: Harness) -> Iterator[Outcome]:
             yield asked(harness, f"cut M P {time}", {"M": LANE, "P": text}, due)
 
 
+def of_continuations(harness: Harness) -> Iterator[Outcome]:
+    """Which fault is told where there are several: those of texts before those of plans, the old plan's before the new one's."""
+    for map_text, text, fault in TEXT_FAULTS:
+        for words, other in (("continues M P Q", "no plan"), ("continues M Q P", SWAP)):
+            yield asked(harness, words, {"M": map_text, "P": text, "Q": other}, answer(1, fault))
+    for text, fault in PLAN_FAULTS:
+        for words, other in (("continues M P Q", plan("2 0 e")), ("continues M Q P", NOBODY), ("continues M P P", NOBODY)):
+            yield asked(harness, words, {"M": LANE, "P": text, "Q": other}, answer(1, fault))
+    for old, new, text in CONTINUATIONS:
+        yield asked(harness, "continues M P Q", {"M": LANE, "P": old, "Q": new}, answer(0 if text.endswith("\n") else 1, text))
+
+
 def of_checks(harness: Harness) -> Iterator[Outcome]:
     for text, status, words, numbers in VERDICTS:
         files = {"M": LANE, "P": text, "S": "no scenario"}
@@ -706,6 +764,26 @@ def of_claims(harness: Harness) -> Iterator[Outcome]:
         yield compared(f"{name}, of no agent", shown(["mapf", *words]), (ended, now), (Ended(1, b"", b"mapf: NoSuchAgent\n"), left))
 
 
+def of_stale_tapes(harness: Harness) -> Iterator[Outcome]:
+    """Somebody says that agent 0 has finished more moves than its tape has: over a kept tape it ends, and over any other it hears that as before."""
+    for done, digits, reply, sender in STALE_WORDS:
+        tape, at = ((MOVING + STANDING, "at 2 0 done 1") if done else (b"", "at 1 0 done 0"))
+        given = lines(f"hear {digits}", "say", "held")
+        heard = Ended(0, lines(at, reply, f"said 46010000000000070000000{done}", at), b"")
+        ended = heard if sender is None else Ended(3, lines(at, f"refused StaleTape {sender} 1"), b"")
+        for claim, due in (([], heard), (["--tape", "kept"], ended), *([] if done else [(["--tape", "new"], heard)])):
+            folder = harness.folder({"M": LANE.encode(), "P": BEHIND.encode(), "T": tape})
+            words = ["agent", "M", "P", "0", "T", *claim]
+            found = harness.mapf(words, given, folder)
+            name = f"agent 0, done {done}, {' '.join(claim)}, hears {digits}"
+            yield compared(name, shown(["mapf", *words], given), (found, (folder / "T").read_bytes()), (due, tape))
+    # On the way too, and behind what was heard; a last line needs no LF.
+    folder, words = harness.folder({"M": LANE.encode(), "P": BEHIND.encode(), "T": MOVING}), ["agent", "M", "P", "0", "T", "--tape", "kept"]
+    given = b"hear 460100010000000700000001\nhear 460100000000000700000001"
+    due = Ended(3, lines("between 1 0 2 0 done 0", "heard 1 1", "refused StaleTape 0 1"), b"")
+    yield ended_as("a stale tape of an agent on its way", shown(["mapf", *words], given), harness.mapf(words, given, folder), due)
+
+
 def talked(harness: Harness, agent: int, tape: bytes, given: bytes, due: Ended, left: bytes) -> Outcome:
     """Runs an agent of the plan BEHIND over a tape file, and compares all that it did, and what the file has then."""
     folder = harness.folder({"M": LANE.encode(), "P": BEHIND.encode(), "T": tape})
@@ -789,6 +867,8 @@ def outcomes(harness: Harness) -> Iterator[Outcome]:
     yield from of_maps_and_rows(harness)
     yield from of_checks(harness)
     yield from of_cuts(harness)
+    yield from of_continuations(harness)
     yield from of_graphs_and_runs(harness)
     yield from of_agents(harness)
     yield from of_claims(harness)
+    yield from of_stale_tapes(harness)

@@ -12,6 +12,8 @@ FILES = {
     "E": b"mapf-events 1\nstart 0\n",
     # A plan without agents, whose runs end in one way only.
     "O": b"mapf-plan 1\nnumber 7\nagents 0\n",
+    # A plan that goes on from P.
+    "Q": b"mapf-plan 1\nnumber 7\nagents 2\nagent 1 0 e--w\nagent 0 0 e--w\n",
     # A tape on which nothing is kept yet.
     "K": b"",
 }
@@ -28,6 +30,7 @@ ROW_OF_1 = "0 0 0\n1 1 0\n"
 CUT_AT_0 = "mapf-plan 1\nnumber 7\nagents 2\nagent 1 0 =\nagent 0 0 =\n"
 CUT_AT_1 = "mapf-plan 1\nnumber 7\nagents 2\nagent 1 0 e\nagent 0 0 e\n"
 UNCUT = "mapf-plan 1\nnumber 7\nagents 2\nagent 1 0 e-\nagent 0 0 e\n"
+CONTINUES = "continues from 2, adds 2 moves\n"
 KEPT = "at 1 0 done 0\nrecords 0 torn 0\n"
 
 # Words that are a command, and what it writes. After `--` each word is a word, and none an option.
@@ -101,6 +104,13 @@ COMMANDS = [
     ("cut M P 65536", UNCUT),
     ("cut M P 4294967295", UNCUT),
     ("cut M P 1 --explain", CUT_AT_1),
+    ("continues M P Q", CONTINUES),
+    ("continues M -- --json Q", CONTINUES),
+    ("continues -- -h P Q", CONTINUES),
+    ("continues M P P", "continues from 2, adds 0 moves\n"),
+    ("continues M O O", "continues from 0, adds 0 moves\n"),
+    ("continues M P Q --explain", CONTINUES),
+    ("continues --explain M P Q", CONTINUES),
     ("run M P E", "moving 2 0\n"),
     ("run M P -", "moving 2 0\n"),
     ("run -- -h --json -", "moving 2 0\n"),
@@ -157,6 +167,11 @@ OTHER_FILES = [
     ("path P M --agent 2", 1, "BadHeader 1"),
     ("cut P M 0", 1, "BadHeader 1"),
     ("cut M M 0", 1, "BadHeader 1"),
+    ("continues M Q P", 1, "Departs 0 4"),
+    ("continues M O P", 1, "OtherCount"),
+    ("continues P P Q", 1, "BadHeader 1"),
+    ("continues M M Q", 1, "BadHeader 1"),
+    ("continues M P M", 1, "BadHeader 1"),
     ("run P M E", 1, "BadHeader 1"),
     ("run M E P", 1, "BadHeader 1"),
     ("run M P P", 1, "NoHeader"),
@@ -186,6 +201,10 @@ OTHER_FILES = [
     ("path M N --agent 0", 3, "OpenFailed"),
     ("cut N P 0", 3, "OpenFailed"),
     ("cut M N 0", 3, "OpenFailed"),
+    ("continues N P Q", 3, "OpenFailed"),
+    ("continues M N Q", 3, "OpenFailed"),
+    ("continues M P N", 3, "OpenFailed"),
+    ("continues S S N", 3, "OpenFailed"),
     ("run N P E", 3, "OpenFailed"),
     ("run M N E", 3, "OpenFailed"),
     ("run S S N", 3, "OpenFailed"),
@@ -329,6 +348,11 @@ BAD = [
     ("cut M P 1x", "'1x'", "from 0 to 4294967295"),
     ("cut M P 4294967296", "'4294967296'", "from 0 to 4294967295"),
     ("cut M P --agent 0 1", "'--agent'", "Usage: mapf cut"),
+    ("continues", "<map>", "Usage: mapf continues <map> <old> <new>"),
+    ("continues M", "<old>", "Usage: mapf continues <map> <old> <new>"),
+    ("continues M P", "<new>", "Usage: mapf continues <map> <old> <new>"),
+    ("continues M P Q Q", "'Q'", "Usage: mapf continues [OPTIONS] <map> <old> <new>"),
+    ("continues M P Q --json", "'--json'", "Usage: mapf continues"),
     ("deps M P --agent 0", "'--agent'", "Usage: mapf deps"),
     ("agent M P 0 T --agent 0", "'--agent'", "Usage: mapf agent"),
     ("run", "<map>", "Usage: mapf run"),
@@ -380,7 +404,7 @@ def refusal(why: str, usage: str = "") -> bytes:
 
 # What is told in full.
 WHOLE = {
-    "": refusal("'mapf' requires a subcommand but one was not provided\n  [subcommands: map, scen, row, check, deps, path, cut, run, agent, tape, help]", "<COMMAND>"),
+    "": refusal("'mapf' requires a subcommand but one was not provided\n  [subcommands: map, scen, row, check, deps, path, cut, continues, run, agent, tape, help]", "<COMMAND>"),
     "nope": refusal("unrecognized subcommand 'nope'", "<COMMAND>"),
     # Clap's own advice, by another measure.
     "mapp_": refusal("unrecognized subcommand 'mapp_'\n\n  tip: a similar subcommand exists: 'map'", "<COMMAND>"),

@@ -29,6 +29,8 @@ MANY = ROOT / "tests" / "many_conversions.py"
 # A map for agents of a planner, how many there are, and a seed that soon leads to a plan.
 SAMPLES = (("fleet/warehouse.map", 12, 12), ("planners/hall.map", 60, 7))
 NUMBER = "7"
+# How many numbers are drawn. That two of them are the same has a chance of one in a hundred million.
+DRAWN = 10
 # Random plans a format, and how many of them one process converts.
 SHORT_ROUNDS, LONG_ROUNDS, ROUND = 20, 200, 20
 SHORT_PLACES, LONG_PLACES = 170, 2_000
@@ -427,7 +429,7 @@ CALLS = [
     ("P --to paths --number 3", 2, b"", "--number goes with a conversion to a plan"),
     ("P --to paths --from csv", 2, b"", "--from goes with a conversion to a plan"),
     ("P --to yaml", 2, b"", "invalid choice: 'yaml'"),
-    ("T --number 4294967296", 2, b"", "a number from 0 to 4294967295 is wanted"),
+    ("T --number 4294967296", 2, b"", "a number from 0 to 4294967295 or 'new' is wanted"),
     ("T --number -1", 2, b"", "--number"),
     ("", 2, b"", "FILE"),
     ("N", 3, b"", "convert: N: No such file or directory\n"),
@@ -537,6 +539,23 @@ LEAGUE_MAPS = [
     (b"type octile\nheight 0\nwidth 2\nmap\n", None, ":3: 0 rows of 2 cells were stated"),
     (b"type octile\nwidth 2\nheight 1\nmap\n..\n", None, ":2: 'width 2' stands where 'height 8' was due"),
 ]
+
+
+def of_drawn_numbers(harness: Harness) -> list[Outcome]:
+    """A number that is drawn is another one each time, and the plan is the same."""
+    room = Room(harness)
+    text = room.file("T", FILES["T"])
+    for _ in range(DRAWN):
+        room.convert([text, "--number", "new"])
+    plans, shown_last = [], ""
+    for done in room.done():
+        plans.append((done.written or b"").split(b"\n", 2))
+        shown_last = done.shown
+    room.gone()
+    numbers = {lines[1] for lines in plans if len(lines) == 3}
+    rest = {(lines[0], lines[2]) for lines in plans if len(lines) == 3}
+    due = PLAN.split(b"\n", 2)
+    return [compared("numbers that are drawn", shown_last, (len(numbers), rest), (DRAWN, {(due[0], due[2])}))]
 
 
 def of_league_maps(harness: Harness) -> list[Outcome]:
@@ -731,6 +750,7 @@ def outcomes(harness: Harness) -> Iterator[Outcome]:
             functools.partial(of_examples, harness),
             functools.partial(of_peoples_texts, harness),
             functools.partial(of_no_yaml, harness),
+            functools.partial(of_drawn_numbers, harness),
             functools.partial(of_league_maps, harness),
             functools.partial(of_pages, harness),
             functools.partial(of_vectors, harness),

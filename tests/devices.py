@@ -14,7 +14,7 @@ from typing import Iterator, Optional, Sequence
 import command_lines
 import help_texts
 from harness import LONGEST, VERSION, Ended, Harness, Outcome, compared, ended_as, has_terminals, side_by_side
-from texts import BEHIND, CORNER, CORNER_WRITTEN, LANE, NOBODY, ROW, ROW_WRITTEN, SHORT, SQUARE, SWAP, TASKS, TURN, events
+from texts import BEHIND, CORNER, CORNER_WRITTEN, LANE, NOBODY, ONWARD, ROW, ROW_WRITTEN, SHORT, SQUARE, SWAP, TASKS, TURN, events
 
 FILES = {
     "M": LANE.encode(),
@@ -22,6 +22,7 @@ FILES = {
     "B": SHORT.encode(),
     "P": BEHIND.encode(),
     "X": SWAP.encode(),
+    "Y": ONWARD.encode(),
     "S": ROW.encode(),
     "F": TASKS.encode(),
     "E": events("start 1", "start 0", "finish 0", "start 1").encode(),
@@ -46,6 +47,7 @@ WRITING = [
     ("path M P", "0 1 0 0 0\n1 2 0 1 0\n2 2 0 1 0\n"),
     ("path M P --agent 1", "0 0 0\n1 1 0\n"),
     ("cut M P 1", "mapf-plan 1\nnumber 7\nagents 2\nagent 1 0 e\nagent 0 0 e\n"),
+    ("continues M P Y", "continues from 2, adds 2 moves\n"),
     ("run M P E", REPLIES),
     ("run M P J", "moving 2 0\n"),
     ("run M O E --complete", "refused NoSuchAgent\n" * 4 + "complete 0\n"),
@@ -64,6 +66,7 @@ FAULTY = [
     ("deps M X --cell 1 0", "mapf: Swap 0 1 0\n"),
     ("path M P --agent 2", "mapf: NoSuchAgent\n"),
     ("cut M X 1", "mapf: Swap 0 1 0\n"),
+    ("continues M Y P", "mapf: Departs 0 4\n"),
     ("run M X E", "mapf: Swap 0 1 0\n"),
     ("run M X E --complete", "mapf: Swap 0 1 0\n"),
     ("agent M P 2 T", "mapf: NoSuchAgent\n"),
@@ -96,15 +99,15 @@ ODD_STREAMS = [
 # Commands that read a folder.
 UNREADABLE = [
     *("map D", "scen D", "row D S 0", "row C D 0", "check D P", "check M D", "check M P --scen D"),
-    *("deps D P", "deps M D", "deps M D --cell 1 0", "path D P", "path M D", "cut D P 0", "cut M D 0", "run D P E", "run M D E", "run M P D", "run M P D --complete", "agent D P 0 T", "agent M D 0 T"),
+    *("deps D P", "deps M D", "deps M D --cell 1 0", "path D P", "path M D", "cut D P 0", "cut M D 0", "continues D P Y", "continues M D Y", "continues M P D", "run D P E", "run M D E", "run M P D", "run M P D --complete", "agent D P 0 T", "agent M D 0 T"),
 ]
 # Commands with a file that is not there, and one in front of it, which is opened all the same, or behind it, which is not.
 OPENED = [
     *(("row M no 0", "M"), ("check M no", "M"), ("check M P --scen no", "M"), ("check M P --scen no", "P")),
-    *(("deps M no", "M"), ("path M no", "M"), ("cut M no 0", "M"), ("run M no E", "M"), ("run M P no", "P"), ("agent M no 0 T", "M")),
+    *(("deps M no", "M"), ("path M no", "M"), ("cut M no 0", "M"), ("continues M no Y", "M"), ("continues M P no", "P"), ("run M no E", "M"), ("run M P no", "P"), ("agent M no 0 T", "M")),
 ]
 NOT_OPENED = [
-    *(("row no S 0", "S"), ("check no P", "P"), ("check M no --scen F", "F"), ("deps no P", "P"), ("path no P", "P"), ("cut no P 0", "P")),
+    *(("row no S 0", "S"), ("check no P", "P"), ("check M no --scen F", "F"), ("deps no P", "P"), ("path no P", "P"), ("cut no P 0", "P"), ("continues M no Y", "Y")),
     *(("run no P E", "P"), ("run M no E", "E"), ("agent no P 0 T", "P")),
 ]
 
@@ -359,6 +362,57 @@ def tapes_that_are_no_files(harness: Harness) -> Iterator[Outcome]:
         yield compared("a link to a tape, looked at", f"mapf {' '.join(words)}", (folder / "real").read_bytes(), b"")
 
 
+def moved(folder: pathlib.Path, how: str) -> None:
+    """Takes the tape of a running agent from under its name, which is T; for `link` T is a link to a tape."""
+    tape = folder / "T"
+    if how == "copied":
+        (folder / "new").write_bytes(tape.read_bytes())
+        (folder / "new").replace(tape)
+    elif how == "removed":
+        tape.unlink()
+    elif how == "renamed":
+        tape.rename(folder / "away")
+    elif how == "linked":
+        tape.rename(folder / "away")
+        os.link(folder / "away", tape)
+    elif how == "pointed":
+        (folder / "other").write_bytes((folder / "real").read_bytes())
+        os.symlink("other", folder / "link")
+        (folder / "link").replace(tape)
+    elif how == "barred":
+        tape.unlink()
+        os.symlink("T", tape)
+
+
+# What is done to a tape beside its agent, and whether its name still names it.
+MOVES = [("copied", False), ("removed", False), ("renamed", False), ("pointed", False), ("barred", False), ("linked", True), ("left", True)]
+
+
+def tapes_that_move(harness: Harness) -> Iterator[Outcome]:
+    """Nothing is stored in a file that the tape's name doesn't name any more: the agent says that the store failed, and ends."""
+    moving, standing = bytes.fromhex("50010000000700000000"), bytes.fromhex("50020000000700000001")
+    for how, stays in MOVES:
+        for claim in CLAIMS[:2]:
+            folder, words = harness.folder(FILES), ["agent", "M", "P", "0", "T", *claim]
+            if how == "pointed":
+                os.symlink("real", folder / "T")
+            streams = {"cwd": folder, "stdin": subprocess.PIPE, "stdout": subprocess.PIPE, "stderr": subprocess.PIPE}
+            with subprocess.Popen([str(harness.program), *words], **streams) as process:
+                told = [process.stdout.readline()]
+                process.stdin.write(b"start\n")
+                process.stdin.flush()
+                told.append(process.stdout.readline())
+                with open(folder / "T", "rb") as held:
+                    moved(folder, how)
+                    rest, errors = process.communicate(b"say\nfinish\nheld\n")
+                    kept = held.read()
+            said, status = b"said 460100000000000700000000\n", 0 if stays else 3
+            last = b"arrived 2 0\nat 2 0 done 1\n" if stays else b"refused StoreFailed\n"
+            due = ([b"at 1 0 done 0\n", b"moving 2 0\n"], said + last, b"", status, moving + standing if stays else moving)
+            command = f"mapf {' '.join(words)}  while its tape is {how}"
+            yield compared(f"a tape that is {how} {claim}", command, (told, rest, errors, process.returncode, kept), due)
+
+
 def outcomes(harness: Harness) -> Iterator[Outcome]:
     yield from outputs_that_end(harness)
     yield from outputs_that_are_full(harness)
@@ -370,3 +424,4 @@ def outcomes(harness: Harness) -> Iterator[Outcome]:
     yield from stores_that_fail(harness)
     yield from tapes_in_use(harness)
     yield from tapes_that_are_no_files(harness)
+    yield from tapes_that_move(harness)

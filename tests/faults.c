@@ -122,7 +122,8 @@ int open(const char *name, int flags, ...) {
 }
 
 int statx(int fd, const char *restrict name, int flags, unsigned mask, struct statx *restrict to) {
-    return (int)(fails_on("look", fd) ? failed(EIO) : syscall(SYS_statx, fd, name, flags, mask, to));
+    // By a name where there is one, and else the open file.
+    return (int)((*name ? fails("look", "a name") : fails_on("look", fd)) ? failed(EIO) : syscall(SYS_statx, fd, name, flags, mask, to));
 }
 int flock(int fd, int how) { return (int)(fails_on("lock", fd) ? failed(ENOLCK) : syscall(SYS_flock, fd, how)); }
 

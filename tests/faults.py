@@ -21,6 +21,7 @@ from texts import (
     CORNER_WRITTEN,
     LANE,
     NOBODY,
+    ONWARD,
     ROW,
     ROW_WRITTEN,
     SHORT,
@@ -42,6 +43,7 @@ FILES = {
     "Q": SQUARE,
     "P": BEHIND,
     "X": SWAP,
+    "Y": ONWARD,
     "A": plan("1 0 ex", "0 0 e"),
     "O": NOBODY,
     "R": TURN,
@@ -63,6 +65,8 @@ TAPE = "T"
 NEW = " --tape new"
 # The folder of a tape, which is opened to be synced where the tape has no record.
 FOLDER = "."
+# What is met where a file is looked up by its name, as a tape is before each record.
+BY_NAME = "a name"
 REPLIES = "refused Waits 0 1\nmoving 2 0\narrived 2 0\nsaid 0 460100000000000700000001\nheard 0 1\nmoving 1 0\narrived 1 0\n"
 TELLING = "moving 2 0\narrived 2 0\nsaid 0 46020000000000070001000000000001\nheard 0 1\nsaid 1 46020001000000070001000000000001\n"
 
@@ -119,6 +123,12 @@ CASES = [
     Case("path M P --agent 2", answer(1, "NoSuchAgent")),
     Case("cut M P 1", answer(0, "mapf-plan 1\nnumber 7\nagents 2\nagent 1 0 e\nagent 0 0 e\n")),
     Case("cut M X 1", answer(1, "Swap 0 1 0")),
+    Case("continues M P Y", answer(0, "continues from 2, adds 2 moves\n")),
+    Case("continues M X Y", answer(1, "Swap 0 1 0")),
+    Case("continues M Y X", answer(1, "Swap 0 1 0")),
+    Case("continues M Y P", answer(1, "Departs 0 4")),
+    Case("continues M A P", answer(1, "BadAct 4 12")),
+    Case("continues M P A", answer(1, "BadAct 4 12")),
     Case("run M P E", answer(0, REPLIES)),
     Case("run M P E2", answer(0, TELLING)),
     Case("run M P J", Ended(1, b"moving 2 0\n", b"mapf: BadEvent 3\n")),
@@ -279,6 +289,8 @@ def is_allowed(case: Case, call: str, kind: str, met: str, ended: Ended) -> bool
         return ended == due
     if call == "alloc":
         return ended == due or (is_fault(ended, "OutOfMemory") and begins(case.early, ended.out)) or is_refused_once(case, ended)
+    if met == BY_NAME:
+        return is_store_failed(case, ended)
     if call in ("open", "look"):
         return is_fault(ended, "TapeFailed" if met == FOLDER else "OpenFailed") and not ended.out
     if kind == "on" and call == "write":
@@ -355,8 +367,11 @@ def names_due(case: Case, call: str) -> set[str]:
         return stores | ({"output"} if case.due.out else set()) | ({"error output"} if case.due.err else set())
     if not case.words.startswith("agent "):
         return set()
-    if call in ("look", "lock"):
+    if call == "lock":
         return {TAPE} & opened(case)
+    if call == "look":
+        stores = {BY_NAME} if b"start\n" in case.given and not case.due.err else set()
+        return stores | ({TAPE} & opened(case))
     is_synced = len(case.tape or b"") >= 10 or case.words.endswith(NEW)
     return {TAPE} if call == "sync" and is_synced and not case.due.err else set()
 

@@ -12,6 +12,8 @@ from harness import ROOT, Harness, Outcome, compared, shown, side_by_side
 LONG = range(1, 21)
 FLEET = ROOT / "examples" / "fleet" / "fleet.py"
 RATES = ((0.2, 0.02), (0.5, 0.1))
+# Orders, and how many robots carry them out.
+SHORT_ORDERS, LONG_ORDERS, DRIVERS = 24, 60, 6
 SHORT = ((1, *RATES[0], ["--tell"]), (2, *RATES[1], []), (3, *RATES[0], []), (4, *RATES[1], ["--tell"]))
 
 
@@ -43,6 +45,8 @@ def bad_calls(harness: Harness) -> Iterator[Outcome]:
         ("no plan", ["--plan", "no"], 3, "fleet: no: No such file or directory"),
         ("no program", ["--program", "./no"], 3, "fleet: ./no: No such file or directory"),
         ("no folder", ["--folder", "no"], 3, "No such file or directory"),
+        ("no order", ["--orders", "0"], 2, "a number from 1 to 65535 is wanted, and '0' is none"),
+        ("boxes of orders", ["--orders", "1", "--boxes", "new"], 2, "--boxes: a box is of one plan, and --orders are many"),
         ("boxes that were there before", ["--boxes", "."], 3, "fleet: .: File exists"),
         ("a plan that is none", ["--plan", str(torn)], 1, "`mapf run --complete` says 'mapf: BadHeader 1'"),
         ("a rotation", turn, 1, "`mapf run --complete` says 'blocked 0'"),
@@ -52,6 +56,19 @@ def bad_calls(harness: Harness) -> Iterator[Outcome]:
         last = ended.err.decode(errors="replace").splitlines()[-1:]
         wrote = (ended.status, told in "".join(last), b"Traceback" in ended.err, ended.out)
         yield compared(name, f"{shown(command)}, which told {ended.err[-500:]!r}", wrote, (status, True, False, b""))
+
+
+def carry_out(harness: Harness, seed: int, loss: float, kills: float, more: list[str]) -> list[Outcome]:
+    """Plan after plan, without a stop."""
+    wanted = LONG_ORDERS if harness.is_long else SHORT_ORDERS
+    words = [*more, "--seed", str(seed), "--loss", str(loss), "--kills", str(kills), "--quiet", "--program", str(harness.program)]
+    command = [sys.executable, str(FLEET), "--agents", str(DRIVERS), "--orders", str(wanted), *words]
+    ended = harness.run(command)
+    told = ended.out.decode(errors="replace").splitlines()
+    due = f"{wanted} of {wanted} orders carried out, by {wanted // DRIVERS} plans without a stop", f"seed {seed}: {DRIVERS} robots arrived"
+    wrote = (ended.status, told[:1] == [due[0]], told[1:2] and told[1].startswith(due[1]))
+    name = " ".join([f"{wanted} orders, seed {seed}, {loss} lost, {kills} killed", *more])
+    return [compared(name, f"{shown(command)}, which told {ended.out[-500:]!r} {ended.err[-500:]!r}", wrote, (0, True, True))]
 
 
 def full_disk(harness: Harness) -> Iterator[Outcome]:
@@ -70,3 +87,5 @@ def outcomes(harness: Harness) -> Iterator[Outcome]:
     yield from full_disk(harness)
     runs = [(seed, *rates, more) for seed in LONG for rates in RATES for more in ([], ["--tell"])] if harness.is_long else SHORT
     yield from side_by_side(functools.partial(drive, harness, *run) for run in runs)
+    ordered = [(seed, *rates, more) for seed in (1, 2, 3) for rates in RATES for more in ([], ["--tell"])] if harness.is_long else SHORT[:2]
+    yield from side_by_side(functools.partial(carry_out, harness, *run) for run in ordered)

@@ -72,6 +72,7 @@ class Harness:
         given: bytes = b"",
         folder: Optional[pathlib.Path] = None,
         more: Mapping[str, str] = {},
+        longest: int = LONGEST,
     ) -> Ended:
         """Runs a command. Where this call is interrupted, the command and all that it started end too."""
         environment = {**os.environ, "TMPDIR": str(self.room), "PYTHONDONTWRITEBYTECODE": "1", **more}
@@ -82,14 +83,14 @@ class Harness:
             return Ended(CANNOT_START, b"", str(error).encode())
         with process:
             try:
-                out, err = process.communicate(given, timeout=LONGEST)
+                out, err = process.communicate(given, timeout=longest)
             except BaseException as error:
                 with contextlib.suppress(ProcessLookupError):
                     os.killpg(process.pid, signal.SIGKILL)
                 out, err = process.communicate()
                 if not isinstance(error, subprocess.TimeoutExpired):
                     raise
-                err += f"(it had not ended after {LONGEST} seconds)".encode()
+                err += f"(it had not ended after {longest} seconds)".encode()
             return Ended(process.returncode, out, err)
 
 

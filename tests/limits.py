@@ -179,6 +179,13 @@ def of_long_plans(harness: Harness) -> list[Outcome]:
     for time, kept in ((most - 1, to_and_fro), (most, f"{to_and_fro}e"), (0, "=")):
         due = Ended(0, plan("2 0 =", f"0 0 {kept}").encode(), b"")
         outcomes.append(asked(harness, f"a plan of {most} acts, cut at {time}", f"cut M P {time}", to_the_end, due))
+    for kept, due in (
+        (to_and_fro, answer(0, f"continues from {most - 1}, adds 1 moves\n")),
+        (f"{to_and_fro}-", answer(1, f"Departs 1 {most}")),
+        (f"{to_and_fro}e", answer(0, f"continues from {most}, adds 0 moves\n")),
+    ):
+        files = {**to_the_end, "K": plan("2 0 =", f"0 0 {kept}").encode()}
+        outcomes.append(asked(harness, f"a plan of {most} acts behind one of {len(kept)}", "continues M K P", files, due))
     for acts, fault in ((f"{to_and_fro}n", f"BadMove 1 {most - 1}"), (f"{'-' * (most - 1)}w", f"BadMove 1 {most - 1}")):
         spoiled = {"M": LANE.encode(), "P": plan("2 0 =", f"0 0 {acts}").encode()}
         outcomes.append(asked(harness, f"a path with {fault}", "path M P", spoiled, answer(1, fault)))
@@ -221,6 +228,9 @@ def of_most_acts(harness: Harness) -> list[Outcome]:
         outcomes.append(checked(harness, f"{MOST_ACTS_OF_ALL} acts, {verdict}", {"M": map_bytes, "P": text(*last_two)}, verdict))
     files = {"M": map_bytes, "P": text(f"0 0 {walk}e", f"2 0 {walk}e")}
     outcomes.append(asked(harness, f"{MOST_ACTS_OF_ALL} acts, not cut", f"cut M P {steps}", files, Ended(0, files["P"], b"")))
+    files["K"] = text(f"0 0 {walk}e", f"2 0 {walk}-")
+    outcomes.append(asked(harness, f"{MOST_ACTS_OF_ALL} acts, and no more", "continues M P P", files, answer(0, f"continues from {steps}, adds 0 moves\n")))
+    outcomes.append(asked(harness, f"{MOST_ACTS_OF_ALL} acts, the last another", "continues M K P", files, answer(1, f"Departs {other} {steps}")))
     for last_two, due in (
         ((f"0 0 {wait}e", f"2 0 {walk}w"), Ended(0, lines(*(f"{time} {2 + time % 2 if time < steps else 1} 0" for time in range(steps + 1))), b"")),
         ((f"0 0 {walk}e", f"2 0 {walk}n"), answer(1, f"BadMove {other} {steps - 1}")),
@@ -318,6 +328,8 @@ def of_a_line(harness: Harness) -> list[Outcome]:
     needs = lines(f"agents {count} moves {count} needs {last} rotations 0", *(f"need {i} 0 {i + 1} 1" for i in range(last)))
     outcomes = [asked(harness, f"deps of {count} agents", "deps M P", files, Ended(0, needs, b""))]
     outcomes.append(asked(harness, f"a plan of {count} agents, cut at 0", "cut M P 0", files, cut))
+    both = {**files, "K": cut.out}
+    outcomes.append(asked(harness, f"a plan of {count} agents behind their starts", "continues M K P", both, answer(0, f"continues from 0, adds {count} moves\n")))
     turns = [
         ("start 0", "refused Waits 1 1"),
         (f"start {last - 1}", f"refused Waits {last} 1"),

@@ -16,8 +16,10 @@ from typing import Callable, Iterator
 
 import answers
 import beginnings
+import changing
 import command_lines
 import completions
+import continuations
 import converting
 import devices
 import documents
@@ -62,6 +64,8 @@ PARTS: dict[str, tuple[str, Callable[[Harness], Iterator[Outcome]]]] = {
     "explain": ("faults explained to people", explaining.outcomes),
     "runs": ("runs beside a plain model: events at random, and stops at each write", replays.outcomes),
     "endings": ("how runs end: the events that complete them, or the rotation in the way", endings.outcomes),
+    "chains": ("plans that go on from plans, beside a plain model", continuations.outcomes),
+    "changing": ("fleets that go over from plan to plan while they drive", changing.outcomes),
     "convert": ("plans of other formats, converted and back", converting.outcomes),
     "judge": ("many plans, judged as one table", judging.outcomes),
     "show": ("plans and runs as pages in a browser, and as pictures", showing.outcomes),

@@ -19,7 +19,7 @@ import lone_robots
 import networking
 import watching
 from failing_agents import Chances, failing_program
-from harness import ROOT, Ended, Harness, Outcome, compared, shown, side_by_side
+from harness import LONGEST, ROOT, Ended, Harness, Outcome, compared, shown, side_by_side
 from processes import children, heeding, left_in, processes_of, wait_until
 
 FLEET = ROOT / "examples" / "fleet"
@@ -29,6 +29,8 @@ TWO = ["--map", str(ROOT / "examples" / "plain.map"), "--plan", str(ROOT / "exam
 PORTS, NUMBERS = iter(range(10_000 + os.getpid() % 40 * 200, 20_000, 20)), itertools.count(100)
 # The seeds of a long test with all robots.
 LONG = range(1, 7)
+# So many seconds orders may take.
+LONGEST_OF_ORDERS = 900
 # How many bytes a stranger's datagram has at most, and the seconds between two.
 JUNK, OFTEN = 40, 0.005
 
@@ -54,8 +56,8 @@ class Fleet:
         self.command = [sys.executable, str(ROBOTS), "--number", str(next(NUMBERS)), *words, "--keep", "kept", "--program", program or str(harness.program)]
         self.command += ["--boxes", "boxes"]
 
-    def run(self) -> Ended:
-        return self.harness.run(self.command, folder=self.folder, more={"TMPDIR": str(self.folder)})
+    def run(self, longest: int = LONGEST) -> Ended:
+        return self.harness.run(self.command, folder=self.folder, more={"TMPDIR": str(self.folder)}, longest=longest)
 
     def counted(self, ended: Ended) -> list[dict[str, float]]:
         """What each run's line counts."""
@@ -107,6 +109,7 @@ def of_udp(harness: Harness) -> Iterator[Callable[[], list[Outcome]]]:
     yield functools.partial(run, "two robots, killed", 2, [*TWO, "--moves", "0.3", "--kills", "8"], **{KILLS: 1})
     # The moves are so slow that many processes are killed in each run.
     three = ["--robots", "3", "--kills", "5", "--moves", "0.15"]
+    yield functools.partial(of_orders, harness, 3, 12, ["--moves", "0.03", "--kills", "5"])
     cast = [*three, "--slips", "0.3", "--tell", "--link", "multicast", "--seed", "3"]
     yield functools.partial(run, "three robots that tell, multicast, killed", 3, cast, **{KILLS: 1, "restarts": 1, "slips": 1})
     if not harness.is_long:
@@ -114,13 +117,29 @@ def of_udp(harness: Harness) -> Iterator[Callable[[], list[Outcome]]]:
     yield functools.partial(run, "three robots, killed", 3, [*three, "--slips", "0.3"], **{KILLS: 1, "restarts": 1, "slips": 1})
     yield functools.partial(run, "three robots that tell, killed", 3, [*three, "--tell", "--seed", "2"], **{KILLS: 1, "restarts": 1})
     yield functools.partial(run, "three robots, multicast, killed", 3, [*three, "--link", "multicast", "--seed", "3"], **{KILLS: 1, "restarts": 1})
+    yield functools.partial(of_orders, harness, 12, 300, ["--moves", "0.01", "--every", "0.1", "--kills", "3", "--tell"])
     for seed in LONG:
         twelve = ["--kills", "3", "--moves", "0.15", "--seed", str(seed), *(["--tell"] if seed % 2 else [])]
         yield functools.partial(run, f"twelve robots, seed {seed}, killed", 12, twelve, **{KILLS: 1, "restarts": 1})
 
 
+def of_orders(harness: Harness, robots: int, orders: int, more: Sequence[str]) -> list[Outcome]:
+    """Plan after plan, over a link and with kills: the log is that of the last plan."""
+    words = ["--robots", str(robots), "--orders", str(orders), "--limit", str(LONGEST_OF_ORDERS), *more]
+    fleet = Fleet(harness, words)
+    # A box is of one plan.
+    del fleet.command[-2:]
+    ended = fleet.run(LONGEST_OF_ORDERS)
+    counted = fleet.counted(ended)
+    wrote = (ended.status, [(run["arrived"], run["orders"]) for run in counted], fleet.held(), short_of(counted, {KILLS: 1}))
+    due = (0, [(robots, orders)], [True], {})
+    name = f"{orders} orders, {' '.join(more)}"
+    ran = f"{shown(fleet.command)}, which told {ended.out[-1500:]!r} {ended.err[-1500:]!r}"
+    return [compared(name, ran, wrote, due), compared(f"{name}: what is left", ran, left_in(fleet.folder), [])]
+
+
 def of_numbers(harness: Harness) -> list[Outcome]:
-    """Each run has a number of its own, in a call and in the next one."""
+    """Each run has a number of its own, in a call and in the next one: it is drawn, so mostly too large for a count or a clock."""
     numbers, outcomes = [], []
     for more in (["--seconds", "1.5"], []):
         fleet = Fleet(harness, [*TWO, *more])
@@ -128,9 +147,9 @@ def of_numbers(harness: Harness) -> list[Outcome]:
         del fleet.command[at : at + 2]
         numbers += [int(run["run"]) for run in fleet.counted(fleet.run())]
         outcomes += fleet.boxes("fresh numbers")
-    rising = all(one < other for one, other in zip(numbers, numbers[1:]))
     ran = f"{shown(fleet.command)}, behind one with --seconds, with the numbers {numbers}"
-    return [*outcomes, compared("fresh numbers", ran, (len(numbers) > 1, rising), (True, True))]
+    told = len(numbers) > 1, len(set(numbers)) == len(numbers), max(numbers) - min(numbers) > 1 << 16
+    return [*outcomes, compared("fresh numbers", ran, told, (True, True, True))]
 
 
 # Tapes that fail
@@ -285,6 +304,8 @@ def of_mqtt(harness: Harness) -> Iterator[Callable[[], list[Outcome]]]:
         yield lambda: [Outcome("MQTT", lacks="mosquitto" if python else "python3-paho-mqtt")]
         return
     yield functools.partial(of_stops, harness)
+    # A broker that is stopped too, and cables that are cut where there are some (network.sh).
+    yield functools.partial(of_orders, harness, 3, 60 if harness.is_long else 12, ["--link", "mqtt", "--moves", "0.05", "--kills", "2", "--stops", "0.2"])
     yield functools.partial(of_one_broker, harness, python)
     yield functools.partial(of_topics, harness, python)
     yield functools.partial(of_a_kill, harness)

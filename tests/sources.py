@@ -50,6 +50,7 @@ MADE = {
     "plan/checker.rt: check": "gives the plan back beside the want",
     "plan_commands/check_command.rt: reject": NO_TEXT,
     "plan_commands/check_command.rt: tell": NO_TEXT,
+    "plan_commands/continues_command.rt: tell": NO_TEXT,
     "plan_commands/cut_command.rt: read_cut": NAMED_ANEW,
     "plan_commands/path_command.rt: show": "was given an answer that there was no room for where agents are",
     "plan_text/plan.rt: From<AllocFailed<T>> for PushFault: from": NAMED_ANEW,

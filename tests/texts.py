@@ -17,8 +17,11 @@ def plan(*agents: str, number: int = 7) -> str:
     return "".join([f"mapf-plan 1\nnumber {number}\nagents {len(agents)}\n", *(f"agent {agent}\n" for agent in agents)])
 
 
-# Two agents that go one cell east behind one another, and two that exchange their cells.
+# Two agents that go one cell east behind one another.
 BEHIND = plan("1 0 e-", "0 0 e")
+# The same, and behind it both come back.
+ONWARD = plan("1 0 e--w", "0 0 e--w")
+# Two that exchange their cells.
 SWAP = plan("0 0 e", "1 0 w")
 # One that stays, and one that comes into its cell.
 VERTEX = plan("0 0 =", "2 0 ww")

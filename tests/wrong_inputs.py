@@ -147,6 +147,30 @@ COMMANDS = [
     Wrong("agent land pair 0 .", b"", ("., to be read as a tape: it is a folder.\n",)),
 ]
 
+LONG = "e" + "-" * 200
+# Which of two plans it is, and where they differ. The file `pair` is the other plan.
+CONTINUATIONS = [
+    Wrong("continues land pair wrong", plan("0 0 e", "1 0 w"), ("wrong:4, a plan on the map land:\n", "In step 0 agent 0 moves from 0 0 to 1 0")),
+    Wrong("continues land wrong pair", plan("0 0 e", "1 0 w"), ("wrong:4, a plan on the map land:\n", "In step 0 agent 0 moves from 0 0 to 1 0")),
+    Wrong("continues land pair wrong", plan("1 0 e", "0 0 x"), ("wrong:5:11, read as a plan:\n", marked(5, "agent 0 0 x", "          ^"))),
+    Wrong("continues land wrong pair", plan("1 0 e", "0 0 x"), ("wrong:5:11, read as a plan:\n", marked(5, "agent 0 0 x", "          ^"))),
+    Wrong("continues land pair wrong", "", ("wrong:1, read as a plan:\nThe file is empty.\n",)),
+    Wrong("continues land pair wrong", LAND, ("wrong:1, read as a plan:\n", "The file begins like a map.\n")),
+    Wrong("continues wrong pair pair", "type octal\n", ("wrong:1, read as a map:\n", "Line 1 must be `type octile`.\n")),
+    Wrong("continues land pair .", "", (". is a folder, and no file.\n",)),
+    Wrong("continues land pair nothing", "", ("nothing, to be read as a plan: there is no such file.\n",)),
+    Wrong("continues land wrong pair", PAIR.replace("7", "8"), ("wrong:2:\n" + marked(2, "number 8", "       ^") + "pair:2:\n" + marked(2, "number 7", "       ^") + "The new plan has another number than the old one.\n",)),
+    Wrong("continues land pair wrong", plan("1 0 e-"), ("pair:3:\n" + marked(3, "agents 2", "       ^") + "wrong:3:\n" + marked(3, "agents 1", "       ^") + "The new plan has more or fewer agents than the old one.\n",)),
+    Wrong(
+        "continues land pair wrong",
+        plan("1 0 -e", "0 0 ="),
+        ("pair:4:\n" + marked(4, "agent 1 0 e-", "          ^") + "wrong:4:\n" + marked(4, "agent 1 0 -e", "          ^"), "At time 1 agent 0 is in column 2, row 0 by the old plan, and in column 1, row 0 by the new one.\n"),
+    ),
+    Wrong("continues land pair wrong", plan("1 0 e-", "0 0 ew"), (marked(5, "agent 0 0 e", "           ^"), marked(5, "agent 0 0 ew", "           ^"), "At time 2 agent 1 is in column 1, row 0 by the old plan")),
+    Wrong("continues land pair wrong", plan("2 0 =", "0 0 ="), (marked(4, "agent 1 0 e-", "      ^^^"), marked(4, "agent 2 0 =", "      ^^^"), "At time 0 agent 0 is in column 1, row 0 by the old plan, and in column 2, row 0 by")),
+    Wrong("continues land wrong pair", plan(f"1 0 {LONG}w", f"0 0 {LONG}w"), ("wrong:4:\n    4 | ..-", "At time 202 agent 0 is in column 1, row 0 by the old plan")),
+]
+
 # A check answers on standard output, and what it names is explained all the same.
 REJECTED = [
     Wrong("check land wrong", plan("0 0 e", "2 0 w"), ("wrong:4, a plan on the map land:\n", "At time 1 agents 0 and 1 are both in column 1, row 0.\n", "at time 0:\n    0 axb\n")),
@@ -157,5 +181,5 @@ REJECTED = [
 ]
 
 # By what is read.
-INPUTS = {"a map": MAPS, "a scenario": SCENARIOS, "a plan": PLANS, "events": LISTS, "a plan on a map": COURSES, "a command": COMMANDS, "a verdict": REJECTED}
+INPUTS = {"a map": MAPS, "a scenario": SCENARIOS, "a plan": PLANS, "events": LISTS, "a plan on a map": COURSES, "a command": COMMANDS, "a verdict": REJECTED, "two plans": CONTINUATIONS}
 FILES = {"land": LAND, "shore": SHORE, "pair": PAIR, "rows": ROWS, "events": EVENTS}
