@@ -1,6 +1,6 @@
 //! Tapes that have to be new, or kept, that another process holds, or that are no files like others.
-use crate::calls::claims;
-use fakes::{Call, FakeDisk, MOVING, NOISE, bytes_of};
+use crate::calls::{Disks, claims};
+use fakes::{BEHIND, Call, FakeDisk, MOVING, NOISE, bytes_of};
 use std::alloc::{AllocError, Global};
 use std::test::Fail;
 use tape_claim::TapeClaim;
@@ -40,18 +40,50 @@ static CLAIMED: [(TapeClaim, Bytes, (u8, &str, &str)); 10] = [
     (TapeClaim::Any, None, (0, FIRST_LINE, "")),
 ];
 
+/// The first lines of the file beside a tape that has no record yet, and of one that has some.
+pub const UNMARKED: &str = "mapf-tape 1 -\n";
+
+pub const MARKED: &str = "mapf-tape 1 +\n";
+
+/// What is beside a tape of the plan.
+pub fn beside(alloc: Global, first: &str, plan: &str) -> Result<Vec<u8>, AllocError> {
+    [first.as_bytes(), plan.as_bytes()].concat(alloc)
+}
+
 /// The bytes of a tape file, or none.
 fn written(alloc: Global, bytes: Bytes) -> Result<Vec<u8>, AllocError> {
     let (records, tail) = bytes.unwrap_or((&[], &[]));
     bytes_of(alloc, records, tail)
 }
 
-/// A disk with the bytes of a tape file, or without one.
-fn disk_of(alloc: Global, bytes: Bytes) -> Result<FakeDisk, AllocError> {
-    if bytes.is_none() {
-        return FakeDisk::without_file(alloc);
+/// Disks with the bytes of a tape file, or without one. Beside one that is to be kept its plan was kept.
+fn disks_of(alloc: Global, claim: TapeClaim, bytes: Bytes) -> Result<Disks, AllocError> {
+    let tape = if bytes.is_some() {
+        FakeDisk::new(alloc, &written(alloc, bytes)?)?
+    } else {
+        FakeDisk::without_file(alloc)?
+    };
+    if claim != TapeClaim::Kept {
+        return Disks::new(alloc, tape, None);
     }
-    FakeDisk::new(alloc, &written(alloc, bytes)?)
+    Disks::new(alloc, tape, Some(&beside(alloc, UNMARKED, BEHIND)?))
+}
+
+/// Whether what is beside a tape says where the power fails what it has to: it has the plan, and a mark where the tape has a record. Where nothing is claimed, or
+/// the tape is refused, nothing was written.
+fn is_beside(
+    alloc: Global,
+    disks: &Disks,
+    claim: TapeClaim,
+    has_record: bool,
+    is_answered: bool,
+) -> Result<bool, AllocError> {
+    if claim == TapeClaim::Any || (claim == TapeClaim::New && !is_answered) {
+        return Ok(!disks.beside.has_file());
+    }
+    let is_marked = has_record && is_answered;
+    let first = if is_marked { MARKED } else { UNMARKED };
+    Ok(disks.beside.keeps(&beside(alloc, first, BEHIND)?))
 }
 
 /// Whether the agent ends as is due. A new tape stays where the power fails as soon as the first line is out; none is made where it was to be kept.
@@ -61,12 +93,15 @@ fn is_claimed(
     bytes: Bytes,
     due: (u8, &str, &str),
 ) -> Result<bool, AllocError> {
-    let disk = disk_of(alloc, bytes)?;
-    let is_due = claims(alloc, &disk, claim, due);
+    let disks = disks_of(alloc, claim, bytes)?;
+    let is_due = claims(alloc, &disks, claim, due);
     let is_answered = due.0 == 0;
-    let is_there = disk.has_file() == (bytes.is_some() || is_answered);
+    let is_there = disks.tape.has_file() == (bytes.is_some() || is_answered);
     let is_new = claim == TapeClaim::New && is_answered;
-    Ok(is_due && is_there && (!is_new || disk.keeps(&written(alloc, bytes)?)))
+    let stays = !is_new || disks.tape.keeps(&written(alloc, bytes)?);
+    let has_record = bytes.is_some_and(|(records, _)| !records.is_empty());
+    let is_kept = is_beside(alloc, &disks, claim, has_record, is_answered)?;
+    Ok(is_due && is_there && stays && is_kept)
 }
 
 #[test]
@@ -82,17 +117,19 @@ fn claimed_tapes(rt: HostRuntime) -> Result<(), Fail> {
 
 /// Whether a tape that another process holds is refused, and stays.
 fn is_in_use(alloc: Global, claim: TapeClaim) -> Result<bool, AllocError> {
-    let disk = FakeDisk::new(alloc, &MOVING)?;
-    disk.hold();
-    Ok(claims(alloc, &disk, claim, (3, "", "mapf: TapeInUse\n")) && disk.has(&MOVING))
+    let disks = Disks::new(alloc, FakeDisk::new(alloc, &MOVING)?, None)?;
+    disks.tape.hold();
+    let is_refused = claims(alloc, &disks, claim, (3, "", "mapf: TapeInUse\n"));
+    Ok(is_refused && disks.tape.has(&MOVING))
 }
 
 /// Whether what is no file like others is not even locked.
 fn is_no_file(alloc: Global, claim: TapeClaim) -> Result<bool, AllocError> {
-    let disk = FakeDisk::new(alloc, b"")?;
-    disk.make_irregular();
-    disk.fail(Call::Lock, 0);
-    Ok(claims(alloc, &disk, claim, (3, "", "mapf: OpenFailed\n")) && disk.failures() == 0)
+    let disks = Disks::new(alloc, FakeDisk::new(alloc, b"")?, None)?;
+    disks.tape.make_irregular();
+    disks.tape.fail(Call::Lock, 0);
+    let is_refused = claims(alloc, &disks, claim, (3, "", "mapf: OpenFailed\n"));
+    Ok(is_refused && disks.tape.failures() == 0)
 }
 
 #[test]
@@ -106,12 +143,12 @@ fn tapes_that_are_not_taken(rt: HostRuntime) -> Result<(), Fail> {
 
 /// Whether a new tape is refused where a call of which it has need fails, and is made when that fails no more.
 fn is_made_again(alloc: Global, call: Call) -> Result<bool, AllocError> {
-    let disk = FakeDisk::without_file(alloc)?;
-    disk.fail(call, 0);
+    let disks = Disks::new(alloc, FakeDisk::without_file(alloc)?, None)?;
+    disks.tape.fail(call, 0);
     let failed = (3, "", "mapf: TapeFailed\n");
-    let is_refused = claims(alloc, &disk, TapeClaim::New, failed) && disk.failures() == 1;
-    let is_made = claims(alloc, &disk, TapeClaim::New, (0, FIRST_LINE, ""));
-    Ok(is_refused && is_made && disk.keeps(b""))
+    let is_refused = claims(alloc, &disks, TapeClaim::New, failed) && disks.tape.failures() == 1;
+    let is_made = claims(alloc, &disks, TapeClaim::New, (0, FIRST_LINE, ""));
+    Ok(is_refused && is_made && disks.tape.keeps(b""))
 }
 
 #[test]

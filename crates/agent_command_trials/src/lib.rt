@@ -8,6 +8,8 @@ mod claims;
 #[cfg(test)]
 mod failing_disks;
 #[cfg(test)]
+mod kept_plans;
+#[cfg(test)]
 mod long_walks;
 #[cfg(test)]
 mod refused_tapes;

@@ -4,3 +4,11 @@ mod TapeLemmas
 mod ReportLemmas
 -- a tape with a guard, and without
 mod GuardLemmas
+-- the plan beside a tape
+mod PlanLemmas
+-- and a copy of it
+mod CopyLemmas
+-- and whether two are one
+mod SameLemmas
+-- and the terms on which it is compared
+mod TermsLemmas

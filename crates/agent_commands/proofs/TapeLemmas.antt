@@ -1,18 +1,23 @@
 -- What a tape file is, and what it is not.
-use Rattle.std.proofs.Common.{◌≡◌, ◌∙◌, ℕ, ◌+◌, ◌*◌, ◌≤◌, List, length, Some, None, refl, sym, subst}
-use Rattle.std.specs.Prelude.{Option, option_map, IfSome, IfOk, IfErr, MatchResult, Result, Ok, Err}
+use Rattle.std.proofs.Common.{◌≡◌, ◌∙◌, ℕ, ◌+◌, ◌*◌, ◌<◌, ◌≤◌, Bool, true, false, List, length, Some, None, refl, sym, subst}
+use Rattle.std.specs.Prelude.{Option, option_map, IfSome, MatchResult, Result, Ok, Err}
 use Rattle.std.proofs.lemmas.Option.{same_Some, none-some}
 use Rattle.model.specs.History.{record_length}
+use Rattle.model.specs.Plan.{Plan}
 use Rattle.model.specs.Timetable.{Track, Timetable, moves, track_of}
 use Rattle.robot.specs.declared.file_tape.FileTapeFault.{FileTapeFault}
-use Rattle.robot.specs.FileTape.{IsImage}
+use Rattle.robot.specs.FileTape.{IsImage, file_state}
 use Rattle.robot.specs.declared.file_tape.FileTape.{FileTape}
 use Rattle.robot.specs.declared.file_tape.FileTapeFault.TheVariants.{TooLong, InUse, TapeFailed, OutOfMemory}
 use Rattle.tape_claim.specs.declared.TapeClaim.{TapeClaim}
-use Rattle.agent_commands.specs.AgentCommand.{IsClaimed, IsNoTape, IsTapeOf}
-use Rattle.agent_commands.specs.Code.Parts.{IsNotTaken, IsSameTape}
+use Rattle.tape_claim.specs.declared.TapeClaim.TheVariants.{Any, New, Kept}
+use Rattle.agent_commands.specs.AgentCommand.{HasAgent, IsBeside, IsClaimed, IsNoTape, IsTapeOf}
+use Rattle.agent_commands.specs.Code.Plans.{IsKeptTask, IsNotLetBy, IsNotMadeAnew}
+use Rattle.agent_commands.specs.Code.Parts.{IsLost, IsNotTaken, IsSameTape, IsTakenTape}
 use Rattle.agent_commands.specs.declared.agent_fault.AgentFault.{AgentFault}
-use Rattle.agent_commands.specs.declared.agent_fault.AgentFault.TheVariants.{Planned, OpenFailed, TapeExists, NoTape, File, Tape, Dialogue}
+use Rattle.agent_commands.specs.declared.agent_fault.AgentFault.TheVariants.{Planned, OpenFailed, TapeExists, NoTape, PlanDamaged, TapeEmptied, OtherPlan, File, Tape, Dialogue}
+use Rattle.agent_commands.specs.declared.kept_plan.PlanTask.{PlanTask}
+use Rattle.agent_commands.specs.declared.opening.TakenTape.{TakenTape}
 
 -- an agent that has moves has a track
 pub has_track : (o : Option Track) (n : ℕ) → Some n ≡ option_map moves o → (track : Track) × (o ≡ Some track) × (n ≡ moves track)
@@ -20,15 +25,23 @@ has_track None n is = absurd (none-some n (sym is))
 has_track (Some track) n is = (track, refl, same_Some n (moves track) is)
 
 -- no tape was made of a file of an agent of the timetable
-pub no_tape : {F : Type 0} (remaining : F → Option (List ℕ)) (claim : TapeClaim) (table : Timetable) (i n : ℕ) (file : F) (fault : FileTapeFault)
+pub no_tape : {F : Type 0} (remaining : F → Option (List ℕ)) (claim : TapeClaim) (p : Plan) (table : Timetable) (i n : ℕ) (file : F) (fault : FileTapeFault)
     → Some n ≡ option_map moves (track_of table i) → (fault ≡ TooLong → IfSome (remaining file) (λ bytes. 20 * n + 10 ≤ length bytes))
-    → IsNoTape remaining claim table i (File fault)
-no_tape remaining claim table i n file TooLong is long =
+    → IsNoTape remaining claim p table i (File fault)
+no_tape remaining claim p table i n file TooLong is long =
     let t = has_track (track_of table i) n is in
     (t.0, t.1, (file, subst (λ (m : ℕ). IfSome (remaining file) (λ bytes. 20 * m + 10 ≤ length bytes)) t.2 (long refl)))
-no_tape remaining claim table i n file InUse is long = let t = has_track (track_of table i) n is in (t.0, t.1)
-no_tape remaining claim table i n file TapeFailed is long = let t = has_track (track_of table i) n is in (t.0, t.1)
-no_tape remaining claim table i n file OutOfMemory is long = let t = has_track (track_of table i) n is in (t.0, t.1)
+no_tape remaining claim p table i n file InUse is long = let t = has_track (track_of table i) n is in (t.0, t.1)
+no_tape remaining claim p table i n file TapeFailed is long = let t = has_track (track_of table i) n is in (t.0, t.1)
+no_tape remaining claim p table i n file OutOfMemory is long = let t = has_track (track_of table i) n is in (t.0, t.1)
+
+-- the system or memory failed behind the opening of a tape
+pub lost : {F : Type 0} (remaining : F → Option (List ℕ)) (claim : TapeClaim) (p : Plan) (table : Timetable) (i : ℕ) (fault : FileTapeFault) → HasAgent table i
+    → IsLost fault → IsNoTape remaining claim p table i (File fault)
+lost remaining claim p table i TapeFailed has why = has
+lost remaining claim p table i OutOfMemory has why = has
+lost remaining claim p table i TooLong has why = absurd why
+lost remaining claim p table i InUse has why = absurd why
 
 -- an image of a file is the tape of an agent of the timetable
 pub of_file : {F : Type 0} (remaining : F → Option (List ℕ)) (table : Timetable) (i n : ℕ) (file : F) (t : FileTape F)
@@ -48,18 +61,66 @@ same_image remaining file room t u same image = record {
   synced = λ has. same.synced (image.synced (subst (λ s. record_length ≤ length s.contents) same.state has));
 }
 
+-- that a claim is one
+abbrev is_one : TapeClaim → Type 0
+is_one Any = ⊥
+is_one claim = Unit {0}
+
+-- why a new tape isn't taken, by what is beside it
+pub new_refused : {F : Type 0} (remaining : F → Option (List ℕ)) (p : Plan) (t : FileTape F) (fault : AgentFault)
+    → length (file_state t).contents < record_length → IsNotMadeAnew remaining fault → IsNotTaken remaining New p t fault
+new_refused remaining p t PlanDamaged few why = (λ same. subst is_one same tt, why)
+new_refused remaining p t TapeEmptied few why = (λ same. subst is_one same tt, few, why)
+new_refused remaining p t OpenFailed few why = tt
+new_refused remaining p t (File fault) few why = why
+new_refused remaining p t NoTape few why = absurd why
+new_refused remaining p t TapeExists few why = absurd why
+new_refused remaining p t OtherPlan few why = absurd why
+new_refused remaining p t (Planned f) few why = absurd why
+new_refused remaining p t (Tape f) few why = absurd why
+new_refused remaining p t (Dialogue f) few why = absurd why
+
+-- and one that is to be kept
+pub kept_refused : {F : Type 0} (remaining : F → Option (List ℕ)) (p : Plan) (t : FileTape F) (has_record : Bool) (fault : AgentFault)
+    → (has_record ≡ false → length (file_state t).contents < record_length) → IsNotLetBy remaining p has_record fault → IsNotTaken remaining Kept p t fault
+kept_refused remaining p t has_record PlanDamaged few why = (λ same. subst is_one same tt, why)
+kept_refused remaining p t has_record TapeEmptied few why = (λ same. subst is_one same tt, few why.0, why.1)
+kept_refused remaining p t has_record OtherPlan few why = (refl, why)
+kept_refused remaining p t has_record NoTape few why = refl
+kept_refused remaining p t has_record OpenFailed few why = tt
+kept_refused remaining p t has_record (File fault) few why = why
+kept_refused remaining p t has_record TapeExists few why = absurd why
+kept_refused remaining p t has_record (Planned f) few why = absurd why
+kept_refused remaining p t has_record (Tape f) few why = absurd why
+kept_refused remaining p t has_record (Dialogue f) few why = absurd why
+
+-- what is beside a tape lets the plan at hand by
+pub is_beside : {F : Type 0} (remaining : F → Option (List ℕ)) (p : Plan) (t : FileTape F) (has_record : Bool) (task : PlanTask)
+    → (has_record ≡ true → record_length ≤ length (file_state t).contents) → IsKeptTask remaining p has_record task → IsBeside remaining p t
+is_beside remaining p t has_record task enough h = record {
+  file = h.0;
+  marked = h.1.is_marked;
+  kept = h.1.plan;
+  is_kept = h.2;
+  is_akin = h.3.akin;
+  has_record = λ marked. enough (h.3.stored marked);
+}
+
 -- a tape that was opened of an agent's file is taken, or isn't
-pub take_ends : {F : Type 0} (remaining : F → Option (List ℕ)) (claim : TapeClaim) (table : Timetable) (i : ℕ) (t : FileTape F) (r : Result (FileTape F) AgentFault)
-    → IsTapeOf remaining table i t → IfOk r (λ u. IsSameTape t u × IsClaimed claim u) → IfErr r (IsNotTaken claim t)
-    → MatchResult r (λ u. IsTapeOf remaining table i u × IsClaimed claim u) (IsNoTape remaining claim table i)
-take_ends remaining claim table i t (Ok u) of ok err = ((of.0, of.1, (of.2.0, same_image remaining of.2.0 _ t u ok.0 of.2.1)), ok.1)
-take_ends remaining claim table i t (Err TapeExists) of ok err = (err.0, (t, of, err.1))
-take_ends remaining claim table i t (Err (File TapeFailed)) of ok err = (of.0, of.1)
-take_ends remaining claim table i t (Err (File TooLong)) of ok err = absurd err
-take_ends remaining claim table i t (Err (File InUse)) of ok err = absurd err
-take_ends remaining claim table i t (Err (File OutOfMemory)) of ok err = absurd err
-take_ends remaining claim table i t (Err OpenFailed) of ok err = absurd err
-take_ends remaining claim table i t (Err NoTape) of ok err = absurd err
-take_ends remaining claim table i t (Err (Planned f)) of ok err = absurd err
-take_ends remaining claim table i t (Err (Tape f)) of ok err = absurd err
-take_ends remaining claim table i t (Err (Dialogue f)) of ok err = absurd err
+pub take_ends : {F : Type 0} (remaining : F → Option (List ℕ)) (claim : TapeClaim) (p : Plan) (table : Timetable) (i : ℕ) (t : FileTape F) (r : Result (TakenTape F) AgentFault)
+    → IsTapeOf remaining table i t → MatchResult r (λ u. IsTakenTape remaining claim p t u.tape) (IsNotTaken remaining claim p t)
+    → MatchResult r (λ u. IsTapeOf remaining table i u.tape × IsClaimed remaining claim p u.tape) (IsNoTape remaining claim p table i)
+take_ends remaining claim p table i t (Ok u) of h = ((of.0, of.1, (of.2.0, same_image remaining of.2.0 _ t u.tape h.0 of.2.1)), h.1)
+take_ends remaining claim p table i t (Err TapeExists) of h = (h.0, (t, of, h.1))
+take_ends remaining claim p table i t (Err NoTape) of h = (h, (of.0, of.1))
+take_ends remaining claim p table i t (Err OpenFailed) of h = (of.0, of.1)
+take_ends remaining claim p table i t (Err PlanDamaged) of h = (t, of, h)
+take_ends remaining claim p table i t (Err TapeEmptied) of h = (t, of, h)
+take_ends remaining claim p table i t (Err OtherPlan) of h = (t, of, h)
+take_ends remaining claim p table i t (Err (File TapeFailed)) of h = (of.0, of.1)
+take_ends remaining claim p table i t (Err (File OutOfMemory)) of h = (of.0, of.1)
+take_ends remaining claim p table i t (Err (File TooLong)) of h = absurd h
+take_ends remaining claim p table i t (Err (File InUse)) of h = absurd h
+take_ends remaining claim p table i t (Err (Planned f)) of h = absurd h
+take_ends remaining claim p table i t (Err (Tape f)) of h = absurd h
+take_ends remaining claim p table i t (Err (Dialogue f)) of h = absurd h

@@ -1,7 +1,9 @@
 -- What `mapf agent` does and answers.
-use Rattle.std.specs.Prelude.{◌≡◌, ℕ, ◌+◌, ◌*◌, ◌<◌, ◌≤◌, ◌⊎◌, Bool, true, false, List, length, Option, None, Some, IfSome, Result, Ok, Err, MatchResult}
+use Rattle.std.specs.Prelude.{◌≡◌, ◌≢◌, ℕ, ◌+◌, ◌*◌, ◌<◌, ◌≤◌, ◌⊎◌, Bool, true, false, List, length, Option, None, Some, IfSome, Result, Ok, Err, MatchResult}
 use Rattle.text_io.specs.declared.counted.Counted.{Counted}
+use Rattle.grid.specs.Map.{Grid}
 use Rattle.model.specs.History.{record_length}
+use Rattle.model.specs.Plan.{Plan}
 use Rattle.model.specs.Timetable.{Track, Timetable, moves, track_of}
 use Rattle.agent.specs.declared.refusal.OpenFault.{OpenFault}
 use Rattle.agent.specs.declared.refusal.OpenFault.TheVariants.{NoSuchAgent}
@@ -14,15 +16,37 @@ use Rattle.robot.specs.declared.talk_fault.TalkFault.TheVariants.{StoreFailed, S
 use Rattle.robot.specs.FileTape.{IsImage, IsFileRead, file_state}
 use Rattle.robot.specs.declared.file_tape.FileTape.{FileTape}
 use Rattle.robot.specs.declared.file_tape.FileTapeFault.TheVariants.{TooLong}
+use Rattle.plan_text.specs.PlanTextFault.{ReadsMapAndPlan}
+use Rattle.plan.specs.Checking.{Checked, IsCheckOf}
 use Rattle.planned.specs.Planned.{ReadsTimetable}
 use Rattle.planned.specs.declared.planned_fault.PlannedFault.{PlannedFault}
 use Rattle.tape_claim.specs.declared.TapeClaim.{TapeClaim}
-use Rattle.tape_claim.specs.declared.TapeClaim.TheVariants.{New, Kept}
+use Rattle.tape_claim.specs.declared.TapeClaim.TheVariants.{Any, New, Kept}
 use Rattle.text_commands.specs.declared.status.Status.TheVariants.{Done, Failure}
 use Rattle.text_commands.specs.Ending.{End, answered_with, gave_up}
 use Rattle.agent_commands.specs.FaultWords.{agent_fault_words}
+use Rattle.agent_commands.specs.KeptPlan.{HasMark, HasNoPlan, IsAkin, IsKeptIn, IsOtherPlan}
 use Rattle.agent_commands.specs.declared.agent_fault.AgentFault.{AgentFault}
-use Rattle.agent_commands.specs.declared.agent_fault.AgentFault.TheVariants.{Planned, OpenFailed, TapeExists, NoTape, File, Tape, Dialogue}
+use Rattle.agent_commands.specs.declared.agent_fault.AgentFault.TheVariants.{Planned, OpenFailed, TapeExists, NoTape, PlanDamaged, TapeEmptied, OtherPlan, File, Tape, Dialogue}
+
+-- the plan at hand, which was found valid, and its timetable
+pub record PlanAtHand : Type 0 where
+  pub plan : Plan
+  pub timetable : Timetable
+
+-- the map and then the plan were read, and this is the plan's check on the map
+abbrev pub IsAtHand
+    : {M P : Type 0} → (M → Option (List ℕ)) → (P → Option (List ℕ)) → Counted M → Counted M → Counted P → Counted P → Plan → Checked → Type 0
+IsAtHand map_left plan_left old_map new_map old_plan new_plan p c =
+    (m : Grid) × ReadsMapAndPlan map_left plan_left old_map new_map old_plan new_plan m p × IsCheckOf m p c
+
+-- The map and the plan were read and the plan was checked: it is valid, and at hand, or it has a fault, as where its timetable alone is read.
+abbrev pub ReadsPlanAtHand
+    : {M P : Type 0} → (M → Option (List ℕ)) → (P → Option (List ℕ)) → Counted M → Counted M → Counted P → Counted P
+    → Result PlanAtHand PlannedFault → Type 0
+ReadsPlanAtHand map_left plan_left old_map new_map old_plan new_plan (Ok it) =
+    (c : Checked) × IsAtHand map_left plan_left old_map new_map old_plan new_plan it.plan c × (it.timetable ≡ c.timetable)
+ReadsPlanAtHand map_left plan_left old_map new_map old_plan new_plan (Err fault) = ReadsTimetable map_left plan_left old_map new_map old_plan new_plan (Err fault)
 
 -- how long a tape file of an agent may be: two records a move
 abbrev pub room_of : Track → ℕ
@@ -33,46 +57,73 @@ abbrev pub IsTapeOf : {F : Type 0} → (F → Option (List ℕ)) → Timetable �
 IsTapeOf {F} remaining tt i tape =
     (track : Track) × (track_of tt i ≡ Some track) × ((file : F) × IsImage remaining file (room_of track) tape)
 
--- what is claimed of a tape: a new one has no whole record, and its file is synced
-abbrev pub IsClaimed : {F : Type 0} → TapeClaim → FileTape F → Type 0
-IsClaimed New tape = (length (file_state tape).contents < record_length) × (tape.disk.synced ≡ true)
-IsClaimed _ tape = Unit {0}
+-- Beside a tape a file had a plan to which that at hand is akin, and it says that a record was stored only where the tape has one. Which file was opened no clause
+-- can say.
+pub record IsBeside {F : Type 0} (remaining : F → Option (List ℕ)) (p : Plan) (tape : FileTape F) : Type 0 where
+  pub file : F
+  pub marked : Bool
+  pub kept : Plan
+  pub is_kept : IsKeptIn remaining file marked kept
+  pub is_akin : IsAkin kept p
+  pub has_record : marked ≡ true → record_length ≤ length (file_state tape).contents
+
+-- what is claimed of a tape: a new one has no whole record, and its file is synced; one that was kept belongs to the plan at hand
+abbrev pub IsClaimed : {F : Type 0} → (F → Option (List ℕ)) → TapeClaim → Plan → FileTape F → Type 0
+IsClaimed remaining Any p tape = Unit {0}
+IsClaimed remaining New p tape = (length (file_state tape).contents < record_length) × (tape.disk.synced ≡ true)
+IsClaimed remaining Kept p tape = IsBeside remaining p tape
+
+-- Why the plan beside a tape of which something is claimed doesn't let it be taken: it is none; it says that a record was stored on a tape that has none; or that
+-- at hand is another, beside one that was kept.
+abbrev pub IsNotBeside : {F : Type 0} → (F → Option (List ℕ)) → TapeClaim → Plan → FileTape F → AgentFault → Type 0
+IsNotBeside {F} remaining claim p tape PlanDamaged = (claim ≢ Any) × ((file : F) × HasNoPlan remaining file)
+IsNotBeside {F} remaining claim p tape TapeEmptied =
+    (claim ≢ Any) × (length (file_state tape).contents < record_length) × ((file : F) × HasMark remaining file)
+IsNotBeside {F} remaining claim p tape OtherPlan = (claim ≡ Kept) × IsOtherPlan remaining p
+IsNotBeside {F} remaining claim p tape _ = ⊥
 
 -- the timetable has the agent
 abbrev pub HasAgent : Timetable → ℕ → Type 0
 HasAgent tt i = (track : Track) × (track_of tt i ≡ Some track)
 
+-- a tape was opened that the plan beside it doesn't let be taken
+abbrev pub IsUnfit : {F : Type 0} → (F → Option (List ℕ)) → TapeClaim → Plan → Timetable → ℕ → AgentFault → Type 0
+IsUnfit {F} remaining claim p tt i fault = (tape : FileTape F) × IsTapeOf remaining tt i tape × IsNotBeside remaining claim p tape fault
+
 -- Why there is no tape. Only a file with ten bytes or more behind the room is too long; only a new tape must have no whole record, and only one
--- that was kept must be there.
-abbrev pub IsNoTape : {F : Type 0} → (F → Option (List ℕ)) → TapeClaim → Timetable → ℕ → AgentFault → Type 0
-IsNoTape {F} remaining claim tt i (Tape NoSuchAgent) = track_of tt i ≡ None
-IsNoTape {F} remaining claim tt i OpenFailed = HasAgent tt i
-IsNoTape {F} remaining claim tt i TapeExists =
+-- that was kept must be there, with its plan.
+abbrev pub IsNoTape : {F : Type 0} → (F → Option (List ℕ)) → TapeClaim → Plan → Timetable → ℕ → AgentFault → Type 0
+IsNoTape {F} remaining claim p tt i (Tape NoSuchAgent) = track_of tt i ≡ None
+IsNoTape {F} remaining claim p tt i OpenFailed = HasAgent tt i
+IsNoTape {F} remaining claim p tt i TapeExists =
     (claim ≡ New) × ((tape : FileTape F) × IsTapeOf remaining tt i tape × (record_length ≤ length (file_state tape).contents))
-IsNoTape {F} remaining claim tt i NoTape = (claim ≡ Kept) × HasAgent tt i
-IsNoTape {F} remaining claim tt i (File TooLong) =
+IsNoTape {F} remaining claim p tt i NoTape = (claim ≡ Kept) × HasAgent tt i
+IsNoTape {F} remaining claim p tt i PlanDamaged = IsUnfit remaining claim p tt i PlanDamaged
+IsNoTape {F} remaining claim p tt i TapeEmptied = IsUnfit remaining claim p tt i TapeEmptied
+IsNoTape {F} remaining claim p tt i OtherPlan = IsUnfit remaining claim p tt i OtherPlan
+IsNoTape {F} remaining claim p tt i (File TooLong) =
     (track : Track) × (track_of tt i ≡ Some track) × ((file : F) × IfSome (remaining file) (λ bytes. room_of track + record_length ≤ length bytes))
-IsNoTape {F} remaining claim tt i (File fault) = HasAgent tt i
-IsNoTape {F} remaining claim tt i _ = ⊥
+IsNoTape {F} remaining claim p tt i (File fault) = HasAgent tt i
+IsNoTape {F} remaining claim p tt i _ = ⊥
 
 -- the agent was opened on such a tape, of which the claim holds
-abbrev pub IsOnTape : {F : Type 0} → (F → Option (List ℕ)) → TapeClaim → Timetable → ℕ → AgentOn (FileTape F) → Type 0
-IsOnTape {F} remaining claim tt i agent =
-    (tape : FileTape F) × IsTapeOf remaining tt i tape × IsClaimed claim tape × IsOpened file_state IsFileRead tt i tape agent
+abbrev pub IsOnTape : {F : Type 0} → (F → Option (List ℕ)) → TapeClaim → Plan → Timetable → ℕ → AgentOn (FileTape F) → Type 0
+IsOnTape {F} remaining claim p tt i agent =
+    (tape : FileTape F) × IsTapeOf remaining tt i tape × IsClaimed remaining claim p tape × IsOpened file_state IsFileRead tt i tape agent
 
 -- A tape was opened of which the claim holds, and was refused for this fault, with what it had.
-pub record IsRefusedTape {F : Type 0} (remaining : F → Option (List ℕ)) (claim : TapeClaim) (tt : Timetable) (i : ℕ) (fault : OpenFault) : Type 0 where
+pub record IsRefusedTape {F : Type 0} (remaining : F → Option (List ℕ)) (claim : TapeClaim) (p : Plan) (tt : Timetable) (i : ℕ) (fault : OpenFault) : Type 0 where
   pub tape : FileTape F
   pub is_tape : IsTapeOf remaining tt i tape
-  pub claimed : IsClaimed claim tape
+  pub claimed : IsClaimed remaining claim p tape
   pub after : FileTape F
   pub refused : IsRefused file_state IsFileRead tt i tape after fault
   pub kept : IsKept (file_state tape) (file_state after)
 
 -- why the agent was not opened: there is no tape, or it was refused
-abbrev pub IsNotOnTape : {F : Type 0} → (F → Option (List ℕ)) → TapeClaim → Timetable → ℕ → AgentFault → Type 0
-IsNotOnTape remaining claim tt i fault =
-    IsNoTape remaining claim tt i fault ⊎ ((refusal : OpenFault) × (fault ≡ Tape refusal) × IsRefusedTape remaining claim tt i refusal)
+abbrev pub IsNotOnTape : {F : Type 0} → (F → Option (List ℕ)) → TapeClaim → Plan → Timetable → ℕ → AgentFault → Type 0
+IsNotOnTape remaining claim p tt i fault =
+    IsNoTape remaining claim p tt i fault ⊎ ((refusal : OpenFault) × (fault ≡ Tape refusal) × IsRefusedTape remaining claim p tt i refusal)
 
 -- what others say of a tape is heeded where it was kept: a new one has nothing that anybody could have heard
 abbrev pub heeds : TapeClaim → Bool
@@ -87,9 +138,9 @@ told_of_dialogue (Err fault) = Err (Dialogue fault)
 -- The agent was opened on its tape and then led a dialogue, or it was not opened, and then neither input nor output were touched.
 pub record Converses
     {F I W : Type 0} (remaining : F → Option (List ℕ)) (input_left : I → Option (List ℕ)) (contents : W → Option (List ℕ))
-    (claim : TapeClaim) (tt : Timetable) (i : ℕ) (old_in new_in : Counted I) (old_out new_out : Counted W) (result : Result Unit AgentFault) : Type 0 where
+    (claim : TapeClaim) (p : Plan) (tt : Timetable) (i : ℕ) (old_in new_in : Counted I) (old_out new_out : Counted W) (result : Result Unit AgentFault) : Type 0 where
   pub opened : Result (AgentOn (FileTape F)) AgentFault
-  pub opens : MatchResult opened (IsOnTape remaining claim tt i) (IsNotOnTape remaining claim tt i)
+  pub opens : MatchResult opened (IsOnTape remaining claim p tt i) (IsNotOnTape remaining claim p tt i)
   pub ends : MatchResult opened
       (λ agent. (answer : Result Unit TalkFault) × (after : AgentOn (FileTape F))
       × Talks input_left contents file_state (heeds claim) tt old_in new_in old_out new_out agent after answer × (result ≡ told_of_dialogue answer))
@@ -101,10 +152,10 @@ pub record Serves
     {F M P I W : Type 0} (remaining : F → Option (List ℕ)) (map_left : M → Option (List ℕ)) (plan_left : P → Option (List ℕ))
     (input_left : I → Option (List ℕ)) (contents : W → Option (List ℕ)) (claim : TapeClaim) (i : ℕ) (old_map new_map : Counted M) (old_plan new_plan : Counted P)
     (old_in new_in : Counted I) (old_out new_out : Counted W) (result : Result Unit AgentFault) : Type 0 where
-  pub read : Result Timetable PlannedFault
-  pub reads : ReadsTimetable map_left plan_left old_map new_map old_plan new_plan read
+  pub read : Result PlanAtHand PlannedFault
+  pub reads : ReadsPlanAtHand map_left plan_left old_map new_map old_plan new_plan read
   pub ends : MatchResult read
-      (λ tt. Converses remaining input_left contents claim tt i old_in new_in old_out new_out result)
+      (λ it. Converses remaining input_left contents claim it.plan it.timetable i old_in new_in old_out new_out result)
       (λ fault. (result ≡ Err (Planned fault)) × (new_in ≡ old_in) × (new_out ≡ old_out))
 
 -- How the command ends by what it came to: where the tape failed or was an older one, the last answer said it.

@@ -4,5 +4,7 @@
 pub mod Reading
 -- what the parts of the opening of a tape file owe each other
 pub mod Parts
+-- and those that keep a plan beside it
+pub mod Plans
 -- and of `mapf tape`
 pub mod Reports

@@ -1,12 +1,14 @@
 //! `mapf agent`: answers for one agent of a plan, by its tape.
 ghost use Rattle.std.specs.Prelude.{◌≡◌, is_some, IfSome};
+ghost use Rattle.model.specs.Plan.{Plan};
 ghost use Rattle.model.specs.Timetable.{Timetable};
 ghost use Rattle.depgraph.specs.AgentParts.{IsPartOf};
 ghost use Rattle.text_commands.specs.Ending.{EndsAndTells, end_of};
 ghost use Rattle.agent_commands.specs.AgentCommand.{AnswersAgent, Converses, Serves, heeds};
+ghost use Rattle.agent_commands.specs.Code.Plans.{IsTermsFor, claim_of};
 
 use crate::agent_fault::AgentFault;
-use crate::agent_part::read_part;
+use crate::agent_part::{PartAndTerms, read_part_and_terms};
 use crate::opening::open_agent;
 use agent::OpenFault;
 use depgraph::{OwnPart, Part};
@@ -55,7 +57,8 @@ pub struct Seat<'a> {
 /// for. The tape file is not touched before the plan is known to have the agent. It is held until
 /// the end, and no other process may hold it. A new one was made, and synced with its folder, before
 /// the first answer is out; a file that has a whole record is refused. Of one that was kept no file
-/// is made.
+/// is made. Beside a new one, and one that was kept, a file has the plan at hand by then; a kept one
+/// is refused where the plan that was kept neither is it, nor goes on from it or before it.
 pub fn perform<R: Files + AllocGlobal, M: Read, P: Read, I: Read, W: Write>(
     rt: &R,
     map: &mut Counted<M>,
@@ -93,26 +96,28 @@ where
     ensures { Serves R.File.remaining M.remaining P.remaining I.remaining W.contents seat.entry.claim seat.entry.id map.old map.new plan.old plan.new input.old input.new out.old out.new
         result }
 {
-    let Some(own) = read_part(rt.alloc(), map, plan, seat.id)? else {
+    let Some(found) = read_part_and_terms(rt.alloc(), map, plan, seat.id, seat.claim)? else {
         return Err(AgentFault::Tape(OpenFault::NoSuchAgent));
     };
-    converse(rt, &own, seat, input, out)
+    converse(rt, found, seat.path, input, out)
 }
 
-/// Answers for an agent.
+/// Answers for an agent. The plan at hand is gone before the first answer.
 fn converse<R: Files + AllocGlobal, I: Read, W: Write>(
     rt: &R,
-    own: &OwnPart,
-    seat: Seat<'_>,
+    found: PartAndTerms,
+    path: &str,
     input: &mut Counted<I>,
     out: &mut Counted<W>,
 ) -> Result<(), AgentFault>
 where
     R::File: LockFile,
-    ensures { (tt : Timetable) → IsPartOf tt own.now → Converses R.File.remaining I.remaining W.contents seat.entry.claim tt own.now.agent input.old input.new out.old out.new result }
+    ensures { (p : Plan) → IsTermsFor (claim_of found.terms) p found.terms → (tt : Timetable) → IsPartOf tt found.own
+        → Converses R.File.remaining I.remaining W.contents (claim_of found.terms) p tt found.own.agent input.old input.new out.old out.new result }
 {
-    let heeded = heeded_part(own, seat.claim);
-    let agent = open_agent(rt, own.part(), seat.path, seat.claim)?;
+    let PartAndTerms { own, terms } = found;
+    let heeded = heeded_part(&own, terms.claim());
+    let agent = open_agent(rt, own.part(), path, terms)?;
     talk(rt.alloc(), &mut Talker { agent, heeded }, input, out)?;
     Ok(())
 }

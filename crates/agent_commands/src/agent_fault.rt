@@ -3,10 +3,12 @@ ghost use Rattle.std.specs.Prelude.{◌≡◌, Some};
 ghost use Rattle.text_io.specs.FaultWords.{words_of, words_text};
 ghost use Rattle.agent_commands.specs.FaultWords.{agent_fault_words};
 ghost use Rattle.agent_commands.specs.declared.agent_fault.AgentFault.TheVariants as agent_fault;
+ghost use Rattle.robot.specs.declared.file_tape.FileTapeFault.TheVariants.{OutOfMemory};
 
 use agent::OpenFault;
 use planned::PlannedFault;
 use robot::{FileTapeFault, TalkFault};
+use std::alloc::AllocError;
 use std::fmt;
 use text_io::{Failure, FaultWords};
 use thiserror::Error;
@@ -20,8 +22,14 @@ pub(crate) enum AgentFault {
     OpenFailed,
     /// A tape was to be new, and has a record.
     TapeExists,
-    /// A tape was to be there, and is not.
+    /// A tape was to be there, or the plan beside it, and is not.
     NoTape,
+    /// The file beside the tape doesn't say which plan the tape belongs to.
+    PlanDamaged,
+    /// A record was stored on the tape, and it has none.
+    TapeEmptied,
+    /// The tape belongs to another plan, of which none goes on from the other.
+    OtherPlan,
     /// The tape file could not be taken for a tape.
     File(FileTapeFault),
     /// There is no such agent, or the tape is not the agent's.
@@ -40,6 +48,9 @@ impl AgentFault {
             AgentFault::OpenFailed => Failure::OpenFailed.words(),
             AgentFault::TapeExists => FaultWords::new("TapeExists", &[]),
             AgentFault::NoTape => FaultWords::new("NoTape", &[]),
+            AgentFault::PlanDamaged => FaultWords::new("PlanDamaged", &[]),
+            AgentFault::TapeEmptied => FaultWords::new("TapeEmptied", &[]),
+            AgentFault::OtherPlan => FaultWords::new("OtherPlan", &[]),
             AgentFault::File(fault) => fault.words(),
             AgentFault::Tape(fault) => fault.words(),
             AgentFault::Dialogue(fault) => fault.words(),
@@ -60,6 +71,14 @@ impl From<PlannedFault> for AgentFault {
 
     fn from(e: PlannedFault) -> AgentFault {
         AgentFault::Planned(e)
+    }
+}
+
+impl From<AllocError> for AgentFault {
+    ghost from_gives = { λ _ f. f ≡ agent_fault.File OutOfMemory };
+
+    fn from(_: AllocError) -> AgentFault {
+        AgentFault::File(FileTapeFault::OutOfMemory)
     }
 }
 

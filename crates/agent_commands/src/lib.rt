@@ -4,11 +4,15 @@
 pub mod agent_command;
 mod agent_fault;
 mod agent_part;
-mod name_guard;
+mod kept_plan;
 mod opening;
+mod plan_file;
 pub mod tape_command;
 mod tape_files;
+mod tape_guard;
 mod tape_report;
+mod terms;
 
 pub use agent_command::{Seat, agent_cmd};
+pub use plan_file::{name_beside, plan_beside};
 pub use tape_command::tape_cmd;

@@ -1,40 +1,63 @@
 //! Opening an agent over its tape file.
-ghost use Rattle.std.specs.Prelude.{◌≡◌, IfErr, IfOk, MatchResult};
+ghost use Rattle.std.specs.Prelude.{◌≡◌, ◌≤◌, ◌↔◌, length, IfErr, IfOk, IsTrue, MatchResult};
+ghost use Rattle.model.specs.History.{record_length};
+ghost use Rattle.model.specs.Plan.{Plan};
 ghost use Rattle.model.specs.Timetable.{Timetable};
 ghost use Rattle.depgraph.specs.AgentParts.{IsPartOf};
 ghost use Rattle.agent_commands.specs.AgentCommand.{IsClaimed, IsNoTape, IsNotOnTape, IsOnTape, IsTapeOf};
 ghost use Rattle.agent_commands.specs.declared.agent_fault.AgentFault.TheVariants.{File};
 ghost use Rattle.robot.specs.declared.file_tape.FileTapeFault.TheVariants.{TapeFailed};
-ghost use Rattle.agent_commands.specs.Code.Parts.{IsNotTaken, IsSameTape, unguarded};
+ghost use Rattle.robot.specs.FileTape.{file_state};
+ghost use Rattle.agent_commands.specs.Code.Parts.{IsNotTaken, IsTakenTape, unguarded};
+ghost use Rattle.agent_commands.specs.Code.Plans.{IsTermsFor, claim_of};
 
 use crate::agent_fault::AgentFault;
 use crate::agent_part::moves_of;
-use crate::name_guard::NameGuard;
+use crate::kept_plan::{PlanTask, keep_plan, look_beside_kept, look_beside_new};
+use crate::plan_file::name_beside;
 use crate::tape_files::{HeldFile, keep_name, open_file};
+use crate::tape_guard::TapeGuard;
+use crate::terms::Terms;
 use agent::{Agent, RECORD_LENGTH, Tape};
 use depgraph::Part;
-use robot::{FileTape, GuardedTape};
+use plan::Plan;
+use robot::{FileTape, FileTapeFault, GuardedTape};
+use std::alloc::AllocError;
+use std::fs::OpenFile;
+use std::io::{Read, Seek, Write};
 use std::rt::Files;
 use tape_claim::{LockFile, TapeClaim};
 
-/// Opens an agent over its tape file.
+/// Opens an agent over its tape file, and keeps the plan at hand beside it.
 pub(crate) fn open_agent<'a, 'g, R: Files + AllocGlobal>(
     rt: &'a R,
     part: Part<'g>,
     path: &'a str,
-    claim: TapeClaim,
-) -> Result<Agent<'g, GuardedTape<R::File, NameGuard<'a, R>>>, AgentFault>
+    terms: Terms,
+) -> Result<Agent<'g, GuardedTape<R::File, TapeGuard<'a, R>>>, AgentFault>
 where
     R::File: LockFile,
     ensures part { IfOk result (λ agent. agent.part ≡ part.entry) }
-    ensures opened { (tt : Timetable) → IsPartOf tt part.entry → MatchResult result
-        (λ agent. IsOnTape R.File.remaining claim tt part.entry.agent (unguarded agent)) (IsNotOnTape R.File.remaining claim tt part.entry.agent) }
+    ensures opened { (p : Plan) → IsTermsFor (claim_of terms) p terms → (tt : Timetable) → IsPartOf tt part.entry → MatchResult result
+        (λ agent. IsOnTape R.File.remaining (claim_of terms) p tt part.entry.agent (unguarded agent))
+        (IsNotOnTape R.File.remaining (claim_of terms) p tt part.entry.agent) }
 {
-    let tape = open_tape(rt, &part, path, claim)?;
+    let OpenTape { tape, task } = open_tape(rt, &part, path, &terms)?;
     match Agent::open_part(rt.alloc(), part, tape) {
-        Ok(agent) => Ok(agent),
+        Ok(agent) => {
+            let has_record = agent.tape().len() >= RECORD_LENGTH;
+            keep_plan(rt, path, &terms, task, has_record)?;
+            Ok(agent)
+        }
         Err((fault, _)) => Err(AgentFault::Tape(fault)),
     }
+}
+
+/// A tape with its guard, and what is still to be done to the file beside it.
+#[derive(Drop)]
+struct OpenTape<'a, R: Files> {
+    tape: GuardedTape<R::File, TapeGuard<'a, R>>,
+    task: PlanTask,
 }
 
 /// Opens the tape file of an agent, with room for two records a move.
@@ -42,65 +65,130 @@ fn open_tape<'a, R: Files + AllocGlobal>(
     rt: &'a R,
     part: &Part<'_>,
     path: &'a str,
-    claim: TapeClaim,
-) -> Result<GuardedTape<R::File, NameGuard<'a, R>>, AgentFault>
+    terms: &Terms,
+) -> Result<OpenTape<'a, R>, AgentFault>
 where
     R::File: LockFile,
-    ensures { (tt : Timetable) → IsPartOf tt part.now → MatchResult result
-        (λ it. IsTapeOf R.File.remaining tt part.now.agent it.tape × IsClaimed claim it.tape) (IsNoTape R.File.remaining claim tt part.now.agent) }
+    ensures { (p : Plan) → IsTermsFor (claim_of terms.now) p terms.now → (tt : Timetable) → IsPartOf tt part.now → MatchResult result
+        (λ it. IsTapeOf R.File.remaining tt part.now.agent it.tape.tape × IsClaimed R.File.remaining (claim_of terms.now) p it.tape.tape)
+        (IsNoTape R.File.remaining (claim_of terms.now) p tt part.now.agent) }
 {
     let moves = moves_of(part);
-    let HeldFile { file, id } = open_file(rt, path, claim)?;
+    let HeldFile { file, id } = open_file(rt, path, terms.claim())?;
     let opened = FileTape::open(rt.alloc(), file, 2 * RECORD_LENGTH * moves)?;
-    let tape = take_tape(rt, path, opened, claim)?;
-    Ok(GuardedTape::new(tape, NameGuard::new(rt, path, id)))
+    let TakenTape { tape, task } = take_tape(rt, path, opened, terms)?;
+    let unmarked = unmarked_plan(rt, path, terms, has_record(&tape))?;
+    let guard = TapeGuard::new(rt, path, id, unmarked);
+    Ok(OpenTape {
+        tape: GuardedTape::new(tape, guard),
+        task,
+    })
+}
+
+/// The name of the file that is to be marked when the first record is stored.
+fn unmarked_plan<R: AllocGlobal>(
+    rt: &R,
+    path: &str,
+    terms: &Terms,
+    has_record: bool,
+) -> Result<Option<String>, AllocError> {
+    match terms {
+        Terms::New(_) | Terms::Kept(_) if !has_record => Ok(Some(name_beside(rt.alloc(), path)?)),
+        _ => Ok(None),
+    }
+}
+
+/// Whether the tape has a whole record.
+fn has_record<F: Read + Write + Seek + OpenFile>(tape: &FileTape<F>) -> bool
+    ensures { IsTrue result ↔ (record_length ≤ length (file_state tape.now).contents) }
+{
+    tape.len() >= RECORD_LENGTH
+}
+
+/// A tape that is taken, and what is still to be done to the file beside it.
+#[derive(Drop)]
+struct TakenTape<F> {
+    tape: FileTape<F>,
+    task: PlanTask,
 }
 
 /// Takes the tape of a file that was opened, if what is claimed of it holds.
-fn take_tape<R: Files>(
+fn take_tape<R: Files + AllocGlobal>(
     rt: &R,
     path: &str,
     tape: FileTape<R::File>,
-    claim: TapeClaim,
-) -> Result<FileTape<R::File>, AgentFault>
-    ensures ok { IfOk result (λ taken. IsSameTape tape taken × IsClaimed claim taken) }
-    ensures err { IfErr result (IsNotTaken claim tape) }
+    terms: &Terms,
+) -> Result<TakenTape<R::File>, AgentFault>
+    ensures { (p : Plan) → IsTermsFor (claim_of terms.now) p terms.now → MatchResult result
+        (λ taken. IsTakenTape R.File.remaining (claim_of terms.now) p tape taken.tape) (IsNotTaken R.File.remaining (claim_of terms.now) p tape) }
 {
-    match claim {
-        TapeClaim::New => take_new_tape(rt, path, tape),
-        TapeClaim::Any | TapeClaim::Kept => take_any_tape(rt, path, tape),
+    match terms {
+        Terms::Any => take_any_tape(rt, path, tape),
+        Terms::New(_) => take_new_tape(rt, path, tape),
+        Terms::Kept(plan) => take_kept_tape(rt, path, tape, plan),
     }
 }
 
-/// Takes a tape without a record, and syncs it and its folder.
-fn take_new_tape<R: Files>(
-    rt: &R,
-    path: &str,
-    mut tape: FileTape<R::File>,
-) -> Result<FileTape<R::File>, AgentFault>
-    ensures ok { IfOk result (λ taken. IsSameTape tape taken × IsClaimed TapeClaim.New taken) }
-    ensures err { IfErr result (IsNotTaken TapeClaim.New tape) }
-{
-    if tape.len() >= RECORD_LENGTH {
-        return Err(AgentFault::TapeExists);
-    }
-    tape.sync()?;
-    keep_name(rt, path)?;
-    Ok(tape)
-}
-
-/// Takes a tape, and syncs its folder if it has no record: the file may just have been made, and a power cut could take away a name that
-/// isn't synced.
+/// Takes a tape of which nothing is claimed.
 fn take_any_tape<R: Files>(
     rt: &R,
     path: &str,
     tape: FileTape<R::File>,
-) -> Result<FileTape<R::File>, AgentFault>
-    ensures ok { IfOk result (λ taken. taken ≡ tape) }
+) -> Result<TakenTape<R::File>, AgentFault>
+    ensures ok { IfOk result (λ taken. taken.tape ≡ tape) }
     ensures err { IfErr result (λ fault. fault ≡ File TapeFailed) }
 {
-    if tape.len() < RECORD_LENGTH {
+    keep_made_name(rt, path, &tape)?;
+    Ok(TakenTape {
+        tape,
+        task: PlanTask::Nothing,
+    })
+}
+
+/// Takes a tape without a record, and syncs it and its folder.
+fn take_new_tape<R: Files + AllocGlobal>(
+    rt: &R,
+    path: &str,
+    mut tape: FileTape<R::File>,
+) -> Result<TakenTape<R::File>, AgentFault>
+    ensures { (p : Plan) → MatchResult result (λ taken. IsTakenTape R.File.remaining TapeClaim.New p tape taken.tape) (IsNotTaken R.File.remaining TapeClaim.New p tape) }
+{
+    if has_record(&tape) {
+        return Err(AgentFault::TapeExists);
+    }
+    look_beside_new(rt, path)?;
+    tape.sync()?;
+    keep_name(rt, path)?;
+    Ok(TakenTape {
+        tape,
+        task: PlanTask::Write,
+    })
+}
+
+/// Takes a tape that belongs to the plan at hand.
+fn take_kept_tape<R: Files + AllocGlobal>(
+    rt: &R,
+    path: &str,
+    tape: FileTape<R::File>,
+    plan: &Plan,
+) -> Result<TakenTape<R::File>, AgentFault>
+    ensures { MatchResult result (λ taken. IsTakenTape R.File.remaining TapeClaim.Kept plan.now tape taken.tape) (IsNotTaken R.File.remaining TapeClaim.Kept plan.now tape) }
+{
+    let task = look_beside_kept(rt, path, plan, has_record(&tape))?;
+    keep_made_name(rt, path, &tape)?;
+    Ok(TakenTape { tape, task })
+}
+
+/// Syncs the folder of a tape that has no record: the file may just have been made, and a power cut could take away a name that isn't synced.
+fn keep_made_name<R: Files>(
+    rt: &R,
+    path: &str,
+    tape: &FileTape<R::File>,
+) -> Result<(), FileTapeFault>
+    ensures { IfErr result (λ fault. fault ≡ TapeFailed) }
+{
+    if !has_record(tape) {
         keep_name(rt, path)?;
     }
-    Ok(tape)
+    Ok(())
 }

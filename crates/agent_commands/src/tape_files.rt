@@ -1,4 +1,4 @@
-//! The file of a tape, and its folder.
+//! The files of an agent: its tape's, the one beside that, and their folder.
 ghost use Rattle.std.specs.Prelude.{◌≡◌, IfErr};
 ghost use Rattle.agent_commands.specs.Code.Parts.{IsNotOpened};
 

@@ -82,7 +82,10 @@ fn read_image<T: Read>(
 }
 
 /// Reads up to the end, or until the bytes are full, and answers how many were read.
-fn read_up_to<T: Read>(file: &mut Counted<T>, bytes: &mut [u8]) -> Result<usize, FileTapeFault>
+pub(crate) fn read_up_to<T: Read>(
+    file: &mut Counted<T>,
+    bytes: &mut [u8],
+) -> Result<usize, FileTapeFault>
     ensures within { IfOk result (λ n. n ≤ length bytes.new) }
     ensures bytes { IfOk result (λ n. Consumes (T.remaining (counted_inner file.old)) (T.remaining (counted_inner file.new)) (take n bytes.new)) }
     ensures end { IfOk result (λ n. n < length bytes.new → IsAtEnd (T.remaining (counted_inner file.new))) }

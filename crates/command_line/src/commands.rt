@@ -361,9 +361,11 @@ Then each line of standard input is answered by one line:
   any other  refused BadLine
 
 Start a robot once with --tape new, and from then on with --tape kept: then a
-tape that was lost is no new one.
+tape that was lost is no new one. The plan is kept beside the tape, in a file
+of its name with .plan behind it.
   --tape new    refuses a file that has a record
-  --tape kept   refuses a file that is not there
+  --tape kept   refuses a file that is not there, that was emptied, or that is
+                of another plan, of which none goes on from the other
 
 Status:
   0  the input ended

@@ -31,7 +31,7 @@ const OF_ANOTHER_PLAN: &str =
 const CHANGED_ON_THE_WAY: &str =
     "Nothing was heard. Drop it: its bytes were changed on the way, or are another program's.\n";
 
-static ADVICE: [Advice; 24] = [
+static ADVICE: [Advice; 27] = [
     Advice {
         of: "a command",
         name: "OpenFailed",
@@ -66,6 +66,21 @@ static ADVICE: [Advice; 24] = [
         of: TAPE,
         name: "NoTape",
         text: "Make no new one: with that the agent stands at its start for all others, wherever it is, and they may enter\nits cells. Find its tape; or look where it stands, and begin a new run from there.\n",
+    },
+    Advice {
+        of: TAPE,
+        name: "PlanDamaged",
+        text: "Look what that file is. Where it is another one, give the tape another name.\n",
+    },
+    Advice {
+        of: TAPE,
+        name: "TapeEmptied",
+        text: "The tape is lost: make no new one. Look where the robot stands, and begin a new run from there.\n",
+    },
+    Advice {
+        of: TAPE,
+        name: "OtherPlan",
+        text: "Give the robot the plan that it had, or one that goes on from it. For a new run, with a new number, it gets a new tape.\n",
     },
     Advice {
         of: TAPE,

@@ -18,10 +18,11 @@ pub(crate) fn explain_departing<R: Files>(
     told: &Told<'_>,
     page: &mut Page,
 ) {
-    let [_, old, new] = files else {
-        return;
+    let plans = match files {
+        [_, old, new] => [*old, *new],
+        [_, new, _, kept] => [*kept, *new],
+        _ => return,
     };
-    let plans = [*old, *new];
     let is_told = match told.fault {
         Fault::OtherNumber => put_heads(rt, plans, 2, page),
         Fault::OtherCount => put_heads(rt, plans, 3, page),
@@ -36,7 +37,7 @@ pub(crate) fn explain_departing<R: Files>(
 fn put_heads<R: Files>(rt: &R, plans: [NamedFile<'_>; 2], number: u64, page: &mut Page) -> bool {
     for plan in plans {
         let mut line = Line::new();
-        line.find(rt, plan.path, number);
+        line.find(rt, plan.path, plan.plan_line(number));
         put_title(plan, &line, page);
         if line.is_read() {
             let place = Parts::at_spaces(line.bytes()).get(1);
@@ -75,7 +76,8 @@ fn put_agent<R: Files>(
     page: &mut Page,
 ) -> Option<Place> {
     let mut line = Line::new();
-    line.find(rt, plan.path, agent.saturating_add(FIRST_AGENT));
+    let number = plan.plan_line(agent.saturating_add(FIRST_AGENT));
+    line.find(rt, plan.path, number);
     put_title(plan, &line, page);
     let course = Course::read(&line)?;
     show_line(page, &line, last_before(line.bytes(), time)?);

@@ -61,16 +61,24 @@ fn put_error(reason: &Reason, page: &mut Page) {
 /// Why the file can't be opened. What is no file of bytes is not opened once more, since it may wait for ever.
 fn reason_of<R: Files>(rt: &R, file: NamedFile<'_>) -> Option<Reason> {
     match fs::metadata(rt, file.path) {
-        Err(error) if error.kind() == ErrorKind::NotFound && file.kind == FileKind::Tape => {
-            Some(Reason {
-                words: unmade_reason(rt, file.path),
-                error: None,
-            })
+        Err(error) if error.kind() == ErrorKind::NotFound && file.kind.is_written() => {
+            missing_reason(rt, file)
         }
         Err(error) => Some(reason_by(error, file.kind)),
         Ok(metadata) if metadata.is_file() => opening_reason(rt, file),
         Ok(metadata) => shape_reason(metadata.is_dir(), file.kind),
     }
+}
+
+/// Why a file isn't there that could be made. That of a kept plan isn't opened then.
+fn missing_reason<R: Files>(rt: &R, file: NamedFile<'_>) -> Option<Reason> {
+    if file.kind == FileKind::KeptPlan {
+        return None;
+    }
+    Some(Reason {
+        words: unmade_reason(rt, file.path),
+        error: None,
+    })
 }
 
 /// Why there is no file of a tape, and none could be made.
@@ -88,12 +96,11 @@ fn unmade_reason<R: Files>(rt: &R, path: &str) -> &'static str {
     }
 }
 
-/// Why a file of bytes can't be opened. A tape is written too.
+/// Why a file of bytes can't be opened.
 fn opening_reason<R: Files>(rt: &R, file: NamedFile<'_>) -> Option<Reason> {
-    let is_tape = file.kind == FileKind::Tape;
     let opened = OpenOptions::new()
         .read(true)
-        .write(is_tape)
+        .write(file.kind.is_written())
         .open(rt, file.path);
     match opened {
         Ok(_) => None,
@@ -103,7 +110,7 @@ fn opening_reason<R: Files>(rt: &R, file: NamedFile<'_>) -> Option<Reason> {
 
 /// Why what is no file of bytes can't be opened, if it can't.
 fn shape_reason(is_folder: bool, kind: FileKind) -> Option<Reason> {
-    if kind != FileKind::Tape {
+    if !kind.is_written() {
         return None;
     }
     let words = if is_folder {
@@ -138,7 +145,7 @@ fn reason_by(error: Error, kind: FileKind) -> Reason {
 fn kind_name(reason: ErrorKind, kind: FileKind) -> &'static str {
     match reason {
         ErrorKind::NotFound => "there is no such file",
-        ErrorKind::PermissionDenied if kind == FileKind::Tape =>
+        ErrorKind::PermissionDenied if kind.is_written() =>
             "it may not be read, or not be written, by this user",
         ErrorKind::PermissionDenied => "it may not be read by this user",
         ErrorKind::ReadOnlyFilesystem => "its disk may not be written",

@@ -19,20 +19,23 @@ use std::io::Write;
 use std::rt::Files;
 use text_io::{Counted, FaultWords, Sink, WriteFault};
 
-/// Writes for people what a fault with these words means, behind the line that told it: `files` are
-/// those that the command names, in the order in which it opens them; `-` alone is standard input.
-/// They are read once more, and what isn't there any more is left out.
+/// Writes for people what faults with these words mean, behind the line that told the first: `files`
+/// are those that the command names, in the order in which it opens them, and behind a tape the plan
+/// that is kept beside it; `-` alone is standard input. They are read once more, and what isn't there
+/// any more is left out.
 pub fn explain<R: Files + AllocGlobal, E: Write>(
     rt: &R,
     files: &[NamedFile<'_>],
-    words: FaultWords,
+    faults: &[FaultWords],
     style: Style,
     err: &mut Counted<E>,
 )
     ensures { AddsMore (E.contents (counted_inner err.old)) (E.contents (counted_inner err.new)) }
 {
     let mut page = Page::new(style);
-    put_explanation(rt, rt.alloc(), files, &Told::of(&words), &mut page);
+    for words in faults {
+        put_explanation(rt, rt.alloc(), files, &Told::of(words), &mut page);
+    }
     let _ = write_page(page.as_bytes(), err);
 }
 
@@ -166,6 +169,9 @@ fn kind_of(fault: Fault) -> Option<FileKind> {
         | Fault::TapeInUse
         | Fault::TapeExists
         | Fault::NoTape
+        | Fault::PlanDamaged
+        | Fault::TapeEmptied
+        | Fault::OtherPlan
         | Fault::TapeFailed => Some(FileKind::Tape),
         _ => None,
     }

@@ -23,6 +23,9 @@ pub(crate) enum Fault {
     TapeInUse,
     TapeExists,
     NoTape,
+    PlanDamaged,
+    TapeEmptied,
+    OtherPlan,
     TapeFailed,
     BadHeader,
     BadNumber,
@@ -46,7 +49,7 @@ pub(crate) enum Fault {
     Other,
 }
 
-static NAMED: [(&str, Fault); 40] = [
+static NAMED: [(&str, Fault); 43] = [
     ("OpenFailed", Fault::OpenFailed),
     ("ReadFailed", Fault::ReadFailed),
     ("NoSuchRow", Fault::NoSuchRow),
@@ -67,6 +70,9 @@ static NAMED: [(&str, Fault); 40] = [
     ("TapeInUse", Fault::TapeInUse),
     ("TapeExists", Fault::TapeExists),
     ("NoTape", Fault::NoTape),
+    ("PlanDamaged", Fault::PlanDamaged),
+    ("TapeEmptied", Fault::TapeEmptied),
+    ("OtherPlan", Fault::OtherPlan),
     ("TapeFailed", Fault::TapeFailed),
     ("BadHeader", Fault::BadHeader),
     ("BadNumber", Fault::BadNumber),

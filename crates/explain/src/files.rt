@@ -10,6 +10,8 @@ pub enum FileKind {
     Plan,
     Events,
     Tape,
+    /// A plan beside a tape, behind a first line.
+    KeptPlan,
 }
 
 /// A file that a command names.
@@ -28,6 +30,22 @@ impl FileKind {
             FileKind::Plan => "a plan",
             FileKind::Events => "a list of events",
             FileKind::Tape => "a tape",
+            FileKind::KeptPlan => "the plan of a tape",
+        }
+    }
+
+    /// Whether it is written too.
+    pub(crate) fn is_written(self) -> bool {
+        matches!(self, FileKind::Tape | FileKind::KeptPlan)
+    }
+}
+
+impl NamedFile<'_> {
+    /// The line of the file that has this line of its plan.
+    pub(crate) fn plan_line(self, number: u64) -> u64 {
+        match self.kind {
+            FileKind::KeptPlan => number.saturating_add(1),
+            _ => number,
         }
     }
 }

@@ -192,7 +192,7 @@ pub(crate) fn tape_entries() -> &'static [Entry] {
     &TAPES
 }
 
-static TAPES: [Entry; 9] = [
+static TAPES: [Entry; 12] = [
     Entry {
         name: "NoRoom",
         numbers: "",
@@ -210,7 +210,7 @@ static TAPES: [Entry; 9] = [
     Entry {
         name: "TapeFailed",
         numbers: "",
-        sentence: "The system failed to lock, to read or to sync the tape.",
+        sentence: "The system failed to lock, to read or to sync the tape, or to read or write the plan beside it.",
         example: "",
         answer: "",
     },
@@ -238,7 +238,28 @@ static TAPES: [Entry; 9] = [
     Entry {
         name: "NoTape",
         numbers: "",
-        sentence: "There is no file of this name, and none was made: `mapf tape` makes none, nor does `mapf agent` with `--tape kept`.",
+        sentence: "There is no file of this name, or none with `.plan` behind it, which says to which plan it belongs, and none was made:\n`mapf tape` makes none, nor does `mapf agent` with `--tape kept`.",
+        example: "",
+        answer: "",
+    },
+    Entry {
+        name: "PlanDamaged",
+        numbers: "",
+        sentence: "What is beside the tape, in the file of its name with `.plan` behind it, is none that `mapf agent` wrote.",
+        example: "",
+        answer: "",
+    },
+    Entry {
+        name: "TapeEmptied",
+        numbers: "",
+        sentence: "A record was stored on the tape, as the file of its name with `.plan` behind it says, and it has none.",
+        example: "",
+        answer: "",
+    },
+    Entry {
+        name: "OtherPlan",
+        numbers: "",
+        sentence: "The tape belongs to another plan, that in the file of its name with `.plan` behind it, and none of the two goes on from the other.",
         example: "",
         answer: "",
     },

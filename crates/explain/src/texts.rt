@@ -76,7 +76,7 @@ fn explain_format<R: Files>(
         FileKind::Scenario => explain_scenario(told, line, page),
         FileKind::Plan => explain_plan_text(rt, file.path, told, line, page),
         FileKind::Events => explain_events(told, line, page),
-        FileKind::Tape => {}
+        FileKind::Tape | FileKind::KeptPlan => {}
     }
 }
 

@@ -22,6 +22,8 @@ enum State {
 #[derive(Clone, Copy)]
 pub struct DiskFile<'a> {
     disk: &'a FakeDisk,
+    /// The disks whose files are in the folder.
+    disks: &'a [(&'a str, &'a FakeDisk)],
     place: usize,
     state: State,
 }
@@ -30,14 +32,29 @@ impl<'a> DiskFile<'a> {
     pub(crate) fn new(disk: &'a FakeDisk) -> DiskFile<'a> {
         DiskFile {
             disk,
+            disks: &[],
             place: 0,
             state: State::Read,
         }
     }
 
-    pub(crate) fn of_folder(disk: &'a FakeDisk) -> DiskFile<'a> {
+    /// A file that was just made, to be written from its beginning on.
+    pub(crate) fn made(disk: &'a FakeDisk) -> DiskFile<'a> {
         DiskFile {
             disk,
+            disks: &[],
+            place: 0,
+            state: State::Written,
+        }
+    }
+
+    pub(crate) fn of_folder(
+        disk: &'a FakeDisk,
+        disks: &'a [(&'a str, &'a FakeDisk)],
+    ) -> DiskFile<'a> {
+        DiskFile {
+            disk,
+            disks,
             place: 0,
             state: State::Folder,
         }
@@ -121,7 +138,9 @@ impl OpenFile for DiskFile<'_> {
     fn sync_all(&self) -> io::Result<()> {
         if self.state == State::Folder {
             self.disk.answer(Call::SyncFolder)?;
-            self.disk.sync_folder();
+            for (_, disk) in self.disks {
+                disk.sync_folder();
+            }
             return Ok(());
         }
         if !self.is_tape() {

@@ -27,7 +27,7 @@ impl<'a> DiskFiles<'a> {
     fn open_folder(&self, path: &str) -> io::Result<DiskFile<'a>> {
         for (name, disk) in self.disks {
             if disk.is_tape() && is_folder_of(path, name) {
-                return disk.open_folder();
+                return disk.open_folder(self.disks);
             }
         }
         Err(self.unexpected(path))
@@ -99,12 +99,18 @@ impl<'a> Files for DiskFiles<'a> {
         Err(self.unexpected(from))
     }
 
-    fn rename(&self, from: &str, _to: &str) -> io::Result<()> {
-        Err(self.unexpected(from))
+    fn rename(&self, from: &str, to: &str) -> io::Result<()> {
+        match (self.disk(from), self.disk(to)) {
+            (Some(from), Some(to)) => from.replace(to),
+            _ => Err(self.unexpected(from)),
+        }
     }
 
     fn remove_file(&self, path: &str) -> io::Result<()> {
-        Err(self.unexpected(path))
+        match self.disk(path) {
+            Some(disk) => disk.remove(),
+            None => Err(self.unexpected(path)),
+        }
     }
 
     fn create_dir(&self, path: &str) -> io::Result<()> {

@@ -28,13 +28,17 @@ pub enum Call {
     SetLen,
     OpenFolder,
     SyncFolder,
+    /// The file gets another name.
+    Rename,
 }
 
-/// Whether the file of a disk is to be read alone, or may be written.
+/// Whether the file of a disk is to be read alone, or may be written, and how it is opened.
 #[derive(Clone, Copy, Debug, PartialEq, Eq)]
 enum Kind {
     Text,
     Tape,
+    /// The file beside a tape, or what is to become it.
+    Beside,
 }
 
 /// A file with what it has, what of it stays where the power fails, and which of its calls fails. The disk counts what was done with it,
@@ -49,6 +53,8 @@ pub struct FakeDisk {
     is_made: Cell<bool>,
     /// Whether the folder was synced since the file was made.
     is_named: Cell<bool>,
+    /// Whether another file got the name of this one since the folder was synced.
+    is_replaced: Cell<bool>,
     /// Whether it is a file like others, and no device.
     is_regular: Cell<bool>,
     /// Whether the file was locked since it was opened.
@@ -79,6 +85,14 @@ impl FakeDisk {
         FakeDisk::of_kind(alloc, Kind::Text, text.as_bytes(), true)
     }
 
+    /// The file beside a tape, with these bytes, which are synced; none where there are none.
+    pub fn beside(alloc: Global, bytes: Option<&[u8]>) -> Result<FakeDisk, AllocError> {
+        let held = bytes.unwrap_or(&[]);
+        let disk = FakeDisk::of_kind(alloc, Kind::Beside, held, bytes.is_some())?;
+        let _ = disk.sync_all();
+        Ok(disk)
+    }
+
     fn of_kind(
         alloc: Global,
         kind: Kind,
@@ -91,6 +105,7 @@ impl FakeDisk {
             synced: RefCell::new(with_room(alloc, &[])?),
             is_made: Cell::new(is_named),
             is_named: Cell::new(is_named),
+            is_replaced: Cell::new(false),
             is_regular: Cell::new(true),
             is_locked: Cell::new(false),
             is_held: Cell::new(false),
@@ -192,21 +207,76 @@ impl FakeDisk {
         unsupported()
     }
 
-    /// Opens the file by a path. A tape is read and written, with what it has, and perhaps made where there is none; a text is read.
+    /// Opens the file by a path. A tape is read and written, with what it has, and perhaps made where there is none; a text is read. What is
+    /// beside a tape is made anew, or read and written.
     pub(crate) fn open(&self, how: &OpenOptions) -> io::Result<DiskFile<'_>> {
         let is_expected = match self.kind {
             Kind::Tape => goes_on(how),
             Kind::Text => only_reads(how),
+            Kind::Beside => makes_new(how) || (goes_on(how) && !how.asks_create()),
         };
         if !is_expected {
             return Err(self.unexpected());
         }
         self.answer(Call::Open)?;
+        if how.asks_create_new() {
+            return self.make();
+        }
         if !self.is_made.get() && !how.asks_create() {
             return Err(io::Error::from(ErrorKind::NotFound));
         }
         self.is_made.set(true);
         Ok(self.file())
+    }
+
+    /// Makes the file, which must not be there, and opens it to be written.
+    fn make(&self) -> io::Result<DiskFile<'_>> {
+        if self.is_made.get() {
+            return Err(io::Error::from(ErrorKind::AlreadyExists));
+        }
+        self.set_len(0)?;
+        self.is_made.set(true);
+        self.is_named.set(false);
+        Ok(DiskFile::made(self))
+    }
+
+    /// Removes the file.
+    pub(crate) fn remove(&self) -> io::Result<()> {
+        if self.kind != Kind::Beside {
+            return Err(self.unexpected());
+        }
+        if !self.is_made.get() {
+            return Err(io::Error::from(ErrorKind::NotFound));
+        }
+        self.is_made.set(false);
+        Ok(())
+    }
+
+    /// Gives the file, all of which is synced, the name of another one, which is gone then.
+    pub(crate) fn replace(&self, other: &FakeDisk) -> io::Result<()> {
+        if self.kind != Kind::Beside || other.kind != Kind::Beside || !self.is_synced() {
+            return Err(self.unexpected());
+        }
+        self.answer(Call::Rename)?;
+        match (self.bytes.try_borrow(), other.bytes.try_borrow_mut()) {
+            (Ok(bytes), Ok(mut taken)) => {
+                taken.clear();
+                taken.extend_from_slice(bytes.as_slice())?;
+            }
+            _ => return Err(unsupported()),
+        }
+        self.is_made.set(false);
+        other.is_made.set(true);
+        other.is_replaced.set(true);
+        Ok(())
+    }
+
+    /// Whether all that the file has is synced.
+    fn is_synced(&self) -> bool {
+        match (self.bytes.try_borrow(), self.synced.try_borrow()) {
+            (Ok(bytes), Ok(synced)) => bytes.as_slice() == synced.as_slice(),
+            _ => false,
+        }
     }
 
     /// What kind of file it is.
@@ -246,18 +316,21 @@ impl FakeDisk {
 
     /// Whether what the file has may be read: a tape once it is locked.
     pub(crate) fn may_read(&self) -> bool {
-        self.kind == Kind::Text || self.is_locked.get()
+        self.kind != Kind::Tape || self.is_locked.get()
     }
 
-    /// Opens the folder of the file.
-    pub(crate) fn open_folder(&self) -> io::Result<DiskFile<'_>> {
+    /// Opens the folder of the file, in which the files of these disks are.
+    pub(crate) fn open_folder<'a>(
+        &'a self,
+        disks: &'a [(&'a str, &'a FakeDisk)],
+    ) -> io::Result<DiskFile<'a>> {
         self.answer(Call::OpenFolder)?;
-        Ok(DiskFile::of_folder(self))
+        Ok(DiskFile::of_folder(self, disks))
     }
 
     /// Whether the file may be written.
     pub(crate) fn is_tape(&self) -> bool {
-        self.kind == Kind::Tape
+        self.kind != Kind::Text
     }
 
     /// What is answered to a call, unless it succeeds.
@@ -353,7 +426,11 @@ impl FakeDisk {
 
     /// Syncs the folder, with the name of the file.
     pub(crate) fn sync_folder(&self) {
-        self.is_named.set(true);
+        self.is_named.set(self.is_made.get());
+        if self.is_replaced.get() {
+            self.is_replaced.set(false);
+            let _ = self.sync_all();
+        }
         raise(&self.folder_syncs);
     }
 }
@@ -373,6 +450,12 @@ fn raise(count: &Cell<u32>) {
 fn goes_on(how: &OpenOptions) -> bool {
     let asks = how.asks_read() && how.asks_write();
     asks && !how.asks_append() && !how.asks_truncate() && !how.asks_create_new()
+}
+
+/// Whether a file is to be made and written, where there is none.
+fn makes_new(how: &OpenOptions) -> bool {
+    let asks = how.asks_write() && how.asks_create_new();
+    asks && !how.asks_read() && !how.asks_append() && !how.asks_truncate()
 }
 
 /// Whether a file is to be read, and left as it is.

@@ -3,6 +3,7 @@
 
 mod blamed_plan;
 mod on_files;
+mod parted_plans;
 mod program;
 mod unperformed;
 

@@ -342,6 +342,6 @@ pub(crate) fn files_of(
     }
 }
 
-fn file_of(kind: FileKind, path: &str) -> NamedFile<'_> {
+pub(crate) fn file_of(kind: FileKind, path: &str) -> NamedFile<'_> {
     NamedFile { kind, path }
 }

@@ -6,13 +6,15 @@ ghost use Rattle.text_commands.specs.Ending.{end_of};
 ghost use Rattle.mapf_cmd.specs.Program.{AnswersLine, AnswersWords, Performs};
 
 use crate::blamed_plan::is_of_new;
-use crate::on_files::{files_of, perform_on_files};
+use crate::on_files::{file_of, files_of, perform_on_files};
+use crate::parted_plans::parting;
 use crate::unperformed::end_unperformed;
+use agent_commands::name_beside;
 use command_line::{Asked, Line, line};
-use explain::{Style, explain};
+use explain::{FileKind, Style, explain};
 use std::io::{Read, Write};
 use std::rt::Files;
-use tape_claim::LockFile;
+use tape_claim::{LockFile, TapeClaim};
 use text_commands::{Ending, conclude};
 use text_io::{Counted, Failure, FaultWords};
 
@@ -90,15 +92,67 @@ fn explain_fault<R: Files + AllocGlobal, E: Write>(
 )
     ensures { AddsMore (E.contents (counted_inner err.old)) (E.contents (counted_inner err.new)) }
 {
+    match line {
+        Line::Agent {
+            map,
+            plan,
+            tape,
+            claim,
+            ..
+        } if *claim != TapeClaim::Any => {
+            explain_agent(rt, [map, plan, tape], words, style, err);
+        }
+        _ => explain_by_files(rt, line, words, style, err),
+    }
+}
+
+/// Explains the fault of an agent by a map, a plan and a tape, beside which another plan may be kept.
+fn explain_agent<R: Files + AllocGlobal, E: Write>(
+    rt: &R,
+    paths: [&str; 3],
+    words: FaultWords,
+    style: Style,
+    err: &mut Counted<E>,
+)
+    ensures { AddsMore (E.contents (counted_inner err.old)) (E.contents (counted_inner err.new)) }
+{
+    let [map, plan, tape] = paths;
+    let files = [
+        file_of(FileKind::Map, map),
+        file_of(FileKind::Plan, plan),
+        file_of(FileKind::Tape, tape),
+    ];
+    let Ok(beside) = name_beside(rt.alloc(), tape) else {
+        explain(rt, &files, &[words], style, err);
+        return;
+    };
+    let [map, plan, tape] = files;
+    let files = [map, plan, tape, file_of(FileKind::KeptPlan, &beside)];
+    match parting(rt, &words, &beside, plan.path) {
+        Some(parted) => explain(rt, &files, &[words, parted], style, err),
+        None => explain(rt, &files, &[words], style, err),
+    }
+}
+
+/// Explains the fault of a command by the files that it names.
+fn explain_by_files<R: Files + AllocGlobal, E: Write>(
+    rt: &R,
+    line: &Line,
+    words: FaultWords,
+    style: Style,
+    err: &mut Counted<E>,
+)
+    ensures { AddsMore (E.contents (counted_inner err.old)) (E.contents (counted_inner err.new)) }
+{
     match (line, files_of(line)) {
         (Line::Continues { map, old, new }, (first, _, Some(third)))
             if is_of_new(rt, [map, old, new], &words) => {
-            explain(rt, &[first, third], words, style, err);
+            explain(rt, &[first, third], &[words], style, err);
         }
         (_, (first, Some(second), Some(third))) => {
-            explain(rt, &[first, second, third], words, style, err);
+            explain(rt, &[first, second, third], &[words], style, err);
         }
-        (_, (first, Some(second), None)) => explain(rt, &[first, second], words, style, err),
-        (_, (first, None, _)) => explain(rt, &[first], words, style, err),
+        (_, (first, Some(second), None)) => explain(rt, &[first, second], &[words], style, err),
+        (_, (first, None, _)) => explain(rt, &[first], &[words], style, err),
     }
 }

@@ -14,7 +14,7 @@ use std::test::Fail;
 use text_io::Counted;
 
 /// Command lines with their status and what they write.
-static LINES: [(&str, u8, &str); 17] = [
+static LINES: [(&str, u8, &str); 19] = [
     ("map C", 0, CORNER_WRITTEN),
     ("scen S", 0, ROW_WRITTEN),
     ("row C S 0", 0, AGREES),
@@ -31,6 +31,8 @@ static LINES: [(&str, u8, &str); 17] = [
     ("run M P E", 0, REPLIES),
     ("run M P E --complete", 0, COMPLETED),
     ("agent M P 0 T", 0, ANSWERED),
+    ("agent M P 0 N --tape new", 0, ANSWERED),
+    ("agent M P 0 K --tape kept", 0, ANSWERED),
     (
         "--version",
         0,
@@ -38,7 +40,7 @@ static LINES: [(&str, u8, &str); 17] = [
     ),
 ];
 
-/// The files that they name, but for the tape.
+/// The files that they read.
 static TEXTS: [(&str, &str); 7] = [
     ("C", CORNER),
     ("S", ROW),
@@ -49,13 +51,30 @@ static TEXTS: [(&str, &str); 7] = [
     ("E", EVENTS),
 ];
 
-/// A disk for each text, and at last one for a tape.
+/// The tapes, of which the last was kept, and what is beside them.
+static TAPES: [&str; 7] = [
+    "T",
+    "N",
+    "N.plan",
+    "N.plan.new",
+    "K",
+    "K.plan",
+    "K.plan.new",
+];
+
+/// A disk for each text, and behind them one for each tape and for what is beside it. Beside the kept one is a plan from which that at hand goes on.
 fn disks_of(alloc: Global) -> Result<Vec<FakeDisk>, AllocError> {
     let mut disks = Vec::new(alloc);
     for (_, text) in &TEXTS {
         disks.push(FakeDisk::of_text(alloc, text)?)?;
     }
+    let kept = [b"mapf-tape 1 -\n".as_slice(), CUT.as_bytes()].concat(alloc)?;
     disks.push(FakeDisk::new(alloc, b"")?)?;
+    for beside in [None, Some(kept.as_slice())] {
+        disks.push(FakeDisk::new(alloc, b"")?)?;
+        disks.push(FakeDisk::beside(alloc, beside)?)?;
+        disks.push(FakeDisk::beside(alloc, None)?)?;
+    }
     Ok(disks)
 }
 
@@ -63,7 +82,10 @@ fn disks_of(alloc: Global) -> Result<Vec<FakeDisk>, AllocError> {
 fn name_of(number: usize) -> &'static str {
     match TEXTS.get(number) {
         Some((name, _)) => name,
-        None => "T",
+        None => {
+            let tape = number.saturating_sub(TEXTS.len());
+            TAPES.get(tape).copied().unwrap_or("T")
+        }
     }
 }
 

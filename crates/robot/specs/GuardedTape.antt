@@ -1,5 +1,5 @@
--- A tape in a file to which nothing is written unless a guard lets it be; and that it is a tape.
-use Rattle.std.proofs.Common.{◌≡◌, ℕ, ◌≤◌, Bool, true, false, List, length, drop, inl, inr, sym, ◌∙◌, arith}
+-- A tape in a file to which nothing is written unless a guard lets it be, and of whose records the guard takes note; and that it is a tape.
+use Rattle.std.proofs.Common.{◌≡◌, ℕ, ◌≤◌, Bool, true, false, List, length, drop, inl, inr, refl, sym, subst, ◌∙◌, arith}
 use Rattle.std.specs.Prelude.{◌⊎◌, Option}
 use Rattle.std.proofs.lemmas.Bool.{true≢false}
 use Rattle.std.proofs.lemmas.List.{length-drop, take-append-drop}
@@ -23,9 +23,20 @@ pub record IsUnwritten {F : Type 0} (t : FileTape F) (succeeds : Bool) (u : File
   pub kept : IsKept (file_state t) (file_state u)
   pub fails : HasFailed (file_state t).failures (file_state u).failures
 
--- the file is written, or the guard doesn't let it be
+-- The file took the record and synced it, and the guard could not take note of that: the record is stored, and that counts as a failure.
+pub record IsUnnoted {F : Type 0} (position : F → Option ℕ) (contents : F → Option (List ℕ)) (t : FileTape F) (at : ℕ) (bytes : List ℕ) (succeeds : Bool) (u : FileTape F) : Type 0 where
+  pub no_success : succeeds ≡ false
+  pub stored : FileTape F
+  pub stores : IsFileWrite position contents t at bytes true stored
+  pub disk : u.disk ≡ stored.disk
+  pub kept : IsKept (file_state stored) (file_state u)
+  pub fails : HasFailed (file_state stored).failures (file_state u).failures
+
+-- the file is written, or the guard doesn't let it be, or can't take note of it
 abbrev pub IsGuardedWrite : {F G : Type 0} → (F → Option ℕ) → (F → Option (List ℕ)) → GuardedTape F G → ℕ → List ℕ → Bool → GuardedTape F G → Type 0
-IsGuardedWrite position contents t at bytes succeeds u = IsFileWrite position contents t.tape at bytes succeeds u.tape ⊎ IsUnwritten t.tape succeeds u.tape
+IsGuardedWrite position contents t at bytes succeeds u =
+    IsFileWrite position contents t.tape at bytes succeeds u.tape
+    ⊎ (IsUnwritten t.tape succeeds u.tape ⊎ IsUnnoted position contents t.tape at bytes succeeds u.tape)
 
 pub guarded_within : {F G : Type 0} (t : GuardedTape F G) → length (guarded_state t).contents ≤ (guarded_state t).room
 guarded_within t = file_within t.tape
@@ -48,10 +59,23 @@ unwritten_is_write t u at bytes succeeds may h = record {
   fails = λ bad. h.fails;
 }
 
+unnoted_is_write : {F : Type 0} (position : F → Option ℕ) (contents : F → Option (List ℕ)) (t u : FileTape F) (at : ℕ) (bytes : List ℕ) (succeeds : Bool)
+    → IsUnnoted position contents t at bytes succeeds u → IsWrite (file_state t) (file_state u) at bytes succeeds
+unnoted_is_write position contents t u at bytes succeeds h = record {
+  room = h.kept.room ∙ h.stores.room;
+  stores = λ good. absurd (true≢false (sym good ∙ h.no_success));
+  tears = λ bad. (bytes, h.kept.contents ∙ h.stores.stores refl, inr refl);
+  counts = λ good. absurd (true≢false (sym good ∙ h.no_success));
+  fails = λ bad. subst (λ n. HasFailed n (file_state u).failures) (h.stores.counts refl) h.fails;
+}
+
 pub guarded_is_write : {F G : Type 0} (position : F → Option ℕ) (contents : F → Option (List ℕ)) (t u : GuardedTape F G) (at : ℕ) (bytes : List ℕ) (succeeds : Bool)
     → MayWrite (guarded_state t) at → length bytes ≡ record_length → IsGuardedWrite position contents t at bytes succeeds u
     → IsWrite (guarded_state t) (guarded_state u) at bytes succeeds
 guarded_is_write position contents t u at bytes succeeds may count h = elim h [
   | inl made ↦ file_is_write position contents t.tape u.tape at bytes succeeds may count made
-  | inr left ↦ unwritten_is_write t.tape u.tape at bytes succeeds may left
+  | inr failed ↦ elim failed [
+    | inl left ↦ unwritten_is_write t.tape u.tape at bytes succeeds may left
+    | inr stored ↦ unnoted_is_write position contents t.tape u.tape at bytes succeeds stored
+  ]
 ]

@@ -1,4 +1,4 @@
-//! A tape in a file to which nothing is written unless a guard lets it be.
+//! A tape in a file to which nothing is written unless a guard lets it be, and of whose records the guard takes note.
 ghost use Rattle.std.specs.Prelude.{◌≡◌};
 
 use crate::file_tape::FileTape;
@@ -6,13 +6,17 @@ use agent::{RECORD_SIZE, Tape, TapeError};
 use std::fs::OpenFile;
 use std::io::{Read, Seek, Write};
 
-/// What has to hold before each write of a tape.
+/// What has to hold before each write of a tape, and what is noted behind it, elsewhere.
 pub trait Guard {
     /// Whether it holds now. No contract says what it looks at.
     fn holds(&self) -> bool;
+
+    /// Takes note that a record was stored, and answers whether that was done. No contract says where.
+    fn take_note(&mut self) -> bool;
 }
 
-/// A tape in a file. A record that is to be written while its guard doesn't hold is not, and the write has failed.
+/// A tape in a file. A record that is to be written while its guard doesn't hold is not, and the write has failed. It has failed too where
+/// the guard can't take note of a record, which is stored then.
 #[derive(Drop)]
 pub struct GuardedTape<F, G> {
     tape: FileTape<F>,
@@ -53,7 +57,12 @@ impl<F: Read + Write + Seek + OpenFile, G: Guard> Tape for GuardedTape<F, G> {
             self.tape.count_failure();
             return Err(TapeError);
         }
-        self.tape.write_at(at, bytes)
+        self.tape.write_at(at, bytes)?;
+        if !self.guard.take_note() {
+            self.tape.count_failure();
+            return Err(TapeError);
+        }
+        Ok(())
     }
 
     fn failures(&self) -> u64 {

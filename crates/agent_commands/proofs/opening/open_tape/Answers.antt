@@ -3,27 +3,34 @@ use Rattle.std.specs.Prelude.{Ok, Err, Some, option_map}
 use Rattle.model.specs.Timetable.{moves}
 use Rattle.std.proofs.lemmas.Result.{err_from_is_err_and}
 use Rattle.agent_commands.specs.AgentCommand.{IsClaimed, IsTapeOf}
+use Rattle.agent_commands.specs.Code.Plans.{claim_of}
 use Rattle.agent_commands.proofs.TapeLemmas.{no_tape, of_file, take_ends}
 use Rattle.agent_commands.proofs.opening.open_tape.Goals as goal
 
 pub returns-in_err-opened : goal.returns-in_err-opened
-returns-in_err-opened g c table is =
-    let p = err_from_is_err_and c.from_residual-in_err-opened.result c.from_residual-in_err-opened.ensures.1 in
+returns-in_err-opened g c p on table is =
+    let q = err_from_is_err_and c.from_residual-in_err-opened.result c.from_residual-in_err-opened.ensures.1 in
     let moves_of = ap Some (c.moves_of-moves.ensures.moves table is) ∙ sym (ap (option_map moves) is.is_track) in
-    rw (p.1, p.2) (no_tape g.R.File.Read.remaining c.args.claim table c.args.part.now.agent c.moves_of-moves.result c.in_ok-file.field-0.file c.in_err-opened.field-0.0
-    moves_of (λ same. c.in_err-opened.ensures.too_long (ap Err same)))
+    rw (q.1, q.2) (no_tape g.R.File.Read.remaining (claim_of c.args.terms.now) p table c.args.part.now.agent c.moves_of-moves.result c.in_ok-file.field-0.file
+    c.in_err-opened.field-0.0 moves_of (λ same. c.in_err-opened.ensures.too_long (ap Err same)))
 
 pub returns-in_err-tape : goal.returns-in_err-tape
-returns-in_err-tape g c table is =
-    let p = err_from_is_err_and c.from_residual-in_err-tape.result c.from_residual-in_err-tape.ensures.1 in
+returns-in_err-tape g c p on table is =
+    let q = err_from_is_err_and c.from_residual-in_err-tape.result c.from_residual-in_err-tape.ensures.1 in
     let moves_of = ap Some (c.moves_of-moves.ensures.moves table is) ∙ sym (ap (option_map moves) is.is_track) in
     let of = of_file g.R.File.Read.remaining table c.args.part.now.agent c.moves_of-moves.result c.in_ok-file.field-0.file c.in_ok-opened.opened moves_of c.in_ok-opened.ensures.image in
-    rw (p.1, p.2) (take_ends g.R.File.Read.remaining c.args.claim table c.args.part.now.agent c.in_ok-opened.opened (Err c.in_err-tape.field-0.0) of c.in_err-tape.ensures.ok c.in_err-tape.ensures.err)
+    rw (q.1, q.2) (take_ends g.R.File.Read.remaining (claim_of c.args.terms.now) p table c.args.part.now.agent c.in_ok-opened.opened (Err c.in_err-tape.field-0.0) of
+    (c.in_err-tape.ensures p on))
+
+pub returns-in_err-unmarked : goal.returns-in_err-unmarked
+returns-in_err-unmarked g c p on table is =
+    let q = err_from_is_err_and c.from_residual-in_err-unmarked.result c.from_residual-in_err-unmarked.ensures.1 in
+    rw (q.1, q.2) (is.track, is.is_track)
 
 pub returns : goal.returns
-returns g c table is =
+returns g c p on table is =
     let i = c.args.part.now.agent in
     let moves_of = ap Some (c.moves_of-moves.ensures.moves table is) ∙ sym (ap (option_map moves) is.is_track) in
     let of = of_file g.R.File.Read.remaining table i c.moves_of-moves.result c.in_ok-file.field-0.file c.in_ok-opened.opened moves_of c.in_ok-opened.ensures.image in
-    let taken = take_ends g.R.File.Read.remaining c.args.claim table i c.in_ok-opened.opened (Ok c.in_ok-tape.tape) of c.in_ok-tape.ensures.ok c.in_ok-tape.ensures.err in
-    subst (λ t. IsTapeOf g.R.File.Read.remaining table i t × IsClaimed c.args.claim t) (sym c.new-2.ensures) taken
+    let taken = take_ends g.R.File.Read.remaining (claim_of c.args.terms.now) p table i c.in_ok-opened.opened (Ok c.in_ok-tape.field-0) of (c.in_ok-tape.ensures p on) in
+    subst (λ t. IsTapeOf g.R.File.Read.remaining table i t × IsClaimed g.R.File.Read.remaining (claim_of c.args.terms.now) p t) (sym c.new.ensures) taken

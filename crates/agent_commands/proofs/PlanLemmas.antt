@@ -1,0 +1,163 @@
+-- The file beside a tape: what it has, and what comes of comparing it.
+use Rattle.std.proofs.Common.{◌≡◌, ◌≢◌, ◌∙◌, ℕ, ◌<◌, Bool, true, false, List, [], ◌∷◌, ◌++◌, length, drop, take, Some, None, inl, inr, refl, sym, ap, subst, append_assoc, append-nil, arith}
+use Rattle.std.specs.Prelude.{Option, IfSome, Err, ◌⊎◌}
+use Rattle.std.proofs.Math.Seq.{take-append_seam}
+use Rattle.std.proofs.lemmas.List.{length-append}
+use Rattle.std.specs.Io.KnownBytes.{Consumes, IsAtEnd}
+use Rattle.std.proofs.KnownBytes.{Consumes-all, Consumes-trans}
+use Rattle.text_io.specs.Reading.{IsFirstFault, OutcomeSays, at_end, Decides}
+use Rattle.text_io.specs.Text.{BeginsWith}
+use Rattle.model.specs.Plan.{Plan}
+use Rattle.plan_text.specs.declared.plan_text_fault.PlanTextFault.{PlanTextFault}
+use Rattle.plan_text.specs.declared.plan_text_fault.PlanTextFault.TheVariants.{BadHeader, BadNumber, TooMany, BadAgent, BadAct, Unfinished, TextAfter, ReadFailed, OutOfMemory}
+use Rattle.plan_text.specs.PlanText.{PlanText}
+use Rattle.plan_text.specs.PlanTextFault.{PlanTextFaultAt, plan_outcome}
+use Rattle.agent_commands.specs.KeptPlan.{HasMark, HasNoPlan, IsAkin, IsKeptIn, KeptText, mark_line}
+use Rattle.agent_commands.specs.Code.Plans.{IsNoTaskFor, IsNotLetBy, IsNotRead, ReadsMark, blame_of}
+use Rattle.agent_commands.specs.declared.agent_fault.AgentFault.{AgentFault}
+use Rattle.agent_commands.specs.declared.agent_fault.AgentFault.TheVariants.{Planned, OpenFailed, TapeExists, NoTape, PlanDamaged, TapeEmptied, OtherPlan, File, Tape, Dialogue}
+use Rattle.agent_commands.specs.declared.plan_file.KeptPlan.{KeptPlan}
+
+-- what stands behind the first line
+rest_of : (marked : Bool) (rest : List ℕ) → drop 14 (mark_line marked ++ rest) ≡ rest
+rest_of true rest = refl
+rest_of false rest = refl
+
+first_of : (marked : Bool) (rest : List ℕ) → take 14 (mark_line marked ++ rest) ≡ mark_line marked
+first_of true rest = refl
+first_of false rest = refl
+
+line_length : (marked : Bool) → length (mark_line marked) ≡ 14
+line_length true = refl
+line_length false = refl
+
+neither : (bytes : List ℕ) (marked : Bool) → bytes ≢ mark_line true → bytes ≢ mark_line false → bytes ≢ mark_line marked
+neither bytes true marks unmarks is = marks is
+neither bytes false marks unmarks is = unmarks is
+
+begun : (old new : Option (List ℕ)) (word : List ℕ) → Consumes old new word → IfSome old (BeginsWith word)
+begun None new word read = tt
+begun (Some all) None word read = absurd read
+begun (Some all) (Some left) word read = (left, read)
+
+-- the line was read, and then the plan, up to the end
+pub is_kept : {F : Type 0} (remaining : F → Option (List ℕ)) (file : F) (mid new : Option (List ℕ)) (marked : Bool) (p : Plan) (rest : List ℕ)
+    → Consumes (remaining file) mid (mark_line marked) → Consumes mid new rest → IsAtEnd new → PlanText p rest → IsKeptIn remaining file marked p
+is_kept remaining file mid new marked p rest line taken over spells = record {
+  text = mark_line marked ++ rest;
+  whole = Consumes-all (remaining file) new (mark_line marked ++ rest) [] (mark_line marked ++ rest)
+      (Consumes-trans (remaining file) mid new (mark_line marked) rest line taken) over refl;
+  says = (rest, refl, spells);
+}
+
+-- what was read stands at the beginning
+pub marked_first : (old new : Option (List ℕ)) (answer : Option Bool) (marked : Bool) → ReadsMark old new answer → answer ≡ Some marked → marked ≡ true
+    → IfSome old (BeginsWith (mark_line true))
+marked_first old new answer marked reads is true_is = begun old new (mark_line true) (subst (λ m. Consumes old new (mark_line m)) true_is (subst (ReadsMark old new) is reads))
+
+-- a text that is shorter than a first line has none
+pub short_text : (old new : Option (List ℕ)) (bytes : List ℕ) → Consumes old new bytes → IsAtEnd new → length bytes < 14
+    → IfSome old (λ all. (marked : Bool) → BeginsWith (mark_line marked) all → ⊥)
+short_text None new bytes read end few = tt
+short_text (Some all) None bytes read end few = absurd read
+short_text (Some all) (Some left) bytes read end few = λ marked begins.
+    let told = ap length (read ∙ ap (λ l. bytes ++ l) end) ∙ length-append bytes [] in
+    let line = ap length begins.1 ∙ length-append (mark_line marked) begins.0 in
+    let long = line_length marked in
+    omega (arith, few, told, line, long)
+
+-- nor has one that begins otherwise
+pub other_line : (old new : Option (List ℕ)) (bytes : List ℕ) → Consumes old new bytes → length bytes ≡ 14 → bytes ≢ mark_line true → bytes ≢ mark_line false
+    → IfSome old (λ all. (marked : Bool) → BeginsWith (mark_line marked) all → ⊥)
+other_line None new bytes read long marks unmarks = tt
+other_line (Some all) None bytes read long marks unmarks = absurd read
+other_line (Some all) (Some left) bytes read long marks unmarks = λ marked begins.
+    let front = subst (λ n. take n (bytes ++ left) ≡ bytes) long (take-append_seam bytes left) in
+    neither bytes marked marks unmarks (sym front ∙ ap (take 14) (sym read ∙ begins.1) ∙ first_of marked begins.0)
+
+-- where there is no such line there is no plan
+pub no_line : (o : Option (List ℕ)) → IfSome o (λ all. (marked : Bool) → BeginsWith (mark_line marked) all → ⊥)
+    → IfSome o (λ all. (marked : Bool) (p : Plan) → KeptText marked p all → ⊥)
+no_line None never = tt
+no_line (Some all) never = λ marked p kept. never marked (kept.0, kept.1)
+
+-- a fault that the beginning decides is the first of the whole text
+first_fault : (fault : PlanTextFault) (delivered left : List ℕ)
+    → (Decides PlanTextFaultAt fault delivered) ⊎ (PlanTextFaultAt fault at_end delivered × (left ≡ [])) → IsFirstFault PlanTextFaultAt fault (delivered ++ left)
+first_fault fault delivered left (inl early) = inl (
+  early.0,
+  early.1 ++ left,
+  early.2,
+  ap (λ l. l ++ left) early.3 ∙ append_assoc early.0 early.1 left,
+  early.4,
+  early.5,
+)
+first_fault fault delivered left (inr last) =
+    inr (subst (PlanTextFaultAt fault at_end) (sym (ap (λ l. delivered ++ l) last.1 ∙ append-nil delivered)) last.0)
+
+-- nor where the text behind it has a fault
+pub no_text : (old mid new : Option (List ℕ)) (marked : Bool) (delivered : List ℕ) (fault : PlanTextFault)
+    → ((text : List ℕ) (p : Plan) (f : PlanTextFault) → PlanText p text → IsFirstFault PlanTextFaultAt f text → ⊥)
+    → Consumes old mid (mark_line marked) → Consumes mid new delivered
+    → (Decides PlanTextFaultAt fault delivered) ⊎ (PlanTextFaultAt fault at_end delivered × IsAtEnd new)
+    → IfSome old (λ all. (other : Bool) (p : Plan) → KeptText other p all → ⊥)
+no_text None mid new marked delivered fault never line taken bad = tt
+no_text (Some all) None new marked delivered fault never line taken bad = absurd line
+no_text (Some all) (Some text) None marked delivered fault never line taken bad = absurd taken
+no_text (Some all) (Some text) (Some left) marked delivered fault never line taken bad = λ other p kept.
+    let same : kept.0 ≡ text = sym (rest_of other kept.0) ∙ ap (drop 14) (sym kept.1 ∙ line) ∙ rest_of marked text in
+    never text p fault (subst (PlanText p) same kept.2) (subst (IsFirstFault PlanTextFaultAt fault) (sym taken) (first_fault fault delivered left bad))
+
+-- why a plan behind the first line wasn't read
+pub no_plan : {F : Type 0} (remaining : F → Option (List ℕ)) (file : F) (mid new : Option (List ℕ)) (marked : Bool) (delivered : List ℕ) (fault : PlanTextFault)
+    → ((text : List ℕ) (p : Plan) (f : PlanTextFault) → PlanText p text → IsFirstFault PlanTextFaultAt f text → ⊥)
+    → Consumes (remaining file) mid (mark_line marked) → Consumes mid new delivered
+    → OutcomeSays PlanText PlanTextFaultAt delivered new (plan_outcome (Err fault)) → IsNotRead remaining file (blame_of fault)
+no_plan remaining file mid new marked delivered (BadHeader line) never read taken says = no_text (remaining file) mid new marked delivered _ never read taken says
+no_plan remaining file mid new marked delivered (BadNumber line) never read taken says = no_text (remaining file) mid new marked delivered _ never read taken says
+no_plan remaining file mid new marked delivered (TooMany line) never read taken says = no_text (remaining file) mid new marked delivered _ never read taken says
+no_plan remaining file mid new marked delivered (BadAgent line) never read taken says = no_text (remaining file) mid new marked delivered _ never read taken says
+no_plan remaining file mid new marked delivered (BadAct line column) never read taken says = no_text (remaining file) mid new marked delivered _ never read taken says
+no_plan remaining file mid new marked delivered (Unfinished line) never read taken says = no_text (remaining file) mid new marked delivered _ never read taken says
+no_plan remaining file mid new marked delivered (TextAfter line) never read taken says = no_text (remaining file) mid new marked delivered _ never read taken says
+no_plan remaining file mid new marked delivered ReadFailed never read taken says = tt
+no_plan remaining file mid new marked delivered OutOfMemory never read taken says = tt
+
+marked_in : (o : Option (List ℕ)) (text : List ℕ) → IfSome o (λ all. text ≡ all) → BeginsWith (mark_line true) text → IfSome o (BeginsWith (mark_line true))
+marked_in None text whole begins = tt
+marked_in (Some all) text whole begins = subst (BeginsWith (mark_line true)) whole begins
+
+-- a text with the mark begins with it
+pub has_mark : {F : Type 0} (remaining : F → Option (List ℕ)) (file : F) (marked : Bool) (p : Plan) → marked ≡ true → IsKeptIn remaining file marked p → HasMark remaining file
+has_mark remaining file marked p is kept =
+    let as_marked = subst (λ m. IsKeptIn remaining file m p) is kept in
+    marked_in (remaining file) as_marked.text as_marked.whole (as_marked.says.0, as_marked.says.1)
+
+-- why a kept plan doesn't let the plan at hand by
+pub not_let_by : {F : Type 0} (remaining : F → Option (List ℕ)) (file : F) (kept : KeptPlan) (p : Plan) (has_record : Bool) (fault : AgentFault)
+    → IsKeptIn remaining file kept.is_marked kept.plan → IsNoTaskFor kept p has_record fault → IsNotLetBy remaining p has_record fault
+not_let_by remaining file kept p has_record TapeEmptied is why = (why.1, (file, has_mark remaining file kept.is_marked kept.plan why.0 is))
+not_let_by remaining file kept p has_record OtherPlan is why =
+    record { file = file; marked = kept.is_marked; kept = kept.plan; is_kept = is; is_other = why }
+not_let_by remaining file kept p has_record PlanDamaged is why = absurd why
+not_let_by remaining file kept p has_record NoTape is why = absurd why
+not_let_by remaining file kept p has_record OpenFailed is why = absurd why
+not_let_by remaining file kept p has_record TapeExists is why = absurd why
+not_let_by remaining file kept p has_record (File fault) is why = absurd why
+not_let_by remaining file kept p has_record (Planned fault) is why = absurd why
+not_let_by remaining file kept p has_record (Tape fault) is why = absurd why
+not_let_by remaining file kept p has_record (Dialogue fault) is why = absurd why
+
+-- and why nothing was read of it
+pub not_read : {F : Type 0} (remaining : F → Option (List ℕ)) (file : F) (p : Plan) (has_record : Bool) (fault : AgentFault)
+    → IsNotRead remaining file fault → IsNotLetBy remaining p has_record fault
+not_read remaining file p has_record PlanDamaged why = (file, why)
+not_read remaining file p has_record (File fault) why = why
+not_read remaining file p has_record TapeEmptied why = absurd why
+not_read remaining file p has_record OtherPlan why = absurd why
+not_read remaining file p has_record NoTape why = absurd why
+not_read remaining file p has_record OpenFailed why = absurd why
+not_read remaining file p has_record TapeExists why = absurd why
+not_read remaining file p has_record (Planned fault) why = absurd why
+not_read remaining file p has_record (Tape fault) why = absurd why
+not_read remaining file p has_record (Dialogue fault) why = absurd why

@@ -1,0 +1,6 @@
+-- The courses before are the same.
+use Rattle.std.proofs.Common.{◌≡◌, take}
+use Rattle.agent_commands.proofs.kept_plan.are_same.Given as goal
+
+abbrev pub invariant-loop-i : goal.invariant-loop-i
+invariant-loop-i l = take l.i l.one ≡ take l.i l.other

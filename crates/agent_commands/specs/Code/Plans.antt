@@ -1,0 +1,125 @@
+-- What the parts owe each other that keep a plan beside a tape.
+use Rattle.std.specs.Prelude.{◌≡◌, ◌≢◌, ℕ, Bool, true, false, List, Option, None, Some, IfSome, Result, Ok, Err}
+use Rattle.std.specs.Io.KnownBytes.{Consumes}
+use Rattle.text_io.specs.declared.counted.Counted.{Counted}
+use Rattle.text_io.specs.Text.{BeginsWith}
+use Rattle.model.specs.Plan.{Plan}
+use Rattle.model.specs.Timetable.{Timetable, track_of}
+use Rattle.depgraph.specs.AgentParts.{IsPartOf}
+use Rattle.plan.specs.Checking.{Checked}
+use Rattle.plan_text.specs.declared.plan_text_fault.PlanTextFault.{PlanTextFault}
+use Rattle.plan_text.specs.declared.plan_text_fault.PlanTextFault.TheVariants as text_fault
+use Rattle.planned.specs.Planned.{ReadsChecked}
+use Rattle.planned.specs.declared.planned_fault.PlannedFault.{PlannedFault}
+use Rattle.robot.specs.declared.file_tape.FileTapeFault.TheVariants.{TapeFailed, OutOfMemory}
+use Rattle.tape_claim.specs.declared.TapeClaim.{TapeClaim}
+use Rattle.tape_claim.specs.declared.TapeClaim.TheVariants as claim
+use Rattle.agent_commands.specs.AgentCommand.{IsAtHand, PlanAtHand, ReadsPlanAtHand}
+use Rattle.agent_commands.specs.Code.Parts.{IsLost}
+use Rattle.agent_commands.specs.KeptPlan.{HasMark, HasNoPlan, IsAkin, IsKeptIn, IsOtherPlan, mark_line}
+use Rattle.agent_commands.specs.declared.agent_fault.AgentFault.{AgentFault}
+use Rattle.agent_commands.specs.declared.agent_fault.AgentFault.TheVariants.{OpenFailed, NoTape, File, PlanDamaged, TapeEmptied, OtherPlan}
+use Rattle.agent_commands.specs.declared.agent_part.CheckedTerms.{CheckedTerms}
+use Rattle.agent_commands.specs.declared.agent_part.PartAndTerms.{PartAndTerms}
+use Rattle.agent_commands.specs.declared.kept_plan.PlanTask.{PlanTask}
+use Rattle.agent_commands.specs.declared.kept_plan.PlanTask.TheVariants.{Nothing, Sync, Mark, Write}
+use Rattle.agent_commands.specs.declared.plan_file.KeptPlan.{KeptPlan}
+use Rattle.agent_commands.specs.declared.terms.Terms.{Terms}
+use Rattle.agent_commands.specs.declared.terms.Terms.TheVariants as terms
+
+-- ---- the file
+
+-- the first line was read, or there is none
+abbrev pub ReadsMark : Option (List ℕ) → Option (List ℕ) → Option Bool → Type 0
+ReadsMark old new (Some marked) = Consumes old new (mark_line marked)
+ReadsMark old new None = IfSome old (λ all. (marked : Bool) → BeginsWith (mark_line marked) all → ⊥)
+
+-- why no plan was read of a file
+abbrev pub IsNotRead : {F : Type 0} → (F → Option (List ℕ)) → F → AgentFault → Type 0
+IsNotRead remaining file PlanDamaged = HasNoPlan remaining file
+IsNotRead remaining file (File fault) = IsLost fault
+IsNotRead remaining file _ = ⊥
+
+-- what is told where the plan behind the first line can't be read
+abbrev pub blame_of : PlanTextFault → AgentFault
+blame_of (text_fault.BadHeader line) = PlanDamaged
+blame_of (text_fault.BadNumber line) = PlanDamaged
+blame_of (text_fault.TooMany line) = PlanDamaged
+blame_of (text_fault.BadAgent line) = PlanDamaged
+blame_of (text_fault.BadAct line column) = PlanDamaged
+blame_of (text_fault.Unfinished line) = PlanDamaged
+blame_of (text_fault.TextAfter line) = PlanDamaged
+blame_of text_fault.ReadFailed = File TapeFailed
+blame_of text_fault.OutOfMemory = File OutOfMemory
+
+-- ---- terms
+
+abbrev pub claim_of : Terms → TapeClaim
+claim_of terms.Any = claim.Any
+claim_of (terms.New p) = claim.New
+claim_of (terms.Kept p) = claim.Kept
+
+-- the terms are those of the claim, with the plan
+abbrev pub IsTermsFor : TapeClaim → Plan → Terms → Type 0
+IsTermsFor claim.Any p t = t ≡ terms.Any
+IsTermsFor claim.New p t = t ≡ terms.New p
+IsTermsFor claim.Kept p t = t ≡ terms.Kept p
+
+-- the plan was checked, and a copy of it is at hand where a claim asks for that
+abbrev pub ReadsTerms
+    : {M P : Type 0} → (M → Option (List ℕ)) → (P → Option (List ℕ)) → TapeClaim → Counted M → Counted M → Counted P → Counted P
+    → Result CheckedTerms PlannedFault → Type 0
+ReadsTerms map_left plan_left claim old_map new_map old_plan new_plan (Ok it) =
+    (p : Plan) × IsAtHand map_left plan_left old_map new_map old_plan new_plan p it.checked × IsTermsFor claim p it.terms
+ReadsTerms map_left plan_left claim old_map new_map old_plan new_plan (Err fault) = ReadsChecked map_left plan_left old_map new_map old_plan new_plan (Err fault)
+
+-- there is no such agent, or this is what it needs, and on which terms
+abbrev pub IsPartOnTerms : TapeClaim → PlanAtHand → ℕ → Option PartAndTerms → Type 0
+IsPartOnTerms claim it i None = track_of it.timetable i ≡ None
+IsPartOnTerms claim it i (Some part) = IsPartOf it.timetable part.own × (part.own.agent ≡ i) × IsTermsFor claim it.plan part.terms
+
+abbrev pub ReadsPartAndTerms
+    : {M P : Type 0} → (M → Option (List ℕ)) → (P → Option (List ℕ)) → ℕ → TapeClaim → Counted M → Counted M → Counted P → Counted P
+    → Result (Option PartAndTerms) PlannedFault → Type 0
+ReadsPartAndTerms map_left plan_left i claim old_map new_map old_plan new_plan (Ok part) =
+    (it : PlanAtHand) × ReadsPlanAtHand map_left plan_left old_map new_map old_plan new_plan (Ok it) × IsPartOnTerms claim it i part
+ReadsPartAndTerms map_left plan_left i claim old_map new_map old_plan new_plan (Err fault) =
+    ReadsPlanAtHand map_left plan_left old_map new_map old_plan new_plan (Err fault)
+
+-- ---- comparing
+
+-- What is still to be done where a plan is kept, and that at hand is akin to it: nothing, and a sync, only where the file says what it should.
+pub record IsTaskFor (kept : KeptPlan) (p : Plan) (has_record : Bool) (task : PlanTask) : Type 0 where
+  pub akin : IsAkin kept.plan p
+  pub stored : kept.is_marked ≡ true → has_record ≡ true
+  pub same : task ≢ Write → p ≡ kept.plan
+  pub bare : task ≡ Nothing → has_record ≡ false
+  pub marked : task ≡ Sync → kept.is_marked ≡ true
+
+abbrev pub IsNoTaskFor : KeptPlan → Plan → Bool → AgentFault → Type 0
+IsNoTaskFor kept p has_record TapeEmptied = (kept.is_marked ≡ true) × (has_record ≡ false)
+IsNoTaskFor kept p has_record OtherPlan = IsAkin kept.plan p → ⊥
+IsNoTaskFor kept p has_record _ = ⊥
+
+-- a plan is kept, and this is to be done to its file
+abbrev pub IsKeptTask : {F : Type 0} → (F → Option (List ℕ)) → Plan → Bool → PlanTask → Type 0
+IsKeptTask {F} remaining p has_record task =
+    (file : F) × (kept : KeptPlan) × IsKeptIn remaining file kept.is_marked kept.plan × IsTaskFor kept p has_record task
+
+-- why the file beside a kept tape doesn't let the plan at hand by
+abbrev pub IsNotLetBy : {F : Type 0} → (F → Option (List ℕ)) → Plan → Bool → AgentFault → Type 0
+IsNotLetBy {F} remaining p has_record PlanDamaged = (file : F) × HasNoPlan remaining file
+IsNotLetBy {F} remaining p has_record TapeEmptied = (has_record ≡ false) × ((file : F) × HasMark remaining file)
+IsNotLetBy {F} remaining p has_record OtherPlan = IsOtherPlan remaining p
+IsNotLetBy {F} remaining p has_record NoTape = Unit {0}
+IsNotLetBy {F} remaining p has_record OpenFailed = Unit {0}
+IsNotLetBy {F} remaining p has_record (File fault) = IsLost fault
+IsNotLetBy {F} remaining p has_record _ = ⊥
+
+-- why the file beside a new tape isn't written anew
+abbrev pub IsNotMadeAnew : {F : Type 0} → (F → Option (List ℕ)) → AgentFault → Type 0
+IsNotMadeAnew {F} remaining PlanDamaged = (file : F) × HasNoPlan remaining file
+IsNotMadeAnew {F} remaining TapeEmptied = (file : F) × HasMark remaining file
+IsNotMadeAnew {F} remaining OpenFailed = Unit {0}
+IsNotMadeAnew {F} remaining (File fault) = IsLost fault
+IsNotMadeAnew {F} remaining _ = ⊥

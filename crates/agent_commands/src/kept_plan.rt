@@ -1,0 +1,135 @@
+//! Whether a tape belongs to the plan at hand, and what is to be done to the file that says so.
+ghost use Rattle.std.specs.Prelude.{◌≡◌, ◌↔◌, IfErr, IfOk, IsTrue, MatchResult};
+ghost use Rattle.agent_commands.specs.KeptPlan.{IsAkin};
+ghost use Rattle.agent_commands.specs.Code.Parts.{IsLost};
+ghost use Rattle.agent_commands.specs.Code.Plans.{IsKeptTask, IsNoTaskFor, IsNotLetBy, IsNotMadeAnew, IsTaskFor};
+
+use crate::agent_fault::AgentFault;
+use crate::plan_file::{
+    KeptPlan, name_beside, read_kept, read_mark, set_mark, sync_file, write_kept,
+};
+use crate::tape_files::{keep_name, open_file};
+use crate::terms::Terms;
+use continuing::continues;
+use plan::Plan;
+use plan_text::Course;
+use robot::FileTapeFault;
+use std::rt::Files;
+use tape_claim::TapeClaim;
+use text_io::Counted;
+
+/// What is still to be done to the file beside a tape before the first answer.
+#[derive(Clone, Copy, Debug, PartialEq, Eq)]
+pub(crate) enum PlanTask {
+    /// The tape has no record, of which anybody could have heard.
+    Nothing,
+    /// It says what it has to, but perhaps not where the power fails.
+    Sync,
+    /// It says that no record was stored, and the tape has one.
+    Mark,
+    /// There is none, or it has another plan than that at hand.
+    Write,
+}
+
+/// Looks at the file beside a new tape, if there is one: it is written anew unless it says that a record was stored, or is another file.
+pub(crate) fn look_beside_new<R: Files + AllocGlobal>(rt: &R, tape: &str) -> Result<(), AgentFault>
+    ensures { IfErr result (IsNotMadeAnew R.File.remaining) }
+{
+    let name = name_beside(rt.alloc(), tape)?;
+    match open_file(rt, &name, TapeClaim::Kept) {
+        Ok(held) => match read_mark(&mut Counted::new(held.file))? {
+            Some(true) => Err(AgentFault::TapeEmptied),
+            Some(false) => Ok(()),
+            None => Err(AgentFault::PlanDamaged),
+        },
+        Err(AgentFault::NoTape) => Ok(()),
+        Err(fault) => Err(fault),
+    }
+}
+
+/// Compares the plan beside a kept tape with that at hand.
+pub(crate) fn look_beside_kept<R: Files + AllocGlobal>(
+    rt: &R,
+    tape: &str,
+    plan: &Plan,
+    has_record: bool,
+) -> Result<PlanTask, AgentFault>
+    ensures { MatchResult result (IsKeptTask R.File.remaining plan.now has_record) (IsNotLetBy R.File.remaining plan.now has_record) }
+{
+    let name = name_beside(rt.alloc(), tape)?;
+    let held = open_file(rt, &name, TapeClaim::Kept)?;
+    let kept = read_kept(rt.alloc(), &mut Counted::new(held.file))?;
+    task_for(&kept, plan, has_record)
+}
+
+/// What is to be done to the file that has a kept plan, for the plan at hand.
+fn task_for(kept: &KeptPlan, plan: &Plan, has_record: bool) -> Result<PlanTask, AgentFault>
+    ensures { MatchResult result (IsTaskFor kept.now plan.now has_record) (IsNoTaskFor kept.now plan.now has_record) }
+{
+    if kept.is_marked && !has_record {
+        return Err(AgentFault::TapeEmptied);
+    }
+    if is_same(&kept.plan, plan) {
+        return Ok(match (has_record, kept.is_marked) {
+            (false, _) => PlanTask::Nothing,
+            (true, true) => PlanTask::Sync,
+            (true, false) => PlanTask::Mark,
+        });
+    }
+    if continues(&kept.plan, plan).is_ok() || continues(plan, &kept.plan).is_ok() {
+        return Ok(PlanTask::Write);
+    }
+    Err(AgentFault::OtherPlan)
+}
+
+/// Whether two plans are one.
+fn is_same(one: &Plan, other: &Plan) -> bool
+    ensures { IsTrue result ↔ (one.now ≡ other.now) }
+{
+    one.number() == other.number() && are_same(one.courses(), other.courses())
+}
+
+fn are_same(one: &[Course], other: &[Course]) -> bool
+    ensures { IsTrue result ↔ (one.now ≡ other.now) }
+{
+    if one.len() != other.len() {
+        return false;
+    }
+    for (i, course) in one.iter().enumerate() {
+        if !is_same_course(course, &other[i]) {
+            return false;
+        }
+    }
+    true
+}
+
+fn is_same_course(one: &Course, other: &Course) -> bool
+    ensures { IsTrue result ↔ (one.now ≡ other.now) }
+{
+    one.start() == other.start() && one.acts() == other.acts()
+}
+
+/// Does what is still to be done to the file beside a tape that has a record, or has none.
+pub(crate) fn keep_plan<R: Files + AllocGlobal>(
+    rt: &R,
+    tape: &str,
+    terms: &Terms,
+    task: PlanTask,
+    has_record: bool,
+) -> Result<(), FileTapeFault>
+    ensures { IfErr result IsLost }
+{
+    if task == PlanTask::Nothing {
+        return Ok(());
+    }
+    if let (PlanTask::Write, Terms::New(plan) | Terms::Kept(plan)) = (task, terms) {
+        return write_kept(rt, tape, plan, has_record);
+    }
+    let name = name_beside(rt.alloc(), tape)?;
+    if task == PlanTask::Mark {
+        set_mark(rt, &name)?;
+    } else {
+        sync_file(rt, &name)?;
+    }
+    keep_name(rt, tape)
+}
