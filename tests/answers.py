@@ -21,6 +21,7 @@ from texts import (
     TURN,
     VERTEX,
     WALL,
+    beside,
     events,
     plan,
     scen,
@@ -730,40 +731,6 @@ def beginnings_of_events(harness: Harness) -> Iterator[Outcome]:
         yield asked(harness, "run M P E", {"M": LANE, "P": BEHIND, "E": text[:length]}, due, f"run, the first {length} bytes of events")
 
 
-# What is claimed of a tape, the bytes of its file or None where there is none, and what is told, or where the agent is. A file is made of a new tape alone.
-CLAIMED: list[tuple[str, Optional[bytes], Ended]] = [
-    ("new", None, Ended(0, b"at 1 0 done 0\n", b"")),
-    ("new", b"", Ended(0, b"at 1 0 done 0\n", b"")),
-    ("new", NOISE[:9], Ended(0, b"at 1 0 done 0\n", b"")),
-    ("new", MOVING, Ended(1, b"", b"mapf: TapeExists\n")),
-    ("new", MOVING + STANDING + NOISE[:9], Ended(1, b"", b"mapf: TapeExists\n")),
-    ("new", NOISE, Ended(1, b"", b"mapf: TapeExists\n")),
-    ("new", OTHER_AGENT, Ended(1, b"", b"mapf: TapeExists\n")),
-    ("new", MOVING + STANDING + NOISE, Ended(1, b"", b"mapf: TooLong\n")),
-    ("kept", None, Ended(1, b"", b"mapf: NoTape\n")),
-    ("kept", b"", Ended(0, b"at 1 0 done 0\n", b"")),
-    ("kept", NOISE[:9], Ended(0, b"at 1 0 done 0\n", b"")),
-    ("kept", MOVING, Ended(0, b"between 1 0 2 0 done 0\n", b"")),
-    ("kept", NOISE, Ended(1, b"", b"mapf: Damaged 0\n")),
-]
-
-
-def of_claims(harness: Harness) -> Iterator[Outcome]:
-    """A tape that has to be new, or kept."""
-    for claim, tape, due in CLAIMED:
-        folder = harness.folder({"M": LANE.encode(), "P": BEHIND.encode(), **({} if tape is None else {"T": tape})})
-        words = ["agent", "M", "P", "0", "T", "--tape", claim]
-        name = f"a tape that is {claim}, and {'not there' if tape is None else tape.hex() or 'empty'}"
-        ended = harness.mapf(words, folder=folder)
-        left = (folder / "T").read_bytes() if (folder / "T").exists() else None
-        yield compared(name, shown(["mapf", *words]), (ended, left), (due, b"" if (claim, tape) == ("new", None) else tape))
-        # Nor is a file touched before the agent is known.
-        words[3] = "2"
-        ended = harness.mapf(words, folder=folder)
-        now = (folder / "T").read_bytes() if (folder / "T").exists() else None
-        yield compared(f"{name}, of no agent", shown(["mapf", *words]), (ended, now), (Ended(1, b"", b"mapf: NoSuchAgent\n"), left))
-
-
 def of_stale_tapes(harness: Harness) -> Iterator[Outcome]:
     """Somebody says that agent 0 has finished more moves than its tape has: over a kept tape it ends, and over any other it hears that as before."""
     for done, digits, reply, sender in STALE_WORDS:
@@ -772,13 +739,15 @@ def of_stale_tapes(harness: Harness) -> Iterator[Outcome]:
         heard = Ended(0, lines(at, reply, f"said 46010000000000070000000{done}", at), b"")
         ended = heard if sender is None else Ended(3, lines(at, f"refused StaleTape {sender} 1"), b"")
         for claim, due in (([], heard), (["--tape", "kept"], ended), *([] if done else [(["--tape", "new"], heard)])):
-            folder = harness.folder({"M": LANE.encode(), "P": BEHIND.encode(), "T": tape})
+            kept = {"T.plan": beside("+" if tape else "-", BEHIND)} if "kept" in claim else {}
+            folder = harness.folder({"M": LANE.encode(), "P": BEHIND.encode(), "T": tape, **kept})
             words = ["agent", "M", "P", "0", "T", *claim]
             found = harness.mapf(words, given, folder)
             name = f"agent 0, done {done}, {' '.join(claim)}, hears {digits}"
             yield compared(name, shown(["mapf", *words], given), (found, (folder / "T").read_bytes()), (due, tape))
     # On the way too, and behind what was heard; a last line needs no LF.
-    folder, words = harness.folder({"M": LANE.encode(), "P": BEHIND.encode(), "T": MOVING}), ["agent", "M", "P", "0", "T", "--tape", "kept"]
+    files = {"M": LANE.encode(), "P": BEHIND.encode(), "T": MOVING, "T.plan": beside("+", BEHIND)}
+    folder, words = harness.folder(files), ["agent", "M", "P", "0", "T", "--tape", "kept"]
     given = b"hear 460100010000000700000001\nhear 460100000000000700000001"
     due = Ended(3, lines("between 1 0 2 0 done 0", "heard 1 1", "refused StaleTape 0 1"), b"")
     yield ended_as("a stale tape of an agent on its way", shown(["mapf", *words], given), harness.mapf(words, given, folder), due)
@@ -870,5 +839,4 @@ def outcomes(harness: Harness) -> Iterator[Outcome]:
     yield from of_continuations(harness)
     yield from of_graphs_and_runs(harness)
     yield from of_agents(harness)
-    yield from of_claims(harness)
     yield from of_stale_tapes(harness)

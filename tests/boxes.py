@@ -161,7 +161,9 @@ def held(harness: Harness, name: str, map_file: str, folder: pathlib.Path, due: 
 
 
 def asked_of(harness: Harness, map_file: str, folder: pathlib.Path) -> Ended:
-    files = [str(path) for kind in ("*.plan", "*.box") for path in sorted(folder.glob(kind))]
+    """The plan of the folder, but none that is beside a tape, and its boxes."""
+    plans = [path for path in sorted(folder.glob("*.plan")) if not path.with_suffix("").exists()]
+    files = map(str, [*plans, *sorted(folder.glob("*.box"))])
     return harness.run([sys.executable, str(CHECK), map_file, *files, "--program", str(harness.program)])
 
 

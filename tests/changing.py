@@ -7,8 +7,8 @@ import random
 import subprocess
 from typing import Iterator, Optional, Protocol, Sequence
 
-from changing_plans import Plan, cut, extended, goes_on_from, read
 from harness import Harness, Outcome, compared, side_by_side
+from plan_chains import Plan, are_akin, difference, extended, read, rested
 from random_runs import Cell, random_map, random_plan
 from run_model import Agent, agents_of
 
@@ -16,14 +16,13 @@ from run_model import Agent, agents_of
 IN_MEMORY, SHORT_PROCESSES, LONG_PROCESSES = 300, 4, 30
 # How often plans change, how many events come between, and how many bring a fleet to its end.
 MOST_CHANGES, MOST_EVENTS, MANY = 5, 60, 5_000
-EVENTS = {"start": 9, "finish": 7, "speak": 5, "hear": 9, "restart": 2, "change": 3, "fail": 1}
+# How many steps are added at the most.
+MOST_STEPS = 6
+EVENTS = {"start": 9, "finish": 7, "speak": 5, "hear": 9, "restart": 2, "change": 3, "fail": 1, "mistake": 1}
+# The bytes of a record.
+RECORD = 10
 # What hangs on the end of a plan, and moves nobody.
 RIM = ("refused AtEnd", "refused Waits ", "refused TooMany")
-
-
-def is_akin(kept: Plan, plan: Plan) -> bool:
-    """Whether one of two plans goes on from the other."""
-    return goes_on_from(kept, plan) or goes_on_from(plan, kept)
 
 
 class Process(Protocol):
@@ -49,6 +48,8 @@ class Modelled:
         agents = agents_of(plan.text())
         if self.records > 2 * len(agents[self.number].needs):
             return "TooLong"
+        if self.plan and not are_akin(self.plan, plan):
+            return "OtherPlan"
         self.plan, self.agent, self.moves = plan, agents[self.number], [len(agent.needs) for agent in agents]
         self.agent.records = self.records
         return self.state()
@@ -123,8 +124,14 @@ class Real:
         line = self.process.stdout.readline()
         if line:
             self.tape = "kept"
-            return line.rstrip("\n")
+            return line.rstrip("\n") if self.keeps(plan) else f"beside the tape of agent {self.number} stands another text"
         return self.process.stderr.read().rstrip("\n").replace("mapf: ", "")
+
+    def keeps(self, plan: Plan) -> bool:
+        """Whether the plan is kept beside the tape, with a mark where that has a record."""
+        tape = self.folder / f"{self.number}.tape"
+        mark = "+" if tape.stat().st_size >= RECORD else "-"
+        return tape.with_name(f"{tape.name}.plan").read_text(encoding="ascii") == f"mapf-tape 1 {mark}\n{plan.text()}"
 
     def ask(self, line: str) -> str:
         self.process.stdin.write(line + "\n")
@@ -170,7 +177,7 @@ class Fleet:
         self.plans = [plan]
         self.events, self.replies = [f"mapf-events {version}"], []
         self.messages: list[str] = []
-        self.members = [Member(process, plan, [start]) for process, start in zip(processes, plan.starts)]
+        self.members = [Member(process, plan, [course.start]) for process, course in zip(processes, plan.courses)]
         for member in self.members:
             self.hold(member.process.open(plan).startswith("at "), "a new tape isn't at its start")
 
@@ -183,8 +190,8 @@ class Fleet:
         self.replies.append(reply)
 
     def is_kept(self, member: Member, plan: Plan) -> bool:
-        """Whether a process may be started by the plan: it is the one by which it ran, or goes on from it, or the other way round."""
-        return is_akin(member.plan, plan)
+        """Whether a process may be started by the plan: it is the one that its tape was kept for, or goes on from it, or the other way round."""
+        return are_akin(member.plan, plan)
 
     def open(self, number: int, plan: Plan) -> bool:
         """Starts an agent's process by a plan, unless its tape has more than that plan."""
@@ -217,6 +224,8 @@ class Fleet:
         if word in ("restart", "change"):
             fitting = [plan for plan in self.plans if self.is_kept(member, plan)]
             self.open(number, self.rng.choice(fitting) if word == "restart" and fitting else self.newest(member))
+        elif word == "mistake":
+            self.mistake(number)
         elif word == "fail":
             member.process.fail(self.rng.choice(("start", "finish")))
             self.open(number, member.plan)
@@ -226,6 +235,15 @@ class Fleet:
             self.speak(number)
         elif word in ("start", "finish"):
             self.go_on(word, number)
+
+    def mistake(self, number: int) -> None:
+        """An agent is given a plan that isn't of its chain, by which it would make as many moves: it is refused, and goes on by the one that it had."""
+        member = self.members[number]
+        plan = member.plan.delayed() if self.rng.random() < 0.5 else dataclasses.replace(member.plan, number=member.plan.number + 1)
+        if not self.is_kept(member, plan):
+            line = member.process.open(plan)
+            self.hold(line == "OtherPlan", f"agent {number} is given a plan of another chain: {line}")
+            self.restarted(number, member.process.open(member.plan))
 
     def newest(self, member: Member) -> Plan:
         """The last plan to which it may come in one step."""
@@ -261,14 +279,14 @@ class Fleet:
             self.hold(len(held) == len(set(held)), "two agents hold a common cell")
 
     def extend(self, plan: Plan) -> None:
-        self.hold(goes_on_from(self.plans[-1], plan), "the plan goes on from the last one")
+        self.hold(not difference(self.plans[-1], plan), "the plan doesn't go on from the last one")
         self.plans.append(plan)
 
     def take_back(self, longest: int) -> None:
         """All come to run by a cut of the last plan, one after another: an earlier one where nobody has passed it."""
         whole = self.plans[-1]
         for time in range(self.rng.randint(0, longest), longest + 1):
-            part = cut(whole, time)
+            part = whole.cut(time)
             if all(self.comes_to(number, part) for number in self.rng.sample(range(len(self.members)), len(self.members))):
                 self.plans = [part]
                 return
@@ -295,7 +313,7 @@ class Fleet:
                 self.open(number, self.newest(member))
             self.hold(member.plan == last, f"agent {number} doesn't come to run by the last plan")
         for _ in range(MANY):
-            if all(len(member.cells) == 1 and member.done == last.moves(number) for number, member in enumerate(self.members)):
+            if all(len(member.cells) == 1 and member.done == last.courses[number].moves for number, member in enumerate(self.members)):
                 return
             for number in range(len(self.members)):
                 self.go_on("finish", number)
@@ -316,7 +334,8 @@ def change(fleet: Fleet, rng: random.Random, free: list[Cell]) -> None:
         fleet.live(rng.randrange(MOST_EVENTS))
         if rng.random() < 0.4:
             fleet.take_back(fleet.plans[-1].longest)
-        fleet.extend(extended(rng, free, fleet.plans[-1]))
+        longer = extended(rng, free, fleet.plans[-1], rng.randint(0, MOST_STEPS), False)
+        fleet.extend(rested(rng, longer))
     fleet.live(rng.randrange(MOST_EVENTS))
     fleet.end_by_last()
 
@@ -326,7 +345,7 @@ def run(harness: Harness, seed: int, is_real: bool) -> list[Outcome]:
     version, (map_text, free) = 1 + seed % 2, random_map(rng)
     plan = read(random_plan(rng, free, False))
     folder = harness.folder({"map": map_text.encode()})
-    count = len(plan.starts)
+    count = len(plan.courses)
     processes = [Real(harness, folder, n, rng) if is_real else Modelled(n, version, rng) for n in range(count)]
     name = f"{'processes' if is_real else 'a fleet in memory'}, seed {seed}"
     fleet = None

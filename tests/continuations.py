@@ -3,11 +3,12 @@ import dataclasses
 import functools
 import random
 import shutil
-from typing import Callable, Iterator, Optional, Sequence
+from typing import Callable, Iterator, Sequence
 
 from answers import answer
 from harness import Ended, Harness, Outcome, ended_as, side_by_side
-from random_runs import Cell, moved, random_map, random_plan, settle
+from plan_chains import Course, Plan, difference, extended, read, rested
+from random_runs import Cell, random_map, random_plan
 
 ACTS = "nesw-"
 SHORT_SEEDS, LONG_SEEDS = range(1, 301), range(1, 3_001)
@@ -15,50 +16,13 @@ SHORT_SEEDS, LONG_SEEDS = range(1, 301), range(1, 3_001)
 SHORT_PAIRS = 6
 
 
-@dataclasses.dataclass(frozen=True)
-class Course:
-    """An agent's start and its acts."""
-
-    start: Cell
-    acts: str
-
-    def place(self, time: int) -> Cell:
-        """Where it is, perhaps off the map; it stays behind its last act."""
-        place = self.start
-        for act in self.acts[:time]:
-            place = moved(place, None if act == "-" else act)
-        return place
-
-
-@dataclasses.dataclass(frozen=True)
-class Plan:
-    number: int
-    courses: tuple[Course, ...]
-
-    def text(self) -> str:
-        lines = [f"agent {c.start[0]} {c.start[1]} {c.acts or '='}\n" for c in self.courses]
-        return "".join([f"mapf-plan 1\nnumber {self.number}\nagents {len(self.courses)}\n", *lines])
-
-    def longest(self) -> int:
-        return max((len(course.acts) for course in self.courses), default=0)
-
-    def moves(self) -> int:
-        return sum(act != "-" for course in self.courses for act in course.acts)
-
-    def with_course(self, agent: int, course: Course) -> "Plan":
-        return dataclasses.replace(self, courses=(*self.courses[:agent], course, *self.courses[agent + 1 :]))
-
-    def cut(self, time: int) -> "Plan":
-        return dataclasses.replace(self, courses=tuple(Course(c.start, c.acts[:time]) for c in self.courses))
-
-
 # ---- the model
 
 
 def least_fault(free: Sequence[Cell], plan: Plan) -> str:
     """The first fault of a plan by time, then kind, then agents; nothing where it is valid."""
-    tracks = [[course.place(time) for time in range(plan.longest() + 1)] for course in plan.courses]
-    for time in range(plan.longest() + 1):
+    tracks = [[course.place(time) for time in range(plan.longest + 1)] for course in plan.courses]
+    for time in range(plan.longest + 1):
         now = [track[time] for track in tracks]
         for agent, cell in enumerate(now):
             if cell not in free:
@@ -74,53 +38,12 @@ def least_fault(free: Sequence[Cell], plan: Plan) -> str:
     return ""
 
 
-def difference(old: Plan, new: Plan) -> str:
-    """The first reason why the new plan doesn't go on from the old one; nothing where it does."""
-    if new.number != old.number:
-        return "OtherNumber"
-    if len(new.courses) != len(old.courses):
-        return "OtherCount"
-    for time in range(old.longest() + 1):
-        for agent, (was, is_now) in enumerate(zip(old.courses, new.courses)):
-            if was.place(time) != is_now.place(time):
-                return f"Departs {agent} {time}"
-    return ""
-
-
 def due(free: Sequence[Cell], old: Plan, new: Plan) -> Ended:
     fault = least_fault(free, old) or least_fault(free, new) or difference(old, new)
-    return answer(1, fault) if fault else answer(0, f"continues from {old.longest()}, adds {new.moves() - old.moves()} moves\n")
+    return answer(1, fault) if fault else answer(0, f"continues from {old.longest}, adds {new.moves - old.moves} moves\n")
 
 
 # ---- plans and what is made of them
-
-
-def read(text: str) -> Plan:
-    """A plan of a text that has no fault."""
-    _, number, _, *agents = [line.split(" ") for line in text.splitlines()]
-    return Plan(int(number[1]), tuple(Course((int(x), int(y)), acts.strip("=")) for _, x, y, acts in agents))
-
-
-def extended(rng: random.Random, free: Sequence[Cell], plan: Plan, steps: int) -> Plan:
-    """A valid plan that does as this one does, and some more behind the last act of all."""
-    now = [course.place(plan.longest()) for course in plan.courses]
-    acts = [list(course.acts.ljust(plan.longest(), "-")) for course in plan.courses]
-    for _ in range(steps):
-        step: list[Optional[str]] = [rng.choice([act for act in "nesw" if moved(cell, act) in free] + [None]) for cell in now]
-        settle(now, step, True)
-        now = [moved(cell, act) for cell, act in zip(now, step)]
-        for course, act in zip(acts, step):
-            course.append(act or "-")
-    return dataclasses.replace(plan, courses=tuple(Course(old.start, "".join(new)) for old, new in zip(plan.courses, acts)))
-
-
-def rested(rng: random.Random, plan: Plan) -> Plan:
-    """The same, where some agents have fewer waits at their ends, or more."""
-    courses = []
-    for course in plan.courses:
-        acts = course.acts.rstrip("-") if rng.random() < 0.6 else course.acts
-        courses.append(Course(course.start, acts + "-" * rng.choice((0, 0, 0, 1, 2))))
-    return dataclasses.replace(plan, courses=tuple(courses))
 
 
 def other_act(rng: random.Random, plan: Plan, agent: int, step: int) -> Plan:
@@ -150,7 +73,7 @@ def at_end(plan: Plan, agent: int) -> int:
 
 def departures(rng: random.Random, free: Sequence[Cell], plan: Plan) -> Iterator[tuple[str, Plan]]:
     """What is like the plan but for one agent, at each kind of place. Some of them are no valid plans."""
-    last_step, last_agent = max(plan.longest() - 1, 0), len(plan.courses) - 1
+    last_step, last_agent = max(plan.longest - 1, 0), len(plan.courses) - 1
     agent, step = rng.randrange(last_agent + 1), rng.randint(0, last_step)
     yield "another start", other_start(rng, free, plan, agent)
     yield "another act", other_act(rng, plan, agent, step)
@@ -171,19 +94,19 @@ def counted_otherwise(rng: random.Random, free: Sequence[Cell], plan: Plan) -> I
 
 def pairs(rng: random.Random, free: Sequence[Cell], plan: Plan) -> Iterator[tuple[str, Plan, Plan]]:
     """An old plan and a new one, and what is told of them."""
-    second = rested(rng, extended(rng, free, plan, rng.randrange(5)))
-    third = rested(rng, extended(rng, free, second, rng.randrange(5)))
+    second = rested(rng, extended(rng, free, plan, rng.randrange(5), True))
+    third = rested(rng, extended(rng, free, second, rng.randrange(5), True))
     for name, old, new in (("A to B", plan, second), ("B to C", second, third), ("A to C", plan, third), ("A to A", plan, plan)):
         yield name, old, new
         yield f"{name}, exchanged", new, old
-    time = rng.randint(0, second.longest() + 1)
+    time = rng.randint(0, second.longest + 1)
     yield f"cut at {time}", second.cut(time), second
     yield f"to what is left where it is cut at {time}", second, second.cut(time)
     for name, other in (*rng.sample(list(departures(rng, free, plan)), 3), rng.choice(list(counted_otherwise(rng, free, plan)))):
         yield f"to {name}", plan, other
-        yield f"to {name}, which goes on", plan, extended(rng, free, other, 2) if not least_fault(free, other) else other
+        yield f"to {name}, which goes on", plan, extended(rng, free, other, 2, True) if not least_fault(free, other) else other
         yield f"from {name}", other, second
-    spoiled = other_act(rng, second, rng.randrange(len(plan.courses)), rng.randrange(second.longest() + 1))
+    spoiled = other_act(rng, second, rng.randrange(len(plan.courses)), rng.randrange(second.longest + 1))
     yield "both spoiled", spoiled, other_act(rng, spoiled, 0, 0)
 
 
@@ -213,7 +136,7 @@ def of_each_time(harness: Harness, seed: int) -> list[Outcome]:
     rng = random.Random(f"cuts {seed}")
     map_text, free = random_map(rng)
     plan = rested(rng, read(random_plan(rng, free, may_turn=True)))
-    kept = [(time, plan.cut(time)) for time in range(plan.longest() + 2)]
+    kept = [(time, plan.cut(time)) for time in range(plan.longest + 2)]
     found = [judged(harness, f"seed {seed}, cut at {time}", map_text, free, (left, plan)) for time, left in kept]
     return found + [judged(harness, f"seed {seed}, to what is left at {time}", map_text, free, (plan, left)) for time, left in kept]
 

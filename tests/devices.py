@@ -328,7 +328,7 @@ def tapes_in_use(harness: Harness) -> Iterator[Outcome]:
     for claim in CLAIMS:
         folder, words = harness.folder(FILES), ["agent", "M", "P", "0", "T"]
         how = {"cwd": folder, "stdin": subprocess.PIPE, "stdout": subprocess.PIPE}
-        with subprocess.Popen([str(harness.program), *words], **how) as process:
+        with subprocess.Popen([str(harness.program), *words, "--tape", "new"], **how) as process:
             told = [process.stdout.readline()]
             process.stdin.write(b"start\n")
             process.stdin.flush()

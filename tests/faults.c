@@ -1,6 +1,6 @@
 // Makes calls of the C library fail, for faults.py, in a program that is started with LD_PRELOAD.
 //
-// FAULT_CALL is which kind of call: alloc, open, look, lock, read, write, sync, seek or truncate. FAULT_AT is which of them fails, counted from 1, or
+// FAULT_CALL is which kind of call: alloc, open, look, lock, read, write, sync, seek, truncate or rename. FAULT_AT is which of them fails, counted from 1, or
 // 0 for each. FAULT_KIND is how: `error`, `on` (and so does each that follows), `none` (a write takes nothing), `short` (one byte passes, without an error), or
 // `count` (none fails). The file FAULT_MET is made when a call is met, and has the name of the call's file, or of the stream; of calls that are counted it is
 // made at the program's end, and has their number.
@@ -132,6 +132,9 @@ static int is_counted(void) { return call && !strcmp(call, "sync") && !strcmp(ki
 int fsync(int fd) { return (int)(fails_on("sync", fd) ? failed(EIO) : is_counted() ? 0 : syscall(SYS_fsync, fd)); }
 int fdatasync(int fd) { return (int)(fails_on("sync", fd) ? failed(EIO) : is_counted() ? 0 : syscall(SYS_fdatasync, fd)); }
 off_t lseek(int fd, off_t where, int from) { return fails_on("seek", fd) ? failed(EIO) : syscall(SYS_lseek, fd, where, from); }
+int rename(const char *old, const char *new) {
+    return (int)(fails("rename", strrchr(new, '/') ? strrchr(new, '/') + 1 : new) ? failed(EIO) : syscall(SYS_rename, old, new));
+}
 int ftruncate(int fd, off_t size) { return (int)(fails_on("truncate", fd) ? failed(EIO) : syscall(SYS_ftruncate, fd, size)); }
 
 // The same by the names that the C library has for them too.

@@ -1,4 +1,4 @@
-"""Calls of the system that fail: each allocation, open, look at a file, lock, read, write, sync, seek and truncation that a command makes fails in turn,
+"""Calls of the system that fail: each allocation, open, look at a file, lock, read, write, sync, seek, truncation and renaming that a command makes fails in turn,
 until a run meets none. What failed is told, nothing else is blamed, and a tape goes on from what it has. Besides, it is counted how often memory is taken.
 
 A small library in C that is loaded before the C library makes the calls fail: it is built here, and without `cc` this part is skipped."""
@@ -13,6 +13,7 @@ from typing import Iterator, Optional
 import command_lines
 import help_texts
 from answers import ARRIVED_AS_OTHER, MOVING, NOISE, OTHER_AGENT, STANDING, answer, lines
+from claims import fault_beside
 from completing import ends_of, judged
 from harness import ROOT, VERSION, Ended, Harness, Outcome, compared, shown, side_by_side
 from texts import (
@@ -30,6 +31,7 @@ from texts import (
     TASKS,
     TURN,
     WALL,
+    beside,
     events,
     plan,
     scen,
@@ -61,8 +63,10 @@ FILES = {
 }
 # The tape is no file of the table: it is put there before each run.
 TAPE = "T"
-# The words by which a tape has to be a new one.
-NEW = " --tape new"
+# What is beside it, and the name under which that is written.
+BESIDE, DRAFT = "T.plan", "T.plan.new"
+# The words by which a tape has to be a new one, or one that was kept.
+NEW, KEPT = " --tape new", " --tape kept"
 # The folder of a tape, which is opened to be synced where the tape has no record.
 FOLDER = "."
 # What is met where a file is looked up by its name, as a tape is before each record.
@@ -73,12 +77,13 @@ TELLING = "moving 2 0\narrived 2 0\nsaid 0 46020000000000070001000000000001\nhea
 
 @dataclasses.dataclass(frozen=True)
 class Case:
-    """A command, all that it does where nothing fails, its input, and what its tape has before."""
+    """A command, all that it does where nothing fails, its input, and what its tape has before, and what is beside that."""
 
     words: str
     due: Ended
     given: bytes = b""
     tape: Optional[bytes] = None
+    beside: Optional[bytes] = None
 
     @property
     def early(self) -> bytes:
@@ -90,6 +95,16 @@ class Case:
     @property
     def files(self) -> set[str]:
         return {word for word in self.words.split() if word in FILES or word == TAPE}
+
+    @property
+    def at_hand(self) -> str:
+        """The plan that is beside the tape when the first line is out."""
+        return FILES[self.words.split()[2]]
+
+    @property
+    def is_written(self) -> bool:
+        """Whether a file is written beside the tape."""
+        return not self.due.err and (self.words.endswith(NEW) or (self.beside is not None and self.beside[14:] != self.at_hand.encode()))
 
 
 TURN_DEPS = "agents 4 moves 4 needs 4 rotations 1\nneed 0 0 1 1\nneed 1 0 2 1\nneed 2 0 3 1\nneed 3 0 0 1\nrotation 0 0 1 2 3\n"
@@ -168,7 +183,13 @@ CASES = [
     Case("agent M P 0 T", Ended(0, lines("at 2 0 done 1", "said 460100000000000700000001"), b""), b"say\n", MOVING + STANDING),
     Case("agent M P 0 T --tape new", Ended(0, lines("at 1 0 done 0", "moving 2 0"), b""), b"start\n", b""),
     Case("agent M P 0 T --tape new", answer(1, "TapeExists"), b"start\n", MOVING + NOISE[:9]),
-    Case("agent M P 0 T --tape kept", Ended(0, lines("between 1 0 2 0 done 0", "arrived 2 0"), b""), b"finish\n", MOVING),
+    Case("agent M P 0 T --tape kept", Ended(0, lines("between 1 0 2 0 done 0", "arrived 2 0"), b""), b"finish\n", MOVING, beside("+", BEHIND)),
+    Case("agent M P 0 T --tape kept", Ended(0, lines("between 1 0 2 0 done 0", "arrived 2 0"), b""), b"finish\n", MOVING, beside("-", BEHIND)),
+    Case("agent M Y 0 T --tape kept", Ended(0, lines("at 1 0 done 0", "moving 2 0"), b""), b"start\n", b"", beside("-", BEHIND)),
+    Case("agent M P 0 T --tape kept", answer(1, "OtherPlan"), b"start\n", MOVING, beside("+", BEHIND.replace("number 7", "number 8"))),
+    Case("agent M P 0 T --tape kept", answer(1, "TapeEmptied"), b"start\n", b"", beside("+", BEHIND)),
+    Case("agent M P 0 T --tape new", answer(1, "TapeEmptied"), b"start\n", b"", beside("+", BEHIND)),
+    Case("agent M P 0 T --tape kept", answer(1, "PlanDamaged"), b"start\n", b"", BEHIND.encode()),
     Case("agent M P 0 T", answer(1, "WrongAgent 0"), b"start\n", OTHER_AGENT),
     Case("agent M P 0 T", answer(1, "Damaged 1"), b"start\n", MOVING + NOISE),
     Case("agent M P 0 T", answer(1, "TooLong"), b"start\n", MOVING + STANDING + NOISE),
@@ -199,6 +220,7 @@ KINDS = {
     "sync": ["error"],
     "seek": ["error"],
     "truncate": ["error"],
+    "rename": ["error"],
 }
 LONG_KINDS = {**KINDS, "alloc": ["error", "on"], "read": ["error", "on", "short"], "open": ["error", "on"]}
 # No command makes nearly so many calls of one kind on these texts.
@@ -232,6 +254,9 @@ class Library:
         met.unlink(missing_ok=True)
         if case.tape is not None:
             (folder / TAPE).write_bytes(case.tape)
+            (folder / BESIDE).unlink(missing_ok=True)
+            if case.beside is not None:
+                (folder / BESIDE).write_bytes(case.beside)
         more = {"LD_PRELOAD": str(self.path), "FAULT_CALL": call, "FAULT_KIND": kind, "FAULT_AT": str(at), "FAULT_MET": str(met)}
         ended = self.harness.run([str(self.harness.program), *case.words.split()], case.given, folder, more)
         return ended, met.read_text() if met.exists() else ""
@@ -292,12 +317,15 @@ def is_allowed(case: Case, call: str, kind: str, met: str, ended: Ended) -> bool
     if met == BY_NAME:
         return is_store_failed(case, ended)
     if call in ("open", "look"):
-        return is_fault(ended, "TapeFailed" if met == FOLDER else "OpenFailed") and not ended.out
+        # What is beside the tape is opened to be marked too.
+        return (is_fault(ended, "TapeFailed" if met in (FOLDER, DRAFT) else "OpenFailed") and not ended.out) or (
+            met == BESIDE and (is_store_failed(case, ended) or (is_fault(ended, "TapeFailed") and not ended.out))
+        )
     if kind == "on" and call == "write":
         # What would tell of the failure fails too.
         status = due.status if met == "error output" else 3
         return (ended.status, ended.err) == (status, b"") and due.out.startswith(ended.out)
-    if met == TAPE or call == "sync":
+    if met in (TAPE, BESIDE, DRAFT) or call == "sync":
         return (is_fault(ended, "TapeFailed") and not ended.out) or is_store_failed(case, ended)
     if call == "read":
         # A text that is known to be faulty is not read on.
@@ -311,8 +339,10 @@ def judged_tape(library: Library, case: Case, folder: pathlib.Path, out: bytes, 
     """What is wrong with a tape, behind what was told; empty where nothing is. It is opened again once for all runs that leave the same."""
     left = (folder / TAPE).read_bytes()
     agent = case.words.split()[3]
-    if case.due.status or case.words.startswith("tape "):
-        return "" if left == case.tape else f"the tape was to stay as it was, and has {left.hex()}"
+    is_kept = case.words.endswith((NEW, KEPT)) and not case.due.status
+    fault = fault_beside(folder, case.beside, case.at_hand if is_kept else None, b"\nmoving " in out)
+    if fault or case.due.status or case.words.startswith("tape "):
+        return fault or ("" if left == case.tape else f"the tape was to stay as it was, and has {left.hex()}")
     records, before = left[: len(left) // 10 * 10], len(case.tape or b"") // 10
     told = before + len(re.findall(rb"^(?:moving|arrived) ", out, re.MULTILINE))
     if not b"".join(RECORDS[agent]).startswith(records) or len(records) // 10 not in (told, told + 1):
@@ -353,18 +383,24 @@ def opened(case: Case) -> set[str]:
     return case.files - ({TAPE} if case.due.err in (b"mapf: NoSuchAgent\n", b"mapf: Swap 0 1 0\n") else set())
 
 
+def written_beside(case: Case) -> set[str]:
+    """What is written beside a tape: the draft of what is kept there, and the mark of a first record."""
+    marks = case.words.endswith((NEW, KEPT)) and not case.due.err and (b"start\n" in case.given or case.beside == beside("-", case.at_hand))
+    return ({DRAFT} if case.is_written else set()) | ({BESIDE} if marks else set())
+
+
 def names_due(case: Case, call: str) -> set[str]:
     """Files and streams that a command at least has to do with by such a call."""
     if call == "alloc":
         return {"memory"}
     if call == "open":
         folder = {FOLDER} if case.words.startswith("agent ") and len(case.tape or b"") < 10 and not case.due.err else set()
-        return folder | opened(case)
+        return folder | opened(case) | written_beside(case)
     if call == "read" and not case.due.err:
-        return case.files | ({"input"} if case.given else set())
+        return case.files | ({"input"} if case.given else set()) | ({BESIDE} if case.beside is not None else set())
     if call == "write":
         stores = {TAPE} if b"start\n" in case.given and not case.due.err else set()
-        return stores | ({"output"} if case.due.out else set()) | ({"error output"} if case.due.err else set())
+        return stores | written_beside(case) | ({"output"} if case.due.out else set()) | ({"error output"} if case.due.err else set())
     if not case.words.startswith("agent "):
         return set()
     if call == "lock":
@@ -372,6 +408,8 @@ def names_due(case: Case, call: str) -> set[str]:
     if call == "look":
         stores = {BY_NAME} if b"start\n" in case.given and not case.due.err else set()
         return stores | ({TAPE} & opened(case))
+    if call == "rename":
+        return {BESIDE} if case.is_written else set()
     is_synced = len(case.tape or b"") >= 10 or case.words.endswith(NEW)
     return {TAPE} if call == "sync" and is_synced and not case.due.err else set()
 
@@ -419,8 +457,8 @@ def messages_said(library: Library) -> Iterator[Outcome]:
 
 
 def syncs(library: Library) -> Iterator[Outcome]:
-    """A tape is synced once where it is opened with a record, its folder where it is opened without one, the tape too where it has to be a new one, and a
-    tape once behind each record that is written to it."""
+    """A tape is synced once where it is opened with a record, its folder where it is opened without one, the tape too where it has to be a new one, with what is
+    beside it, and the folder once more; and a tape once behind each record that is written to it."""
     for moves in (1, MOST_MOVES):
         files = {"M": LANE.encode(), "P": plan(f"0 0 {'ew' * (moves // 2)}e").encode()}
         tape = b"".join(struct.pack(">BBIHH", 0x50, 1 + r % 2, 7, 0, (r + 1) // 2) for r in range(2 * moves))
@@ -435,7 +473,7 @@ def syncs(library: Library) -> Iterator[Outcome]:
             yield compared(name, ran, (ended, count, (folder / TAPE).read_bytes() == tape), due)
     folder = library.harness.folder({name: FILES[name].encode() for name in "MP"})
     counted = library.count(f"agent M P 0 T{NEW}", folder, "sync", "out")
-    yield compared("syncs of a new tape", f"mapf agent M P 0 T{NEW}", (counted, (folder / TAPE).exists()), ((Ended(0, b"", b""), "2"), True))
+    yield compared("syncs of a new tape", f"mapf agent M P 0 T{NEW}", (counted, (folder / TAPE).exists()), ((Ended(0, b"", b""), "4"), True))
 
 
 def outcomes(harness: Harness) -> Iterator[Outcome]:

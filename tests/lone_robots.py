@@ -129,7 +129,7 @@ class Alone:
         self.watched = watching.Watched(harness)
         self.watched.socket.close()
         os.unlink(f"{self.watched.path}.0")
-        (self.watched.folder / "tape").touch()
+        harness.mapf(["agent", str(MAP), str(PLAN), "0", "tape", "--tape", "new"], folder=self.watched.folder)
         words = [sys.executable, str(FLEET / "robot.py"), str(MAP), str(PLAN), "0", "tape", "--drive", "watcher"]
         self.words = [*words, "--program", str(harness.program), "--listen", f"127.0.0.1:{port}", "--peers", ""]
         self.process = self.start(more)

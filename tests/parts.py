@@ -17,6 +17,7 @@ from typing import Callable, Iterator
 import answers
 import beginnings
 import changing
+import claims
 import command_lines
 import completions
 import continuations
@@ -57,6 +58,7 @@ PARTS: dict[str, tuple[str, Callable[[Harness], Iterator[Outcome]]]] = {
     "beginnings": ("every beginning of texts and of messages", beginnings.outcomes),
     "limits": ("sizes up to the limits, with answers that are known by how they are made", limits.outcomes),
     "answers": ("whole commands on texts, files and tapes", answers.outcomes),
+    "claims": ("tapes that have to be new, or kept, and the plans beside them", claims.outcomes),
     "messages": ("messages with each byte changed, and what agents tell by what they heard", messages.outcomes),
     "devices": ("files, inputs and outputs that fail", devices.outcomes),
     "faults": ("calls of the system that fail, one after another", faults.outcomes),

@@ -3,6 +3,7 @@ import contextlib
 import functools
 import itertools
 import os
+import pathlib
 import random
 import shutil
 import signal
@@ -318,12 +319,17 @@ def robot_words(harness: Harness, *more: str) -> list[str]:
     return [sys.executable, str(ROBOT), *TWO[1::2], "0", "tape", "--drive", "watcher", "--program", str(harness.program), *more]
 
 
+def make_tape(harness: Harness, folder: pathlib.Path) -> None:
+    """Makes the tape of the robot that such words start."""
+    harness.mapf(["agent", *TWO[1::2], "0", "tape", "--tape", "new"], folder=folder)
+
+
 def of_one_tape(harness: Harness) -> list[Outcome]:
     """An agent that doesn't end with its robot keeps the next robot waiting, so that no two agents are on one tape."""
     watched = watching.Watched(harness)
     watched.socket.close()
     os.unlink(f"{watched.path}.0")
-    (watched.folder / "tape").touch()
+    make_tape(harness, watched.folder)
     words = robot_words(harness, "--listen", f"127.0.0.1:{free_port()}", "--peers", "127.0.0.1:9")
     said = watched.folder / "said"
     with open(said, "wb") as err:
@@ -382,7 +388,10 @@ def bad_calls(harness: Harness, taken: int) -> Iterator[tuple[str, list[str], in
 def of_bad_calls(harness: Harness) -> list[Outcome]:
     """One clear line and a status, whatever is wrong."""
     outcomes = []
-    folder = harness.folder({"paho.py": b"raise ImportError\n", "tape": b"", "torn": b"x" * 10})
+    folder = harness.folder({"paho.py": b"raise ImportError\n"})
+    make_tape(harness, folder)
+    (folder / "torn").write_bytes(b"x" * 10)
+    shutil.copy(folder / "tape.plan", folder / "torn.plan")
     taken = free_port()
     with socket.socket(socket.AF_INET, socket.SOCK_DGRAM) as other:
         other.bind(("127.0.0.1", taken))

@@ -17,6 +17,11 @@ def plan(*agents: str, number: int = 7) -> str:
     return "".join([f"mapf-plan 1\nnumber {number}\nagents {len(agents)}\n", *(f"agent {agent}\n" for agent in agents)])
 
 
+def beside(mark: str, kept: str) -> bytes:
+    """What stands beside a tape that belongs to a plan: with the mark `+` where a record was stored."""
+    return f"mapf-tape 1 {mark}\n{kept}".encode()
+
+
 # Two agents that go one cell east behind one another.
 BEHIND = plan("1 0 e-", "0 0 e")
 # The same, and behind it both come back.

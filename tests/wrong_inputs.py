@@ -137,6 +137,19 @@ COMMANDS = [
     Wrong("agent land pair 0 wrong", RECORD * 3, ("It has 30 bytes: 3 whole records, and 0 bytes behind them.\n", "more records than two for each move")),
     Wrong("agent land pair 2 wrong", b"", ("The last agent of pair is agent 1",)),
     Wrong("agent land pair 0 nothing --tape kept", b"", ("nothing, a tape:\n", "`mapf agent` with `--tape kept`.\n", "Make no new one:")),
+    Wrong("agent land pair 0 wrong --tape kept", b"", ("wrong, a tape:\nA record was stored on the tape,", "The tape is lost: make no new one.")),
+    Wrong("agent land pair 0 wrong --tape new", b"", ("wrong, a tape:\nA record was stored on the tape,", "The tape is lost: make no new one.")),
+    Wrong("agent land pair 0 bare --tape kept", b"", ("bare, a tape:\nWhat is beside the tape", "Look what that file is.")),
+    Wrong(
+        "agent land pair 0 wrong --tape kept",
+        RECORD,
+        (
+            "wrong, a tape:\nThe tape belongs to another plan",
+            "it gets a new tape.\nwrong.plan:6:\n" + marked(6, "agent 0 0 -e", "          ^"),
+            "pair:5:\n" + marked(5, "agent 0 0 e", "          ^"),
+            "At time 1 agent 1 is in column 0, row 0 by the old plan, and in column 1, row 0 by the new one.\n",
+        ),
+    ),
     Wrong("tape land pair 0 nothing", b"", ("nothing, a tape:\n", "`mapf tape` makes none", "Make no new one:")),
     Wrong("tape land pair 0 /dev/zero", b"", ("/dev/zero, a tape:\nIt is a pipe or a device, and no file of bytes.\n",)),
     Wrong("agent land pair 0 no/tape", b"", ("no/tape, to be read as a tape: there is no such file, and it can't be made: its folder is missing.\n",)),
@@ -183,3 +196,5 @@ REJECTED = [
 # By what is read.
 INPUTS = {"a map": MAPS, "a scenario": SCENARIOS, "a plan": PLANS, "events": LISTS, "a plan on a map": COURSES, "a command": COMMANDS, "a verdict": REJECTED, "two plans": CONTINUATIONS}
 FILES = {"land": LAND, "shore": SHORE, "pair": PAIR, "rows": ROWS, "events": EVENTS}
+# Beside the tape `wrong` another plan is kept, and beside `bare` what is none of a tape.
+FILES.update({"wrong.plan": f"mapf-tape 1 +\n{PAIR}".replace("0 0 e", "0 0 -e"), "bare": "", "bare.plan": PAIR})
