@@ -9,10 +9,10 @@ _mapf() {
         BadLength BadLine BadMagic BadMove BadNumber BadStart BadTable BadTear BadTerrain BadVersion
         BadWalk Broken Damaged Departs FieldCount GoalDiffers LineTooLong LongRow MissingRows
         NoHeader NoRoom NoSuchAgent NoSuchMessage NoSuchRow NoTape NoVersion NotMoving NotTight
-        OpenFailed OtherCount OtherNumber OutOfGrid OutOfMemory OutOfRange ReadFailed ShortRow
-        SizeDiffers StaleTape StartDiffers StoreFailed Swap TapeExists TapeFailed TapeInUse
-        TextAfter TooFewRows TooLarge TooLong TooMany Unfinished Vertex Waits WriteFailed WrongAgent
-        WrongPlan'
+        OpenFailed OtherCount OtherNumber OtherPlan OutOfGrid OutOfMemory OutOfRange PlanDamaged
+        ReadFailed ShortRow SizeDiffers StaleTape StartDiffers StoreFailed Swap TapeEmptied
+        TapeExists TapeFailed TapeInUse TextAfter TooFewRows TooLarge TooLong TooMany Unfinished
+        Vertex Waits WriteFailed WrongAgent WrongPlan'
     COMPREPLY=()
     # bash takes the = of --name=VALUE for a word of its own.
     if [[ $word == = ]]; then
