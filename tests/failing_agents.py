@@ -13,6 +13,16 @@ if sys.argv[1] != "agent":
 if random.random() < {unopened}:
     print("mapf: TapeFailed", file=sys.stderr)
     sys.exit(3)
+
+def tear(tape):
+    size = os.path.getsize(tape) - random.randint(1, 10)
+    os.truncate(tape, size)
+    if size < 10:
+        # No record was stored yet, and so there is no mark of one.
+        with open(tape + ".plan", "r+b") as beside:
+            beside.seek(12)
+            beside.write(b"-")
+
 # A robot's lock is the agent's too.
 agent = subprocess.Popen([program, *sys.argv[1:]], stdin=subprocess.PIPE, stdout=subprocess.PIPE, close_fds=False)
 first = agent.stdout.readline()
@@ -30,7 +40,7 @@ for line in sys.stdin.buffer:
         agent.stdin.close()
         agent.wait()
         if what in ("torn", "lost"):
-            os.truncate(sys.argv[5], os.path.getsize(sys.argv[5]) - random.randint(1, 10))
+            tear(sys.argv[5])
         if what == "both":
             os.kill(os.getppid(), 9)
         if what in ("both", "killed", "torn"):
