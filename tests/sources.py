@@ -48,6 +48,8 @@ MADE = {
     "executor/runs.rt: run_with": "was given a reply back that there was no room for",
     "executor/said.rt: Said: keep_told": "takes back what it had taken, and then says why",
     "grid/map_fault.rt: From<AllocError> for MapFault: from": NAMED_ANEW,
+    "least_steps/reached.rt: Reached<'a>: add": "has more places than there are numbers for, and no map has so many",
+    "least_steps/step_fault.rt: From<AllocError> for StepFault: from": NAMED_ANEW,
     "mapf/main.rt: fault_of": "tells why the system didn't give the words of the command line",
     "mapf_cmd/unperformed.rt: refuse": "tells that there was no memory for a command line",
     "plan/checker.rt: check": "gives the plan back beside the want",

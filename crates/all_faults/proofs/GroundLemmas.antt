@@ -1,0 +1,67 @@
+-- Legal steps lead between cells of the map.
+use Rattle.std.proofs.Common.{◌≡◌, ◌≢◌, ℕ, ◌*◌, ◌+◌, ◌<◌, ◌^◌, Bool, true, false, cond, List, get_or, None, Some, arith, refl, sym, ap, subst, ◌∙◌}
+use Rattle.std.specs.Prelude.{Option, MatchOption, ◌&&◌, nat_lt, slice_get, unwrap_or}
+use Rattle.std.proofs.lemmas.Bool.{and_parts, ltb-true}
+use Rattle.std.proofs.lemmas.Option.{unwrap_or-slice_get}
+use Rattle.grid.specs.declared.cell.Cell.{Cell}
+use Rattle.grid.specs.declared.terrain.Terrain.{Terrain}
+use Rattle.grid.specs.Map.{Grid, IsMap, terrain_at, AreJoined}
+use Rattle.model.specs.declared.act.Act.{Act}
+use Rattle.model.specs.declared.act.Act.TheVariants.{Wait}
+use Rattle.model.specs.Plan.{Position, Course, position_at, IsLegal, IsBadMove}
+use Rattle.all_faults.specs.Code.Places.{IsNamedCell}
+
+on_map_by : (b : Bool) (t : Option Terrain) (P : Terrain → Type 0) → MatchOption (cond b t None) ⊥ P → b ≡ true
+on_map_by true t P h = refl
+on_map_by false t P h = absurd h
+
+-- the column and the row are below 2^16
+abbrev IsLow : Cell → Type 0
+IsLow c = (c.x < 2 ^ 16) × (c.y < 2 ^ 16)
+
+-- what has a terrain is a cell of the map
+low-cell : (m : Grid) (c : Cell) (P : Terrain → Type 0) → IsMap m → MatchOption (terrain_at m c) ⊥ P → IsLow c
+low-cell m c P is_map h =
+    let both = and_parts (nat_lt c.x m.width) (nat_lt c.y m.height) (on_map_by (nat_lt c.x m.width && nat_lt c.y m.height) (slice_get m.terrain (c.y * m.width + c.x)) P h) in
+    let column = ltb-true c.x m.width both.0 in
+    let row = ltb-true c.y m.height both.1 in
+    let wide = is_map.size.width_limit in
+    let high = is_map.size.height_limit in
+    (omega (arith, column, wide), omega (arith, row, high))
+
+joined_to : (s t : Option Terrain) → AreJoined s t → MatchOption t ⊥ (λ u. Unit {0})
+joined_to None t h = absurd h
+joined_to (Some s) None h = absurd h
+joined_to (Some s) (Some t) h = tt
+
+pub illegal-from : (m : Grid) (from to : Position) → IsMap m → IsNamedCell from None → IsLegal m from to → ⊥
+illegal-from m from to is_map none h = let low = low-cell m h.u _ is_map h.step.joined in none h.u h.is_from low.0 low.1
+
+pub illegal-to : (m : Grid) (from to : Position) → IsMap m → IsNamedCell to None → IsLegal m from to → ⊥
+illegal-to m from to is_map none h =
+    let low = low-cell m h.v (λ t. Unit {0}) is_map (joined_to (terrain_at m h.u) (terrain_at m h.v) h.step.joined) in none h.v h.is_to low.0 low.1
+
+-- ---- bad moves
+
+bad_parts : (o : Option Act) (P : Type 0) → MatchOption o ⊥ (λ act. (act ≢ Wait) × P) → (unwrap_or o Wait ≢ Wait) × P
+bad_parts None P h = absurd h
+bad_parts (Some act) P h = h
+
+bad_from : (o : Option Act) (P : Type 0) → unwrap_or o Wait ≢ Wait → P → MatchOption o ⊥ (λ act. (act ≢ Wait) × P)
+bad_from None P other h = absurd (other refl)
+bad_from (Some act) P other h = (other, h)
+
+module _ (m : Grid) (course : Course) (n : ℕ) (from to : Position) (act : Act) (acts : List Act) (same : acts ≡ course.acts) (is : act ≡ get_or acts n Wait)
+    (at : from ≡ position_at course n) (next : to ≡ position_at course (n + 1)) where
+  act-is : unwrap_or (slice_get course.acts n) Wait ≡ act
+  act-is = unwrap_or-slice_get course.acts n Wait ∙ ap (λ l. get_or l n Wait) (sym same) ∙ sym is
+
+  pub bad-move-parts : IsBadMove m course n → (act ≢ Wait) × (IsLegal m from to → ⊥)
+  bad-move-parts bad =
+      let parts = bad_parts (slice_get course.acts n) (IsLegal m (position_at course n) (position_at course (n + 1)) → ⊥) bad in
+      (λ e. parts.0 (act-is ∙ e), λ legal. parts.1 (subst (IsLegal m (position_at course n)) next (subst (λ q. IsLegal m q to) at legal)))
+
+  pub bad-move-from : act ≢ Wait → (IsLegal m from to → ⊥) → IsBadMove m course n
+  bad-move-from other illegal =
+      bad_from (slice_get course.acts n) (IsLegal m (position_at course n) (position_at course (n + 1)) → ⊥) (λ e. other (sym act-is ∙ e))
+      (λ legal. illegal (subst (λ q. IsLegal m q to) (sym at) (subst (IsLegal m (position_at course n)) (sym next) legal)))

@@ -1,0 +1,5 @@
+use Rattle.least_steps.specs.Code.Exploring.{Advances}
+use Rattle.least_steps.proofs.step_search.approach.Given as goal
+
+abbrev pub invariant-loop : goal.invariant-loop
+invariant-loop l = Advances l.fn.reached l.reached
