@@ -1,70 +1,70 @@
--- What a search has found is the least, when nothing less is to be expected of its open places.
-use Rattle.std.proofs.Common.{◌≡◌, ◌∙◌, ℕ, ◌+◌, ◌≤◌, Bool, true, false, List, [], ◌∷◌, Some, None, arith, refl, sym, ap, subst}
+-- What a search has found is the least, when nothing less is to be expected of what it has not left.
+use Rattle.std.proofs.Common.{◌≡◌, ◌∙◌, ℕ, ◌+◌, ◌≤◌, Bool, List, [], ◌∷◌, Some, None, inl, inr, arith, sym, subst}
 use Rattle.std.specs.Prelude.{Option}
+use Rattle.std.proofs.lemmas.Option.{same_Some}
 use Rattle.grid.specs.declared.cell.Cell.{Cell}
-use Rattle.grid.specs.Map.{Grid, IsStraightStep}
-use Rattle.scen.specs.Walk.{IsWalk}
-use Rattle.least_steps.specs.declared.place.Place.{Place}
-use Rattle.least_steps.specs.LeastSteps.{IsLeastSteps}
-use Rattle.least_steps.specs.Code.Estimate.{distance_between}
-use Rattle.least_steps.specs.Code.Places.{AreBehind, HasAtMost, IsAnswer, IsNoFewer}
+use Rattle.grid.specs.Map.{Grid}
+use Rattle.scen.specs.Walk.{IsOn}
+use Rattle.least_steps.specs.Code.Estimate.{least_number}
+use Rattle.least_steps.specs.Code.Reaching.{AreBehind, HasAtMost, IsBehind, IsFound, IsLeastNumber, IsNoLess, IsWay, WalksTo}
 use Rattle.least_steps.specs.Code.Exploring.{IsExploration}
-use Rattle.least_steps.specs.Laws.StraightWalks.{distance-least, first_step}
-use Rattle.least_steps.proofs.ExplorationLemmas.{one_place}
+use Rattle.least_steps.specs.Laws.Ways.{distance-least, first_move, move-on}
+use Rattle.least_steps.proofs.ExplorationLemmas.{known}
 
-more : (found : Option ℕ) (a b : ℕ) → a ≤ b → IsNoFewer found a → IsNoFewer found b
+more : (found : Option ℕ) (a b : ℕ) → a ≤ b → IsNoLess found a → IsNoLess found b
 more None a b most h = h
 more (Some n) a b most h = omega (arith, most, h)
 
 module _
-    (m : Grid) (start goal : Cell) (numbers : List ℕ) (places : List Place) (found : Option ℕ) (e : IsExploration m start numbers places)
-    (behind : AreBehind goal found places) (answer : IsAnswer places goal found)
+    (m : Grid) (aslant : Bool) (start goal : Cell) (numbers : List ℕ) (closed : List Bool) (touched : List Cell) (found : Option ℕ)
+    (e : IsExploration m aslant start numbers closed touched) (goal_on : IsOn m goal)
+    (behind : AreBehind m aslant numbers closed goal found touched) (answer : IsFound m numbers goal found)
   where
     -- at the goal
-    ends : (o : Option ℕ) → IsAnswer places goal o → (n : ℕ) → HasAtMost places goal n → IsNoFewer o n
-    ends None absent n has = absent has.at has.place has.is_place has.is_cell
-    ends (Some b) some n has =
-        let own : some.1 ≡ has.place = one_place m numbers places goal some.0 has.at some.1 has.place e.indexed some.2 has.is_place some.3 has.is_cell in
+    ends : (o : Option ℕ) → IsFound m numbers goal o → (n : ℕ) → HasAtMost m numbers goal n → IsNoLess o n
+    ends None none n has =
+        let zero = same_Some 0 has.number (sym none ∙ has.is_number) in
+        let some = has.some in
+        omega (arith, zero, some)
+    ends (Some b) is n has =
+        let same = same_Some b has.number (sym is.0 ∙ has.is_number) in
         let most = has.most in
-        let steps : some.1.steps ≡ has.place.steps = ap (λ (p : Place). p.steps) own in
-        let is = some.4 in
-        omega (arith, most, steps, is)
+        omega (arith, same, most)
 
     -- and a walk to it from a cell that was reached
-    goes : (u : Cell) (n : ℕ) (has : HasAtMost places u n) (c w : Cell) (cells : List Cell) (k : ℕ) → IsWalk m u goal (c ∷ w ∷ cells) k 0
-        → ((i : ℕ) → HasAtMost places w i → (j : ℕ) → IsWalk m w goal (w ∷ cells) j 0 → IsNoFewer found (i + j))
-        → (b : Bool) → has.place.is_closed ≡ b → IsNoFewer found (n + k)
-    goes u n has c w cells k walk rest true is =
-        let first = first_step m u goal c w cells k walk in
-        let step = subst (λ v. IsStraightStep m v w) (sym has.is_cell) first.1 in
-        let on = rest (has.place.steps + 1) (e.left has.at has.place has.is_place is w step) first.0 first.2 in
+    goes : (u : Cell) (n : ℕ) (has : HasAtMost m numbers u n) (c w : Cell) (cells : List Cell) (k : ℕ) → IsWay m aslant u goal (c ∷ w ∷ cells) k → IsOn m u
+        → ((i : ℕ) → HasAtMost m numbers w i → (j : ℕ) → IsWay m aslant w goal (w ∷ cells) j → IsNoLess found (i + j))
+        → IsBehind m aslant numbers closed goal found u → IsNoLess found (n + k)
+    goes u n has c w cells k way on rest (inl is_closed) =
+        let first = first_move m aslant u goal c w cells k way in
+        let onward = rest (has.number + first.1) (e.left u has.number on has.is_number has.some is_closed w first.1 first.2) first.0 first.3 in
         let most = has.most in
-        let one_more = first.3 in
-        more found (has.place.steps + 1 + first.0) (n + k) (omega (arith, most, one_more)) on
-    goes u n has c w cells k walk rest false is =
-        let far = distance-least m u goal (c ∷ w ∷ cells) k walk in
+        let one_more = first.4 in
+        more found (has.number + first.1 + first.0) (n + k) (omega (arith, most, one_more)) onward
+    goes u n has c w cells k way on rest (inr far) =
+        let least = distance-least m aslant u goal (c ∷ w ∷ cells) k way in
         let most = has.most in
-        let own = subst (λ v. IsNoFewer found (has.place.steps + distance_between v goal)) has.is_cell (behind has.at has.place has.is_place is) in
-        more found (has.place.steps + distance_between u goal) (n + k) (omega (arith, most, far)) own
+        more found (has.number + least_number aslant goal u) (n + k) (omega (arith, most, least)) (far has.number has.is_number)
 
-    leads : (u : Cell) (n : ℕ) → HasAtMost places u n → (cells : List Cell) (k : ℕ) → IsWalk m u goal cells k 0 → IsNoFewer found (n + k)
-    leads u n has [] k walk = absurd walk
-    leads u n has (c ∷ []) k walk =
-        let there : u ≡ goal = sym walk.0 ∙ walk.1 in
-        more found n (n + k) (omega arith) (ends found answer n (subst (λ v. HasAtMost places v n) there has))
-    leads u n has (c ∷ w ∷ cells) k walk =
-        goes u n has c w cells k walk (λ i there j onward. leads w i there (w ∷ cells) j onward) has.place.is_closed refl
+    leads : (u : Cell) (n : ℕ) → IsOn m u → HasAtMost m numbers u n → (cells : List Cell) (k : ℕ) → IsWay m aslant u goal cells k → IsNoLess found (n + k)
+    leads u n on has [] k way = absurd way.is_walk
+    leads u n on has (c ∷ []) k way =
+        let there : u ≡ goal = sym way.is_walk.0 ∙ way.is_walk.1 in
+        more found n (n + k) (omega arith) (ends found answer n (subst (λ v. HasAtMost m numbers v n) there has))
+    leads u n on has (c ∷ w ∷ cells) k way =
+        let there = known m numbers touched u has.number e.on_map e.covered on has.is_number has.some in
+        let first = first_move m aslant u goal c w cells k way in
+        let w_on = (move-on m aslant u w first.1 first.2).1 in
+        goes u n has c w cells k way on (λ i reached j onward. leads w i w_on reached (w ∷ cells) j onward) (behind there.0 u there.1)
 
-    all : HasAtMost places start 0 → (cells : List Cell) (k : ℕ) → IsWalk m start goal cells k 0 → IsNoFewer found k
-    all begins cells k walk = more found (0 + k) k (omega arith) (leads start 0 begins cells k walk)
+    comes : (n : ℕ) (o : Option ℕ) → IsFound m numbers goal o → o ≡ Some n → WalksTo m aslant start goal n
+    comes n None none is = absurd (no_none is) where
+      no_none : None ≡ Some n → ⊥
+      no_none h = cc
+    comes n (Some b) some is = subst (WalksTo m aslant start goal) (same_Some b n is) (e.reached goal b goal_on some.0 some.1)
 
-    pub is_least : HasAtMost places start 0 → (o : Option ℕ) → o ≡ found → IsLeastSteps m start goal o
-    is_least begins None is = λ cells k walk. subst (λ o. IsNoFewer o k) (sym is) (all begins cells k walk)
-    is_least begins (Some n) is =
-        let some = subst (IsAnswer places goal) (sym is) answer in
-        let way = e.reached some.0 some.1 some.2 in
-        record {
-          walk = way.0;
-          is_walk = subst (λ k. IsWalk m start goal way.0 k 0) some.4 (subst (λ c. IsWalk m start c way.0 some.1.steps 0) some.3 way.1);
-          least = λ cells k other. subst (λ o. IsNoFewer o k) (sym is) (all begins cells k other);
-        }
+    pub is_least : IsOn m start → HasAtMost m numbers start 6625109 → IsLeastNumber m aslant start goal found
+    is_least on begins = (
+      λ n is. comes n found answer is,
+      λ cells k way. more found (6625109 + k) (k + 6625109) (omega arith) (leads start 6625109 on begins cells k way),
+    )

@@ -1,39 +1,44 @@
--- What a search keeps when a place is replaced, or one is added.
-use Rattle.std.proofs.Common.{◌≡◌, ◌≢◌, ◌∙◌, ℕ, ◌+◌, ◌/◌, ◌%◌, ◌<◌, ◌≤◌, true, false, List, [], ◌∷◌, ◌++◌, length, Some, inl, inr, arith, refl, sym, ap, ap₂, subst}
-use Rattle.std.specs.Prelude.{slice_get, slice_index_or, slice_set}
-use Rattle.std.proofs.lemmas.Bool.{true≢false}
+-- What a search keeps when a cell is reached, or closed.
+use Rattle.std.proofs.Common.{◌≡◌, ◌∙◌, ℕ, ◌+◌, ◌/◌, ◌%◌, ◌<◌, ◌≤◌, Bool, true, false, List, [], ◌∷◌, ◌++◌, length, Some, inl, inr, arith, refl, sym, ap, ap₂, subst}
+use Rattle.std.specs.Prelude.{slice_get, slice_set}
+use Rattle.std.proofs.lemmas.Bool.{cases_order, true≢false}
 use Rattle.std.proofs.lemmas.List.{length-set}
 use Rattle.std.proofs.lemmas.Nat.{div-mul-add, mod-mul-add}
-use Rattle.std.proofs.lemmas.Option.{get_or_from_slice_get, same_Some, slice_get_within}
+use Rattle.std.proofs.lemmas.Option.{same_Some, slice_get_within}
 use Rattle.grid.specs.declared.cell.Cell.{Cell}
 use Rattle.grid.specs.Map.{Grid}
 use Rattle.scen.specs.Walk.{IsOn}
-use Rattle.least_steps.specs.declared.place.Place.{Place}
-use Rattle.least_steps.specs.Code.Places.{WalksTo, HasAtMost, IsAbsent, IsIndexed, IsLeft, number_in}
+use Rattle.least_steps.specs.Code.Reaching.{AreOnMap, AreZero, Covers, HasAtMost, IsLeft, WalksTo, number_in}
 use Rattle.least_steps.specs.Code.Exploring.{Advances, Exploration, IsExploration}
-use Rattle.least_steps.specs.Laws.StraightWalks.{end-on, number-inside, on_map}
-use Rattle.least_steps.proofs.PlaceLemmas.{falls-added, falls-set, get-added, get-set, get-set_other, get-set_same}
+use Rattle.least_steps.specs.Laws.Ways.{number-inside, on_map}
+use Rattle.least_steps.proofs.ListLemmas.{differs, get-added, get-set, get-set_other, get-set_same}
 
 -- ---- one search, as it goes on
 
 pub stays : (e : Exploration) → Advances e e
-stays e = record { map = refl; start = refl; falls = λ c n h. h }
+stays e = record { map = refl; aslant = refl; start = refl; falls = λ c n h. h }
 
 pub advances-on : (a b c : Exploration) → Advances a b → Advances b c → Advances a c
 advances-on a b c first second = record {
   map = second.map ∙ first.map;
+  aslant = second.aslant ∙ first.aslant;
   start = second.start ∙ first.start;
   falls = λ cell n h. second.falls cell n (first.falls cell n h);
 }
 
-pub comes-still : (a b : Exploration) (c : Cell) (n : ℕ) → Advances a b → WalksTo a.map a.start c n → WalksTo b.map b.start c n
+-- by four at once
+pub through : (a b c d e : Exploration) → Advances a b → Advances b c → Advances c d → Advances d e → Advances a e
+through a b c d e first second third fourth = advances-on a d e (advances-on a c d (advances-on a b c first second) third) fourth
+
+pub comes-still : (a b : Exploration) (c : Cell) (n : ℕ) → Advances a b → WalksTo a.map a.aslant a.start c n → WalksTo b.map b.aslant b.start c n
 comes-still a b c n on comes =
-    subst (λ m. WalksTo m b.start c n) (sym on.map) (subst (λ s. WalksTo a.map s c n) (sym on.start) comes)
+    subst (λ m. WalksTo m b.aslant b.start c n) (sym on.map)
+    (subst (λ k. WalksTo a.map k b.start c n) (sym on.aslant) (subst (λ s. WalksTo a.map a.aslant s c n) (sym on.start) comes))
 
 -- ---- the numbers of cells
 
 -- two cells of a map don't have one number
-one_number : (m : Grid) (u v : Cell) → IsOn m u → IsOn m v → number_in m u ≡ number_in m v → u ≡ v
+pub one_number : (m : Grid) (u v : Cell) → IsOn m u → IsOn m v → number_in m u ≡ number_in m v → u ≡ v
 one_number m u v u_on v_on same =
     let first = on_map m u u_on in
     let second = on_map m v v_on in
@@ -41,108 +46,142 @@ one_number m u v u_on v_on same =
     (sym (mod-mul-add u.y m.width u.x first.0) ∙ ap (λ n. n % m.width) same ∙ mod-mul-add v.y m.width v.x second.0)
     (sym (div-mul-add u.y m.width u.x first.0) ∙ ap (λ n. n / m.width) same ∙ div-mul-add v.y m.width v.x second.0)
 
--- the number of a cell's place, if it has one
-numbered : (m : Grid) (numbers : List ℕ) (places : List Place) (c : Cell) (i : ℕ) (p : Place) → IsIndexed m numbers places → slice_get places i ≡ Some p
-    → p.cell ≡ c → slice_get numbers (number_in m c) ≡ Some i
-numbered m numbers places c i p indexed is same = subst (λ k. slice_get numbers (number_in m k) ≡ Some i) same (indexed i p is)
+-- a cell that is reached is known
+pub known : (m : Grid) (numbers : List ℕ) (touched : List Cell) (c : Cell) (e : ℕ) → AreOnMap m touched → Covers m numbers touched → IsOn m c
+    → slice_get numbers (number_in m c) ≡ Some e → 0 < e → (j : ℕ) × (slice_get touched j ≡ Some c)
+known m numbers touched c e touched_on covered on is some =
+    let there = covered (number_in m c) e is some in
+    let same = one_number m there.1 c (touched_on there.0 there.1 there.3) on there.4 in
+    (there.0, there.3 ∙ ap Some same)
 
-pub one_place : (m : Grid) (numbers : List ℕ) (places : List Place) (c : Cell) (i j : ℕ) (p q : Place) → IsIndexed m numbers places
-    → slice_get places i ≡ Some p → slice_get places j ≡ Some q → p.cell ≡ c → q.cell ≡ c → p ≡ q
-one_place m numbers places c i j p q indexed is_p is_q p_cell q_cell =
-    let same = same_Some i j (sym (numbered m numbers places c i p indexed is_p p_cell) ∙ numbered m numbers places c j q indexed is_q q_cell) in
-    same_Some p q (sym is_p ∙ ap (slice_get places) same ∙ is_q)
+-- ---- a number falls
 
-pub no_place : (m : Grid) (numbers : List ℕ) (places : List Place) (c : Cell) → IsIndexed m numbers places
-    → length places ≤ slice_index_or numbers (number_in m c) 0 → IsAbsent places c
-no_place m numbers places c indexed far i p is same =
-    let there = get_or_from_slice_get numbers (number_in m c) i 0 (numbered m numbers places c i p indexed is same) in
-    let within = slice_get_within places i p is in
-    absurd (omega (arith, far, there, within))
+falls-set : (m : Grid) (numbers : List ℕ) (i n e : ℕ) → slice_get numbers i ≡ Some e → 0 < n → (0 < e → n ≤ e) → (c : Cell) (k : ℕ)
+    → HasAtMost m numbers c k → HasAtMost m (slice_set numbers i n) c k
+falls-set m numbers i n e is some less c k h =
+    let within = slice_get_within numbers i e is in
+    elim (cases_order (number_in m c) i) [
+      | inl same ↦
+          let own : e ≡ h.number = same_Some e h.number (sym is ∙ ap (slice_get numbers) (sym same) ∙ h.is_number) in
+          let positive = h.some in
+          let fewer = less (omega (arith, own, positive)) in
+          let most = h.most in
+          record {
+            number = n;
+            is_number = ap (slice_get (slice_set numbers i n)) same ∙ get-set_same numbers i n within;
+            some = some;
+            most = omega (arith, most, own, fewer);
+          }
+      | inr other ↦ record {
+        number = h.number;
+        is_number = get-set_other numbers i (number_in m c) n (differs (number_in m c) i other) ∙ h.is_number;
+        some = h.some;
+        most = h.most;
+      }
+    ]
 
-pub other_place : (m : Grid) (numbers : List ℕ) (places : List Place) (c : Cell) (other : Place) → IsIndexed m numbers places
-    → slice_get places (slice_index_or numbers (number_in m c) 0) ≡ Some other → other.cell ≢ c → IsAbsent places c
-other_place m numbers places c other indexed is_other differs i p is same =
-    let there = get_or_from_slice_get numbers (number_in m c) i 0 (numbered m numbers places c i p indexed is same) in
-    let one = same_Some p other (sym is ∙ ap (slice_get places) (sym there) ∙ is_other) in
-    differs (ap (λ (r : Place). r.cell) (sym one) ∙ same)
+pub has-set : (m : Grid) (numbers : List ℕ) (c : Cell) (n k : ℕ) → number_in m c < length numbers → 0 < n → n ≤ k
+    → HasAtMost m (slice_set numbers (number_in m c) n) c k
+has-set m numbers c n k within some most =
+    record { number = n; is_number = get-set_same numbers (number_in m c) n within; some = some; most = most }
 
--- ---- a place is replaced
+left-on : (m : Grid) (aslant : Bool) (old new : List ℕ) (c : Cell) (n : ℕ) → ((v : Cell) (k : ℕ) → HasAtMost m old v k → HasAtMost m new v k)
+    → IsLeft m aslant old c n → IsLeft m aslant new c n
+left-on m aslant old new c n falls left = λ v step move. falls v (n + step) (left v step move)
 
-left-on : (m : Grid) (old new : List Place) (c : Cell) (n : ℕ) → ((v : Cell) (k : ℕ) → HasAtMost old v k → HasAtMost new v k) → IsLeft m old c n → IsLeft m new c n
-left-on m old new c n falls left = λ v step. falls v (n + 1) (left v step)
+-- a walk of this number leads to the cell, which had none, or a greater one
+module _
+    (m : Grid) (aslant : Bool) (start : Cell) (numbers : List ℕ) (closed : List Bool) (touched : List Cell)
+    (e : IsExploration m aslant start numbers closed touched)
+    (c : Cell) (n old : ℕ) (on : IsOn m c) (comes : WalksTo m aslant start c n) (some : 0 < n)
+    (was : slice_get numbers (number_in m c) ≡ Some old) (less : 0 < old → n ≤ old)
+    (touched_now : List Cell) (touched_on : AreOnMap m touched_now)
+    (stay : (j : ℕ) (d : Cell) → slice_get touched j ≡ Some d → slice_get touched_now j ≡ Some d)
+    (is_touched : (j : ℕ) × (slice_get touched_now j ≡ Some c))
+  where
+    within : number_in m c < length numbers
+    within = slice_get_within numbers (number_in m c) old was
 
--- by one with no more steps, to which a walk leads
-pub explored-set : (m : Grid) (start : Cell) (numbers : List ℕ) (places : List Place) (i : ℕ) (p q : Place) → IsExploration m start numbers places
-    → slice_get places i ≡ Some p → q.cell ≡ p.cell → q.steps ≤ p.steps → WalksTo m start q.cell q.steps
-    → (q.is_closed ≡ true → IsLeft m places q.cell q.steps) → IsExploration m start numbers (slice_set places i q)
-explored-set m start numbers places i p q e is same_cell fewer comes left =
-    let within = slice_get_within places i p is in
-    let new = slice_set places i q in
-    let falls = falls-set places i p q is same_cell fewer in
-    record {
+    falls : (v : Cell) (k : ℕ) → HasAtMost m numbers v k → HasAtMost m (slice_set numbers (number_in m c) n) v k
+    falls = falls-set m numbers (number_in m c) n old was some less
+
+    pub explored : IsExploration m aslant start (slice_set numbers (number_in m c) n) (slice_set closed (number_in m c) false) touched_now
+    explored = record {
       is_map = e.is_map;
-      cells = e.cells;
-      indexed = λ j r there. elim (get-set places i j q r within there) [
-        | inl own ↦
-            let cell : q.cell ≡ r.cell = ap (λ (k : Place). k.cell) own.1 in
-            subst (λ k. slice_get numbers (number_in m r.cell) ≡ Some k) (sym own.0)
-            (numbered m numbers places r.cell i p e.indexed is (sym same_cell ∙ cell))
-        | inr old ↦ e.indexed j r old
+      cells = length-set numbers (number_in m c) n ∙ e.cells;
+      flags = length-set closed (number_in m c) false ∙ e.flags;
+      on_map = touched_on;
+      covered = λ i k is positive. elim (get-set numbers (number_in m c) i n k within is) [
+        | inl own ↦ (is_touched.0, c, omega arith, is_touched.1, sym own.0)
+        | inr before ↦ (let there = e.covered i k before positive in (there.0, there.1, there.2, stay there.0 there.1 there.3, there.4))
       ];
-      reached = λ j r there. elim (get-set places i j q r within there) [
-        | inl own ↦ subst (λ (k : Place). WalksTo m start k.cell k.steps) own.1 comes
-        | inr old ↦ e.reached j r old
-      ];
-      left = λ j r there closed. elim (get-set places i j q r within there) [
+      reached = λ d k d_on is positive. elim (get-set numbers (number_in m c) (number_in m d) n k within is) [
         | inl own ↦
-            let own_left = left (ap (λ (k : Place). k.is_closed) own.1 ∙ closed) in
-            subst (λ (k : Place). IsLeft m new k.cell k.steps) own.1 (left-on m places new q.cell q.steps falls own_left)
-        | inr old ↦ left-on m places new r.cell r.steps falls (e.left j r old closed)
+            let same = one_number m c d on d_on (sym own.0) in
+            subst (λ v. WalksTo m aslant start v k) same (subst (λ l. WalksTo m aslant start c l) own.1 comes)
+        | inr before ↦ e.reached d k d_on before positive
+      ];
+      left = λ d k d_on is positive is_closed. elim (cases_order (number_in m d) (number_in m c)) [
+        | inl same ↦
+            let there : slice_get (slice_set closed (number_in m c) false) (number_in m c) ≡ Some false =
+            get-set_same closed (number_in m c) false (subst (λ l. number_in m c < l) (sym e.flags) (number-inside m c on)) in
+            absurd (true≢false (same_Some true false (sym is_closed ∙ ap (slice_get (slice_set closed (number_in m c) false)) same ∙ there)))
+        | inr other ↦
+            let apart = differs (number_in m d) (number_in m c) other in
+            left-on m aslant numbers (slice_set numbers (number_in m c) n) d k falls
+            (e.left d k d_on (sym (get-set_other numbers (number_in m c) (number_in m d) n apart) ∙ is) positive
+            (sym (get-set_other closed (number_in m c) (number_in m d) false apart) ∙ is_closed))
       ];
     }
 
--- ---- one is added
+pub falls-at : (m : Grid) (aslant : Bool) (start : Cell) (numbers : List ℕ) (i n e : ℕ) → slice_get numbers i ≡ Some e → 0 < n → (0 < e → n ≤ e)
+    → Advances (record { map = m; aslant = aslant; start = start; numbers = numbers })
+    (record { map = m; aslant = aslant; start = start; numbers = slice_set numbers i n })
+falls-at m aslant start numbers i n e is some less = record { map = refl; aslant = refl; start = refl; falls = falls-set m numbers i n e is some less }
 
-indexed-added : (m : Grid) (start : Cell) (numbers : List ℕ) (places : List Place) (q : Place) → IsExploration m start numbers places
-    → IsAbsent places q.cell → IsOn m q.cell → IsIndexed m (slice_set numbers (number_in m q.cell) (length places)) (places ++ q ∷ [])
-indexed-added m start numbers places q e absent on i p is =
-    let inside : number_in m q.cell < length numbers = subst (λ k. number_in m q.cell < k) (sym e.cells) (number-inside m q.cell on) in
-    elim (get-added places q i p is) [
-      | inl own ↦
-          subst (λ (k : Place). slice_get (slice_set numbers (number_in m q.cell) (length places)) (number_in m k.cell) ≡ Some i) own.1
-          (get-set_same numbers (number_in m q.cell) (length places) inside ∙ ap Some (sym own.0))
-      | inr old ↦
-          let p_on = end-on m start p.cell p.steps (e.reached i p old) in
-          get-set_other numbers (number_in m q.cell) (number_in m p.cell) (length places)
-          (λ same. absent i p old (one_number m p.cell q.cell p_on on same))
-          ∙ e.indexed i p old
-    ]
+pub has-at : (m : Grid) (numbers : List ℕ) (c : Cell) (i n e : ℕ) → i ≡ number_in m c → slice_get numbers i ≡ Some e → 0 < n
+    → HasAtMost m (slice_set numbers i n) c n
+has-at m numbers c i n e at is some =
+    subst (λ k. HasAtMost m (slice_set numbers k n) c n) (sym at)
+    (has-set m numbers c n n (subst (λ k. k < length numbers) at (slice_get_within numbers i e is)) some (omega arith))
 
--- an open one, to which a walk leads
-pub explored-added : (m : Grid) (start : Cell) (numbers : List ℕ) (places new : List Place) (q : Place) (at number : ℕ) → IsExploration m start numbers places
-    → IsAbsent places q.cell → q.is_closed ≡ false → WalksTo m start q.cell q.steps → at ≡ number_in m q.cell → length places ≡ number
-    → new ≡ places ++ q ∷ [] → IsExploration m start (slice_set numbers at number) new
-explored-added m start numbers places new q at number e absent is_open comes is_at is_number is_new =
-    subst (IsExploration m start (slice_set numbers at number)) (sym is_new) (subst (λ k. IsExploration m start (slice_set numbers at k) (places ++ q ∷ [])) is_number
-    (subst (λ k. IsExploration m start (slice_set numbers k (length places)) (places ++ q ∷ [])) (sym is_at) (record {
-      is_map = e.is_map;
-      cells = length-set numbers (number_in m q.cell) (length places) ∙ e.cells;
-      indexed = indexed-added m start numbers places q e absent (end-on m start q.cell q.steps comes);
-      reached = λ i p is. elim (get-added places q i p is) [
-        | inl own ↦ subst (λ (k : Place). WalksTo m start k.cell k.steps) own.1 comes
-        | inr old ↦ e.reached i p old
-      ];
-      left = λ i p is closed. elim (get-added places q i p is) [
-        | inl own ↦ absurd (true≢false (sym closed ∙ ap (λ (k : Place). k.is_closed) (sym own.1) ∙ is_open))
-        | inr old ↦ left-on m places (places ++ q ∷ []) p.cell p.steps (falls-added places q) (e.left i p old closed)
-      ];
-    })))
+-- ---- a cell is touched
 
-pub added-on : (m : Grid) (start : Cell) (places new : List Place) (q : Place) → new ≡ places ++ q ∷ []
-    → Advances (record { map = m; start = start; places = places }) (record { map = m; start = start; places = new })
-added-on m start places new q is_new =
-    record { map = refl; start = refl; falls = λ c n h. subst (λ k. HasAtMost k c n) (sym is_new) (falls-added places q c n h) }
+pub touched-on : (m : Grid) (touched : List Cell) (c : Cell) → AreOnMap m touched → IsOn m c → AreOnMap m (touched ++ c ∷ [])
+touched-on m touched c all on j d is = elim (get-added touched c j d is) [ inl own ↦ subst (IsOn m) own.1 on | inr before ↦ all j d before ]
 
-pub set-on : (m : Grid) (start : Cell) (places : List Place) (i : ℕ) (p q : Place) → slice_get places i ≡ Some p → q.cell ≡ p.cell → q.steps ≤ p.steps
-    → Advances (record { map = m; start = start; places = places }) (record { map = m; start = start; places = slice_set places i q })
-set-on m start places i p q is same_cell fewer = record { map = refl; start = refl; falls = falls-set places i p q is same_cell fewer }
+-- ---- a cell is closed
+
+pub explored-closed : (m : Grid) (aslant : Bool) (start : Cell) (numbers : List ℕ) (closed : List Bool) (touched : List Cell)
+    → IsExploration m aslant start numbers closed touched → (c : Cell) (n : ℕ) → IsOn m c → slice_get numbers (number_in m c) ≡ Some n
+    → IsLeft m aslant numbers c n → IsExploration m aslant start numbers (slice_set closed (number_in m c) true) touched
+explored-closed m aslant start numbers closed touched e c n on is left = record {
+  is_map = e.is_map;
+  cells = e.cells;
+  flags = length-set closed (number_in m c) true ∙ e.flags;
+  on_map = e.on_map;
+  covered = e.covered;
+  reached = e.reached;
+  left = λ d k d_on is_k positive is_closed. elim (cases_order (number_in m d) (number_in m c)) [
+    | inl same ↦
+        let cell = one_number m c d on d_on (sym same) in
+        let number : n ≡ k = same_Some n k (sym is ∙ ap (slice_get numbers) (sym same) ∙ is_k) in
+        subst (λ v. IsLeft m aslant numbers v k) cell (subst (λ l. IsLeft m aslant numbers c l) number left)
+    | inr other ↦
+        e.left d k d_on is_k positive (sym (get-set_other closed (number_in m c) (number_in m d) true (differs (number_in m d) (number_in m c) other)) ∙ is_closed)
+  ];
+}
+
+-- ---- all is forgotten
+
+pub explored-nothing : (m : Grid) (aslant other : Bool) (start before : Cell) (numbers new : List ℕ) (closed : List Bool) (touched : List Cell)
+    → IsExploration m other before numbers closed touched → length new ≡ length numbers → AreZero new → IsExploration m aslant start new closed []
+explored-nothing m aslant other start before numbers new closed touched e same zero = record {
+  is_map = e.is_map;
+  cells = same ∙ e.cells;
+  flags = e.flags;
+  on_map = λ j c is. let none = slice_get_within [] j c is in absurd (omega (arith, none));
+  covered = λ i k is positive. let none = zero i k is in absurd (omega (arith, none, positive));
+  reached = λ c k on is positive. let none = zero (number_in m c) k is in absurd (omega (arith, none, positive));
+  left = λ c k on is positive is_closed. let none = zero (number_in m c) k is in absurd (omega (arith, none, positive));
+}

@@ -4,7 +4,7 @@
 pub mod Joining
 -- what a walk takes at least
 pub mod Estimate
--- the cells that a search has reached
-pub mod Places
+-- walks by their numbers, and the cells that a search has reached
+pub mod Reaching
 -- and what it keeps while it goes on
 pub mod Exploring

@@ -1,3 +1,3 @@
 -- What follows from the definitions.
--- walks of straight steps alone, and what they take at least
-pub mod StraightWalks
+-- walks by their numbers, step by step, and what they take at least
+pub mod Ways

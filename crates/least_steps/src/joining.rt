@@ -1,11 +1,21 @@
-//! Legal straight steps, by the characters of a map.
-ghost use Rattle.std.specs.Prelude.{◌≡◌, ◌↔◌, IsTrue};
+//! Legal steps, by the characters of a map.
+ghost use Rattle.std.specs.Prelude.{◌≡◌, ◌*◌, ◌<◌, ◌↔◌, IsTrue};
 ghost use Rattle.grid.specs.Map.{AreJoined, IsStraightStep, ShareSide, terrain_at};
 ghost use Rattle.scen.specs.Walk.{IsOn};
 ghost use Rattle.least_steps.specs.Code.Joining.{are_alike, is_ground_character};
+ghost use Rattle.least_steps.specs.Code.Reaching.{number_in};
 
-use crate::place::number_of;
 use grid::{Cell, Map};
+
+/// The number of a cell, row by row.
+#[inline(always)]
+pub(crate) fn number_of(map: &Map, cell: Cell) -> usize
+    requires { (cell.x < map.now.width) × (cell.y < map.now.height) }
+    ensures number { result ≡ number_in map.now cell }
+    ensures within { result < map.now.width * map.now.height }
+{
+    usize::from(cell.y) * map.width() as usize + usize::from(cell.x)
+}
 
 /// Whether a legal straight step leads from the one cell to the other. `step4` says the same, and
 /// makes a terrain of each character first, which takes a third of the time of a search.
@@ -24,8 +34,9 @@ fn share_side(from: Cell, to: Cell) -> bool
     (from.x == to.x && from.y.abs_diff(to.y) == 1) || (from.y == to.y && from.x.abs_diff(to.x) == 1)
 }
 
+/// Whether a step may lead from the terrain of the one cell to that of the other.
 #[inline(always)]
-fn are_joined(map: &Map, from: Cell, to: Cell) -> bool
+pub(crate) fn are_joined(map: &Map, from: Cell, to: Cell) -> bool
     requires { IsOn map.now from }
     ensures { IsTrue result ↔ AreJoined (terrain_at map.now from) (terrain_at map.now to) }
 {

@@ -1,11 +1,12 @@
-//! The least number of straight steps between two cells of a map, proved to be the least by what
+//! The least walks between two cells of a map, of straight steps alone or with diagonal ones, proved to be the least by what
 //! the search itself leaves.
 #![tactic(auto)]
 
+mod distance;
 mod expand;
 mod joining;
 mod open_list;
-mod place;
+mod parts;
 mod reached;
 mod step_fault;
 mod step_search;

@@ -1,14 +1,18 @@
 //! The search, toward the goal first.
-ghost use Rattle.std.specs.Prelude.{◌≡◌, IfOk};
+ghost use Rattle.std.specs.Prelude.{◌≡◌, ◌↔◌, IfOk, IsTrue};
+ghost use Rattle.scen.specs.Certificate.{AreOn, IsLeast};
+ghost use Rattle.scen.specs.Walk.{IsOn};
 ghost use Rattle.least_steps.specs.LeastSteps.{IsLeastSteps};
 ghost use Rattle.least_steps.specs.Code.Exploring.{Advances};
+ghost use Rattle.least_steps.specs.Code.Reaching.{IsLeastNumber};
 
 use crate::expand::expand;
-use crate::open_list::OpenList;
-use crate::place::are_on;
+use crate::open_list::{Open, OpenList};
+use crate::parts::{length_of, steps_of};
 use crate::reached::Reached;
 use crate::step_fault::StepFault;
 use grid::{Cell, Map};
+use scen::{Length, STRAIGHT};
 use std::alloc::{AllocError, Global};
 use std::marker::Model;
 
@@ -38,7 +42,7 @@ impl StepSearch<'_> {
     {
         Ok(StepSearch {
             reached: Reached::new(alloc, map)?,
-            open: OpenList::new(alloc),
+            open: OpenList::new(alloc)?,
         })
     }
 
@@ -48,38 +52,78 @@ impl StepSearch<'_> {
         ensures map { self.new ≡ self.old }
         ensures answer { IfOk result (IsLeastSteps self.old start goal) }
     {
+        match self.search(start, goal, false)? {
+            Some(number) => Ok(Some(steps_of(number)?)),
+            None => Ok(None),
+        }
+    }
+
+    /// The shortest length of a walk of straight and diagonal steps from one cell to another; `None` where none leads there, and off the map.
+    pub fn shortest(&mut self, start: Cell, goal: Cell) -> Result<Option<Length>, StepFault>
+        ensures map { self.new ≡ self.old }
+        ensures answer { IfOk result (IsLeast self.old start goal) }
+    {
+        match self.search(start, goal, true)? {
+            Some(number) => Ok(Some(length_of(number)?)),
+            None => Ok(None),
+        }
+    }
+
+    /// The least number of a walk, with diagonal steps or without.
+    fn search(&mut self, start: Cell, goal: Cell, aslant: bool) -> Result<Option<u64>, StepFault>
+        ensures map { self.new ≡ self.old }
+        ensures answer { IfOk result (IsLeastNumber self.old aslant start goal) }
+    {
         if !are_on(self.reached.map(), start, goal) {
             return Ok(None);
         }
-        self.open.clear();
-        let first = self.reached.begin(start)?;
-        self.open.push(first, true)?;
+        self.reached.begin(start, aslant)?;
+        let place = Open {
+            number: STRAIGHT,
+            cell: start,
+        };
+        self.open.begin(place, goal, aslant)?;
         approach(&mut self.reached, &mut self.open, goal)?;
         self.reached.answer(goal)
     }
 }
 
-/// Goes on until the goal is reached in the least steps, or all is.
+/// Whether both cells are on the map.
+fn are_on(map: &Map, start: Cell, goal: Cell) -> bool
+    ensures { IsTrue result ↔ AreOn map.now start goal }
+{
+    map.terrain(start).is_some() && map.terrain(goal).is_some()
+}
+
+/// Goes on until the goal is reached by the least number, or all is.
 #[inline(never)]
 fn approach(reached: &mut Reached, open: &mut OpenList, goal: Cell) -> Result<(), StepFault>
+    requires { IsOn reached.old.map goal }
     ensures { Advances reached.old reached.new }
 {
     for _ in 0..MOST_TURNS {
-        let Some(number) = open.pop() else {
-            if !open.advance() {
-                return Ok(());
+        let found = reached.number(goal);
+        match open.pop() {
+            Some(place) => {
+                if may_improve(open, place, found) && reached.is_open(place) {
+                    expand(reached, open, place)?;
+                }
             }
-            continue;
-        };
-        let Some(place) = reached.place(number) else {
-            return Ok(());
-        };
-        if place.cell == goal {
-            return Ok(());
-        }
-        if !place.is_closed {
-            expand(reached, open, number, place, goal)?;
+            None => {
+                if !open.advance(found) {
+                    return Ok(());
+                }
+            }
         }
     }
     Ok(())
+}
+
+/// Whether a walk through the place may have a lesser number than was found.
+#[inline(always)]
+fn may_improve(open: &OpenList, place: Open, found: Option<u64>) -> bool {
+    match found {
+        Some(number) => open.least_through(place) < number,
+        None => true,
+    }
 }

@@ -20,7 +20,8 @@ use Rattle.scen.specs.declared.length_table.Entries.{Entries}
 use Rattle.scen.specs.Code.KeyParts.{number_of_entry}
 use Rattle.scen.specs.Code.Distances.{beyond_number}
 use Rattle.scen.specs.Code.TableEntries.{entry_number, number_on, IsBeyond}
-use Rattle.scen.proofs.DistanceLemmas.{AreBeside, beyond_near}
+use Rattle.scen.specs.Laws.OctileSteps.{AreBeside}
+use Rattle.scen.proofs.DistanceLemmas.{beyond_near}
 use Rattle.scen.proofs.KeyLemmas.{BoundEachOther, within_from, from_within}
 
 -- ---- what holds of each number below another

@@ -15,7 +15,8 @@ use Rattle.scen.specs.Code.TileKeys.{number_by, number_at, key_at, length_from}
 use Rattle.scen.specs.Code.Tightness.{AreWithinStep}
 use Rattle.scen.proofs.KeyNumbers.{number_back}
 use Rattle.scen.proofs.RoundingLemmas.{rounded_most, rounded_key, key_rounded, rounded_step}
-use Rattle.scen.proofs.DistanceLemmas.{AreBeside, beyond_near}
+use Rattle.scen.specs.Laws.OctileSteps.{AreBeside}
+use Rattle.scen.proofs.DistanceLemmas.{beyond_near}
 
 -- ---- the number of the entry of a number
 

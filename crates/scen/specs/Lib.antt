@@ -10,3 +10,5 @@ pub mod Search
 pub mod FaultWords
 -- The code's own words, of which no promise speaks.
 pub mod Code
+-- What follows from these definitions, each with its proof: proofs of other crates cite it, and nothing of it has to be believed.
+pub mod Laws

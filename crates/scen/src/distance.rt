@@ -11,7 +11,7 @@ const SLANT: u64 = DIAGONAL - STRAIGHT;
 
 /// The number of the octile distance between two cells, to which nothing is added for the start.
 #[inline(always)]
-pub(crate) fn distance(goal: Cell, x: u64, y: u64) -> u64
+pub fn octile_distance(goal: Cell, x: u64, y: u64) -> u64
     requires column { x < 2 ^ 17 }
     requires row { y < 2 ^ 17 }
     ensures value { result ≡ distance goal x y }
@@ -37,7 +37,7 @@ pub(crate) fn number_beyond(beyond: Option<Beyond>, x: usize, y: usize) -> u64
         None => beyond.number,
         Some(goal) => beyond
             .number
-            .saturating_sub(distance(goal, x as u64, y as u64))
+            .saturating_sub(octile_distance(goal, x as u64, y as u64))
             .max(STRAIGHT),
     }
 }

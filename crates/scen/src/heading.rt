@@ -1,5 +1,5 @@
 //! The cells that a search toward its goal goes on from, in buckets of the least lengths of walks through them.
-use crate::distance::distance;
+use crate::distance::octile_distance;
 use crate::front::Front;
 use crate::keys::Key;
 use crate::room::put_last;
@@ -94,7 +94,7 @@ impl Front for Heading {
 /// The number of the least length that a walk through a cell of this key can have.
 #[inline(always)]
 pub(crate) fn least_through(cell: Cell, key: Key, goal: Cell) -> u64 {
-    key.number_after(distance(goal, u64::from(cell.x), u64::from(cell.y)))
+    key.number_after(octile_distance(goal, u64::from(cell.x), u64::from(cell.y)))
 }
 
 #[inline(always)]

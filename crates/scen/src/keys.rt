@@ -4,11 +4,11 @@ ghost use Rattle.scen.specs.Code.KeyParts.{IsKey, number_of_entry, number_within
 
 use rows::Length;
 
-/// A straight step. `DIAGONAL / STRAIGHT` is so near to the root of two that the keys of lengths compare as the lengths do.
-pub(crate) const STRAIGHT: u64 = 6_625_109;
+/// The number of a straight step. `DIAGONAL / STRAIGHT` is so near to the root of two that the numbers of lengths compare as the lengths do.
+pub const STRAIGHT: u64 = 6_625_109;
 
-/// A diagonal step.
-pub(crate) const DIAGONAL: u64 = 9_369_319;
+/// The number of a diagonal step.
+pub const DIAGONAL: u64 = 9_369_319;
 
 /// Times `DIAGONAL` this is 1 above a multiple of `STRAIGHT`, so it reads the diagonal steps back from a key.
 const DIAGONAL_INVERSE: u64 = 3_880_899;

@@ -22,7 +22,10 @@ mod walk_search;
 mod wave;
 
 pub use certificate::{CertFault, Proposal, certify};
+pub use distance::octile_distance;
+pub use keys::{DIAGONAL, STRAIGHT};
 pub use length_table::LengthTable;
+pub use room::put_last;
 pub use rows::{
     Length, Listed, Row, ScenFault, Scenario, agrees, laws, put_listed, read_scen, write_scen,
 };

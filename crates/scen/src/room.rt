@@ -5,7 +5,7 @@ use std::alloc::AllocError;
 
 /// Puts an item behind the others. A search does so for each cell that it reaches, and `push` is too large to be compiled in place.
 #[inline(always)]
-pub(crate) fn put_last<T: Copy>(items: &mut Vec<T>, item: T) -> Result<(), AllocError> {
+pub fn put_last<T: Copy>(items: &mut Vec<T>, item: T) -> Result<(), AllocError> {
     if items.len() >= items.capacity() {
         make_room(items)?;
     }

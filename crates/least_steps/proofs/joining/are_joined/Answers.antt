@@ -2,7 +2,7 @@
 use Rattle.std.proofs.Common.{◌≡◌, ◌∙◌, ◌<◌, IsTrue, ap, arith, get_or, subst, sym}
 use Rattle.grid.specs.Map.{AreJoined, terrain_at}
 use Rattle.least_steps.specs.Code.Joining.{are_alike}
-use Rattle.least_steps.specs.Laws.StraightWalks.{on_map}
+use Rattle.least_steps.specs.Laws.Ways.{on_map}
 use Rattle.least_steps.proofs.JoiningLemmas.{joined-characters}
 use Rattle.least_steps.proofs.joining.are_joined.Goals as goal
 

@@ -1,31 +1,25 @@
--- The place is closed, and nothing else of it changes.
-use Rattle.std.proofs.Common.{true, arith, subst, sym}
-use Rattle.std.specs.Prelude.{slice_set}
-use Rattle.least_steps.specs.declared.place.Place.{Place}
-use Rattle.least_steps.specs.Code.Exploring.{Advances, Exploration}
-use Rattle.least_steps.specs.Code.Places.{WalksTo, IsLeft}
-use Rattle.least_steps.proofs.PlaceLemmas.{read, same_cell}
-use Rattle.least_steps.proofs.ExplorationLemmas.{explored-set, set-on}
+-- The cell is closed, and no number changes.
+use Rattle.std.proofs.Common.{◌≡◌, ◌∙◌, ◌<◌, length, Some, subst, sym, ap}
+use Rattle.std.specs.Prelude.{slice_get, slice_index_or, slice_set, true}
+use Rattle.scen.specs.Walk.{IsOn}
+use Rattle.least_steps.specs.Code.Exploring.{Exploration, IsExploration}
+use Rattle.least_steps.specs.Code.Reaching.{IsLeft, number_in}
+use Rattle.least_steps.specs.Laws.Ways.{number-inside}
+use Rattle.least_steps.proofs.ExplorationLemmas.{explored-closed}
+use Rattle.least_steps.proofs.ListLemmas.{read}
 use Rattle.least_steps.proofs.reached.Reached.close.Goals as goal
 
 pub invariant_of-self : goal.invariant_of-self
 invariant_of-self c =
     let r = c.self.inside in
-    let p : Place = c.index.result.now in
-    let is = read r.places.items c.args.number p (search (arith, c.if-at-len.false, c.len.ensures)) c.index.ensures in
-    let cell = sym (same_cell p.cell c.args.cell c.if-ne.ensures) in
-    let steps = c.if-place-steps.false in
-    let comes = subst (WalksTo r.map.now r.start c.args.cell) steps (subst (λ k. WalksTo r.map.now r.start k p.steps) (sym cell) (c.self.invariant.reached c.args.number p is)) in
-    let left = subst (λ (e : Exploration). IsLeft e.map e.places c.args.cell c.args.steps) (sym c.self.view_is) c.requires in
-    explored-set r.map.now r.start r.numbers.items r.places.items c.args.number p (record { cell = c.args.cell; steps = c.args.steps; is_closed = true })
-    c.self.invariant is cell (omega (arith, steps)) comes (λ _. left)
-
-pub returns : goal.returns
-returns c =
-    let r = c.self.inside in
-    let p : Place = c.index.result.now in
-    let place : Place = record { cell = c.args.cell; steps = c.args.steps; is_closed = true } in
-    let is = read r.places.items c.args.number p (search (arith, c.if-at-len.false, c.len.ensures)) c.index.ensures in
-    let steps = c.if-place-steps.false in
-    subst (λ e. Advances e (record { map = r.map.now; start = r.start; places = slice_set r.places.items c.args.number place })) c.self.view_is
-    (set-on r.map.now r.start r.places.items c.args.number p place is (sym (same_cell p.cell c.args.cell c.if-ne.ensures)) (omega (arith, steps)))
+    let m = r.map.now in
+    let cell = c.args.cell in
+    let on = subst (λ (e : Exploration). IsOn e.map cell) (sym c.self.view_is) c.requires.on in
+    let left = subst (λ (e : Exploration). IsLeft e.map e.aslant e.numbers cell c.args.number) (sym c.self.view_is) c.requires.left in
+    let at = c.number_of-at.ensures.number in
+    let within : number_in m cell < length r.numbers.items = subst (λ n. number_in m cell < n) (sym c.self.invariant.cells) (number-inside m cell on) in
+    let there : slice_get r.numbers.items (number_in m cell) ≡ Some c.args.number =
+    read r.numbers.items (number_in m cell) c.index.result.now c.index.result.now within (c.index.ensures ∙ ap (λ i. slice_index_or r.numbers.items i c.index.result.now) at)
+    ∙ ap Some c.if-index-number.true in
+    subst (λ i. IsExploration m r.aslant r.start r.numbers.items (slice_set r.closed.items i true) r.touched.items) (sym at)
+    (explored-closed m r.aslant r.start r.numbers.items r.closed.items r.touched.items c.self.invariant cell c.args.number on there left)

@@ -1,37 +1,54 @@
--- The place has fewer steps, and is open.
-use Rattle.std.proofs.Common.{◌∙◌, false, ap, arith, refl, subst, sym}
-use Rattle.std.specs.Prelude.{slice_set}
-use Rattle.std.proofs.lemmas.Bool.{true≢false}
-use Rattle.std.proofs.lemmas.Option.{get_or_from_slice_get, slice_get_within}
-use Rattle.least_steps.specs.declared.place.Place.{Place}
-use Rattle.least_steps.specs.Code.Exploring.{Advances, Exploration}
-use Rattle.least_steps.specs.Code.Places.{WalksTo, IsPlaceOf}
-use Rattle.least_steps.proofs.PlaceLemmas.{has-set}
-use Rattle.least_steps.proofs.ExplorationLemmas.{explored-set, set-on}
+-- The cell has a lesser number.
+use Rattle.std.proofs.Common.{◌≡◌, Some, arith, subst, sym}
+use Rattle.std.specs.Prelude.{false, slice_get, slice_set}
+use Rattle.least_steps.specs.Code.Exploring.{Advances, Exploration, IsExploration}
+use Rattle.least_steps.specs.Code.Reaching.{IsGreater, WalksTo}
+use Rattle.least_steps.specs.Laws.Ways.{end-on, on_map, some_number}
+use Rattle.least_steps.proofs.ExplorationLemmas.{explored, falls-at, has-at, known}
 use Rattle.least_steps.proofs.reached.Reached.lower.Goals as goal
+
+pub number_of-at-requires : goal.number_of-at-requires
+number_of-at-requires c =
+    let r = c.self.inside in
+    let comes = subst (λ (e : Exploration). WalksTo e.map e.aslant e.start c.args.cell c.args.number) (sym c.self.view_is) c.requires.comes in
+    on_map r.map.now c.args.cell (end-on r.map.now r.aslant r.start c.args.cell c.args.number comes)
 
 pub invariant_of-self : goal.invariant_of-self
 invariant_of-self c =
     let r = c.self.inside in
-    let there = subst (λ (e : Exploration). IsPlaceOf e.places c.args.cell c.args.number) (sym c.self.view_is) c.requires.is_place in
-    let comes = subst (λ (e : Exploration). WalksTo e.map e.start c.args.cell c.args.steps) (sym c.self.view_is) c.requires.comes in
-    let steps = ap (λ (p : Place). p.steps) (c.index.ensures ∙ get_or_from_slice_get r.places.items c.args.number there.0 c.index.result.now there.1) in
-    let fewer = c.if-index-steps.false in
-    explored-set r.map.now r.start r.numbers.items r.places.items c.args.number there.0 (record { cell = c.args.cell; steps = c.args.steps; is_closed = false })
-    c.self.invariant there.1 (sym there.2) (omega (arith, steps, fewer)) comes (λ closed. absurd (true≢false (sym closed)))
+    let m = r.map.now in
+    let cell = c.args.cell in
+    let n = c.args.number in
+    let comes = subst (λ (e : Exploration). WalksTo e.map e.aslant e.start cell n) (sym c.self.view_is) c.requires.comes in
+    let greater = subst (λ (e : Exploration). IsGreater e.map e.numbers cell n) (sym c.self.view_is) c.requires.greater in
+    let on = end-on m r.aslant r.start cell n comes in
+    let numbers = r.numbers.items in
+    let closed = r.closed.items in
+    let touched = r.touched.items in
+    let all = c.self.invariant in
+    let some = some_number m r.aslant r.start cell n comes in
+    let more = greater.2 in
+    subst (λ i. IsExploration m r.aslant r.start (slice_set numbers i n) (slice_set closed i false) touched) (sym c.number_of-at.ensures.number)
+    (explored m r.aslant r.start numbers closed touched all cell n greater.0 on comes some greater.1
+    (λ _. omega (arith, more)) touched all.on_map (λ j d is. is) (known m numbers touched cell greater.0 all.on_map all.covered on greater.1 (omega (arith, some, more))))
 
 pub returns-clause-advances : goal.returns-clause-advances
 returns-clause-advances c =
     let r = c.self.inside in
-    let place : Place = record { cell = c.args.cell; steps = c.args.steps; is_closed = false } in
-    let there = subst (λ (e : Exploration). IsPlaceOf e.places c.args.cell c.args.number) (sym c.self.view_is) c.requires.is_place in
-    let steps = ap (λ (p : Place). p.steps) (c.index.ensures ∙ get_or_from_slice_get r.places.items c.args.number there.0 c.index.result.now there.1) in
-    let fewer = c.if-index-steps.false in
-    subst (λ e. Advances e (record { map = r.map.now; start = r.start; places = slice_set r.places.items c.args.number place })) c.self.view_is
-    (set-on r.map.now r.start r.places.items c.args.number there.0 place there.1 (sym there.2) (omega (arith, steps, fewer)))
+    let comes = subst (λ (e : Exploration). WalksTo e.map e.aslant e.start c.args.cell c.args.number) (sym c.self.view_is) c.requires.comes in
+    let greater = subst (λ (e : Exploration). IsGreater e.map e.numbers c.args.cell c.args.number) (sym c.self.view_is) c.requires.greater in
+    let i = c.number_of-at.result in
+    let more = greater.2 in
+    let there = subst (λ k. slice_get r.numbers.items k ≡ Some greater.0) (sym c.number_of-at.ensures.number) greater.1 in
+    subst (λ e. Advances e (record { map = r.map.now; aslant = r.aslant; start = r.start; numbers = slice_set r.numbers.items i c.args.number })) c.self.view_is
+    (falls-at r.map.now r.aslant r.start r.numbers.items i c.args.number greater.0 there (some_number r.map.now r.aslant r.start c.args.cell c.args.number comes)
+    (λ _. omega (arith, more)))
 
 pub returns-clause-has : goal.returns-clause-has
 returns-clause-has c =
-    let there = subst (λ (e : Exploration). IsPlaceOf e.places c.args.cell c.args.number) (sym c.self.view_is) c.requires.is_place in
-    has-set c.self.inside.places.items c.args.number (record { cell = c.args.cell; steps = c.args.steps; is_closed = false }) c.args.cell c.args.steps
-    (slice_get_within c.self.inside.places.items c.args.number there.0 there.1) refl (omega arith)
+    let r = c.self.inside in
+    let comes = subst (λ (e : Exploration). WalksTo e.map e.aslant e.start c.args.cell c.args.number) (sym c.self.view_is) c.requires.comes in
+    let greater = subst (λ (e : Exploration). IsGreater e.map e.numbers c.args.cell c.args.number) (sym c.self.view_is) c.requires.greater in
+    let there = subst (λ k. slice_get r.numbers.items k ≡ Some greater.0) (sym c.number_of-at.ensures.number) greater.1 in
+    has-at r.map.now r.numbers.items c.args.cell c.number_of-at.result c.args.number greater.0 c.number_of-at.ensures.number there
+    (some_number r.map.now r.aslant r.start c.args.cell c.args.number comes)

@@ -1,6 +1,6 @@
 -- The cell is on the map, since a walk comes to it.
-use Rattle.least_steps.specs.Laws.StraightWalks.{end-on}
+use Rattle.least_steps.specs.Laws.Ways.{end-on}
 use Rattle.least_steps.proofs.reached.Reached.reach.Goals as goal
 
-pub find-requires : goal.find-requires
-find-requires c = end-on c.args.self.now.map c.args.self.now.start c.args.cell c.args.steps c.requires
+pub number-requires : goal.number-requires
+number-requires c = let e = c.args.self.now in end-on e.map e.aslant e.start c.args.cell c.args.number c.requires

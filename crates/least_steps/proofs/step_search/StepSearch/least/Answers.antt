@@ -1,12 +1,16 @@
--- Off the map no walk begins or ends.
-use Rattle.std.proofs.Common.{◌∙◌, subst, sym}
-use Rattle.std.proofs.lemmas.Bool.{true≢false}
-use Rattle.scen.specs.Certificate.{AreOn}
-use Rattle.least_steps.specs.Laws.StraightWalks.{ends-on}
+-- The least number is that of the fewest steps.
+use Rattle.std.proofs.Common.{false, subst}
+use Rattle.least_steps.specs.Code.Reaching.{IsLeastNumber}
+use Rattle.least_steps.proofs.LeastLemmas.{fewest, no_steps}
 use Rattle.least_steps.proofs.step_search.StepSearch.least.Goals as goal
 
-pub returns-then-not-are_on-clause-answer : goal.returns-then-not-are_on-clause-answer
-returns-then-not-are_on-clause-answer c = λ cells k walk.
-    let on = ends-on c.args.self.now c.args.start c.args.goal cells k walk in
-    let is_on = c.are_on.ensures.1 (subst (λ m. AreOn m c.args.start c.args.goal) (sym (c.map.ensures.now ∙ c.self.view_is)) on) in
-    true≢false (sym is_on ∙ c.if-not-are_on.true)
+pub returns-in_ok-steps_of-in-Some-clause-answer : goal.returns-in_ok-steps_of-in-Some-clause-answer
+returns-in_ok-steps_of-in-Some-clause-answer c =
+    let m = c.args.self.now in
+    fewest m c.args.start c.args.goal c.in-Some.number c.in_ok-steps_of-in-Some.field-0
+    (subst (IsLeastNumber m false c.args.start c.args.goal) c.in-Some.is c.in_ok-number.ensures.answer) c.in_ok-steps_of-in-Some.ensures
+
+pub returns-in-None-clause-answer : goal.returns-in-None-clause-answer
+returns-in-None-clause-answer c =
+    let m = c.args.self.now in
+    no_steps m c.args.start c.args.goal (subst (IsLeastNumber m false c.args.start c.args.goal) c.in-None.is c.in_ok-number.ensures.answer)
