@@ -1,9 +1,9 @@
 //! Calling `mapf_cmd`: a command over readers and writers of the caller's own.
 ghost use Rattle.std.specs.Prelude.{None, false};
 ghost use Rattle.text_commands.specs.Ending.{EndsAndTells};
-ghost use Rattle.plan_commands.specs.CheckCommand.{AnswersCheck};
+ghost use Rattle.check_commands.specs.CheckCommand.{AnswersCheck};
 
-use mapf_cmd::check_cmd;
+use mapf_cmd::{CheckTerms, check_cmd};
 use std::alloc::Global;
 use std::io::{Read, Write};
 use text_io::Counted;
@@ -16,8 +16,16 @@ pub fn verdict_on<M: Read, P: Read, W: Write, E: Write>(
     out: &mut Counted<W>,
     err: &mut Counted<E>,
 ) -> u8
-    ensures { EndsAndTells (AnswersCheck M.remaining P.remaining W.contents map.old map.new plan.old plan.new None false out.old out.new)
+    ensures { EndsAndTells (AnswersCheck M.remaining P.remaining W.contents (record { due = None; all = None; bound = false; no_rotation = false; json = false })
+        map.old map.new plan.old plan.new out.old out.new)
         E.contents err.old err.new result }
 {
-    check_cmd(alloc, map, plan, None, false, out, err)
+    let terms = CheckTerms {
+        due: None,
+        all: None,
+        bound: false,
+        no_rotation: false,
+        json: false,
+    };
+    check_cmd(alloc, map, plan, &terms, out, err)
 }

@@ -1,5 +1,6 @@
-//! Calling `least_steps` and `bounding`: what one agent needs at least, and what each of a plan does.
+//! Calling `least_steps` and `bounding`: the shortest walk, what one agent needs at least, and what each of a plan does.
 ghost use Rattle.std.specs.Prelude.{IfOk};
+ghost use Rattle.scen.specs.Certificate.{IsLeast};
 ghost use Rattle.least_steps.specs.LeastSteps.{IsLeastSteps};
 ghost use Rattle.bounding.specs.Bounding.{AreBounds};
 
@@ -7,6 +8,7 @@ use bounding::bounds_of;
 use grid::{Cell, Map};
 use least_steps::{StepFault, StepSearch};
 use plan::CheckedPlan;
+use scen::Length;
 use std::alloc::Global;
 
 /// The least number of straight steps, `None` within where none lead there.
@@ -20,6 +22,19 @@ pub fn steps_between(
 {
     let mut search = StepSearch::on(alloc, map)?;
     search.least(start, goal)
+}
+
+/// The length of the shortest walks, `None` within where none lead there.
+pub fn length_between(
+    alloc: Global,
+    map: &Map,
+    start: Cell,
+    goal: Cell,
+) -> Result<Option<Length>, StepFault>
+    ensures { IfOk result (IsLeast map.now start goal) }
+{
+    let mut search = StepSearch::on(alloc, map)?;
+    search.shortest(start, goal)
 }
 
 /// What each agent of a plan needs at least by itself.

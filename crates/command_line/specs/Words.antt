@@ -1,6 +1,7 @@
 -- The command line of `mapf`, in the words of clap.
-use Rattle.std.specs.Prelude.{◌≡◌, ◌↔◌, ℕ, ◌^◌, ◌<◌, ◌⊎◌, Bool, true, List, [], ◌∷◌, ◌++◌, map, option_map, fold, codes, Option, None, Some, String, string_bytes}
+use Rattle.std.specs.Prelude.{◌≡◌, ◌↔◌, ℕ, ◌^◌, ◌<◌, ◌≤◌, ◌⊎◌, Bool, true, List, [], ◌∷◌, ◌++◌, map, option_map, fold, codes, if◌then◌else◌, Option, None, Some, String, string_bytes}
 use Rattle.std.specs.Global.{Global}
+use Rattle.std.specs.Str.{bytes_eq}
 use Rattle.grid.specs.declared.cell.Cell.{Cell}
 use Rattle.text_io.specs.Text.{SpellsNumber}
 use Rattle.clap.specs.Kinds.{IsAmong}
@@ -11,10 +12,10 @@ use Rattle.clap.specs.declared.error.kind.ErrorKind.TheVariants as kind
 use Rattle.tape_claim.specs.declared.TapeClaim.{TapeClaim}
 use Rattle.tape_claim.specs.declared.TapeClaim.TheVariants.{Any, New, Kept}
 use Rattle.command_line.specs.declared.command_line.Asked.{Asked}
-use Rattle.command_line.specs.declared.commands.Line.{Line}
-use Rattle.command_line.specs.declared.commands.Line.TheVariants as line
-use Rattle.command_line.specs.declared.commands.PlanQuery.{PlanQuery}
-use Rattle.command_line.specs.declared.commands.PlanQuery.TheVariants as query
+use Rattle.command_line.specs.declared.lines.Line.{Line}
+use Rattle.command_line.specs.declared.lines.Line.TheVariants as line
+use Rattle.command_line.specs.declared.lines.PlanQuery.{PlanQuery}
+use Rattle.command_line.specs.declared.lines.PlanQuery.TheVariants as query
 use Rattle.command_line.specs.declared.command_line.LineFault.{LineFault}
 use Rattle.command_line.specs.declared.command_line.LineFault.TheVariants.{Help, BadCommand, OutOfMemory}
 
@@ -59,11 +60,25 @@ commands =
       flags = explain_flag ∷ [];
     }
     ∷ record {
+      name = codes "rows";
+      required = codes "map" ∷ codes "scen" ∷ [];
+      options = codes "from" ∷ codes "to" ∷ [];
+      cells = [];
+      flags = codes "straight" ∷ codes "progress" ∷ explain_flag ∷ [];
+    }
+    ∷ record {
       name = codes "check";
       required = codes "map" ∷ codes "plan" ∷ [];
-      options = codes "scen" ∷ codes "agents" ∷ [];
+      options = codes "scen" ∷ codes "agents" ∷ codes "all" ∷ [];
       cells = [];
-      flags = codes "json" ∷ explain_flag ∷ [];
+      flags = codes "bound" ∷ codes "no-rotation" ∷ codes "json" ∷ explain_flag ∷ [];
+    }
+    ∷ record {
+      name = codes "bound";
+      required = codes "map" ∷ codes "plan" ∷ [];
+      options = [];
+      cells = [];
+      flags = codes "agents" ∷ codes "json" ∷ explain_flag ∷ [];
     }
     ∷ record {
       name = codes "deps";
@@ -166,6 +181,16 @@ abbrev pub GivesNumbers : ℕ → Text → List Row → Type 0
 GivesNumbers limit option rows =
     (digits : Text) → first_of option rows ≡ Some digits → (n : ℕ) × (n < limit) × SpellsNumber n digits
 
+-- the rows give this option a number that is no less than the least, or it is left out
+abbrev pub MayGiveNumberFrom : ℕ → Text → List Row → Option ℕ → Type 0
+MayGiveNumberFrom least option rows None = first_of option rows ≡ None
+MayGiveNumberFrom least option rows (Some n) = (least ≤ n) × GivesNumber option rows n
+
+-- where the rows give this option a value, it spells a number from the least to below 2^32
+abbrev pub GivesNumbersFrom : ℕ → Text → List Row → Type 0
+GivesNumbersFrom least option rows =
+    (digits : Text) → first_of option rows ≡ Some digits → (n : ℕ) × (least ≤ n) × (n < 2 ^ 32) × SpellsNumber n digits
+
 -- the values are two, digits alone, and spell the column and the row of the cell
 abbrev pub SpellsCell : Cell → List Text → Type 0
 SpellsCell cell values = (x : Text) × (y : Text) × (values ≡ x ∷ y ∷ []) × SpellsNumber cell.x x × SpellsNumber cell.y y
@@ -196,16 +221,33 @@ abbrev pub GivesClaim : Text → List Row → Type 0
 GivesClaim option rows = (word : Text) → first_of option rows ≡ Some word → (claim : TapeClaim) × SaysClaim claim word
 
 -- The values that the command with this name wants, if it wants some, are such: the number of a row, or a time, is spelled, and is below 2^32, that of an
--- agent, with its tape too, below 2^16, and those of a cell, of one agent, or of how many there are, where one is given; and what is claimed of
--- a tape is said.
+-- agent, with its tape too, below 2^16, and those of a cell, of one agent, of how many there are, of rows, or of how many faults, which is not 0, where
+-- one is given; and what is claimed of a tape is said.
 abbrev pub HasValues : Text → List Row → Type 0
 HasValues name rows =
     (name ≡ codes "row" → GivesNumberBelow (2 ^ 32) (codes "row") rows) × (name ≡ codes "agent" → GivesNumberBelow (2 ^ 16) (codes "id") rows)
     × (name ≡ codes "deps" → GivesCells (codes "cell") rows) × (name ≡ codes "path" → GivesNumbers (2 ^ 16) (codes "agent") rows)
     × (name ≡ codes "agent" → GivesClaim (codes "tape") rows) × (name ≡ codes "tape" → GivesNumberBelow (2 ^ 16) (codes "id") rows)
     × (name ≡ codes "check" → GivesNumbers (2 ^ 16) (codes "agents") rows) × (name ≡ codes "cut" → GivesNumberBelow (2 ^ 32) (codes "time") rows)
+    × (name ≡ codes "check" → GivesNumbersFrom 1 (codes "all") rows) × (name ≡ codes "rows" → GivesNumbersFrom 0 (codes "from") rows)
+    × (name ≡ codes "rows" → GivesNumbersFrom 0 (codes "to") rows)
 
--- the same of the words of the command line
+-- `--all` alone stands for `--all=1000`
+abbrev pub spelled_word : Text → Text
+spelled_word word = if bytes_eq word (codes "--all") then codes "--all=1000" else word
+
+-- so it does in all words before a `--`, behind which they name files
+abbrev pub with_all_spelled : List Text → List Text
+with_all_spelled [] = []
+with_all_spelled (word ∷ words) =
+    if bytes_eq word (codes "--") then word ∷ words else spelled_word word ∷ with_all_spelled words
+
+-- the words as they are taken: of `check` those behind its name, so
+abbrev pub spelled_out : List Text → List Text
+spelled_out (name ∷ command ∷ words) = name ∷ command ∷ (if bytes_eq command (codes "check") then with_all_spelled words else words)
+spelled_out words = words
+
+-- the values of the command that the words name are such
 abbrev pub GiveValues : List Text → Type 0
 GiveValues words = (name : Text) (rows : List Row) → subcommand_of program_app words ≡ Some (name, rows) → HasValues name rows
 
@@ -221,6 +263,8 @@ AsksToExplain rows explain = explain ≡ true ↔ IsFlagGiven explain_flag rows
 abbrev pub IsPlanQuery : Text → List Row → PlanQuery → Type 0
 IsPlanQuery name rows (query.Deps cell) = (name ≡ codes "deps") × MayGiveCell (codes "cell") rows cell
 IsPlanQuery name rows (query.Path agent) = (name ≡ codes "path") × MayGiveNumber (codes "agent") rows agent
+IsPlanQuery name rows (query.Bound agents json) =
+    (name ≡ codes "bound") × (agents ≡ true ↔ IsFlagGiven (codes "agents") rows) × (json ≡ true ↔ IsFlagGiven (codes "json") rows)
 IsPlanQuery name rows (query.Cut time) = (name ≡ codes "cut") × GivesNumber (codes "time") rows time
 
 -- the line is the command with this name, and its words have the values that the rows give
@@ -232,10 +276,16 @@ IsCommand name rows (line.Scen file) =
 IsCommand name rows (line.Row map_file scen_file row) =
     (name ≡ codes "row") × (first_of (codes "map") rows ≡ Some (string_bytes map_file))
     × (first_of (codes "scen") rows ≡ Some (string_bytes scen_file)) × GivesNumber (codes "row") rows row
-IsCommand name rows (line.Check map_file plan_file scen_file agents json) =
-    (name ≡ codes "check") × (first_of (codes "map") rows ≡ Some (string_bytes map_file))
-    × (first_of (codes "plan") rows ≡ Some (string_bytes plan_file)) × (first_of (codes "scen") rows ≡ option_map string_bytes scen_file)
-    × MayGiveNumber (codes "agents") rows agents × (json ≡ true ↔ IsFlagGiven (codes "json") rows)
+IsCommand name rows (line.Rows l) =
+    (name ≡ codes "rows") × (first_of (codes "map") rows ≡ Some (string_bytes l.map))
+    × (first_of (codes "scen") rows ≡ Some (string_bytes l.scen)) × MayGiveNumberFrom 0 (codes "from") rows l.from
+    × MayGiveNumberFrom 0 (codes "to") rows l.to × (l.straight ≡ true ↔ IsFlagGiven (codes "straight") rows)
+    × (l.progress ≡ true ↔ IsFlagGiven (codes "progress") rows)
+IsCommand name rows (line.Check l) =
+    (name ≡ codes "check") × (first_of (codes "map") rows ≡ Some (string_bytes l.map))
+    × (first_of (codes "plan") rows ≡ Some (string_bytes l.plan)) × (first_of (codes "scen") rows ≡ option_map string_bytes l.scen)
+    × MayGiveNumber (codes "agents") rows l.agents × MayGiveNumberFrom 1 (codes "all") rows l.all × (l.bound ≡ true ↔ IsFlagGiven (codes "bound") rows)
+    × (l.no_rotation ≡ true ↔ IsFlagGiven (codes "no-rotation") rows) × (l.json ≡ true ↔ IsFlagGiven (codes "json") rows)
 IsCommand name rows (line.Query map_file plan_file query) =
     (first_of (codes "map") rows ≡ Some (string_bytes map_file)) × (first_of (codes "plan") rows ≡ Some (string_bytes plan_file))
     × IsPlanQuery name rows query
@@ -260,13 +310,20 @@ abbrev pub IsAskedBy : Text → List Row → Asked → Type 0
 IsAskedBy name rows asked = IsCommand name rows asked.line × AsksToExplain rows asked.explain
 
 -- what is asked for is the command that clap's definition of the program gives for the words
-abbrev pub IsLineOf : List Text → Asked → Type 0
-IsLineOf words asked = (name : Text) × (rows : List Row) × (subcommand_of program_app words ≡ Some (name, rows)) × IsAskedBy name rows asked
+abbrev pub IsLineBy : List Text → Asked → Type 0
+IsLineBy words asked = (name : Text) × (rows : List Row) × (subcommand_of program_app words ≡ Some (name, rows)) × IsAskedBy name rows asked
 
 -- Why the words are no command: memory was refused; or clap refuses them, and this is what its kind of refusal comes to; or it takes
 -- them, and a number is none, or a claim.
-abbrev pub IsFaultOf : List Text → LineFault → Type 0
-IsFaultOf words fault =
+abbrev pub IsFaultBy : List Text → LineFault → Type 0
+IsFaultBy words fault =
     (fault ≡ OutOfMemory)
     ⊎ (((refusal : ErrorKind) × IsAmong refusal (fault_of program_app words) × ComesTo refusal fault)
     ⊎ ((fault_of program_app words ≡ []) × ((text : String Global) × (fault ≡ BadCommand text))))
+
+-- the same of the words of the command line
+abbrev pub IsLineOf : List Text → Asked → Type 0
+IsLineOf words asked = IsLineBy (spelled_out words) asked
+
+abbrev pub IsFaultOf : List Text → LineFault → Type 0
+IsFaultOf words fault = IsFaultBy (spelled_out words) fault

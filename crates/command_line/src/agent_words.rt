@@ -4,7 +4,7 @@ ghost use Rattle.clap.specs.Words.{found_of, rows_of};
 ghost use Rattle.command_line.specs.Words.{HasValues, IsCommand};
 ghost use Rattle.command_line.specs.Code.Parts.{HasWords, IsRefusal};
 
-use crate::commands::Line;
+use crate::lines::Line;
 use crate::words::{agent_id, tape_claim, word};
 use crate::{LineFault, help};
 use clap::ArgMatches;

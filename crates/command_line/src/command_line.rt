@@ -4,7 +4,7 @@ ghost use Rattle.clap.specs.Words.{kind_of};
 ghost use Rattle.command_line.specs.Words.{ComesTo, SaysBad};
 ghost use Rattle.command_line.specs.declared.command_line.LineFault.TheVariants.{OutOfMemory as out_of_memory};
 
-use crate::commands::Line;
+use crate::lines::Line;
 use crate::refusal::refusal_text;
 use clap::error::{Error as ClapError, ErrorKind};
 use std::alloc::{AllocError, Global};

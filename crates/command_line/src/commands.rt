@@ -1,111 +1,29 @@
-//! The commands: the value of each, what help says of it, and how it is read.
-ghost use Rattle.std.specs.Prelude.{◌≡◌, codes, drop, map, take, IfOk, IfErr};
-ghost use Rattle.clap.specs.Words.{found_of, rows_of};
-ghost use Rattle.command_line.specs.Words.{HasValues, IsCommand, commands};
-ghost use Rattle.command_line.specs.Code.Parts.{HasWords, IsRefusal, shape_of_text, shapes_of};
+//! The commands, and what help says of each.
+ghost use Rattle.std.specs.Prelude.{◌≡◌, drop, map, take};
+ghost use Rattle.command_line.specs.Words.{commands};
+ghost use Rattle.command_line.specs.Code.Parts.{shape_of_text, shapes_of};
 
-use crate::LineFault;
-use crate::agent_words::{read_agent, read_tape};
 use crate::help::Word::{Cell as CellOption, Flag, Named, Required};
-use crate::help::{self, CommandText, EXPLAIN};
-use crate::plan_words::{read_continues, read_cut, read_deps, read_path};
-use crate::words::{has_flag, long_number, no_command, optional_number, optional_word, word};
-use clap::ArgMatches;
-use grid::Cell;
-use std::alloc::Global;
-use tape_claim::TapeClaim;
-
-/// A command with what its words say.
-#[derive(Debug, Drop, PartialEq, Eq)]
-pub enum Line {
-    /// Reads a map and writes it in canonical form.
-    Map {
-        file: String,
-    },
-    /// Reads a scenario and writes it in canonical form.
-    Scen {
-        file: String,
-    },
-    /// Judges the listed length of a scenario's row, counted from 0, on a map.
-    Row {
-        map: String,
-        scen: String,
-        row: u32,
-    },
-    /// Checks a plan on a map, and perhaps that it solves the first rows of a scenario, or has so many agents; `json` asks for the answer as
-    /// JSON.
-    Check {
-        map: String,
-        plan: String,
-        scen: Option<String>,
-        agents: Option<u16>,
-        json: bool,
-    },
-    /// Answers a query on a plan on a map.
-    Query {
-        map: String,
-        plan: String,
-        query: PlanQuery,
-    },
-    /// Says whether a plan on a map goes on from another.
-    Continues {
-        map: String,
-        old: String,
-        new: String,
-    },
-    /// Runs a plan on the events of a text; `complete` asks for how the run ends too.
-    Run {
-        map: String,
-        plan: String,
-        events: String,
-        complete: bool,
-    },
-    /// Answers for one agent of a plan, by its tape, of which something may be claimed.
-    Agent {
-        map: String,
-        plan: String,
-        id: u16,
-        tape: String,
-        claim: TapeClaim,
-    },
-    /// Says what the tape of an agent of a plan keeps.
-    Tape {
-        map: String,
-        plan: String,
-        id: u16,
-        tape: String,
-    },
-}
-
-/// What is asked of a plan on a map, for which no other file is read.
-#[derive(Clone, Copy, Debug, PartialEq, Eq)]
-pub enum PlanQuery {
-    /// Which moves wait for which, or, of a cell, who comes into it.
-    Deps { cell: Option<Cell> },
-    /// Where the agents are at each time, or where one of them is.
-    Path { agent: Option<u16> },
-    /// The plan without what its agents do from a time on.
-    Cut { time: u32 },
-}
+use crate::help::{CommandText, EXPLAIN};
 
 /// The commands over maps and scenarios, in the order in which help lists them. Those over plans follow, and then those of runs: as one list they
 /// would be too much for one proof.
 pub(crate) fn text_commands() -> &'static [CommandText<'static>]
-    ensures { map shape_of_text result.now ≡ shapes_of (take 3 commands) }
+    ensures { map shape_of_text result.now ≡ shapes_of (take 4 commands) }
 {
     TEXT_COMMANDS
 }
 
 /// The commands over plans.
 pub(crate) fn plan_commands() -> &'static [CommandText<'static>]
-    ensures { map shape_of_text result.now ≡ shapes_of (take 5 (drop 3 commands)) }
+    ensures { map shape_of_text result.now ≡ shapes_of (take 6 (drop 4 commands)) }
 {
     PLAN_COMMANDS
 }
 
 /// The commands of runs and agents.
 pub(crate) fn run_commands() -> &'static [CommandText<'static>]
-    ensures { map shape_of_text result.now ≡ shapes_of (drop 8 commands) }
+    ensures { map shape_of_text result.now ≡ shapes_of (drop 10 commands) }
 {
     RUN_COMMANDS
 }
@@ -164,12 +82,55 @@ Status:
   3  a file can't be opened (--explain says which, and why), a device failed, or
      memory was refused
 
+The length counts diagonal steps, which agents of plans don't make: what they
+need at least is told by `mapf rows --straight` and `mapf bound`.
+
 Example:
   mapf row examples/corner.map examples/corner.scen 0",
         words: &[
             Required("map", "The file of the map"),
             Required("scen", "The file of the scenario"),
             Required("row", "The number of the row, counted from 0"),
+            EXPLAIN,
+        ],
+    },
+    CommandText {
+        name: "rows",
+        about: "Judges the lengths of a scenario, or tells the least straight steps",
+        after_help: "\
+Standard output is a line for each row, its number first, as soon as it is
+judged:
+  I shortest S D listed L agrees    as `mapf row` answers: the listed length is
+  I shortest S D listed L differs   right, or it isn't
+  I unreachable                     no walk leads from the start to the goal
+  I SizeDiffers                     the row lists another size than the map's
+and then a line that counts them:
+  rows R agree A differ D unreachable U size Z
+With --straight a walk has no diagonal steps, as that of an agent of a plan:
+  I least N                         it takes N steps at least
+  rows R sum S greatest G unreachable U size Z
+So with --straight --to K, S and G are the least sum of costs and the least
+makespan that a plan for the first K rows might have.
+
+Status:
+  0  each row agrees; with --straight: each has a least number of steps
+  1  some don't, a text has a fault, or there are fewer rows than --from says
+  2  a bad command line
+  3  a file can't be opened (--explain says which, and why), a device failed, or
+     memory was refused
+
+Example:
+  mapf rows examples/corner.map examples/corner.scen",
+        words: &[
+            Required("map", "The file of the map"),
+            Required("scen", "The file of the scenario"),
+            Named("from", "The first row, from 0 on"),
+            Named("to", "The row before which it ends"),
+            Flag("straight", "Tells the least numbers of straight steps"),
+            Flag(
+                "progress",
+                "Says on standard error how far it has come, in any case",
+            ),
             EXPLAIN,
         ],
     },
@@ -184,7 +145,15 @@ Standard output is one line:
   accepted agents K cost C makespan M   the plan is valid
   rejected FAULT                        it isn't, and this is its least fault
 With --scen the plan must also solve the first rows of the scenario, as many as
-it has agents. With --agents it must have that many.
+it has agents. With --agents it must have that many. With --no-rotation a plan
+with nothing else against it must have no rotation, since one with a rotation
+can't be run; the fault is then `Rotation S I J ..`, as `mapf deps` lists it.
+With --bound the line says beside what such plans cost at least:
+  accepted agents K cost C of B makespan M of D
+With --all it is a line for each fault, up to 1000, or N with --all=N, as they
+come: by time, then kind, then agents; and then how many lines and agents:
+  faults F agents A                     these are all
+  faults F agents A more                there are more
 
 Status:
   0  the answer is `accepted`
@@ -200,6 +169,37 @@ Example:
             Required("plan", "The file of the plan"),
             Named("scen", "The file of a scenario that the plan is to solve"),
             Named("agents", "How many agents the plan is to have"),
+            Named("all", "Lists all faults, up to 1000 or to so many behind ="),
+            Flag("bound", "Tells what such plans cost at least"),
+            Flag("no-rotation", "Rejects a plan with a rotation"),
+            Flag("json", "Writes the answer as JSON"),
+            EXPLAIN,
+        ],
+    },
+    CommandText {
+        name: "bound",
+        about: "Checks a plan on a map, and says what such plans cost at least",
+        after_help: "\
+Standard output is one line. C is the sum of costs, and B what it is at least:
+the sum of the least straight steps that each agent needs by itself from its
+start to its last cell. M is the makespan, and D the greatest of these:
+  cost C of B makespan M of D
+With --agents a line for each agent comes before it:
+  agent I cost C of D
+
+Status:
+  0  the line is written
+  1  a text or the plan has a fault: one line on standard error
+  2  a bad command line
+  3  a file can't be opened (--explain says which, and why), a device failed, or
+     memory was refused
+
+Example:
+  mapf bound examples/corner.map examples/corner.plan",
+        words: &[
+            Required("map", "The file of the map"),
+            Required("plan", "The file of the plan"),
+            Flag("agents", "Writes a line for each agent first"),
             Flag("json", "Writes the answer as JSON"),
             EXPLAIN,
         ],
@@ -422,78 +422,3 @@ Example:
         ],
     },
 ];
-
-/// Reads the command with this name, by the words that it was given.
-pub(crate) fn read_command(
-    alloc: Global,
-    name: &str,
-    given: &ArgMatches<'_>,
-) -> Result<Line, LineFault>
-    ensures ok { IfOk result (IsCommand name.now (rows_of (found_of given.now))) }
-    ensures err { IfErr result (λ e. HasWords name.now (rows_of (found_of given.now)) → HasValues name.now (rows_of (found_of given.now))
-        → e ≡ LineFault.OutOfMemory) }
-    ensures refusal { IfErr result IsRefusal }
-{
-    match name {
-        "map" => Ok(Line::Map {
-            file: word(alloc, given, "file")?,
-        }),
-        "scen" => Ok(Line::Scen {
-            file: word(alloc, given, "file")?,
-        }),
-        "row" => read_row(alloc, given),
-        "check" => read_check(alloc, given),
-        "deps" => read_deps(alloc, given),
-        "path" => read_path(alloc, given),
-        "cut" => read_cut(alloc, given),
-        "continues" => read_continues(alloc, given),
-        "run" => read_run(alloc, given),
-        "agent" => read_agent(alloc, given),
-        "tape" => read_tape(alloc, given),
-        _ => Err(no_command(alloc)),
-    }
-}
-
-/// Reads `row` by the words that it was given.
-fn read_row(alloc: Global, given: &ArgMatches<'_>) -> Result<Line, LineFault>
-    ensures ok { IfOk result (IsCommand (codes "row") (rows_of (found_of given.now))) }
-    ensures err { IfErr result (λ e. HasWords (codes "row") (rows_of (found_of given.now)) → HasValues (codes "row") (rows_of (found_of given.now))
-        → e ≡ LineFault.OutOfMemory) }
-    ensures refusal { IfErr result IsRefusal }
-{
-    Ok(Line::Row {
-        map: word(alloc, given, "map")?,
-        scen: word(alloc, given, "scen")?,
-        row: long_number(alloc, given, "row", &help::ROW_NUMBER)?,
-    })
-}
-
-/// Reads `check` by the words that it was given.
-fn read_check(alloc: Global, given: &ArgMatches<'_>) -> Result<Line, LineFault>
-    ensures ok { IfOk result (IsCommand (codes "check") (rows_of (found_of given.now))) }
-    ensures err { IfErr result (λ e. HasWords (codes "check") (rows_of (found_of given.now)) → HasValues (codes "check") (rows_of (found_of given.now))
-        → e ≡ LineFault.OutOfMemory) }
-    ensures refusal { IfErr result IsRefusal }
-{
-    Ok(Line::Check {
-        map: word(alloc, given, "map")?,
-        plan: word(alloc, given, "plan")?,
-        scen: optional_word(alloc, given, "scen")?,
-        agents: optional_number(alloc, given, "agents", help::NO_AGENT_COUNT)?,
-        json: has_flag(given, "json"),
-    })
-}
-
-/// Reads `run` by the words that it was given.
-fn read_run(alloc: Global, given: &ArgMatches<'_>) -> Result<Line, LineFault>
-    ensures ok { IfOk result (IsCommand (codes "run") (rows_of (found_of given.now))) }
-    ensures err { IfErr result (λ e. HasWords (codes "run") (rows_of (found_of given.now)) → e ≡ LineFault.OutOfMemory) }
-    ensures refusal { IfErr result IsRefusal }
-{
-    Ok(Line::Run {
-        map: word(alloc, given, "map")?,
-        plan: word(alloc, given, "plan")?,
-        events: word(alloc, given, "events")?,
-        complete: has_flag(given, "complete"),
-    })
-}

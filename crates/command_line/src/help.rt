@@ -96,6 +96,32 @@ Usage: mapf check [OPTIONS] <map> <plan>
 For more information, try '--help'.
 ";
 
+/// What is said of words that are no numbers of rows.
+pub(crate) const NO_FROM: &str =
+    "error: invalid value for '--from <from>': a number from 0 to 4294967295 is wanted, in digits alone
+
+Usage: mapf rows [OPTIONS] <map> <scen>
+
+For more information, try '--help'.
+";
+
+pub(crate) const NO_TO: &str =
+    "error: invalid value for '--to <to>': a number from 0 to 4294967295 is wanted, in digits alone
+
+Usage: mapf rows [OPTIONS] <map> <scen>
+
+For more information, try '--help'.
+";
+
+/// What is said of a word that is no number of faults.
+pub(crate) const NO_FAULT_COUNT: &str =
+    "error: invalid value for '--all=<all>': a number from 1 to 4294967295 is wanted, in digits alone
+
+Usage: mapf check [OPTIONS] <map> <plan>
+
+For more information, try '--help'.
+";
+
 /// What is said of a word that makes no claim of a tape.
 pub(crate) const NO_CLAIM: &str = "error: invalid value for '--tape <tape>': new or kept is wanted
 

@@ -5,10 +5,13 @@ mod agent_words;
 mod command_line;
 mod commands;
 mod help;
+mod lines;
 mod plan_words;
+mod reading;
 mod refusal;
+mod spelling;
 mod words;
 
 pub use command_line::{Asked, LineFault};
-pub use commands::{Line, PlanQuery};
+pub use lines::{CheckLine, Line, PlanQuery, RowsLine};
 pub use words::line;

@@ -4,8 +4,8 @@ ghost use Rattle.clap.specs.Words.{found_of, rows_of};
 ghost use Rattle.command_line.specs.Words.{HasValues, IsCommand};
 ghost use Rattle.command_line.specs.Code.Parts.{HasWords, IsRefusal};
 
-use crate::commands::{Line, PlanQuery};
-use crate::words::{long_number, optional_cell, optional_number, word};
+use crate::lines::{Line, PlanQuery};
+use crate::words::{has_flag, long_number, optional_cell, optional_number, word};
 use crate::{LineFault, help};
 use clap::ArgMatches;
 use std::alloc::Global;
@@ -38,6 +38,22 @@ pub(crate) fn read_path(alloc: Global, given: &ArgMatches<'_>) -> Result<Line, L
         plan: word(alloc, given, "plan")?,
         query: PlanQuery::Path {
             agent: optional_number(alloc, given, "agent", help::NO_AGENT_NUMBER)?,
+        },
+    })
+}
+
+/// Reads `bound` by the words that it was given.
+pub(crate) fn read_bound(alloc: Global, given: &ArgMatches<'_>) -> Result<Line, LineFault>
+    ensures ok { IfOk result (IsCommand (codes "bound") (rows_of (found_of given.now))) }
+    ensures err { IfErr result (λ e. HasWords (codes "bound") (rows_of (found_of given.now)) → e ≡ LineFault.OutOfMemory) }
+    ensures refusal { IfErr result IsRefusal }
+{
+    Ok(Line::Query {
+        map: word(alloc, given, "map")?,
+        plan: word(alloc, given, "plan")?,
+        query: PlanQuery::Bound {
+            agents: has_flag(given, "agents"),
+            json: has_flag(given, "json"),
         },
     })
 }

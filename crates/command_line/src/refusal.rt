@@ -138,7 +138,7 @@ fn unknown_argument(
 fn takes_number(words: &[String]) -> bool {
     matches!(
         command_name(words),
-        "row" | "check" | "deps" | "path" | "cut" | "agent" | "tape"
+        "row" | "rows" | "check" | "deps" | "path" | "cut" | "agent" | "tape"
     )
 }
 

@@ -1,18 +1,20 @@
 //! The words of the command line.
-ghost use Rattle.std.specs.Prelude.{◌≡◌, ◌↔◌, ℕ, ◌^◌, ◌<◌, [], codes, true, false, IfOk, IfErr, OnOk, OnErr, MatchOption, IsTrue, Some, is_some, map, option_map, fold, string_bytes};
+ghost use Rattle.std.specs.Prelude.{◌≡◌, ◌↔◌, ℕ, ◌^◌, ◌<◌, ◌≤◌, [], codes, true, false, IfOk, IfErr, OnOk, OnErr, MatchOption, IsTrue, Some, is_some, map, option_map, fold, string_bytes};
 ghost use Rattle.std.specs.Char.{is_ascii_digit};
 ghost use Rattle.std.specs.List.{list_all};
 ghost use Rattle.clap.specs.Words.{app_of, with_subcommand, first_of, found_of, rows_of, rule_of, takes, fault_of};
 ghost use Rattle.grid.specs.declared.cell.Cell.{Cell};
 ghost use Rattle.text_io.specs.Text.{SpellsNumber};
 ghost use Rattle.tape_claim.specs.declared.TapeClaim.{TapeClaim};
-ghost use Rattle.command_line.specs.Words.{program_app, AsksToExplain, IsFlagGiven, HasValues, GivesNumber, GivesNumberBelow, GiveValues, SpellsCell, MayGiveCell, GivesCells, GivesClaim, MakesClaim, SaysClaim, MayGiveNumber, GivesNumbers, IsAskedBy, IsLineOf, IsFaultOf};
+ghost use Rattle.command_line.specs.Words.{program_app, AsksToExplain, IsFlagGiven, HasValues, GivesNumber, GivesNumberBelow, GiveValues, SpellsCell, MayGiveCell, GivesCells, GivesClaim, MakesClaim, SaysClaim, MayGiveNumber, GivesNumbers, IsAskedBy, IsLineBy, IsFaultBy, IsLineOf, IsFaultOf, GivesNumbersFrom, MayGiveNumberFrom, spelled_out};
 ghost use Rattle.command_line.specs.Code.Parts.{HasWords, IsRefusal, rule_of_word, shape_of_text};
 
 use crate::command_line::refused;
-use crate::commands::{plan_commands, read_command, run_commands, text_commands};
+use crate::commands::{plan_commands, run_commands, text_commands};
 use crate::help::{self, CommandText, NumberText, Word};
+use crate::reading::read_command;
 use crate::refusal::shown;
+use crate::spelling::spelled_out;
 use crate::{Asked, LineFault};
 use clap::{Arg, ArgAction, ArgMatches, Command};
 use grid::Cell;
@@ -22,10 +24,22 @@ use tape_claim::TapeClaim;
 /// Reads the words of the command line, the program's name first.
 pub fn line(alloc: Global, words: &[String]) -> Result<Asked, LineFault>
     ensures command { IfOk result (IsLineOf (map string_bytes words.now)) }
+    ensures taken { OnOk result (fault_of program_app (spelled_out (map string_bytes words.now)) ≡ []) }
+    ensures refused { IfErr result (λ e. takes program_app (spelled_out (map string_bytes words.now)) ≡ true
+        → GiveValues (spelled_out (map string_bytes words.now)) → e ≡ LineFault.OutOfMemory) }
+    ensures fault { IfErr result (IsFaultOf (map string_bytes words.now)) }
+{
+    let words = spelled_out(alloc, words)?;
+    read_line(alloc, words.as_slice())
+}
+
+/// Reads the words as they are taken.
+fn read_line(alloc: Global, words: &[String]) -> Result<Asked, LineFault>
+    ensures command { IfOk result (IsLineBy (map string_bytes words.now)) }
     ensures taken { OnOk result (fault_of program_app (map string_bytes words.now) ≡ []) }
     ensures refused { IfErr result (λ e. takes program_app (map string_bytes words.now) ≡ true
         → GiveValues (map string_bytes words.now) → e ≡ LineFault.OutOfMemory) }
-    ensures fault { IfErr result (IsFaultOf (map string_bytes words.now)) }
+    ensures fault { IfErr result (IsFaultBy (map string_bytes words.now)) }
 {
     let program = program(alloc)?;
     let matches = match program.try_get_matches_from(words) {
@@ -170,6 +184,27 @@ pub(crate) fn optional_number(
     }
 }
 
+/// The same of a number below 2^32 that is no less than the least.
+pub(crate) fn optional_long_number(
+    alloc: Global,
+    given: &ArgMatches<'_>,
+    name: &str,
+    least: u32,
+    text: &str,
+) -> Result<Option<u32>, LineFault>
+    ensures ok { IfOk result (MayGiveNumberFrom least name.now (rows_of (found_of given.now))) }
+    ensures none { OnErr result (GivesNumbersFrom least name.now (rows_of (found_of given.now)) → ⊥) }
+    ensures err { IfErr result IsRefusal }
+{
+    let Some(digits) = given.get_str(name) else {
+        return Ok(None);
+    };
+    match spelled_from(least, digits) {
+        Some(number) => Ok(Some(number)),
+        None => Err(LineFault::bad_command(alloc, text)),
+    }
+}
+
 /// What is claimed of a tape, if something is.
 pub(crate) fn tape_claim(alloc: Global, given: &ArgMatches<'_>) -> Result<TapeClaim, LineFault>
     ensures ok { IfOk result (MakesClaim (codes "tape") (rows_of (found_of given.now))) }
@@ -284,6 +319,15 @@ fn spelled_short(digits: &str) -> Option<u16>
     ensures { MatchOption result ((n : ℕ) → n < 2 ^ 16 → SpellsNumber n digits.now → ⊥) (λ n. SpellsNumber n digits.now) }
 {
     u16::try_from(spelled(digits)?).ok()
+}
+
+/// The same of a number that is no less than the least.
+fn spelled_from(least: u32, digits: &str) -> Option<u32>
+    ensures { MatchOption result ((n : ℕ) → least ≤ n → n < 2 ^ 32 → SpellsNumber n digits.now → ⊥)
+        (λ n. (least ≤ n) × SpellsNumber n digits.now) }
+{
+    let number = spelled(digits)?;
+    if number < least { None } else { Some(number) }
 }
 
 fn are_digits(text: &str) -> bool

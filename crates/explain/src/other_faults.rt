@@ -42,7 +42,7 @@ pub(crate) fn fit_entries() -> &'static [Entry] {
     &FITS
 }
 
-static FITS: [Entry; 5] = [
+static FITS: [Entry; 6] = [
     Entry {
         name: "TooFewRows",
         numbers: "",
@@ -77,6 +77,13 @@ static FITS: [Entry; 5] = [
         sentence: "The agent doesn't end where the row with its number does.",
         example: "",
         answer: "rejected GoalDiffers 0",
+    },
+    Entry {
+        name: "Rotation",
+        numbers: "step agent ..",
+        sentence: "In this step the agents go round, each into the cell that the next one leaves, and with `--no-rotation` none may.",
+        example: "",
+        answer: "rejected Rotation 0 0 1 2 3",
     },
 ];
 

@@ -1,7 +1,7 @@
 //! The program `mapf`: gives the words of the command line to `mapf_cmd`, with the files and streams of the system.
 #![tactic(auto)]
 
-use mapf_cmd::{LineFault, Style, refuse, run};
+use mapf_cmd::{LineFault, Screen, Style, refuse, run};
 use std::alloc::Global;
 use std::env::VarError;
 use std::io::{ErrorKind, IsTerminal};
@@ -20,7 +20,7 @@ fn main(rt: HostRuntime) -> ExitCode {
         Ok(words) => run(
             &rt,
             words.as_slice(),
-            style(&rt),
+            screen(&rt),
             &mut input,
             &mut out,
             &mut err,
@@ -35,6 +35,14 @@ fn words(rt: &HostRuntime) -> Result<Vec<String>, LineFault> {
     match env::args(rt) {
         Ok(words) => Ok(words.collect(rt.alloc())?),
         Err(e) => Err(fault_of(rt.alloc(), e)),
+    }
+}
+
+fn screen(rt: &HostRuntime) -> Screen {
+    Screen {
+        style: style(rt),
+        // On a terminal that gets the rows too, progress would stand between them.
+        is_watched: rt.stderr().is_terminal() && !rt.stdout().is_terminal(),
     }
 }
 

@@ -1,5 +1,5 @@
 -- What the program does with the words of its command line.
-use Rattle.std.specs.Prelude.{◌≡◌, ℕ, ◌⊎◌, Bool, true, false, List, [], ◌∷◌, Option, None, Some, codes, string_bytes}
+use Rattle.std.specs.Prelude.{◌≡◌, ℕ, ◌⊎◌, ◌||◌, Bool, true, false, List, [], ◌∷◌, Option, None, Some, codes, string_bytes}
 use Rattle.text_io.specs.declared.failure.Failure.TheVariants as failure
 use Rattle.text_io.specs.FaultWords.{Words, failed}
 use Rattle.text_io.specs.declared.counted.Counted.{Counted}
@@ -7,10 +7,12 @@ use Rattle.text_io.specs.Counted.{counted_inner, failures_of}
 use Rattle.text_io.specs.Writing.{WritesText}
 use Rattle.clap.specs.Words.{Text}
 use Rattle.command_line.specs.declared.command_line.Asked.{Asked}
-use Rattle.command_line.specs.declared.commands.Line.{Line}
-use Rattle.command_line.specs.declared.commands.Line.TheVariants as line
-use Rattle.command_line.specs.declared.commands.PlanQuery.{PlanQuery}
-use Rattle.command_line.specs.declared.commands.PlanQuery.TheVariants as query
+use Rattle.command_line.specs.declared.lines.CheckLine.{CheckLine}
+use Rattle.command_line.specs.declared.lines.RowsLine.{RowsLine}
+use Rattle.command_line.specs.declared.lines.Line.{Line}
+use Rattle.command_line.specs.declared.lines.Line.TheVariants as line
+use Rattle.command_line.specs.declared.lines.PlanQuery.{PlanQuery}
+use Rattle.command_line.specs.declared.lines.PlanQuery.TheVariants as query
 use Rattle.command_line.specs.declared.command_line.LineFault.{LineFault}
 use Rattle.command_line.specs.declared.command_line.LineFault.TheVariants.{Help, BadCommand, OutOfMemory}
 use Rattle.command_line.specs.Words.{IsLineOf, IsFaultOf}
@@ -20,8 +22,12 @@ use Rattle.text_commands.specs.Rewriting.{EndsWriting}
 use Rattle.text_commands.specs.Status.{code_of}
 use Rattle.text_commands.specs.MapCommand.{RewritesMap}
 use Rattle.text_commands.specs.RowCommand.{AnswersRow}
+use Rattle.text_commands.specs.RowsCommand.{AnswersRows, ShowsProgress}
+use Rattle.text_commands.specs.declared.rows_command.RowsAsked.{RowsAsked}
 use Rattle.text_commands.specs.ScenCommand.{RewritesScen}
-use Rattle.plan_commands.specs.CheckCommand.{AnswersCheck, AnswersCheckFit}
+use Rattle.check_commands.specs.BoundCommand.{AnswersBound}
+use Rattle.check_commands.specs.CheckCommand.{AnswersCheck, AnswersCheckFit}
+use Rattle.check_commands.specs.declared.check_terms.CheckTerms.{CheckTerms}
 use Rattle.plan_commands.specs.ContinuesCommand.{AnswersContinues}
 use Rattle.plan_commands.specs.CutCommand.{AnswersCut}
 use Rattle.plan_commands.specs.DepsCellCommand.{AnswersDepsCell}
@@ -54,13 +60,21 @@ OnFileOrInput file DoesInput DoesFile old_in new_in =
 
 -- ---- commands
 
+-- which rows are asked for
+abbrev pub rows_asked : RowsLine → RowsAsked
+rows_asked l = record { from = l.from; to = l.to; straight = l.straight; progress = l.progress }
+
+-- what is asked of a plan
+abbrev pub terms_of : CheckLine → CheckTerms
+terms_of l = record { due = l.agents; all = l.all; bound = l.bound; no_rotation = l.no_rotation; json = l.json }
+
 -- `check` read a map and a plan, and a scenario where one is named
 abbrev pub CheckOn
-    : {F W S : Type 0} → (F → Option (List ℕ)) → (W → Option (List ℕ)) → Option S → Option ℕ → Bool → Counted W → Counted W → End → Type 0
-CheckOn remaining contents None due json old new end =
-    OnTwoFiles (λ a b c d. AnswersCheck remaining remaining contents a b c d due json old new end)
-CheckOn remaining contents (Some scen) due json old new end =
-    OnThreeFiles (λ a b c d e f. AnswersCheckFit remaining remaining remaining contents a b c d e f due json old new end)
+    : {F W S : Type 0} → (F → Option (List ℕ)) → (W → Option (List ℕ)) → Option S → CheckTerms → Counted W → Counted W → End → Type 0
+CheckOn remaining contents None terms old new end =
+    OnTwoFiles (λ a b c d. AnswersCheck remaining remaining contents terms a b c d old new end)
+CheckOn remaining contents (Some scen) terms old new end =
+    OnThreeFiles (λ a b c d e f. AnswersCheckFit remaining remaining remaining contents terms a b c d e f old new end)
 
 -- what was asked of a plan on a map was answered, by what was read of both
 abbrev pub AnswersQuery
@@ -71,6 +85,8 @@ AnswersQuery map_left plan_left contents (query.Deps (Some cell)) a b c d old ne
     AnswersDepsCell map_left plan_left contents cell a b c d old new end
 AnswersQuery map_left plan_left contents (query.Path agent) a b c d old new end =
     AnswersPath map_left plan_left contents agent a b c d old new end
+AnswersQuery map_left plan_left contents (query.Bound agents json) a b c d old new end =
+    AnswersBound map_left plan_left contents agents json a b c d old new end
 AnswersQuery map_left plan_left contents (query.Cut time) a b c d old new end = AnswersCut map_left plan_left contents time a b c d old new end
 
 -- The command ended by what it read of its files. Only an agent reads the input, and a command whose one file is it.
@@ -85,8 +101,10 @@ PerformsOn remaining input_left contents (line.Scen file) old_in new_in old new 
     old_in new_in
 PerformsOn remaining input_left contents (line.Row map_file scen_file row) old_in new_in old new end =
     OnTwoFiles (λ a b c d. AnswersRow remaining remaining contents a b c d row old new end) × (new_in ≡ old_in)
-PerformsOn remaining input_left contents (line.Check map_file plan_file scen_file agents json) old_in new_in old new end =
-    CheckOn remaining contents scen_file agents json old new end × (new_in ≡ old_in)
+PerformsOn remaining input_left contents (line.Rows l) old_in new_in old new end =
+    OnTwoFiles (λ a b c d. AnswersRows remaining remaining contents (rows_asked l) a b c d old new end) × (new_in ≡ old_in)
+PerformsOn remaining input_left contents (line.Check l) old_in new_in old new end =
+    CheckOn remaining contents l.scen (terms_of l) old new end × (new_in ≡ old_in)
 PerformsOn remaining input_left contents (line.Query map_file plan_file query) old_in new_in old new end =
     OnTwoFiles (λ a b c d. AnswersQuery remaining remaining contents query a b c d old new end) × (new_in ≡ old_in)
 PerformsOn remaining input_left contents (line.Continues map_file old_file new_file) old_in new_in old new end =
@@ -98,6 +116,11 @@ PerformsOn remaining input_left contents (line.Agent map_file plan_file id tape_
 PerformsOn remaining input_left contents (line.Tape map_file plan_file id tape_file) old_in new_in old new end =
     (OnThreeFiles (λ a b c d e f. AnswersTape remaining remaining remaining contents id a b c d e f old new end) ⊎ (EndsWithoutTape end × (new ≡ old)))
     × (new_in ≡ old_in)
+
+-- Where the error output is a terminal, or that is asked for, `rows` says there how far it has come. No other command writes there before it ends.
+abbrev pub ShowsOn : {E : Type 0} → (E → Option (List ℕ)) → (is_watched : Bool) → Line → Counted E → Counted E → Type 0
+ShowsOn told is_watched (line.Rows l) old new = ShowsProgress told (l.progress || is_watched) old new
+ShowsOn told is_watched line old new = new ≡ old
 
 -- the command was performed, or a file of it could not be opened, and nothing was read or written
 abbrev pub Performs
@@ -117,15 +140,18 @@ abbrev pub Explains : {E : Type 0} → (E → Option (List ℕ)) → Option Word
 Explains told None old new = new ≡ old
 Explains told (Some words) old new = AddsMore (told (counted_inner old)) (told (counted_inner new))
 
--- The command was performed, what is told of its ending left the error output so, and an explanation is behind that, where one is asked
--- for.
+-- The command was performed, with its progress on the error output, what is told of its ending left that so, and an explanation is behind it, where one
+-- is asked for.
 pub record AnswersLine
     {F I W E : Type 0} (remaining : F → Option (List ℕ)) (input_left : I → Option (List ℕ)) (contents : W → Option (List ℕ))
-    (told : E → Option (List ℕ)) (asked : Asked) (old_in new_in : Counted I) (old new : Counted W) (old_err new_err : Counted E) (code : ℕ) : Type 0 where
+    (told : E → Option (List ℕ)) (is_watched : Bool) (asked : Asked) (old_in new_in : Counted I) (old new : Counted W) (old_err new_err : Counted E)
+    (code : ℕ) : Type 0 where
   pub end : End
   pub performs : Performs remaining input_left contents asked.line old_in new_in old new end
+  pub shown : Counted E
+  pub shows : ShowsOn told is_watched asked.line old_err shown
   pub so_far : Counted E
-  pub concludes : Concludes told old_err so_far code end
+  pub concludes : Concludes told shown so_far code end
   pub explains : Explains told (explained_of asked.explain end) so_far new_err
 
 -- ---- words that are no command
@@ -158,8 +184,8 @@ EndsUnperformed contents told words fault old new old_err new_err code =
 
 -- the words are a command, which was performed, or none, and then nothing was read
 abbrev pub AnswersWords
-    : {F I W E : Type 0} → (F → Option (List ℕ)) → (I → Option (List ℕ)) → (W → Option (List ℕ)) → (E → Option (List ℕ)) → List Text
-    → Counted I → Counted I → Counted W → Counted W → Counted E → Counted E → ℕ → Type 0
-AnswersWords remaining input_left contents told words old_in new_in old new old_err new_err code =
-    ((asked : Asked) × IsLineOf words asked × AnswersLine remaining input_left contents told asked old_in new_in old new old_err new_err code)
+    : {F I W E : Type 0} → (F → Option (List ℕ)) → (I → Option (List ℕ)) → (W → Option (List ℕ)) → (E → Option (List ℕ)) → (is_watched : Bool)
+    → List Text → Counted I → Counted I → Counted W → Counted W → Counted E → Counted E → ℕ → Type 0
+AnswersWords remaining input_left contents told is_watched words old_in new_in old new old_err new_err code =
+    ((asked : Asked) × IsLineOf words asked × AnswersLine remaining input_left contents told is_watched asked old_in new_in old new old_err new_err code)
     ⊎ ((fault : LineFault) × IsFaultOf words fault × EndsUnperformed contents told words fault old new old_err new_err code × (new_in ≡ old_in))

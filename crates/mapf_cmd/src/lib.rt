@@ -8,14 +8,16 @@ mod program;
 mod unperformed;
 
 pub use agent_commands::{Seat, agent_cmd, tape_cmd};
-pub use command_line::{Asked, Line, LineFault, PlanQuery, line};
-pub use explain::Style;
-pub use plan_commands::{
-    Verdict, check_cmd, check_fit_cmd, continues_cmd, cut_cmd, deps_cell_cmd, deps_cmd, path_cmd,
-    verdict_json,
+pub use check_commands::{
+    BoundForm, CheckTerms, Verdict, bound_cmd, check_cmd, check_fit_cmd, verdict_json,
 };
-pub use program::run;
+pub use command_line::{Asked, CheckLine, Line, LineFault, PlanQuery, RowsLine, line};
+pub use explain::Style;
+pub use plan_commands::{continues_cmd, cut_cmd, deps_cell_cmd, deps_cmd, path_cmd};
+pub use program::{Screen, run};
 pub use run_commands::run_cmd;
 pub use tape_claim::{LockFile, TapeClaim};
-pub use text_commands::{Ending, Status, conclude, map_cmd, row_cmd, scen_cmd};
+pub use text_commands::{
+    Ending, RowsAsked, Status, conclude, map_cmd, row_cmd, rows_cmd, scen_cmd,
+};
 pub use unperformed::refuse;

@@ -1,51 +1,51 @@
 //! Each command on its files, which are opened in the order of its words. An error is that of a file that can't be opened.
-ghost use Rattle.std.specs.Prelude.{◌≡◌, ◌⊎◌, MatchBool, MatchOption, MatchResult, string_bytes};
+ghost use Rattle.std.specs.Prelude.{◌≡◌, ◌⊎◌, ◌||◌, MatchBool, MatchOption, MatchResult, string_bytes};
 ghost use Rattle.text_commands.specs.Ending.{end_of};
 ghost use Rattle.text_commands.specs.MapCommand.{RewritesMap};
 ghost use Rattle.text_commands.specs.RowCommand.{AnswersRow};
+ghost use Rattle.text_commands.specs.RowsCommand.{AnswersRows, ShowsProgress};
 ghost use Rattle.text_commands.specs.ScenCommand.{RewritesScen};
 ghost use Rattle.plan_commands.specs.ContinuesCommand.{AnswersContinues};
 ghost use Rattle.run_commands.specs.RunCommand.{AnswersRun};
 ghost use Rattle.agent_commands.specs.AgentCommand.{AnswersAgent};
 ghost use Rattle.agent_commands.specs.TapeCommand.{AnswersTape, EndsWithoutTape};
-ghost use Rattle.mapf_cmd.specs.Program.{AnswersQuery, CheckOn, OnFileOrInput, OnTwoFiles, OnThreeFiles, PerformsOn};
+ghost use Rattle.mapf_cmd.specs.Program.{AnswersQuery, CheckOn, OnFileOrInput, OnTwoFiles, OnThreeFiles, PerformsOn, ShowsOn, rows_asked, terms_of};
 
 use agent_commands::{Seat, agent_command, tape_command};
-use command_line::{Line, PlanQuery};
+use check_commands::{BoundForm, CheckTerms, bound_command, check_command};
+use command_line::{CheckLine, Line, PlanQuery, RowsLine};
 use explain::{FileKind, NamedFile};
-use plan_commands::{check_command, continues_command};
+use plan_commands::continues_command;
 use run_commands::run_command;
 use std::alloc::Global;
 use std::io::{ErrorKind, Read, Write};
 use std::rt::Files;
 use std::{fs, io};
 use tape_claim::LockFile;
-use text_commands::{Ending, map_command, row_command, scen_command};
+use text_commands::{Ending, RowsAsked, map_command, row_command, rows_command, scen_command};
 use text_io::Counted;
 
-/// Performs a command on its files.
-pub(crate) fn perform_on_files<R: Files + AllocGlobal, I: Read, W: Write>(
+/// Performs a command on its files. Where `is_watched` is set, `rows` says on `err` how far it has come.
+pub(crate) fn perform_on_files<R: Files + AllocGlobal, I: Read, W: Write, E: Write>(
     rt: &R,
     line: &Line,
+    is_watched: bool,
     input: &mut Counted<I>,
     out: &mut Counted<W>,
+    err: &mut Counted<E>,
 ) -> io::Result<Ending>
 where
     R::File: LockFile,
-    ensures { MatchResult result (λ ending. PerformsOn R.File.remaining I.remaining W.contents line.now input.old input.new out.old out.new (end_of ending))
-        (λ _. (input.new ≡ input.old) × (out.new ≡ out.old)) }
+    ensures { MatchResult result (λ ending. PerformsOn R.File.remaining I.remaining W.contents line.now input.old input.new out.old out.new (end_of ending)
+        × ShowsOn E.contents is_watched line.now err.old err.new)
+        (λ _. (input.new ≡ input.old) × (out.new ≡ out.old) × (err.new ≡ err.old)) }
 {
     match line {
         Line::Map { file } => map_on_file(rt, file, input, out),
         Line::Scen { file } => scen_on_file(rt, file, input, out),
         Line::Row { map, scen, row } => row_on_files(rt, map, scen, *row, out),
-        Line::Check {
-            map,
-            plan,
-            scen,
-            agents,
-            json,
-        } => check_on_files(rt, [map, plan], scen, *agents, *json, out),
+        Line::Rows(rows) => rows_on_files(rt, rows, is_watched, out, err),
+        Line::Check(check) => check_on_files(rt, check, out),
         Line::Query { map, plan, query } => query_on_files(rt, map, plan, *query, out),
         Line::Continues { map, old, new } => continues_on_files(rt, [map, old, new], out),
         Line::Run {
@@ -136,32 +136,56 @@ fn row_on_files<R: Files + AllocGlobal, W: Write>(
     Ok(row_command::perform(rt.alloc(), &mut map, &mut scen, row, out))
 }
 
+fn rows_on_files<R: Files + AllocGlobal, W: Write, E: Write>(
+    rt: &R,
+    line: &RowsLine,
+    is_watched: bool,
+    out: &mut Counted<W>,
+    err: &mut Counted<E>,
+) -> io::Result<Ending>
+    ensures { MatchResult result (λ ending. OnTwoFiles (λ a b c d. AnswersRows R.File.remaining R.File.remaining W.contents (rows_asked line.now) a b c d out.old out.new (end_of ending))
+        × ShowsProgress E.contents (line.now.progress || is_watched) err.old err.new)
+        (λ _. (out.new ≡ out.old) × (err.new ≡ err.old)) }
+{
+    let asked = RowsAsked {
+        from: line.from,
+        to: line.to,
+        straight: line.straight,
+        progress: is_shown(line.progress, is_watched),
+    };
+    let mut map = Counted::new(fs::open(rt, &line.map)?);
+    let mut scen = Counted::new(fs::open(rt, &line.scen)?);
+    Ok(rows_command::perform(rt.alloc(), &mut map, &mut scen, &asked, out, err))
+}
+
+/// Whether progress is shown: where it is asked for, and on a terminal.
+fn is_shown(is_asked: bool, is_watched: bool) -> bool
+    ensures { result ≡ is_asked || is_watched }
+{
+    is_asked || is_watched
+}
+
 fn check_on_files<R: Files + AllocGlobal, W: Write>(
     rt: &R,
-    paths: [&str; 2],
-    scen: &Option<String>,
-    due: Option<u16>,
-    json: bool,
+    line: &CheckLine,
     out: &mut Counted<W>,
 ) -> io::Result<Ending>
-    ensures { MatchResult result (λ ending. CheckOn R.File.remaining W.contents scen.now due json out.old out.new (end_of ending)) (λ _. out.new ≡ out.old) }
+    ensures { MatchResult result (λ ending. CheckOn R.File.remaining W.contents line.now.scen (terms_of line.now) out.old out.new (end_of ending)) (λ _. out.new ≡ out.old) }
 {
-    let [map, plan] = paths;
-    let mut map = Counted::new(fs::open(rt, map)?);
-    let mut plan = Counted::new(fs::open(rt, plan)?);
-    match scen {
-        None => Ok(check_command::perform(rt.alloc(), &mut map, &mut plan, due, json, out)),
+    let terms = CheckTerms {
+        due: line.agents,
+        all: line.all,
+        bound: line.bound,
+        no_rotation: line.no_rotation,
+        json: line.json,
+    };
+    let mut map = Counted::new(fs::open(rt, &line.map)?);
+    let mut plan = Counted::new(fs::open(rt, &line.plan)?);
+    match &line.scen {
+        None => Ok(check_command::perform(rt.alloc(), &mut map, &mut plan, &terms, out)),
         Some(scen) => {
             let mut scen = Counted::new(fs::open(rt, scen)?);
-            Ok(check_command::perform_fit(
-                rt.alloc(),
-                &mut map,
-                &mut plan,
-                &mut scen,
-                due,
-                json,
-                out,
-            ))
+            Ok(check_command::perform_fit(rt.alloc(), &mut map, &mut plan, &mut scen, &terms, out))
         }
     }
 }
@@ -200,6 +224,10 @@ fn answer_query<M: Read, P: Read, W: Write>(
         }
         PlanQuery::Path { agent } => {
             plan_commands::path_command::perform(alloc, map, plan, agent, out)
+        }
+        PlanQuery::Bound { agents, json } => {
+            let form = BoundForm { agents, json };
+            bound_command::perform(alloc, map, plan, form, out)
         }
         PlanQuery::Cut { time } => {
             plan_commands::cut_command::perform(alloc, map, plan, time, out)
@@ -297,15 +325,15 @@ pub(crate) fn files_of(
         Line::Map { file } => (file_of(Map, file), None, None),
         Line::Scen { file } => (file_of(Scenario, file), None, None),
         Line::Row { map, scen, .. } => (file_of(Map, map), Some(file_of(Scenario, scen)), None),
-        Line::Check {
-            map,
-            plan,
-            scen,
-            ..
-        } => (
-            file_of(Map, map),
-            Some(file_of(Plan, plan)),
-            scen.as_ref().map(|scen| file_of(Scenario, scen)),
+        Line::Rows(rows) => (
+            file_of(Map, &rows.map),
+            Some(file_of(Scenario, &rows.scen)),
+            None,
+        ),
+        Line::Check(check) => (
+            file_of(Map, &check.map),
+            Some(file_of(Plan, &check.plan)),
+            check.scen.as_ref().map(|scen| file_of(Scenario, scen)),
         ),
         Line::Query { map, plan, .. } => (file_of(Map, map), Some(file_of(Plan, plan)), None),
         Line::Continues { map, old, new } => (

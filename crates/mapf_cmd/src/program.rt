@@ -3,7 +3,7 @@ ghost use Rattle.std.specs.Prelude.{map, string_bytes};
 ghost use Rattle.explain.specs.Explaining.{AddsMore};
 ghost use Rattle.text_io.specs.Counted.{counted_inner};
 ghost use Rattle.text_commands.specs.Ending.{end_of};
-ghost use Rattle.mapf_cmd.specs.Program.{AnswersLine, AnswersWords, Performs};
+ghost use Rattle.mapf_cmd.specs.Program.{AnswersLine, AnswersWords, Performs, ShowsOn};
 
 use crate::blamed_plan::is_of_new;
 use crate::on_files::{file_of, files_of, perform_on_files};
@@ -18,24 +18,32 @@ use tape_claim::{LockFile, TapeClaim};
 use text_commands::{Ending, conclude};
 use text_io::{Counted, Failure, FaultWords};
 
+/// What is known of the error output: how explanations look there, and whether somebody watches it, who wants to see progress.
+#[derive(Clone, Copy, Debug)]
+pub struct Screen {
+    pub style: Style,
+    pub is_watched: bool,
+}
+
 /// Answers the words of the command line, the program's name first, over the files of `rt`: what a
 /// command writes goes to `out`, and the line of a fault to `err`, with an explanation behind it in
-/// this style, where one is asked for. An agent reads `input`, and so do `map` and `scen` where
-/// their file is `-`. The answer is the exit status.
+/// the screen's style, where one is asked for. `rows` says there how far it has come, if somebody
+/// watches. An agent reads `input`, and so do `map` and `scen` where their file is `-`. The answer is
+/// the exit status.
 pub fn run<R: Files + AllocGlobal, I: Read, W: Write, E: Write>(
     rt: &R,
     words: &[String],
-    style: Style,
+    screen: Screen,
     input: &mut Counted<I>,
     out: &mut Counted<W>,
     err: &mut Counted<E>,
 ) -> u8
 where
     R::File: LockFile,
-    ensures { AnswersWords R.File.remaining I.remaining W.contents E.contents (map string_bytes words.now) input.old input.new out.old out.new err.old err.new result }
+    ensures { AnswersWords R.File.remaining I.remaining W.contents E.contents screen.is_watched (map string_bytes words.now) input.old input.new out.old out.new err.old err.new result }
 {
     match line(rt.alloc(), words) {
-        Ok(asked) => answer(rt, &asked, style, input, out, err),
+        Ok(asked) => answer(rt, &asked, screen, input, out, err),
         Err(fault) => end_unperformed(words, fault, out, err),
     }
 }
@@ -44,37 +52,40 @@ where
 fn answer<R: Files + AllocGlobal, I: Read, W: Write, E: Write>(
     rt: &R,
     asked: &Asked,
-    style: Style,
+    screen: Screen,
     input: &mut Counted<I>,
     out: &mut Counted<W>,
     err: &mut Counted<E>,
 ) -> u8
 where
     R::File: LockFile,
-    ensures { AnswersLine R.File.remaining I.remaining W.contents E.contents asked.now input.old input.new out.old out.new err.old err.new result }
+    ensures { AnswersLine R.File.remaining I.remaining W.contents E.contents screen.is_watched asked.now input.old input.new out.old out.new err.old err.new result }
 {
-    let ending = perform(rt, &asked.line, input, out);
+    let ending = perform(rt, &asked.line, screen.is_watched, input, out, err);
     let status = conclude(ending, err);
     if asked.explain {
         if let Some(words) = ending.explained {
-            explain_fault(rt, &asked.line, words, style, err);
+            explain_fault(rt, &asked.line, words, screen.style, err);
         }
     }
     status
 }
 
 /// Performs a command on its files.
-fn perform<R: Files + AllocGlobal, I: Read, W: Write>(
+fn perform<R: Files + AllocGlobal, I: Read, W: Write, E: Write>(
     rt: &R,
     line: &Line,
+    is_watched: bool,
     input: &mut Counted<I>,
     out: &mut Counted<W>,
+    err: &mut Counted<E>,
 ) -> Ending
 where
     R::File: LockFile,
-    ensures { Performs R.File.remaining I.remaining W.contents line.now input.old input.new out.old out.new (end_of result) }
+    ensures performs { Performs R.File.remaining I.remaining W.contents line.now input.old input.new out.old out.new (end_of result) }
+    ensures shows { ShowsOn E.contents is_watched line.now err.old err.new }
 {
-    match perform_on_files(rt, line, input, out) {
+    match perform_on_files(rt, line, is_watched, input, out, err) {
         Ok(ending) => ending,
         Err(_) => Ending::gave_up(Failure::OpenFailed.words()),
     }

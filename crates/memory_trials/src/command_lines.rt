@@ -1,20 +1,20 @@
 //! The program over its words, with fake files.
 use crate::endings::{End, Ended};
 use crate::texts::{
-    ACCEPTED, ACCEPTED_JSON, AGREES, ANSWERED, ASKED, COMPLETED, CONTINUED, CUT, EVENTS, NEEDS,
-    PATH, PATHS, REJECTED, REPLIES, SWAP, VISITS,
+    ACCEPTED, ACCEPTED_JSON, AGREES, ANSWERED, ASKED, BOUNDED, BOUNDS, COMPLETED, CONTINUED, CUT,
+    EVENTS, LISTED, NEEDS, PATH, PATHS, REJECTED, REPLIES, ROWS, STRAIGHT, SWAP, VISITS,
 };
 use fakes::{
     BEHIND, CORNER, CORNER_WRITTEN, DiskFiles, FakeDisk, Keeper, LANE, ROW, ROW_WRITTEN, TASKS,
 };
-use mapf_cmd::{Style, run};
+use mapf_cmd::{Screen, Style, run};
 use std::alloc::{AllocError, Global};
 use std::process::Abort;
 use std::test::Fail;
 use text_io::Counted;
 
 /// Command lines with their status and what they write.
-static LINES: [(&str, u8, &str); 19] = [
+static LINES: [(&str, u8, &str); 24] = [
     ("map C", 0, CORNER_WRITTEN),
     ("scen S", 0, ROW_WRITTEN),
     ("row C S 0", 0, AGREES),
@@ -22,6 +22,11 @@ static LINES: [(&str, u8, &str); 19] = [
     ("check M X", 1, REJECTED),
     ("check M P --json", 0, ACCEPTED_JSON),
     ("check M P --scen F", 0, ACCEPTED),
+    ("check M X --all", 1, LISTED),
+    ("check M P --bound --no-rotation", 0, BOUNDED),
+    ("rows C S", 0, ROWS),
+    ("rows C S --straight --from 0 --to=9", 0, STRAIGHT),
+    ("bound M P --agents", 0, BOUNDS),
     ("deps M P", 0, NEEDS),
     ("deps M P --cell 1 0", 0, VISITS),
     ("path M P", 0, PATHS),
@@ -36,7 +41,7 @@ static LINES: [(&str, u8, &str); 19] = [
     (
         "--version",
         0,
-        "mapf 0.1.0\nproved by rattle-kit-13b logic dac8208d650f15bf\n",
+        "mapf 0.1.0\nproved by rattle-kit-13f logic dac8208d650f15bf\n",
     ),
 ];
 
@@ -116,7 +121,10 @@ fn ended(files: &DiskFiles<'_>, words: &[String]) -> Ended {
     let status = run(
         files,
         words,
-        Style::Plain,
+        Screen {
+            style: Style::Plain,
+            is_watched: false,
+        },
         &mut Counted::new(ASKED.as_bytes()),
         &mut Counted::new(&mut out),
         &mut Counted::new(&mut err),

@@ -1,16 +1,18 @@
 //! Each command of the program, called as the program calls it.
 use crate::endings::{End, Ended};
 use crate::texts::{
-    ACCEPTED, ACCEPTED_JSON, AGREES, ANSWERED, ASKED, COMPLETED, CONTINUED, CUT, EVENTS, KEPT,
-    NEEDS, PATH, PATHS, REJECTED, REJECTED_JSON, REPLIES, SWAP, VISITS,
+    ACCEPTED, ACCEPTED_JSON, AGREES, ANSWERED, ASKED, BOUNDED, BOUNDS, BOUNDS_JSON, COMPLETED,
+    CONTINUED, CUT, EVENTS, KEPT, LISTED, LISTED_JSON, NEEDS, PATH, PATHS, REJECTED, REJECTED_JSON,
+    REPLIES, ROWS, STRAIGHT, SWAP, VISITS,
 };
 use fakes::{
     BEHIND, CORNER, CORNER_WRITTEN, DiskFiles, FakeDisk, Keeper, LANE, ROW, ROW_WRITTEN, TASKS,
 };
 use grid::Cell;
 use mapf_cmd::{
-    agent_cmd, check_cmd, check_fit_cmd, continues_cmd, cut_cmd, deps_cell_cmd, deps_cmd, map_cmd,
-    path_cmd, row_cmd, run_cmd, scen_cmd, tape_cmd,
+    BoundForm, CheckTerms, RowsAsked, agent_cmd, bound_cmd, check_cmd, check_fit_cmd,
+    continues_cmd, cut_cmd, deps_cell_cmd, deps_cmd, map_cmd, path_cmd, row_cmd, rows_cmd, run_cmd,
+    scen_cmd, tape_cmd,
 };
 use std::alloc::Global;
 use std::test::Fail;
@@ -22,9 +24,13 @@ enum Command {
     Map,
     Scen,
     Row,
-    /// Checks this plan, and perhaps answers as JSON.
-    Check(&'static str, bool),
-    CheckFit(bool),
+    /// Perhaps by straight steps.
+    Rows(bool),
+    /// Checks this plan by these terms.
+    Check(&'static str, &'static str),
+    CheckFit(&'static str),
+    /// Perhaps as JSON.
+    Bound(bool),
     Deps,
     DepsOfCell,
     /// Perhaps of one agent.
@@ -41,16 +47,23 @@ enum Command {
 }
 
 /// Each command with its status and what it writes: last the one that writes the tape.
-static COMMANDS: [(Command, u8, &str); 19] = [
+static COMMANDS: [(Command, u8, &str); 26] = [
     (Command::Map, 0, CORNER_WRITTEN),
     (Command::Scen, 0, ROW_WRITTEN),
     (Command::Row, 0, AGREES),
-    (Command::Check(BEHIND, false), 0, ACCEPTED),
-    (Command::Check(SWAP, false), 1, REJECTED),
-    (Command::Check(BEHIND, true), 0, ACCEPTED_JSON),
-    (Command::Check(SWAP, true), 1, REJECTED_JSON),
-    (Command::CheckFit(false), 0, ACCEPTED),
-    (Command::CheckFit(true), 0, ACCEPTED_JSON),
+    (Command::Rows(false), 0, ROWS),
+    (Command::Rows(true), 0, STRAIGHT),
+    (Command::Check(BEHIND, ""), 0, ACCEPTED),
+    (Command::Check(SWAP, ""), 1, REJECTED),
+    (Command::Check(BEHIND, "json"), 0, ACCEPTED_JSON),
+    (Command::Check(SWAP, "json"), 1, REJECTED_JSON),
+    (Command::Check(SWAP, "all"), 1, LISTED),
+    (Command::Check(SWAP, "all json"), 1, LISTED_JSON),
+    (Command::Check(BEHIND, "bound no_rotation"), 0, BOUNDED),
+    (Command::CheckFit(""), 0, ACCEPTED),
+    (Command::CheckFit("json"), 0, ACCEPTED_JSON),
+    (Command::Bound(false), 0, BOUNDS),
+    (Command::Bound(true), 0, BOUNDS_JSON),
     (Command::Deps, 0, NEEDS),
     (Command::DepsOfCell, 0, VISITS),
     (Command::Path(None), 0, PATHS),
@@ -62,6 +75,18 @@ static COMMANDS: [(Command, u8, &str); 19] = [
     (Command::Tape, 0, KEPT),
     (Command::Agent, 0, ANSWERED),
 ];
+
+/// The terms that words ask for.
+fn terms_of(words: &str) -> CheckTerms {
+    let has = |word: &str| words.split(' ').any(|given| given == word);
+    CheckTerms {
+        due: None,
+        all: if has("all") { Some(10) } else { None },
+        bound: has("bound"),
+        no_rotation: has("no_rotation"),
+        json: has("json"),
+    }
+}
 
 /// A reader of a text.
 fn reader(text: &str) -> Counted<&[u8]> {
@@ -77,6 +102,22 @@ fn perform(files: &DiskFiles<'_>, command: Command, out: &mut Out<'_>, err: &mut
         Command::Map => map_cmd(alloc, &mut reader(CORNER), out, err),
         Command::Scen => scen_cmd(alloc, &mut reader(ROW), out, err),
         Command::Row => row_cmd(alloc, &mut reader(CORNER), &mut reader(ROW), 0, out, err),
+        Command::Rows(straight) => {
+            let asked = RowsAsked {
+                from: None,
+                to: None,
+                straight,
+                progress: false,
+            };
+            rows_cmd(
+                alloc,
+                &mut reader(CORNER),
+                &mut reader(ROW),
+                &asked,
+                out,
+                err,
+            )
+        }
         Command::Agent => perform_agent(files, out, err),
         _ => perform_on_plan(alloc, command, out, err),
     }
@@ -86,17 +127,19 @@ fn perform_on_plan(alloc: Global, command: Command, out: &mut Out<'_>, err: &mut
     let map = &mut reader(LANE);
     let plan = &mut reader(BEHIND);
     match command {
-        Command::Check(plan, json) => check_cmd(
-            alloc,
-            map,
-            &mut reader(plan),
-            None,
-            json,
-            out,
-            err,
-        ),
-        Command::CheckFit(json) => {
-            check_fit_cmd(alloc, map, plan, &mut reader(TASKS), None, json, out, err)
+        Command::Check(plan, words) => {
+            check_cmd(alloc, map, &mut reader(plan), &terms_of(words), out, err)
+        }
+        Command::CheckFit(words) => {
+            let tasks = &mut reader(TASKS);
+            check_fit_cmd(alloc, map, plan, tasks, &terms_of(words), out, err)
+        }
+        Command::Bound(json) => {
+            let form = BoundForm {
+                agents: !json,
+                json,
+            };
+            bound_cmd(alloc, map, plan, form, out, err)
         }
         Command::DepsOfCell => deps_cell_cmd(alloc, map, plan, Cell { x: 1, y: 0 }, out, err),
         Command::Path(agent) => path_cmd(alloc, map, plan, agent, out, err),

@@ -46,3 +46,21 @@ pub const CUT: &str = "mapf-plan 1\nnumber 7\nagents 2\nagent 1 0 e\nagent 0 0 e
 pub const CONTINUED: &str = "continues from 2, adds 0 moves\n";
 
 pub const VISITS: &str = "visit 0 0 0\nvisit 1 1 1\n";
+
+/// Of the one row of the scenario ROW.
+pub const ROWS: &str =
+    "0 shortest 2 0 listed 2.00000000 agrees\nrows 1 agree 1 differ 0 unreachable 0 size 0\n";
+
+/// The same by straight steps.
+pub const STRAIGHT: &str = "0 least 2\nrows 1 sum 2 greatest 2 unreachable 0 size 0\n";
+
+pub const LISTED: &str = "rejected Swap 0 1 0\nfaults 1 agents 2\n";
+
+pub const LISTED_JSON: &str =
+    "{\"accepted\":false,\"faults\":[{\"kind\":\"Swap\",\"agents\":[0,1],\"step\":0}],\"agents\":2,\"more\":false}\n";
+
+pub const BOUNDED: &str = "accepted agents 2 cost 2 of 2 makespan 1 of 1\n";
+
+pub const BOUNDS: &str = "agent 0 cost 1 of 1\nagent 1 cost 1 of 1\ncost 2 of 2 makespan 1 of 1\n";
+
+pub const BOUNDS_JSON: &str = "{\"cost\":2,\"cost_bound\":2,\"makespan\":1,\"makespan_bound\":1}\n";

@@ -1,5 +1,4 @@
 -- Lemmas on what is written for plans, and on walks and their text.
-mod PlainText
 mod DepsLemmas
 mod DepsPuts
 mod VisitLines

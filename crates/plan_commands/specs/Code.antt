@@ -1,8 +1,6 @@
 -- The code's own words: what bodies and proofs speak of, and no promise.
 
--- what the parts of `mapf check` owe each other
-pub mod Verdicts
--- the same of `mapf deps`
+-- what the parts of `mapf deps` owe each other
 pub mod Dependencies
 -- the cells of all agents, time by time, as the code goes through them
 pub mod Rows

@@ -15,7 +15,7 @@ use Rattle.plan_commands.specs.declared.continuation_fault.ContinuationFault.{Co
 use Rattle.plan_commands.specs.declared.continuation_fault.ContinuationFault.TheVariants.{Map, OldText, NewText, Old, New, Apart}
 use Rattle.text_commands.specs.declared.status.Status.TheVariants.{Done}
 use Rattle.text_commands.specs.Ending.{End, answered_with, gave_up}
-use Rattle.plan_commands.specs.CheckCommand.{EndsByLine}
+use Rattle.text_commands.specs.Rewriting.{EndsByLine}
 use Rattle.plan_commands.specs.FaultWords.{continuation_fault_words}
 
 -- The new plan continues the old one. It adds to it from this time on, the most acts of an agent of the old one, and by so many moves.

@@ -1,12 +1,8 @@
 -- What has to be believed, in the order in which to read it: each promise of the crate is made in these words, and in those of
 -- `model`, `planned` and `text_commands`.
 
--- the words of a plan's fault, and of why no positions are written, or a plan continues no other
+-- the words of why no positions are written, or a plan continues no other
 pub mod FaultWords
--- what is written for a plan that was checked
-pub mod VerdictText
--- what `mapf check` does and answers
-pub mod CheckCommand
 -- what is written of a timetable's dependencies
 pub mod DepsText
 -- what `mapf deps` does and answers

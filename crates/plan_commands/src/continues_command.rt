@@ -3,7 +3,7 @@ ghost use Rattle.std.specs.Prelude.{IfOk, MatchResult, string_bytes, ◌≡◌};
 ghost use Rattle.text_commands.specs.Ending.{EndsAndTells, answered_with, end_of};
 ghost use Rattle.text_commands.specs.declared.status.Status.TheVariants.{Done};
 ghost use Rattle.continuing.specs.Departing.{IsContinueFault};
-ghost use Rattle.plan_commands.specs.CheckCommand.{EndsByLine};
+ghost use Rattle.text_commands.specs.Rewriting.{EndsByLine};
 ghost use Rattle.plan_commands.specs.ContinuesCommand.{AnswersContinues, IsContinuation, JudgesPlans, ReadsContinuation, continuation_line};
 
 use crate::continuation_fault::ContinuationFault;

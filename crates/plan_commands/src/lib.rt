@@ -2,8 +2,6 @@
 #![tactic(auto)]
 
 mod cell_text;
-pub mod check_command;
-mod check_fault;
 mod continuation_fault;
 pub mod continues_command;
 pub mod cut_command;
@@ -16,15 +14,11 @@ pub mod path_command;
 mod path_fault;
 mod path_text;
 mod straying;
-mod verdict;
 mod visits_text;
 mod walk;
 
-pub use check_command::{check_cmd, check_fit_cmd};
-pub use check_fault::CheckFault;
 pub use continues_command::continues_cmd;
 pub use cut_command::cut_cmd;
 pub use deps_cell_command::deps_cell_cmd;
 pub use deps_command::deps_cmd;
 pub use path_command::path_cmd;
-pub use verdict::{Verdict, verdict_json};

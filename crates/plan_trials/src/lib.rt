@@ -8,6 +8,8 @@ mod families;
 #[cfg(test)]
 mod limits;
 #[cfg(test)]
+mod listed_faults;
+#[cfg(test)]
 mod plain_checker;
 #[cfg(test)]
 mod plan_texts;

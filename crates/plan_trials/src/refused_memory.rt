@@ -1,14 +1,20 @@
 //! Plans that are read, put together and checked while memory may be refused, as `./test --prove` refuses each allocation of these tests in turn: at the most one in a run.
+use all_faults::first_faults;
+use bounding::bounds_of;
 use fakes::{BEHIND, Keeper, LANE};
 use grid::{Cell, MapFault};
+use least_steps::StepFault;
 use plan::{Act, Plan, PlanFault, PlanTextFault, PushFault, check, write_plan};
-use plan_fixtures::{map_of, plan_of};
-use std::alloc::Global;
+use plan_fixtures::{checked_on, map_of, plan_of};
+use std::alloc::{AllocError, Global};
 use std::process::Abort;
 use std::test::Fail;
 use text_io::Counted;
 
 const EMPTY: &str = "mapf-plan 1\nnumber 7\nagents 0\n";
+
+/// Two that exchange their cells.
+const SWAP: &str = "mapf-plan 1\nnumber 7\nagents 2\nagent 0 0 e\nagent 1 0 w\n";
 
 const ONE: &str = "mapf-plan 1\nnumber 7\nagents 1\nagent 1 0 e-\n";
 
@@ -95,6 +101,56 @@ fn check_it(rt: &impl Abort, alloc: Global) -> Result<(), PlanFault> {
 fn memory_refused_to_a_check(rt: HostRuntime) -> Result<(), Fail> {
     if check_it(&rt, rt.alloc()).is_err() {
         check_it(&rt, rt.alloc())?;
+    }
+    Ok(())
+}
+
+/// Lists what is wrong with a plan; nothing but memory is lacking.
+fn list(rt: &impl Abort, alloc: Global) -> Result<(), AllocError> {
+    let Ok(map) = map_of(alloc, LANE) else {
+        return Err(AllocError);
+    };
+    let Ok(plan) = plan_of(alloc, SWAP) else {
+        return Err(AllocError);
+    };
+    let faults = first_faults(alloc, &map, &plan, 10)?;
+    assert!(rt; faults.listed.as_slice() == [PlanFault::Swap(0, 1, 0)].as_slice());
+    assert_eq!(rt; (faults.more, faults.agents), (false, 2));
+    Ok(())
+}
+
+#[test]
+fn memory_refused_to_listed_faults(rt: HostRuntime) -> Result<(), Fail> {
+    if list(&rt, rt.alloc()).is_err() {
+        list(&rt, rt.alloc())?;
+    }
+    Ok(())
+}
+
+/// Asks what a plan costs at least; nothing but memory is lacking.
+fn bound(rt: &impl Abort, alloc: Global) -> Result<(), StepFault> {
+    let Ok(map) = map_of(alloc, LANE) else {
+        return Err(StepFault::OutOfMemory);
+    };
+    let Ok(plan) = checked_on(alloc, &map, BEHIND) else {
+        return Err(StepFault::OutOfMemory);
+    };
+    match bounds_of(alloc, &map, &plan) {
+        Ok(bounds) => {
+            assert!(rt; bounds.as_slice() == [1, 1].as_slice());
+            Ok(())
+        }
+        Err(fault) => {
+            assert_eq!(rt; fault, StepFault::OutOfMemory);
+            Err(fault)
+        }
+    }
+}
+
+#[test]
+fn memory_refused_to_bounds(rt: HostRuntime) -> Result<(), Fail> {
+    if bound(&rt, rt.alloc()).is_err() {
+        bound(&rt, rt.alloc())?;
     }
     Ok(())
 }

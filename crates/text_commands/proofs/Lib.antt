@@ -3,3 +3,5 @@ mod LineParts
 mod RowVerdictPuts
 mod RowAnswers
 mod Refusals
+mod RowsLemmas
+mod RowsEndings

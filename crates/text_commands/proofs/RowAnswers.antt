@@ -1,5 +1,5 @@
 -- What `mapf row` writes and answers.
-use Rattle.std.proofs.Common.{◌≡◌, ℕ, Bool, List, Option, Result, Ok, Err, IsErrAnd, sym, subst}
+use Rattle.std.proofs.Common.{◌≡◌, ℕ, Bool, List, Option, Result, Ok, Err, IsErrAnd, MatchResult, sym, subst}
 use Rattle.text_io.specs.declared.counted.Counted.{Counted}
 use Rattle.text_io.specs.Counted.{counted_inner, failures_of}
 use Rattle.grid.specs.Map.{Grid}
@@ -8,9 +8,9 @@ use Rattle.scen.specs.Certificate.{Certifies}
 use Rattle.rows.specs.Query.{Query}
 use Rattle.scen.specs.declared.certificate.CertFault.{CertFault}
 use Rattle.text_commands.specs.declared.row_fault.RowFault.{RowFault}
-use Rattle.text_commands.specs.declared.row_fault.RowFault.TheVariants.{Certificate}
+use Rattle.text_commands.specs.declared.row_fault.RowFault.TheVariants.{Certificate, Map, NoSuchRow, OutOfMemory, Scen, SizeDiffers}
 use Rattle.text_commands.specs.declared.row_verdict.RowVerdict.{RowVerdict}
-use Rattle.text_commands.specs.RowCommand.{EndsByRowVerdict, IsAsked, JudgesRow, row_verdict_text}
+use Rattle.text_commands.specs.RowCommand.{EndsByRowVerdict, IsAsked, IsUncertified, IsVerdictOn, JudgesRow, row_verdict_text}
 use Rattle.text_commands.specs.Finishing.{FinishesWriting}
 use Rattle.text_commands.specs.Ending.{End, answered_with}
 use Rattle.text_commands.specs.Status.{row_verdict_status}
@@ -27,8 +27,18 @@ row_verdict_ends contents old mid new verdict written success end is wrote finis
     ends_writing contents old mid new (row_verdict_text verdict) written (answered_with (row_verdict_status verdict)) end wrote (subst Finished is finished)
 
 -- a certificate that was refused is passed up
-pub refusal_judged : (m : Grid) (rows : List Query) (number : ℕ) (r : Result RowVerdict RowFault) (fault : CertFault) → IsErrAnd r (λ f. f ≡ Certificate fault)
-    → ((q : Query) × IsAsked m rows number q × (proposal : Proposal) × Certifies m q.start q.goal proposal (Err fault)) → JudgesRow m rows number r
-refusal_judged m rows number (Ok v) fault is judged = absurd is
-refusal_judged m rows number (Err f) fault is judged =
-    let Judges : RowFault → Type 0 = λ g. JudgesRow m rows number (Err g) in subst Judges (sym is) judged
+pub refusal_judged : (m : Grid) (q : Query) (r : Result RowVerdict RowFault) (fault : CertFault) → IsErrAnd r (λ f. f ≡ Certificate fault)
+    → ((proposal : Proposal) × Certifies m q.start q.goal proposal (Err fault)) → MatchResult r (IsVerdictOn m q) (IsUncertified m q)
+refusal_judged m q (Ok v) fault is judged = absurd is
+refusal_judged m q (Err f) fault is judged = subst (IsUncertified m q) (sym is) judged
+
+-- what a row comes to that is asked for
+pub row_judged : (m : Grid) (rows : List Query) (number : ℕ) (q : Query) (r : Result RowVerdict RowFault) → IsAsked m rows number q
+    → MatchResult r (IsVerdictOn m q) (IsUncertified m q) → JudgesRow m rows number r
+row_judged m rows number q (Ok v) asked judged = (q, asked, judged)
+row_judged m rows number q (Err NoSuchRow) asked judged = absurd judged
+row_judged m rows number q (Err (SizeDiffers at)) asked judged = absurd judged
+row_judged m rows number q (Err OutOfMemory) asked judged = (q, asked, judged)
+row_judged m rows number q (Err (Certificate fault)) asked judged = (q, asked, judged)
+row_judged m rows number q (Err (Map fault)) asked judged = absurd judged
+row_judged m rows number q (Err (Scen fault)) asked judged = absurd judged

@@ -18,5 +18,11 @@ pub mod MapCommand
 pub mod ScenCommand
 -- what `mapf row` does and answers
 pub mod RowCommand
+-- texts of words and numbers
+pub mod Pieces
+-- what `mapf rows` does and answers
+pub mod RowsCommand
+-- The code's own words, of which no promise speaks.
+pub mod Code
 -- What follows from these definitions, each with its proof: proofs of other crates cite it, and nothing of it has to be believed.
 pub mod Laws

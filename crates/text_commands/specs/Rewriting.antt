@@ -24,6 +24,11 @@ EndsWriting contents old new success end text =
     ⊎ ((end ≡ gave_up (write_fault_words WriteFailed))
     × WritesText false (contents (counted_inner old)) (contents (counted_inner new)) (failures_of old) (failures_of new) text)
 
+-- a line was written as every text is; or its text was refused memory, and nothing was written
+abbrev pub EndsByLine : {W : Type 0} → (W → Option (List ℕ)) → Counted W → Counted W → End → End → List ℕ → Type 0
+EndsByLine contents old new success end line =
+    EndsWriting contents old new success end line ⊎ ((end ≡ gave_up (failed failure.OutOfMemory)) × (new ≡ old))
+
 -- What the output got and how the command ended, by what reading came to: the canonical text of the value that was read, and nothing
 -- where there is no value.
 abbrev pub EndsBy

@@ -1,5 +1,5 @@
 -- What `mapf row` does and answers.
-use Rattle.std.specs.Prelude.{◌≡◌, ℕ, ◌≤◌, ◌↔◌, IsTrue, Bool, if◌then◌else◌, List, [], ◌∷◌, ◌++◌, length, Option, Some, None, Result, Ok, Err, slice_get, codes, decimal}
+use Rattle.std.specs.Prelude.{◌≡◌, ℕ, ◌≤◌, ◌↔◌, IsTrue, Bool, if◌then◌else◌, List, [], ◌∷◌, ◌++◌, length, Option, Some, None, Result, Ok, Err, slice_get, codes, decimal, ⊤}
 use Rattle.std.specs.List.{join_with_byte}
 use Rattle.text_io.specs.declared.counted.Counted.{Counted}
 use Rattle.grid.specs.Map.{Grid}
@@ -58,19 +58,23 @@ pub record IsAsked (m : Grid) (rows : List Query) (number : ℕ) (q : Query) : T
   pub has_size : HasSizeOf m q
   pub on_map : AreOn m q.start q.goal
 
--- What a row comes to: its verdict; or there is no such row; else its size is another one; else the search was refused memory, or
--- what it proposed proves nothing.
+-- the verdict on the listed length of a query
+abbrev pub IsVerdictOn : Grid → Query → RowVerdict → Type 0
+IsVerdictOn m q verdict = (shortest : Option Length) × IsCertified m q shortest × IsRowVerdictOn q.listed q.decimals shortest verdict
+
+-- why there is none: the search was refused memory, or what it proposed proves nothing
+abbrev pub IsUncertified : Grid → Query → RowFault → Type 0
+IsUncertified m q OutOfMemory = ⊤
+IsUncertified m q (Certificate fault) = (proposal : Proposal) × Certifies m q.start q.goal proposal (Err fault)
+IsUncertified m q fault = ⊥
+
+-- What a row comes to: its verdict; or there is no such row; else its size is another one; else there is no verdict on it.
 abbrev pub JudgesRow : Grid → List Query → ℕ → Result RowVerdict RowFault → Type 0
-JudgesRow m rows number (Ok verdict) =
-    (q : Query) × IsAsked m rows number q × (shortest : Option Length) × IsCertified m q shortest × IsRowVerdictOn q.listed q.decimals shortest verdict
+JudgesRow m rows number (Ok verdict) = (q : Query) × IsAsked m rows number q × IsVerdictOn m q verdict
 JudgesRow m rows number (Err NoSuchRow) = length rows ≤ number
 JudgesRow m rows number (Err (SizeDiffers at)) =
     (at ≡ number) × (q : Query) × (slice_get rows number ≡ Some q) × (HasSizeOf m q → ⊥)
-JudgesRow m rows number (Err OutOfMemory) = (q : Query) × IsAsked m rows number q
-JudgesRow m rows number (Err (Certificate fault)) =
-    (q : Query) × IsAsked m rows number q × (proposal : Proposal) × Certifies m q.start q.goal proposal (Err fault)
-JudgesRow m rows number (Err (Map fault)) = ⊥
-JudgesRow m rows number (Err (Scen fault)) = ⊥
+JudgesRow m rows number (Err fault) = (q : Query) × IsAsked m rows number q × IsUncertified m q fault
 
 -- The map was read, and then the scenario, and then the row was judged by the two; a text that could not be read is answered, and
 -- what comes after it isn't touched.

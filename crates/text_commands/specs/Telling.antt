@@ -6,9 +6,13 @@ use Rattle.text_io.specs.Counted.{counted_inner, failures_of}
 use Rattle.text_io.specs.Text.{line_feed}
 use Rattle.text_io.specs.Writing.{WritesText}
 
--- the line of a fault with these words, as `mapf: ShortRow 6`
+-- the line of a fault with these words, behind what stands at its head
+abbrev pub headed_line : List ℕ → Words → List ℕ
+headed_line head words = head ++ words_text words ++ line_feed ∷ []
+
+-- as `mapf: ShortRow 6`
 abbrev pub fault_line : Words → List ℕ
-fault_line words = codes "mapf: " ++ words_text words ++ line_feed ∷ []
+fault_line words = headed_line (codes "mapf: ") words
 
 -- Nothing was said and the error output was not touched, or the line of the fault with these words was written, or a beginning of it
 -- where the error output failed.

@@ -5,7 +5,7 @@ ghost use Rattle.text_io.specs.Counted.{counted_inner, failures_of};
 ghost use Rattle.text_io.specs.FaultWords.{words_of};
 ghost use Rattle.text_io.specs.Sink.{held_back, Puts, Breaks};
 ghost use Rattle.text_io.specs.Writing.{WritesText};
-ghost use Rattle.text_commands.specs.Telling.{Tells, fault_line};
+ghost use Rattle.text_commands.specs.Telling.{Tells, fault_line, headed_line};
 
 use std::io::Write;
 use text_io::{Counted, FaultWords, Sink, WriteFault};
@@ -32,11 +32,23 @@ fn put_line<E: Write>(sink: &mut Sink<'_, E>, words: FaultWords) -> Result<(), W
     ensures none_held { OnOk result (held_back sink.new ≡ []) }
     ensures err { OnErr result (Breaks E.contents sink.old sink.new (fault_line (words_of words))) }
 {
-    sink.put(b"mapf: ")?;
+    put_fault_line(sink, b"mapf: ", words)?;
+    sink.hand_on()
+}
+
+/// Puts the line of a fault behind what stands at its head.
+pub fn put_fault_line<W: Write>(
+    sink: &mut Sink<'_, W>,
+    head: &[u8],
+    words: FaultWords,
+) -> Result<(), WriteFault>
+    ensures ok { OnOk result (Puts W.contents sink.old sink.new (headed_line head.now (words_of words))) }
+    ensures err { OnErr result (Breaks W.contents sink.old sink.new (headed_line head.now (words_of words))) }
+{
+    sink.put(head)?;
     sink.put(words.name().as_bytes())?;
     put_numbers(sink, words.numbers())?;
-    sink.put(b"\n")?;
-    sink.hand_on()
+    sink.put(b"\n")
 }
 
 /// Puts each number behind a space.

@@ -2,7 +2,7 @@
 ghost use Rattle.std.specs.Prelude.{◌≡◌, ◌↔◌, IsTrue, IfErr, MatchResult};
 ghost use Rattle.scen.specs.Certificate.{AreOn};
 ghost use Rattle.text_commands.specs.Ending.{EndsAndTells, end_of};
-ghost use Rattle.text_commands.specs.RowCommand.{HasSizeOf, IsAsked, JudgesRow, ReadsAndJudges, AnswersRow};
+ghost use Rattle.text_commands.specs.RowCommand.{HasSizeOf, IsAsked, IsUncertified, IsVerdictOn, JudgesRow, ReadsAndJudges, AnswersRow};
 
 use crate::row_fault::RowFault;
 use crate::row_verdict::{RowVerdict, write_row_verdict};
@@ -66,11 +66,19 @@ fn read_and_judge<R: Read, S: Read>(
     judge(alloc, &map, &scenario, number)
 }
 
-/// Compares the listed length of the row with that of a certified shortest walk.
+/// Compares the listed length of the row with this number with that of a certified shortest walk.
 fn judge(alloc: Global, map: &Map, scenario: &Scenario, number: u32) -> Result<RowVerdict, RowFault>
     ensures { JudgesRow map.now scenario.now number result }
 {
     let row = row_for(map, scenario, number)?;
+    verdict_on(alloc, map, row)
+}
+
+/// The same of a row that is for the map.
+fn verdict_on(alloc: Global, map: &Map, row: &Row) -> Result<RowVerdict, RowFault>
+    requires { AreOn map.now row.now.start row.now.goal }
+    ensures { MatchResult result (IsVerdictOn map.now row.now) (IsUncertified map.now row.now) }
+{
     let (start, goal) = (row.start(), row.goal());
     let proposal = propose(alloc, map, start, goal)?;
     let shortest = certify(map, start, goal, &proposal)?;
@@ -103,7 +111,7 @@ fn row_for<'a>(map: &Map, scenario: &'a Scenario, number: u32) -> Result<&'a Row
 }
 
 /// Whether the row is for a map of this size. Then its start and goal, which are in its own grid, are on the map.
-fn is_for(row: &Row, map: &Map) -> bool
+pub(crate) fn is_for(row: &Row, map: &Map) -> bool
     ensures size { IsTrue result ↔ HasSizeOf map.now row.now }
     ensures on_map { IsTrue result → AreOn map.now row.now.start row.now.goal }
 {

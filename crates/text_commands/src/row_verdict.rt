@@ -75,7 +75,10 @@ fn put_line<W: Write>(sink: &mut Sink<'_, W>, verdict: RowVerdict) -> Result<(),
     sink.hand_on()
 }
 
-fn put_row_verdict<W: Write>(sink: &mut Sink<'_, W>, verdict: RowVerdict) -> Result<(), WriteFault>
+pub(crate) fn put_row_verdict<W: Write>(
+    sink: &mut Sink<'_, W>,
+    verdict: RowVerdict,
+) -> Result<(), WriteFault>
     ensures ok { OnOk result (Puts W.contents sink.old sink.new (row_verdict_text verdict)) }
     ensures err { OnErr result (Breaks W.contents sink.old sink.new (row_verdict_text verdict)) }
 {
@@ -108,7 +111,7 @@ fn put_shortest<W: Write>(
 }
 
 /// Puts a word that another one follows.
-fn put_word<W: Write>(sink: &mut Sink<'_, W>, word: &[u8]) -> Result<(), WriteFault>
+pub(crate) fn put_word<W: Write>(sink: &mut Sink<'_, W>, word: &[u8]) -> Result<(), WriteFault>
     ensures ok { OnOk result (Puts W.contents sink.old sink.new (word.now ++ space ∷ [])) }
     ensures err { OnErr result (Breaks W.contents sink.old sink.new (word.now ++ space ∷ [])) }
 {

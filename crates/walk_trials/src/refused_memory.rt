@@ -1,6 +1,7 @@
 //! A walk that is searched for while memory may be refused, as `./test --prove` refuses each allocation of these tests in turn: at the most one in a run.
 use fakes::SQUARE;
 use grid::{Cell, Map, MapFault, read_map};
+use least_steps::{StepFault, StepSearch};
 use scen::{Length, SearchFault, certify, search};
 use std::alloc::Global;
 use std::process::Abort;
@@ -38,6 +39,31 @@ fn memory_refused_to_a_search(rt: HostRuntime) -> Result<(), Fail> {
     let map = square(&rt, rt.alloc())?;
     if attempt(&rt, rt.alloc(), &map).is_err() {
         attempt(&rt, rt.alloc(), &map)?;
+    }
+    Ok(())
+}
+
+/// Searches from corner to corner, two straight steps; nothing but memory is lacking.
+fn attempt_straight(rt: &impl Abort, alloc: Global, map: &Map) -> Result<(), StepFault> {
+    let (start, goal) = (Cell { x: 0, y: 0 }, Cell { x: 1, y: 1 });
+    let mut search = StepSearch::on(alloc, map)?;
+    match search.least(start, goal) {
+        Ok(least) => {
+            assert_eq!(rt; least, Some(2));
+            Ok(())
+        }
+        Err(fault) => {
+            assert_eq!(rt; fault, StepFault::OutOfMemory);
+            Err(fault)
+        }
+    }
+}
+
+#[test]
+fn memory_refused_to_a_straight_search(rt: HostRuntime) -> Result<(), Fail> {
+    let map = square(&rt, rt.alloc())?;
+    if attempt_straight(&rt, rt.alloc(), &map).is_err() {
+        attempt_straight(&rt, rt.alloc(), &map)?;
     }
     Ok(())
 }

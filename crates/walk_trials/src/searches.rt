@@ -1,5 +1,6 @@
-//! What the search proposes is certified, on all small maps; and what is changed in it is refused.
+//! What the search proposes is certified, on all small maps, and so are straight steps; and what is changed in it is refused.
 use grid::{Cell, Map, read_map};
+use least_steps::StepSearch;
 use scen::{CertFault, Length, LengthTable, Proposal, SearchFault, certify, search};
 use std::alloc::Global;
 use std::process::Abort;
@@ -37,11 +38,23 @@ fn cell(i: u16) -> Cell {
 fn check_maps(rt: &impl Abort, alloc: Global, from: u16, to: u16) -> Result<(), Fail> {
     for number in from..to {
         let map = small_map(alloc, number).ok_or("no map")?;
+        let mut walks = StepSearch::on(alloc, &map)?;
         for start in 0..CELLS {
             for goal in 0..CELLS {
                 let proposal = search(alloc, &map, cell(start), cell(goal))?;
                 let answer = certify(&map, cell(start), cell(goal), &proposal);
                 assert!(rt; answer.is_ok(), "at {number} from {start} to {goal}");
+                let least = walks.least(cell(start), cell(goal));
+                assert!(rt;
+                    least.is_ok(),
+                    "straight at {number} from {start} to {goal}"
+                );
+                let shortest = walks.shortest(cell(start), cell(goal));
+                assert_eq!(rt;
+                    shortest.ok(),
+                    answer.ok(),
+                    "at {number} from {start} to {goal}"
+                );
             }
         }
     }

@@ -1,5 +1,6 @@
 //! What the search proposes on maps of users' sizes is certified, and is as long as it has to be.
 use grid::{Cell, Map, read_map};
+use least_steps::StepSearch;
 use scen::{certify, search};
 use std::alloc::Global;
 use std::test::Fail;
@@ -77,27 +78,39 @@ fn certified(
 
 #[test]
 fn long_walks(rt: HostRuntime) -> Result<(), Fail> {
-    for &(layout, width, height, goal, want) in &[
-        (Layout::Open, 12, 1, (11, 0), (11, 0)),
-        (Layout::Open, 4_096, 1, (4_095, 0), (4_095, 0)),
-        (Layout::Open, 1, 4_096, (0, 4_095), (4_095, 0)),
+    for &(layout, width, height, goal, want, least) in &[
+        (Layout::Open, 12, 1, (11, 0), (11, 0), 11),
+        (Layout::Open, 4_096, 1, (4_095, 0), (4_095, 0), 4_095),
+        (Layout::Open, 1, 4_096, (0, 4_095), (4_095, 0), 4_095),
         // thirty-two rows of 63 steps, and two steps from each to the next
-        (Layout::Corridor, 64, 64, (0, 62), (2_078, 0)),
-        (Layout::Open, 512, 512, (511, 511), (0, 511)),
-        (Layout::Open, 512, 512, (511, 200), (311, 200)),
+        (Layout::Corridor, 64, 64, (0, 62), (2_078, 0), 2_078),
+        (Layout::Open, 512, 512, (511, 511), (0, 511), 1_022),
+        (Layout::Open, 512, 512, (511, 200), (311, 200), 711),
     ] {
         let map = map_of(rt.alloc(), layout, width, height)?;
         let (x, y) = goal;
-        let length = certified(rt.alloc(), &map, Cell { x: 0, y: 0 }, Cell { x, y })?;
+        let (start, goal) = (Cell { x: 0, y: 0 }, Cell { x, y });
+        let length = certified(rt.alloc(), &map, start, goal)?;
         assert_eq!(rt; length, Some(want), "at {width} {height} to {x} {y}");
+        let mut search = StepSearch::on(rt.alloc(), &map)?;
+        assert_eq!(rt;
+            search.least(start, goal)?,
+            Some(least),
+            "at {width} {height} to {x} {y}"
+        );
+        let shortest = search.shortest(start, goal)?;
+        let parts = shortest.map(|length| (length.straight, length.diagonal));
+        assert_eq!(rt; parts, Some(want), "at {width} {height} to {x} {y}");
     }
     Ok(())
 }
 
-/// Each length is certified, whatever it is: no length is proposed that isn't the shortest.
+/// Each length is certified, whatever it is: no length is proposed that isn't the shortest. Straight
+/// steps lead just where a walk does, and one search follows another.
 #[test]
 fn scattered_terrain(rt: HostRuntime) -> Result<(), Fail> {
     let map = map_of(rt.alloc(), Layout::Scattered, 40, 40)?;
+    let mut search = StepSearch::on(rt.alloc(), &map)?;
     let mut is_any_reached = false;
     for start in 0..50u16 {
         let from = Cell {
@@ -108,7 +121,10 @@ fn scattered_terrain(rt: HostRuntime) -> Result<(), Fail> {
             x: 39 - from.x,
             y: 39 - from.y,
         };
-        is_any_reached |= certified(rt.alloc(), &map, from, to)?.is_some();
+        let is_reached = certified(rt.alloc(), &map, from, to)?.is_some();
+        assert_eq!(rt; search.least(from, to)?.is_some(), is_reached);
+        assert_eq!(rt; search.shortest(from, to)?.is_some(), is_reached);
+        is_any_reached |= is_reached;
     }
     // Otherwise no walk would have been certified.
     assert!(rt; is_any_reached);

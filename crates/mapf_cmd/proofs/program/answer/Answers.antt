@@ -13,7 +13,9 @@ returns-in-Some g c =
     let Shows : Option Words → Type 0 = λ words. Explains g.E.Write.contents words c.conclude-status.new.err c.explain_fault.new.err in
     record {
       end = end;
-      performs = c.perform-ending.ensures;
+      performs = c.perform-ending.ensures.performs;
+      shown = c.perform-ending.new.err;
+      shows = c.perform-ending.ensures.shows;
       so_far = c.conclude-status.new.err;
       concludes = c.conclude-status.ensures;
       explains = subst Shows (sym shown) c.explain_fault.ensures;
@@ -26,7 +28,9 @@ returns-in_default g c =
     let Shows : Option Words → Type 0 = λ words. Explains g.E.Write.contents words c.conclude-status.new.err c.conclude-status.new.err in
     record {
       end = end;
-      performs = c.perform-ending.ensures;
+      performs = c.perform-ending.ensures.performs;
+      shown = c.perform-ending.new.err;
+      shows = c.perform-ending.ensures.shows;
       so_far = c.conclude-status.new.err;
       concludes = c.conclude-status.ensures;
       explains = subst Shows (sym none) refl;
@@ -39,7 +43,9 @@ returns-else-asked g c =
     let Shows : Option Words → Type 0 = λ words. Explains g.E.Write.contents words c.conclude-status.new.err c.conclude-status.new.err in
     record {
       end = end;
-      performs = c.perform-ending.ensures;
+      performs = c.perform-ending.ensures.performs;
+      shown = c.perform-ending.new.err;
+      shows = c.perform-ending.ensures.shows;
       so_far = c.conclude-status.new.err;
       concludes = c.conclude-status.ensures;
       explains = subst Shows (sym none) refl;

@@ -1,5 +1,0 @@
-use Rattle.text_commands.specs.Ending.{end_of}
-use Rattle.plan_commands.proofs.check_command.check_cmd.Goals as goal
-
-pub returns : goal.returns
-returns g c = record { end = end_of c.perform.result; ends = c.perform.ensures; concludes = c.conclude.ensures }
