@@ -2,9 +2,11 @@
 """Makes maps, scenarios and plans of any size, the same for the same seed.
 
 Usage: generate.py KIND WIDTH HEIGHT [--seed N] [--rows N] [--agents N] [--acts N]
-(KIND: open, random, rooms, terrain, sparse, maze, corridors, mixed, patches, scen, boxes, waits, blocks, trains, regions, crowd, loops)
+(KIND: open, random, rooms, terrain, sparse, dense, maze, corridors, mixed, patches, scen, boxes, waits, blocks, trains, regions, crowd, loops,
+heap, strays)
 The text goes to standard output; `scen` makes a scenario of so many rows for a map of that size; `boxes`, `waits`, `blocks`, `trains`, `regions`, `crowd` and
-`loops` make a valid plan of so many agents with so many acts each on an open map of that size, none a wait but in `waits`, `crowd` and `loops`.
+`loops` make a valid plan of so many agents with so many acts each on an open map of that size, none a wait but in `waits`, `crowd` and `loops`;
+`heap` and `strays` make one in which agents meet.
 """
 import argparse
 import itertools
@@ -14,6 +16,8 @@ import sys
 KINDS = ("open", "random", "rooms", "terrain")
 WALKED_KINDS = ("open", "sparse", "rooms", "maze", "corridors", "mixed", "patches")
 PLAN_KINDS = ("boxes", "waits", "blocks", "trains", "regions", "crowd", "loops")
+# In these agents meet.
+FAULTY_KINDS = ("heap", "strays")
 # In these an agent that turns back near its end meets another.
 CLOSE_KINDS = ("blocks", "trains", "regions", "loops")
 # By how much each act but a wait changes a column and a row.
@@ -72,6 +76,11 @@ def cleared(rows, side=4):
 def sparse_rows(rng, width, height):
     """One cell of five is blocked."""
     return cleared(cell_rows(rng, width, height, [("@", 51), (".", 205)]))
+
+
+def dense_rows(rng, width, height):
+    """Of a hundred cells 35 are blocked: of the others most still lie in one region."""
+    return cleared(cell_rows(rng, width, height, [("@", 90), (".", 166)]))
 
 
 def mixed_rows(rng, width, height):
@@ -145,6 +154,7 @@ def map_text(kind, width, height, seed):
         "rooms": room_rows,
         "terrain": terrain_rows,
         "sparse": sparse_rows,
+        "dense": dense_rows,
         "maze": maze_rows,
         "corridors": corridor_rows,
         "mixed": mixed_rows,
@@ -345,10 +355,23 @@ def crowd_courses(width, height, count, acts, seed):
     return [(start, "".join(course)) for start, course in zip(starts, courses)]
 
 
+def heap_courses(width, height, count, acts):
+    """Agents that all stand in one cell, and stay."""
+    return [((width // 2, height // 2), "-" * acts)] * count
+
+
+def stray_courses(width, height, count, acts, seed):
+    """Agents that wander about without a look at the others."""
+    rng = random.Random(f"strays {width} {height} {seed}")
+    for _ in range(count):
+        x, y = rng.randrange(width), rng.randrange(height)
+        yield (x, y), wandering_acts(rng, x, y, width, height, acts)
+
+
 def plan_text(kind, width, height, seed, count, acts, number=7):
-    """The text of a valid plan on an open map."""
-    makers = {"boxes": box_courses, "waits": waiting_courses, "blocks": block_courses, "trains": train_courses}
-    seeded = {"regions": region_courses, "crowd": crowd_courses, "loops": loop_courses}
+    """The text of a plan on an open map, valid where its kind isn't one in which agents meet."""
+    makers = {"boxes": box_courses, "waits": waiting_courses, "blocks": block_courses, "trains": train_courses, "heap": heap_courses}
+    seeded = {"regions": region_courses, "crowd": crowd_courses, "loops": loop_courses, "strays": stray_courses}
     courses = seeded[kind](width, height, count, acts, seed) if kind in seeded else makers[kind](width, height, count, acts)
     lines = [f"agent {x} {y} {course or '='}" for (x, y), course in courses]
     return "\n".join(["mapf-plan 1", f"number {number}", f"agents {len(lines)}", *lines, ""])
@@ -449,7 +472,7 @@ def restarts_text(moves, restarts):
 
 def main():
     parser = argparse.ArgumentParser()
-    parser.add_argument("kind", choices=(*sorted({*KINDS, *WALKED_KINDS}), "scen", *PLAN_KINDS))
+    parser.add_argument("kind", choices=(*sorted({*KINDS, *WALKED_KINDS, "dense"}), "scen", *PLAN_KINDS, *FAULTY_KINDS))
     parser.add_argument("width", type=int)
     parser.add_argument("height", type=int)
     parser.add_argument("--seed", type=int, default=1)
@@ -459,7 +482,7 @@ def main():
     given = parser.parse_args()
     if given.kind == "scen":
         sys.stdout.write(scen_text(given.width, given.height, given.seed, given.rows))
-    elif given.kind in PLAN_KINDS:
+    elif given.kind in PLAN_KINDS + FAULTY_KINDS:
         sys.stdout.write(plan_text(given.kind, given.width, given.height, given.seed, given.agents, given.acts))
     else:
         sys.stdout.write(map_text(given.kind, given.width, given.height, given.seed))

@@ -2,48 +2,51 @@
 """Measures `mapf` beside a plain Rust program that does the same work.
 
 Usage: run.py [--program PATH] [--rounds N] [--only COMMAND] [--keep FILE] [--write PAGE]
-       run.py [--program PATH] [--rounds N] [--only COMMAND] [--side N] [--rows N]
+       run.py [--program PATH] [--rounds N] [--only COMMAND] [--side N] [--rows N] [--keep FILE]
        run.py --kept FILE --write PAGE
 
-Both programs run in turn over the same texts, many rounds, and at least ten seconds for each text.
+Both programs run in turn over the same texts, many rounds, and at least ten seconds for each text,
+or `--seconds N`. The other program is built first, where it isn't given by `--peer PATH`.
 A line for each text: the best time of each in milliseconds, the median of the rounds' ratios, and
-the most memory that each held, in megabytes. For `row` our program finds the walk and certifies it,
-and the other one only finds it. What each program answers to `complete` is judged by a run of it,
-since which events it answers with is free. For `check` two more rows have a checker of all pairs of
-agents, and one in Python, in place of the other program.
+the most memory that each held, in megabytes. For `row` and `rows` our program finds walks and
+certifies them, and the other one only finds them; of whole scenarios it does so in one more way, by
+jump points. For `alone` there is no other program. What each program answers to `complete` is
+judged by a run of it, since which events it answers with is free. For `check` two more rows have a
+checker of all pairs of agents, and one in Python, in place of the other program.
 
 `--write docs/PERFORMANCE.md` puts what was measured into the tables of that page, with the day and
 the machine, and leaves its other tables as they are. `--keep` writes it into a file, from which
 `--kept` takes it in place of measuring anything.
 """
 import argparse
-import contextlib
 import dataclasses
 import pathlib
-import statistics
 import subprocess
 import sys
 import tempfile
-import time
 from typing import Iterator, Optional, Sequence
 
 BENCH = pathlib.Path(__file__).resolve().parent
 sys.path[:0] = [str(BENCH), *(str(BENCH.parent / it) for it in ("tests", "tools"))]
 import completing  # noqa: E402
+import far  # noqa: E402
 import generate  # noqa: E402
 import tables  # noqa: E402
-from tables import Measure  # noqa: E402
+from timing import LEAST_SECONDS, Bench, peak_memory, whole_peak_memory  # noqa: E402
 from whole_file import draft  # noqa: E402
 
 # The sizes that the page has.
 SIDE, ROWS = 2048, 100_000
 AGENTS, MOST_ACTS, ALL_ACTS = 10_000, 1600, (400, 800, 1600)
-# For how many seconds each text is run at least.
-LEAST_SECONDS = 10
+# Of whole scenarios the sides of maps are so many times as short, and the rows so many times as few.
+FEWER_SIDE, FEWER_ROWS = 4, 100
+# Out of so many times as many pairs of cells come those that are spread over all lengths.
+CANDIDATES = 4
 # What the page calls some kinds of maps and plans.
 NAMES = {
     "terrain": "mixed terrain",
     "sparse": "one cell in five blocked",
+    "dense": "35 cells of 100 blocked",
     "corridors": "corridors three cells wide",
     "mixed": "mixed terrain, cell by cell",
     "patches": "mixed terrain in patches",
@@ -55,106 +58,6 @@ def build_peer() -> pathlib.Path:
     words = ["cargo", "build", "--release", "--offline", "--quiet"]
     subprocess.run(words, cwd=BENCH / "peer", check=True)
     return BENCH / "peer/target/release/peer"
-
-
-def run_once(command: Sequence[str], output: pathlib.Path, statuses: Sequence[int]) -> float:
-    """The seconds of one run, whose text goes to a file."""
-    with open(output, "wb") as out:
-        start = time.perf_counter()
-        ended = subprocess.run(command, stdout=out, stderr=subprocess.DEVNULL)
-        seconds = time.perf_counter() - start
-    if ended.returncode not in statuses:
-        sys.exit(f"{' '.join(command)} ended with status {ended.returncode}")
-    return seconds
-
-
-def peak_memory(command: Sequence[str], size: int) -> int:
-    """The most kilobytes of memory up to the middle of the text that it writes: all that was read
-    is held then."""
-    quiet = {"stdout": subprocess.PIPE, "stderr": subprocess.DEVNULL}
-    child = subprocess.Popen(command, **quiet)
-    child.stdout.read(size // 2)
-    status = pathlib.Path(f"/proc/{child.pid}/status").read_text()
-    child.stdout.read()
-    child.wait()
-    return most_held(status)
-
-
-def most_held(status: str) -> int:
-    """The most kilobytes that a process has held, by what the system says of it."""
-    lines = [line for line in status.splitlines() if line.startswith("VmHWM")]
-    # Of one that has ended nothing is known any more.
-    return int(lines[0].split()[1]) if lines else 0
-
-
-def whole_peak_memory(command: Sequence[str]) -> int:
-    """The most kilobytes of memory in five runs, as it was last seen before each end: one look may
-    come too early for a short run."""
-    most = 0
-    for _ in range(5):
-        quiet = {"stdout": subprocess.DEVNULL, "stderr": subprocess.DEVNULL}
-        child = subprocess.Popen(command, **quiet)
-        while child.poll() is None:
-            most = max(most, most_held(pathlib.Path(f"/proc/{child.pid}/status").read_text()))
-    return most
-
-
-@dataclasses.dataclass
-class Bench:
-    """The programs, a folder for texts, how many rounds are run at least, and what was measured for
-    the page."""
-
-    programs: list[str]
-    folder: pathlib.Path
-    rounds: int
-    measures: list[Measure] = dataclasses.field(default_factory=list)
-
-    def files(self, name: str, *kinds: str) -> list[pathlib.Path]:
-        """A file of each kind for a text."""
-        return [self.folder / f"{name}.{kind}" for kind in kinds]
-
-    def commands(self, words: Sequence[str]) -> list[list[str]]:
-        return [[program, *words] for program in self.programs]
-
-    def measure(
-        self, commands: Sequence[Sequence[str]], statuses: Sequence[int] = (0,)
-    ) -> tuple[tuple[float, float, float], list[bytes]]:
-        """The best time of each command in seconds with the median of the rounds' ratios, and the
-        text that each wrote. A machine may be slow for seconds at a time: the two runs of a round
-        share that, and short texts get more rounds, until some seconds are over."""
-        outputs = [self.folder / f"out{it}" for it in range(len(commands))]
-        taken = []
-        begun = time.perf_counter()
-        while len(taken) < self.rounds or time.perf_counter() - begun < LEAST_SECONDS:
-            both = zip(commands, outputs)
-            taken.append([run_once(command, output, statuses) for command, output in both])
-        best = [min(times) for times in zip(*taken)]
-        ratio = statistics.median(ours / theirs for ours, theirs in taken)
-        return (best[0], best[1], ratio), [output.read_bytes() for output in outputs]
-
-    def measure_alike(
-        self, what: str, commands: Sequence[Sequence[str]], statuses: Sequence[int] = (0,)
-    ) -> tuple[float, float, float]:
-        """The times of programs that have to write the same."""
-        measured, written = self.measure(commands, statuses)
-        if written[0] != written[1]:
-            sys.exit(f"the two programs wrote other texts for {what}")
-        return measured
-
-    def report(
-        self,
-        name: str,
-        measured: tuple[float, float, float],
-        most: Sequence[int],
-        row: Optional[tuple[str, str]],
-    ) -> None:
-        """Tells what was measured, and keeps it where it is a row of a table of the page."""
-        ms = 1000 * measured[0], 1000 * measured[1]
-        mb = most[0] / 1024, most[1] / 1024
-        times = f"{ms[0]:8.2f} {ms[1]:8.2f} {measured[2]:6.2f}"
-        print(f"{name:28} {times} {mb[0]:8.1f} {mb[1]:8.1f}", flush=True)
-        if row:
-            self.measures.append(Measure(*row, ms, measured[2], mb))
 
 
 def named(kind: str) -> str:
@@ -224,6 +127,48 @@ def measure_rows(bench: Bench, side: int) -> None:
             measure_row(bench, kind, it, it == side)
 
 
+def found_lengths(bench: Bench, map_path: pathlib.Path, scen_path: pathlib.Path) -> list[float]:
+    """The lengths of a scenario's rows, as the other program finds them."""
+    words = [bench.programs[1], "rows", str(map_path), str(scen_path)]
+    ran = subprocess.run(words, stdout=subprocess.PIPE, text=True)
+    lines = [line.split() for line in ran.stdout.splitlines()[:-1]]
+    if not lines or any(line[1] != "shortest" for line in lines):
+        sys.exit(f"no walk leads to a goal of {scen_path.name}")
+    return [int(line[2]) + int(line[3]) * 2**0.5 for line in lines]
+
+
+def write_scenario(bench: Bench, kind: str, side: int, rows: int) -> list[str]:
+    """Writes a map, and a scenario whose rows are right and spread over all lengths. Answers the
+    words."""
+    map_path, scen_path = bench.files(f"{kind}-rows", "map", "scen")
+    text = generate.map_text(kind, side, side, 1)
+    map_path.write_text(text)
+    pairs = far.pairs_of(text, 1, CANDIDATES * rows)
+    scen_path.write_text(far.pairs_text(side, side, pairs, [0.0] * len(pairs)))
+    lengths = found_lengths(bench, map_path, scen_path)
+    chosen = far.spread(lengths, rows)
+    made = [pairs[it] for it in chosen], [lengths[it] for it in chosen]
+    scen_path.write_text(far.pairs_text(side, side, *made))
+    return ["rows", str(map_path), str(scen_path)]
+
+
+def measure_scenarios(bench: Bench, side: int, rows: int) -> None:
+    """Measures programs that answer each row of a scenario: with shortest walks, with straight steps
+    alone, and beside a search by jump points."""
+    for kind in far.KINDS:
+        words = write_scenario(bench, kind, side, rows)
+        for table, ours, theirs in (
+            ("scenarios", [], []),
+            ("straight", ["--straight"], ["--straight"]),
+            ("jumps", [], ["--jump"]),
+        ):
+            commands = [[bench.programs[0], *words, *ours], [bench.programs[1], *words, *theirs]]
+            name = f"{table} {kind} {side}"
+            measured = bench.measure_alike(name, commands)
+            most = [whole_peak_memory(it) for it in commands]
+            bench.report(name, measured, most, (table, named(kind)))
+
+
 @dataclasses.dataclass(frozen=True)
 class Plans:
     """A plan by its kind, the side of its open map, how many agents it has, and how many acts each.
@@ -290,6 +235,34 @@ def measure_checks(bench: Bench, side: int) -> None:
     for plans in all_plans(side, ("boxes", "waits", "blocks", "trains")):
         measure_check(bench, plans)
     measure_usual_checkers(bench)
+
+
+def measure_bounds(bench: Bench, side: int, agents: int) -> None:
+    """Measures what plans cost at least: on an open map, where each agent goes round in a box, and
+    in a maze, where they go far, one behind the other."""
+    boxes = Plans("boxes", side, agents, 400, None).write(bench.folder)[:2]
+    bench.measure_alone(f"`bound`, boxes on {side} x {side}", ["bound", *map(str, boxes)], 0)
+    paths = bench.files("following", "map", "plan")
+    text = generate.map_text("maze", side, side, 1)
+    for path, made in zip(paths, (text, far.following_plan_text(text, agents, 4_000))):
+        path.write_text(made)
+    name = f"`bound`, far through a maze of {side} x {side}"
+    bench.measure_alone(name, ["bound", *map(str, paths)], 0)
+
+
+def measure_all_faults(bench: Bench, agents: int) -> None:
+    """Measures the lists of all faults of plans that have many."""
+    for kind, count, told in (("heap", 10 * agents, "in one cell"), ("strays", agents, "astray")):
+        paths = Plans(kind, 128, count, 400, None).write(bench.folder)[:2]
+        for option in ("--all", "--all=100000"):
+            name = f"`check {option}`, {count:,} agents {told}"
+            bench.measure_alone(name, ["check", *map(str, paths), option], 1)
+
+
+def measure_alone(bench: Bench, side: int, agents: int) -> None:
+    """Measures what our program alone answers."""
+    measure_bounds(bench, side, agents)
+    measure_all_faults(bench, agents)
 
 
 def measure_dependencies(bench: Bench, side: int) -> None:
@@ -400,6 +373,12 @@ MEASURED = {
     "map": lambda bench, given: measure_maps(bench, given.side),
     "scen": lambda bench, given: measure_scenario(bench, given.side, given.rows),
     "row": lambda bench, given: measure_rows(bench, given.side),
+    "rows": lambda bench, given: measure_scenarios(
+        bench, given.side // FEWER_SIDE, given.rows // FEWER_ROWS
+    ),
+    "alone": lambda bench, given: measure_alone(
+        bench, given.side // FEWER_SIDE, given.rows // FEWER_ROWS
+    ),
     "check": lambda bench, given: measure_checks(bench, given.side),
     "deps": lambda bench, given: measure_dependencies(bench, given.side),
     "run": lambda bench, given: measure_runs(bench),
@@ -409,12 +388,12 @@ MEASURED = {
 
 def measure(given: argparse.Namespace) -> tables.Run:
     """Measures what was asked for."""
-    programs = [str(pathlib.Path(given.program).resolve()), str(build_peer())]
+    programs = [str(pathlib.Path(given.program).resolve()), str(given.peer or build_peer())]
     shared = pathlib.Path("/dev/shm")
     heads = f"{'mapf ms':>8} {'peer ms':>8} {'ratio':>6} {'mapf MB':>8} {'peer MB':>8}"
     print(f"{'text':28} {heads}")
     with tempfile.TemporaryDirectory(dir=shared if shared.is_dir() else None) as name:
-        bench = Bench(programs, pathlib.Path(name), given.rounds)
+        bench = Bench(programs, pathlib.Path(name), given.rounds, given.seconds)
         for command, measure_it in MEASURED.items():
             if given.only in (None, command):
                 measure_it(bench, given)
@@ -425,7 +404,9 @@ def read_words(words: Sequence[str]) -> argparse.Namespace:
     how = argparse.RawDescriptionHelpFormatter
     parser = argparse.ArgumentParser(prog="run.py", description=__doc__, formatter_class=how)
     parser.add_argument("--program", default=str(BENCH.parent / "crates/mapf/out/mapf"))
+    parser.add_argument("--peer", type=pathlib.Path)
     parser.add_argument("--rounds", type=int, default=9)
+    parser.add_argument("--seconds", type=float, default=LEAST_SECONDS)
     parser.add_argument("--side", type=int, default=SIDE)
     parser.add_argument("--rows", type=int, default=ROWS)
     parser.add_argument("--only", choices=tuple(MEASURED))

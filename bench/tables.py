@@ -24,11 +24,11 @@ class BadTables(Exception):
 
 @dataclasses.dataclass(frozen=True)
 class Table:
-    """A table by its name: what its rows are, whom `mapf` stands beside, and how exact the times of
-    that one are."""
+    """A table by its name: what its rows are, whom `mapf` stands beside, if anyone, and how exact the
+    times of that one are."""
 
     rows: str
-    other: str = "peer"
+    other: Optional[str] = "peer"
     decimals: int = 2
 
 
@@ -36,6 +36,10 @@ TABLES = {
     "maps": Table("Map"),
     "scenario": Table("Text"),
     "rows": Table("Map, goal"),
+    "scenarios": Table("Map"),
+    "jumps": Table("Map", "by jump points"),
+    "straight": Table("Map"),
+    "alone": Table("Command", None),
     "plans": Table("Plan"),
     "waits": Table("Acts"),
     "checkers": Table("Checker", "its", 0),
@@ -47,14 +51,15 @@ TABLES = {
 
 @dataclasses.dataclass(frozen=True)
 class Measure:
-    """A row of a table: the best times of `mapf` and of the other program in milliseconds, the
-    median of their ratios, where it is known, and the most memory of each in megabytes."""
+    """A row of a table: the best times of `mapf` and of the other program, if there is one, in
+    milliseconds, the median of their ratios, where it is known, and the most memory of each in
+    megabytes."""
 
     table: str
     name: str
-    ms: tuple[float, float]
+    ms: tuple[float, ...]
     ratio: Optional[float]
-    mb: tuple[float, float]
+    mb: tuple[float, ...]
 
 
 @dataclasses.dataclass(frozen=True)
@@ -93,23 +98,32 @@ def kept(file: pathlib.Path) -> Run:
 
 
 def measure_of(found: dict) -> Measure:
-    (ours, theirs), (our_room, their_room) = found["ms"], found["mb"]
+    (ours, *theirs), (our_room, *their_room) = found["ms"], found["mb"]
     ratio = None if found["ratio"] is None else float(found["ratio"])
-    times, memory = (float(ours), float(theirs)), (float(our_room), float(their_room))
+    times = tuple(map(float, (ours, *theirs)))
+    memory = tuple(map(float, (our_room, *their_room)))
     return Measure(str(found["table"]), str(found["name"]), times, ratio, memory)
+
+
+def cells_of(table: Table, measure: Measure) -> list[str]:
+    """The cells of a row."""
+    time, memory = f"{measure.ms[0]:.2f}", f"{measure.mb[0]:.1f}"
+    if table.other is None:
+        return [measure.name, time, memory]
+    ratio = "" if measure.ratio is None else f"{measure.ratio:.2f}"
+    its_time, its_memory = f"{measure.ms[1]:.{table.decimals}f}", f"{measure.mb[1]:.1f}"
+    return [measure.name, time, its_time, ratio, memory, its_memory]
 
 
 def lines_of(name: str, measures: Sequence[Measure]) -> str:
     """A table in Markdown."""
     table = TABLES[name]
-    heads = ["`mapf` ms", f"{table.other} ms", "ratio", "`mapf` MB", f"{table.other} MB"]
-    lines = ["|".join(["", table.rows, *heads, ""]), "|---" * 6 + "|"]
-    for it in measures:
-        ratio = "" if it.ratio is None else f"{it.ratio:.2f}"
-        times = f"{it.ms[0]:.2f}", f"{it.ms[1]:.{table.decimals}f}"
-        memory = f"{it.mb[0]:.1f}", f"{it.mb[1]:.1f}"
-        lines.append("|".join(["", it.name, *times, ratio, *memory, ""]))
-    return "\n".join(lines)
+    heads = [table.rows, "`mapf` ms", "`mapf` MB"]
+    if table.other is not None:
+        heads[2:] = [f"{table.other} ms", "ratio", "`mapf` MB", f"{table.other} MB"]
+    rows = [heads, *(cells_of(table, it) for it in measures)]
+    first, *rest = ["|".join(["", *row, ""]) for row in rows]
+    return "\n".join([first, "|---" * len(heads) + "|", *rest])
 
 
 def replaced(page: str, mark: str, text: str) -> str:

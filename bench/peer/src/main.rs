@@ -1,19 +1,29 @@
-//! A plain Rust program that does the work of `mapf map`, `mapf scen`, `mapf row`, `mapf check`, `mapf deps` and `mapf run`, to measure it beside: it reads a text, checks it and
-//! writes it in canonical form, with the same faults, or solves a row of a scenario, with no certificate.
+//! A plain Rust program that does the work of `mapf map`, `mapf scen`, `mapf row`, `mapf rows`, `mapf check`, `mapf deps` and `mapf run`, to measure it beside: it reads a text,
+//! checks it and writes it in canonical form, with the same faults, or solves rows of a scenario, with no certificate.
+mod buckets;
 mod check;
 mod crowd;
 mod deps;
+mod ground;
+mod jumps;
 mod map;
+mod onward;
 mod output;
+mod paces;
 mod pairs;
 mod plan;
 mod row;
+mod rows;
 mod run;
 mod scen;
 mod search;
 mod source;
+mod stamped;
+mod stops;
 mod toward;
+mod walks;
 
+use rows::Way;
 use source::Fault;
 use std::fs::File;
 use std::io::{self, Write};
@@ -48,6 +58,9 @@ fn run(words: &[&str]) -> Result<Option<bool>, Fault> {
             writeln!(output().map_err(failed)?, "{line}").map_err(failed)?;
             Ok(Some(good))
         }
+        ["rows", map, scen] => rows::solve(open(map)?, open(scen)?, Way::Toward, output).map(Some),
+        ["rows", map, scen, "--straight"] => rows::solve(open(map)?, open(scen)?, Way::Straight, output).map(Some),
+        ["rows", map, scen, "--jump"] => rows::solve(open(map)?, open(scen)?, Way::Jump, output).map(Some),
         [command @ ("check" | "pairs"), map, plan] => {
             let checker = if command == "check" { check::check } else { pairs::check };
             let (line, good) = plan::judge(open(map)?, open(plan)?, checker)?;
@@ -71,7 +84,7 @@ fn main() -> ExitCode {
         Ok(Some(true)) => ExitCode::SUCCESS,
         Ok(Some(false)) => ExitCode::from(1),
         Ok(None) => {
-            eprintln!("usage: peer map FILE | peer scen FILE | peer row MAP SCEN N | peer check MAP PLAN | peer pairs MAP PLAN | peer deps MAP PLAN | peer run MAP PLAN EVENTS [--complete]");
+            eprintln!("usage: peer map FILE | peer scen FILE | peer row MAP SCEN N | peer rows MAP SCEN [--straight | --jump] | peer check MAP PLAN | peer pairs MAP PLAN | peer deps MAP PLAN | peer run MAP PLAN EVENTS [--complete]");
             ExitCode::from(2)
         }
         Err(Fault::Text(text)) => {

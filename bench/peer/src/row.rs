@@ -6,7 +6,7 @@ use crate::source::{fault, Fault};
 use std::fs::File;
 
 /// Whether `n / 10^decimals` is the length to within one unit of the last decimal.
-fn agrees(row: &Row, (straight, diagonal): (u32, u32)) -> bool {
+pub fn agrees(row: &Row, (straight, diagonal): (u32, u32)) -> bool {
     let unit = 10i128.pow(u32::from(row.decimals));
     let (whole, root) = (unit * i128::from(straight), unit * i128::from(diagonal));
     // Whether root times the root of two is at most a number.
