@@ -1,4 +1,4 @@
-"""Runs tools/convert.py or tools/judge.py on many command lines in one process, since each process of its own would take longer than its work.
+"""Runs tools/convert.py, judge.py or rows.py on many command lines in one process, since each process of its own would take longer than its work.
 
 Usage: many_conversions.py < CALLS
 Each line of the input is a JSON object with the words, and perhaps the folder in which the call is made and the tool's name; the answer is a line
@@ -16,8 +16,9 @@ sys.dont_write_bytecode = True
 sys.path.insert(0, str(pathlib.Path(__file__).resolve().parent.parent / "tools"))
 import convert  # noqa: E402
 import judge  # noqa: E402
+import rows  # noqa: E402
 
-TOOLS = {"convert": convert.main, "judge": judge.main}
+TOOLS = {"convert": convert.main, "judge": judge.main, "rows": rows.main}
 
 
 def ran(words: list[str], folder: str = "", tool: str = "convert") -> tuple[int, str, str]:

@@ -1,5 +1,4 @@
 """What pages of tools/show.py do in a browser: what they draw and where, what they say, and what each key does."""
-import dataclasses
 import os
 import pathlib
 import time
@@ -92,55 +91,8 @@ def quiet(browser: Chromium, name: str, page: pathlib.Path) -> Iterator[Outcome]
     yield compared(f"no trouble is told: {name}", str(page.name), browser.value("document.getElementById('trouble').hidden"), True)
 
 
-@dataclasses.dataclass(frozen=True)
-class Faulty:
-    """A page with a fault: its files, the time at which it opens, what it says, the cells that are marked, some that aren't, and who is marked."""
-
-    name: str
-    files: list[str]
-    time: int
-    words: str
-    marked: list[tuple[int, int]]
-    others: list[tuple[int, int]]
-    agents: list[int]
-
-
-NO_STEP = "that is no legal step."
-TOGETHER = "Agents 0 and 1 both stand in column 1, row 0 at time 1."
-LATER = f"In step 2 agent 0 is to go west, from column 0, row 0 (land) to column -1, row 0 (off the map): {NO_STEP}"
 EXCHANGE = "In step 0 agents 0 and 1 exchange their cells, column 0, row 0 and column 1, row 0."
-INTO_TREES = f"In step 2 agent 0 is to go south, from column 1, row 1 (land) to column 1, row 2 (trees): {NO_STEP}"
-OFF = f"In step 0 agent 0 is to go east, from column 7, row 3 (land) to column 8, row 3 (off the map): {NO_STEP}"
-OTHER_START = "Agent 0 starts in column 1, row 0, and the start of row 0 of start.scen is column 0, row 0."
 OTHER_GOAL = "Agent 1 ends in column 1, row 0, and the goal of row 1 of goal.scen is column 2, row 0."
-OTHER_SIZE = "In row 0 of size.scen the map has 4 columns and 1 rows, and this one has 3 and 1."
-TOO_FEW = "The plan has 2 agents, and one.scen has 1 rows."
-FAULTS = (
-    Faulty("vertex", ["lane.map", "vertex.plan"], 2, "Agents 0 and 1 both stand in column 0, row 0 at time 2.", [(0, 0)], [(1, 0), (2, 0)], [0, 1]),
-    Faulty("swap", ["lane.map", "swap.plan"], 0, EXCHANGE, [(0, 0), (1, 0)], [(2, 0)], [0, 1]),
-    Faulty("trees", ["terrain.map", "trees.plan"], 2, INTO_TREES, [(1, 2)], [(1, 1), (0, 0)], [0]),
-    Faulty("off the map", ["terrain.map", "beside.plan"], 0, OFF, [(8, 3)], [(7, 3)], [0]),
-    Faulty("a bad start", ["terrain.map", "start.plan"], 0, "Agent 1 starts in column 3, row 2: out of bounds.", [(3, 2)], [(3, 1), (0, 0)], [1]),
-    Faulty("a fault and a later step", ["lane.map", "both.plan"], 1, f"{TOGETHER} {LATER}", [(1, 0), (-1, 0)], [(0, 0), (2, 0)], [0, 1, 0]),
-    Faulty("a start that isn't the row's", ["lane.map", "behind.plan", "--scen", "start.scen"], 0, OTHER_START, [(1, 0), (0, 0)], [(2, 0)], [0]),
-    Faulty("a goal that is missed", ["lane.map", "behind.plan", "--scen", "goal.scen"], 1, OTHER_GOAL, [(1, 0), (2, 0)], [(0, 0)], [1]),
-    Faulty("a row of another map", ["lane.map", "behind.plan", "--scen", "size.scen"], 0, OTHER_SIZE, [], [(0, 0)], []),
-    Faulty("too few rows", ["lane.map", "behind.plan", "--scen", "one.scen"], 0, TOO_FEW, [], [(0, 0)], []),
-    Faulty("a start far off", ["terrain.map", "far.plan"], 0, "Agent 0 starts in column 60000, row 2: off the map.", [], [(0, 0)], [0]),
-)
-
-
-def faults(page: Page, browser: Chromium) -> Iterator[Outcome]:
-    for it in FAULTS:
-        file, ran = page("fault.html", *it.files), " ".join(it.files)
-        browser.open(file)
-        yield from quiet(browser, it.name, file)
-        yield compared(f"it opens at the fault: {it.name}", ran, browser.value("page.time"), it.time)
-        yield compared(f"the fault in words: {it.name}", ran, browser.value(text_of("verdict")), it.words)
-        # Cells have their mark just inside their sides; the upper left corner is free of agents.
-        found = [pixel(browser, x - 0.48, y - 0.4) == FAULT for x, y in [*it.marked, *it.others]]
-        yield compared(f"the cells of the fault: {it.name}", ran, found, [True] * len(it.marked) + [False] * len(it.others))
-        yield compared(f"who has the fault: {it.name}", ran, browser.value("page.faults.flatMap((it) => it.agents)"), it.agents)
 
 
 def scenarios(page: Page, browser: Chromium) -> Iterator[Outcome]:
@@ -166,7 +118,7 @@ def beside(page: Page, browser: Chromium) -> Iterator[Outcome]:
     told = [browser.value(text_of(name)) for name in ("verdict", "other", "caption", "other-caption")]
     accepted = "behind.plan: The plan is accepted: 2 agents, sum of costs 2, makespan 1."
     yield compared("the verdicts of two plans", file.name, told, [accepted, f"swap.plan: {EXCHANGE}", "behind.plan", "swap.plan"])
-    yield compared("which of them is rejected", file.name, browser.value("page.sides.map((it) => it.faults.length)"), [0, 1])
+    yield compared("which of them is rejected", file.name, browser.value("page.sides.map((it) => it.faults.all.length)"), [0, 1])
     file = page("two.html", "hall.map", "keys.plan", "--beside", "train.plan")
     browser.open(file)
     browser.value("page.seek(3)")
@@ -534,5 +486,5 @@ def frames(browser: Chromium, page: pathlib.Path, name: str) -> Iterator[Outcome
 
 
 def outcomes(page: Page, browser: Chromium) -> Iterator[Outcome]:
-    for test in (accepted, faults, scenarios, beside, terrain, turning, running, endings, focus, addresses, numbers, lists, keys, fingers, playing, readers):
+    for test in (accepted, scenarios, beside, terrain, turning, running, endings, focus, addresses, numbers, lists, keys, fingers, playing, readers):
         yield from test(page, browser)

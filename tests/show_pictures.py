@@ -72,6 +72,18 @@ def still(show: Show, folder: pathlib.Path) -> list[Outcome]:
     ]
 
 
+def marked(show: Show, folder: pathlib.Path) -> list[Outcome]:
+    """Each fault of the time has its mark, and none of another time. Cells are 96 wide, behind margins of 28."""
+    found = []
+    for time, due in ((0, [False] * 3), (1, [True, True, False])):
+        call = ["hall.map", "pairs.plan", "--png", str(time), "-o", f"pairs{time}.png"]
+        ended, picture = show(*call), read(folder / f"pairs{time}.png").frames[0]
+        places = [(28 + 96 * x + 2, 28 + 96 * y + 10) for x, y in ((1, 0), (1, 1), (2, 0))]
+        seen = [all(abs(part - whole) <= MOST_OFF for part, whole in zip(picture.getpixel(it), show_pages.FAULT)) for it in places]
+        found.append(compared(f"the faults at time {time}", shown(call), (ended, seen), (Ended(0, b"", b""), due)))
+    return found
+
+
 def beside(show: Show, folder: pathlib.Path, other: str) -> list[Outcome]:
     """A picture of two plans has twice the same map above its lines just where they are alike."""
     call = ["hall.map", "keys.plan", "--beside", other, "--png", "3", "-o", f"{other}.png"]
@@ -118,6 +130,7 @@ def outcomes(show: Show, folder: pathlib.Path) -> Iterator[Outcome]:
     last = "show: the last time is"
     yield from side_by_side([
         functools.partial(still, show, folder),
+        functools.partial(marked, show, folder),
         functools.partial(beside, show, folder, "keys.plan"),
         functools.partial(beside, show, folder, "train.plan"),
         functools.partial(moving, show, folder, "plan", turning, of_plan),

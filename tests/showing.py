@@ -16,6 +16,7 @@ import zlib
 from typing import Iterator, Mapping, Optional
 
 import chromium
+import show_faults
 import show_pages
 import show_pictures
 import show_replays
@@ -47,6 +48,10 @@ TEXTS = {
     "far.plan": plan("60000 2 =", "0 0 e"),
     "train.plan": plan("1 0 ee", "0 0 ee"),
     "both.plan": plan("0 0 eww", "1 0 ="),
+    # Two that exchange their cells and come back, and one that stays in one of these.
+    "again.plan": plan("0 0 ew", "1 0 we", "0 0 ="),
+    "crowd.plan": plan(*(46 * ["1 0 ="]), "0 0 w"),
+    "pairs.plan": plan("0 0 e", "1 0 =", "0 1 e", "1 1 ="),
     "bad.plan": BEHIND.replace("e-", "ex"),
     "old.plan": BEHIND.replace("mapf-plan 1", "mapf-plan 0"),
     "tasks.scen": TASKS,
@@ -129,6 +134,15 @@ def held(room: Room) -> Iterator[Outcome]:
     waits = struct.unpack("<4H4H", train["needs"] + train["more"])
     yield compared("the waits of a train", "tools/show.py hall.map train.plan", waits, (65535, 65535, 0, 0, 0, 0, 1, 1))
     yield compared("its replies", ran, len(parts["replies"].split(b"\n")), len(show_pages.RUN))
+    again = sections(room.show("lane.map", "again.plan").out)[0]
+    due = [("Vertex 0 2 0 0 0", 0), ("Vertex 1 2 1 0 0", 1), ("Swap 0 1 0", 0), ("Vertex 0 2 2 0 0", 2), ("Swap 0 1 1", 1)]
+    yield compared("all faults of a plan", "tools/show.py lane.map again.plan", [(it["said"], it["time"]) for it in again["faults"]], due)
+    yield compared("its verdict without them", "tools/show.py lane.map again.plan", again["verdict"], {"accepted": False, "agents": 3, "more": False})
+    crowd = sections(room.show("lane.map", "crowd.plan").out)[0]
+    wrote = (len(crowd["faults"]), crowd["faults"][-1]["said"], crowd["verdict"])
+    # The first thousand, and the fault for which no path is answered.
+    yield compared("more faults than are listed", "tools/show.py lane.map crowd.plan", wrote[:2], (1001, "BadMove 46 0"))
+    yield compared("that there are more", "tools/show.py lane.map crowd.plan", wrote[2]["more"], True)
 
 
 NEEDED = "a picture needs one, and --browser PATH says where it is"
@@ -357,7 +371,8 @@ def of_texts(room: Room) -> list[Outcome]:
 
 def of_pages(room: Room, browser: chromium.Chromium) -> list[Outcome]:
     """What pages do in a browser."""
-    return [*show_pages.outcomes(room.opened, browser), *show_replays.outcomes(room.harness, room.folder, room.page, browser)]
+    pages = [*show_pages.outcomes(room.opened, browser), *show_faults.outcomes(room.opened, browser)]
+    return [*pages, *show_replays.outcomes(room.harness, room.folder, room.page, browser)]
 
 
 def outcomes(harness: Harness) -> Iterator[Outcome]:

@@ -6,7 +6,7 @@ import re
 import subprocess
 import tempfile
 from array import array
-from typing import IO, Iterator, Optional, Sequence
+from typing import IO, Callable, Generic, Iterator, Optional, Sequence, TypeVar
 
 from plan_formats import mapf_plan
 from plan_formats.walks import NARROW, Cell, Task, Walk, corner_of, last_time, moved, size_of
@@ -16,7 +16,8 @@ from whole_file import draft
 AT_ONCE = 500_000
 # What the program says of an agent alone. Then no cells are written.
 AN_AGENTS_FAULT = re.compile(rb"mapf: (Bad(?:Start|Move) [0-9 ]+)\n")
-FAULT = 1
+DONE, FAULT = 0, 1
+Read = TypeVar("Read")
 
 
 class Failed(Exception):
@@ -25,6 +26,15 @@ class Failed(Exception):
 
 class Refused(Exception):
     """A map or a scenario has a fault, or doesn't fit."""
+
+
+@dataclasses.dataclass(frozen=True)
+class Said(Generic[Read]):
+    """A call of the program: what was read of its answer, its status, and the first line that it told on standard error."""
+
+    answer: Read
+    status: int
+    told: str
 
 
 @dataclasses.dataclass(frozen=True)
@@ -39,17 +49,21 @@ class Program:
         except OSError as error:
             raise Failed(f"{self.path} can't be started: {error.strerror}") from None
 
+    def ask(self, words: Sequence[str], read: Callable[[IO[bytes]], Read]) -> Said[Read]:
+        """A call whose answer is read to its end."""
+        with tempfile.TemporaryFile() as err, self.start(words, err) as process:
+            answer = read(process.stdout)
+            status = process.wait()
+            return Said(answer, status, told_in(err))
+
     def text(self, command: str, file: str) -> bytes:
         """The text of a map or of a scenario in canonical form."""
-        with tempfile.TemporaryFile() as err, self.start([command, "--", file], err) as process:
-            text = process.stdout.read()
-            status = process.wait()
-            told = told_in(err)
-        if status == FAULT:
-            raise Refused(f"{file}: `mapf {command}` says {told}")
-        if status:
-            raise Failed(f"{file}: `mapf {command}` ended with status {status}: {told}")
-        return text
+        said = self.ask([command, "--", file], lambda out: out.read())
+        if said.status == FAULT:
+            raise Refused(f"{file}: `mapf {command}` says {said.told or 'nothing'}")
+        if said.status:
+            raise Failed(f"{file}: `mapf {command}` ended with status {said.status}: {said.told or 'nothing'}")
+        return said.answer
 
     def map_size(self, file: str) -> tuple[int, int]:
         """The width and the height of a map."""
@@ -65,7 +79,7 @@ class Program:
 def told_in(err: IO[bytes]) -> str:
     """The first line of standard error."""
     err.seek(0)
-    return err.read(400).decode(errors="replace").partition("\n")[0].removeprefix("mapf: ") or "nothing"
+    return err.read(400).decode(errors="replace").partition("\n")[0].removeprefix("mapf: ")
 
 
 def due_lines(walks: Sequence[Walk]) -> Iterator[bytes]:
@@ -124,7 +138,7 @@ def said_of_the_path(program: Program, map_file: str, plan_file: str, walks: Seq
     if status == FAULT and fault:
         return fault[1].decode()
     if status:
-        raise Failed(f"`mapf path` ended with status {status}: {told}")
+        raise Failed(f"`mapf path` ended with status {status}: {told or 'nothing'}")
     found = found or other_length(plan_file, walks)
     if found:
         raise Failed(f"the plan differs from what was read: {found}; nothing is written, and this is a fault of the converter")

@@ -7,10 +7,11 @@ Usage: show.py MAP PLAN [EVENTS] [--scen SCEN] [--from FORMAT] [-o PAGE.html]
        show.py MAP PLAN [EVENTS] --gif FROM TO -o PICTURE.gif
 
 All that is shown is what `mapf` says of the files. PLAN may also be what a planner wrote:
-convert.py makes a plan of it first, and says so. The page opens at the fault of a plan that is
-rejected, also for a scenario that it doesn't solve. With EVENTS it shows a run: TIME is then how
-many events have been answered. A picture is drawn by a Chromium and written by Pillow
-(python3-pil), which have to be there; a page needs nothing but a browser to look at it.
+convert.py makes a plan of it first, and says so. The page of a plan that is rejected, also for a
+scenario that it doesn't solve, opens at the first fault, and lists all, up to 1,000. With EVENTS it
+shows a run: TIME is then how many events have been answered. A picture is drawn by a Chromium and
+written by Pillow (python3-pil), which have to be there; a page needs nothing but a browser to look
+at it.
 
 Status 0: done. 1: a text has a fault, told in the line of `mapf` or of convert.py with the file.
 2: a bad command line. 3: a file or a tool failed, or there is no browser or no Pillow for a

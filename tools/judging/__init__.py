@@ -1,1 +1,1 @@
-"""What judge.py is made of: jobs, verdicts on them, who works on them, and the file of their results."""
+"""What is judge.py's alone: plans as jobs, and the verdicts on them."""

@@ -6,13 +6,12 @@ import pathlib
 import re
 from typing import Any, Iterator, Optional, Sequence
 
+from judging.table import TABLE
+from tabling.jobs import NEVER_NAMED, BadJobs, Job
+
 # The columns of a list of jobs that say what is to be judged; those behind the first two may be missing or empty. Other columns go through.
 COLUMNS = ("map", "plan", "scenario", "agents")
 REQUIRED = ("map", "plan")
-# What a result says, behind what its job says.
-FOUND = (
-    "verdict", "fault", "cost", "claimed", "makespan", "agents_found", "seconds", "map_sha256", "scenario_sha256", "plan_sha256", "judge"
-)
 # The most agents that a plan has; no number of a job needs more digits.
 MOST_AGENTS = 10_000
 # A table may have whole plans in its fields.
@@ -21,52 +20,42 @@ MOST_IN_A_FIELD = 1 << 30
 FIELDS = {"map": r"(?P<map>.+)", "scen": r"(?P<scen>[A-Za-z]+)", "number": r"(?P<number>[0-9]+)", "agents": r"(?P<agents>[0-9]+)"}
 
 
-class BadJobs(Exception):
-    """What is wrong with a list of jobs, or with a name."""
-
-
 @dataclasses.dataclass(frozen=True)
-class Job:
-    """The files as they are named, and how many agents the plan is to have, where that is said."""
+class PlanJob(Job):
+    """A plan on a map, perhaps for a scenario, and how many agents it is to have, where that is said."""
 
-    map: str
-    scenario: str
-    plan: str
-    agents: str
-    # The other columns of the list, which go through to the results.
-    more: tuple[tuple[str, str], ...] = ()
-    # Where the names of the files begin.
-    folder: pathlib.Path = dataclasses.field(compare=False, default=pathlib.Path())
+    plan: str = ""
+    agents: str = ""
     # The plan itself, where a table has it and not a file, and the cost that the table claims for it.
     text: Optional[str] = None
     claim: str = ""
 
     @property
     def columns(self) -> dict[str, str]:
-        """All that the list says of the job."""
-        return {"map": self.map, "scenario": self.scenario, "plan": self.plan, "agents": self.agents, **dict(self.more)}
+        return {**super().columns, "plan": self.plan, "agents": self.agents}
 
-    def file(self, name: str) -> str:
-        return str(self.folder / name)
+    @property
+    def texts(self) -> dict[str, str]:
+        return {} if self.text is None else {"plan": self.text}
 
 
-def job_of(fields: dict[str, Any], folder: pathlib.Path, where: str, text: Optional[str] = None, claim: str = "") -> Job:
+def job_of(fields: dict[str, Any], folder: pathlib.Path, where: str, text: Optional[str] = None, claim: str = "") -> PlanJob:
     """The job with these fields."""
     for name in fields:
-        if name in FOUND or not name.strip():
+        if name in TABLE.own or not name.strip():
             raise BadJobs(f"{where}: '{name}' is a column of the results, another name was due" if name.strip() else f"{where}: a column has no name")
     words = {name: "" if fields.get(name) is None else str(fields[name]) for name in (*COLUMNS, *fields)}
     for name in REQUIRED:
         if not words[name]:
             raise BadJobs(f"{where}: there is no {name}, the name of a file was due")
     for name, word in words.items():
-        if any(character in word for character in "\0\r\n"):
+        if NEVER_NAMED & set(word):
             raise BadJobs(f"{where}: the {name} has a line end or a zero byte, a name without one was due")
     agents = words["agents"]
     if agents and not (agents.isascii() and agents.isdigit() and len(agents) < 6 and int(agents) <= MOST_AGENTS):
         raise BadJobs(f"{where}: '{agents[:40]}' agents, a number from 0 to {MOST_AGENTS} was due")
     more = tuple((name, word) for name, word in words.items() if name not in COLUMNS)
-    return Job(words["map"], words["scenario"], words["plan"], str(int(agents)) if agents else "", more, folder, text, claim)
+    return PlanJob(words["map"], words["scenario"], more, folder, words["plan"], str(int(agents)) if agents else "", text, claim)
 
 
 def text_in(path: pathlib.Path) -> str:
@@ -96,11 +85,11 @@ def rows_of(path: pathlib.Path, required: Sequence[str]) -> Iterator[tuple[str, 
         raise BadJobs(f"{path}:{rows.line_num}: {fault}, a row of CSV was due") from None
 
 
-def from_csv(path: pathlib.Path) -> Iterator[Job]:
+def from_csv(path: pathlib.Path) -> Iterator[PlanJob]:
     return (job_of(row, path.parent, where) for where, row in rows_of(path, REQUIRED))
 
 
-def from_json_lines(path: pathlib.Path) -> Iterator[Job]:
+def from_json_lines(path: pathlib.Path) -> Iterator[PlanJob]:
     for number, line in enumerate(text_in(path).splitlines(), 1):
         if not line.strip():
             continue
@@ -113,7 +102,7 @@ def from_json_lines(path: pathlib.Path) -> Iterator[Job]:
         yield job_of(fields, path.parent, f"{path}:{number}")
 
 
-def read_jobs(path: pathlib.Path) -> list[Job]:
+def read_jobs(path: pathlib.Path) -> list[PlanJob]:
     """The jobs of a list, CSV or JSON lines by its name. Files are named from the list's folder on."""
     return list((from_json_lines if path.suffix in (".json", ".jsonl", ".ndjson") else from_csv)(path))
 
@@ -137,7 +126,7 @@ def pattern_of(template: str) -> re.Pattern[str]:
     return re.compile(pattern)
 
 
-def by_names(plans: Sequence[str], maps: pathlib.Path, scens: Optional[pathlib.Path], template: str, scen_template: str) -> list[Job]:
+def by_names(plans: Sequence[str], maps: pathlib.Path, scens: Optional[pathlib.Path], template: str, scen_template: str) -> list[PlanJob]:
     """A job for each plan, by what its name says."""
     pattern = pattern_of(template)
     jobs = []

@@ -3,7 +3,8 @@ import csv
 import pathlib
 from typing import Iterator, Optional
 
-from judging.jobs import BadJobs, Job, job_of, rows_of
+from judging.jobs import PlanJob, job_of, rows_of
+from tabling.jobs import BadJobs
 
 # The columns that name a map and a row's scenario, and the one that has the plan.
 NAMES = ("map_name", "scen_type", "type_id", "agents")
@@ -19,7 +20,7 @@ def is_upload(path: pathlib.Path) -> bool:
     return {"map_name", PLAN} <= set(next(csv.reader([head]), []))
 
 
-def read_upload(path: pathlib.Path, maps: Optional[pathlib.Path], scens: Optional[pathlib.Path]) -> Iterator[Job]:
+def read_upload(path: pathlib.Path, maps: Optional[pathlib.Path], scens: Optional[pathlib.Path]) -> Iterator[PlanJob]:
     """A job for each row. Maps and scenarios are looked for in these folders, or beside the table."""
     for where, fields in rows_of(path, (*NAMES, PLAN)):
         for name in NAMES:

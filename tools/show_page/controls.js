@@ -74,7 +74,7 @@ class Controls {
       p: () => show.chooseNext(-1),
       Escape: () => show.choose(-1),
       c: () => show.centre(),
-      x: () => show.showFault(),
+      x: () => show.toFault(),
       r: () => show.toRotation(),
       ",": () => show.toMark(-1),
       ".": () => show.toMark(1),

@@ -129,6 +129,23 @@ class Courses {
   }
 }
 
+/** The faults of a plan, and which of them are seen at a moment of its world. */
+class Faults {
+  constructor(all) {
+    this.all = all;
+    this.byTime = new Map();
+    for (const it of all) {
+      if (!this.byTime.has(it.time)) this.byTime.set(it.time, []);
+      this.byTime.get(it.time).push(it);
+    }
+  }
+
+  /** Those of the time that is shown. A run has no times of its plan: what is wrong with that is seen always. */
+  seenIn(world) {
+    return world.isRun ? this.all : this.byTime.get(Math.floor(world.time)) || [];
+  }
+}
+
 /** The rotations, each with its step and its agents, in the order in which they are listed. */
 function rotationsOf(section) {
   const numbers = numbersOf(section, Int32Array);

@@ -48,6 +48,8 @@ class Drawing {
   constructor(ground, world, faults) {
     this.world = world;
     this.faults = faults;
+    this.seen = [];
+    this.besides = new Map();
     this.ground = ground;
     this.backdrop = new Backdrop(ground, world.courses);
     this.course = { agent: -1, path: null };
@@ -61,7 +63,11 @@ class Drawing {
     context.setTransform(dots, 0, 0, dots, 0, 0);
     context.textAlign = "center";
     context.textBaseline = "middle";
-    for (const fault of this.faults) for (const cell of fault.cells) drawFaultCell(context, ...view.pixel(...cell), view.scale, colours);
+    this.seen = this.faults.seenIn(this.world);
+    this.besides = this.besidesOf(this.seen);
+    // A cell that two faults speak of is drawn once.
+    const cells = new Map(this.seen.flatMap((it) => it.cells).map((cell) => [cell.join(), cell]));
+    for (const cell of cells.values()) drawFaultCell(context, ...view.pixel(...cell), view.scale, colours);
     const rings = this.world.turning().map((it) => this.ringPlaces(it));
     for (const places of rings) drawRing(context, places, view.scale, colours);
     if (wishes.agent >= 0) this.drawCourse(wishes.agent);
@@ -79,24 +85,24 @@ class Drawing {
     return isSeen(this.view, x, y, this.width, this.height);
   }
 
-  /** Two agents of a fault that share a place are drawn beside one another: to which side this one goes, or 0. */
-  sideOf(agent) {
-    const { moment } = this.world;
-    for (const { agents } of this.faults) {
-      const other = agents[0] === agent ? agents[1] : agents[1] === agent ? agents[0] : agent;
-      const isNear = Math.hypot(moment.x[other] - moment.x[agent], moment.y[other] - moment.y[agent]) < NEAR;
-      if (other !== undefined && other !== agent && isNear) return agent < other ? -1 : 1;
+  /** Two agents of a fault that share a place are drawn beside one another: to which side each goes. */
+  besidesOf(faults) {
+    const { moment } = this.world, besides = new Map();
+    for (const { agents: [one, other] } of faults) {
+      if (other === undefined || Math.hypot(moment.x[other] - moment.x[one], moment.y[other] - moment.y[one]) >= NEAR) continue;
+      if (!besides.has(one)) besides.set(one, -1);
+      if (!besides.has(other)) besides.set(other, 1);
     }
-    return 0;
+    return besides;
   }
 
   place(agent) {
     const { moment } = this.world;
-    return this.view.pixel(moment.x[agent] + (this.faults.length ? ASIDE * this.sideOf(agent) : 0), moment.y[agent]);
+    return this.view.pixel(moment.x[agent] + ASIDE * (this.besides.get(agent) || 0), moment.y[agent]);
   }
 
   radiusOf(agent) {
-    return this.faults.length && this.sideOf(agent) ? 0.68 * this.radius : this.radius;
+    return this.besides.has(agent) ? 0.68 * this.radius : this.radius;
   }
 
   ringPlaces(rotation) {
@@ -187,12 +193,12 @@ class Drawing {
   /** Who has a fault, and the steps that it speaks of. */
   drawFaults() {
     const { context, view, colours, radius } = this;
-    for (const fault of this.faults) {
-      for (const agent of fault.agents) drawHalo(context, ...this.place(agent), this.radiusOf(agent), colours.fault, colours);
-      const line = Math.max(2, view.scale / 16);
-      for (const [from, to] of fault.steps) {
+    const line = Math.max(2, view.scale / 16), agents = new Set(this.seen.flatMap((it) => it.agents));
+    for (const agent of agents) drawHalo(context, ...this.place(agent), this.radiusOf(agent), colours.fault, colours);
+    for (const { steps } of this.seen) {
+      for (const [from, to] of steps) {
         const ends = [view.pixel(...from), view.pixel(...to)];
-        if (fault.steps.length > 1) {
+        if (steps.length > 1) {
           drawBentArrow(context, ...ends, radius, view.scale, colours);
         } else {
           drawArrow(context, ...ends, line + 3, colours.halo, [radius, 0]);

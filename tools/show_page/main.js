@@ -18,7 +18,7 @@ class Side {
     this.world = facts.run
       ? new RunWorld(courses, rotations, new Log(linesOf(sections.events), linesOf(sections.replies), courses.count), facts.run)
       : new PlanWorld(courses, rotations);
-    this.faults = facts.faults;
+    this.faults = new Faults(facts.faults);
     this.drawing = new Drawing(ground, this.world, this.faults);
     this.canvas = canvas;
     this.context = canvas.getContext("2d", { alpha: false });
@@ -46,7 +46,7 @@ class Show {
     this.ground = new Ground(facts, sections.terrain);
     this.sides = sidesOf(facts, sections, this.ground);
     [{ world: this.world, drawing: this.drawing, canvas: this.canvas }] = this.sides;
-    this.faults = this.sides.flatMap((it) => it.faults);
+    this.faults = this.sides.flatMap((it) => it.faults.all);
     this.rotations = this.sides.flatMap((it) => it.world.rotations).sort((one, other) => one.step - other.step);
     this.end = Math.max(...this.sides.map((it) => it.world.end));
     this.agents = Math.max(...this.sides.map((it) => it.world.courses.count));
@@ -143,6 +143,12 @@ class Show {
     const { rotations, time } = this;
     const next = rotations.find((it) => it.step > time) || rotations[0];
     if (next && !this.world.isRun) this.seek(next.step);
+  }
+
+  /** To the next time that has a fault, or to the first one. */
+  toFault() {
+    const faults = [...this.faults].sort((one, other) => one.time - other.time);
+    this.showFault(this.world.isRun ? faults[0] : faults.find((it) => it.time > this.time) || faults[0]);
   }
 
   showFault(fault = this.faults[0]) {
@@ -316,7 +322,7 @@ class Show {
     this.panel.update(this.wishes.agent, this.playing);
   }
 
-  /** Beside the slider: where writes fail and robots restart, where a fault is, where a rotation turns. */
+  /** Beside the slider: where writes fail and robots restart, where faults are, where a rotation turns. */
   drawStrip() {
     const strip = document.getElementById("strip"), { world } = this;
     const marks = [

@@ -12,7 +12,7 @@ class Panel {
     this.act = act;
     this.element = (name) => document.getElementById(name);
     for (const [place, side] of sides.entries()) {
-      this.element(place ? "other" : "verdict").className = `verdict ${side.faults.length ? "bad" : "good"}`;
+      this.element(place ? "other" : "verdict").className = `verdict ${side.faults.all.length ? "bad" : "good"}`;
       this.showSource(side);
       this.showFaults(side);
       this.showTurns(side);
@@ -32,20 +32,25 @@ class Panel {
   }
 
   showFaults(side) {
-    const { facts, faults } = side, section = this.element("faults");
-    if (!faults.length) return;
+    const { facts, faults: { all: [first, ...others] } } = side, section = this.element("faults");
+    if (!first) return;
     section.hidden = false;
     section.append(made("h2", "", `${this.nameOf(side, ": ")}Rejected`));
-    for (const fault of faults) {
-      if (faults.length > 1) section.append(made("p", "", fault.words));
-      const show = button(this.world.isRun ? "Show" : `Show time ${shownNumber(fault.time)}`, () => this.act.showFault(fault), "to the fault (x)");
-      section.append(made("p", "row", made("code", "", fault.said), ...(fault.cells.length ? [show] : [])));
-    }
+    if (others.length) section.append(made("p", "", first.words));
+    const show = button(this.world.isRun ? "Show" : `Show time ${shownNumber(first.time)}`, () => this.act.showFault(first), "to the first fault");
+    section.append(made("p", "row", made("code", "", first.said), ...(first.cells.length ? [show] : [])));
+    if (others.length) section.append(made("ol", "others", ...others.map((it) => made("li", "", this.toFault(it)))));
+    if (facts.verdict.more) section.append(made("p", "", "There are more faults than are listed here."));
     const faint = (text) => section.append(made("p", "faint", text));
     if (facts.told) faint("Of such a plan no path is answered. The paths are drawn as the text of the plan gives them.");
     if (facts.isValid) return;
     if (this.act.facts.names.events) faint("A plan that is rejected has no runs, so the events are not shown.");
     else faint("Of a plan that is rejected it isn't said who waits for whom.");
+  }
+
+  /** A line of the list of faults, which goes to this one. */
+  toFault(fault) {
+    return button(fault.words, () => this.act.showFault(fault), fault.said);
   }
 
   showTurns(side) {
@@ -92,9 +97,15 @@ class Panel {
   update(chosen, isPlaying) {
     const now = this.element("now");
     now.setAttribute("aria-live", isPlaying ? "off" : "polite");
-    this.put(now, this.sides.map((side) => `${this.nameOf(side, ": ")}${side.world.inWords()}`).join("\n"));
+    this.put(now, this.sides.map((side) => this.momentOf(side)).join("\n"));
     if (this.world.isRun) this.updateRows();
     this.updateAgent(chosen);
+  }
+
+  /** The moment of a plan in words, with the faults of this time. */
+  momentOf(side) {
+    const { world, faults } = side, seen = world.isRun ? [] : faults.seenIn(world);
+    return `${this.nameOf(side, ": ")}${[world.inWords(), faultsInWords(seen)].filter(Boolean).join(" ")}`;
   }
 
   put(element, text) {

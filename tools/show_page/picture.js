@@ -68,8 +68,9 @@ class Picture {
     context.textAlign = "left";
     context.textBaseline = "middle";
     context.font = "13px system-ui, \"DejaVu Sans\", sans-serif";
-    const first = faults.length ? faults[0].words : world.inWords().split(" Last:")[0], name = show.sides.length > 1 ? `${facts.name}: ` : "";
-    wrapped(context, `${name}${first}`, width - 20, lines).forEach((line, row) => context.fillText(line, 10, top + (row + 0.5) * LINE, width - 20));
+    const seen = faults.seenIn(world), shown = seen.length ? seen : faults.all.slice(0, 1);
+    const words = faultsInWords(shown, 1) || world.inWords().split(" Last:")[0], name = show.sides.length > 1 ? `${facts.name}: ` : "";
+    wrapped(context, `${name}${words}`, width - 20, lines).forEach((line, row) => context.fillText(line, 10, top + (row + 0.5) * LINE, width - 20));
     if (!world.isRun) return;
     const count = Math.floor(this.time);
     const last = count ? `${world.log.events[count - 1]}  \u2192  ${world.log.replies[count - 1].slice(0, 60)}` : "before the first event";

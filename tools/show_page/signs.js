@@ -52,7 +52,8 @@ function movingSign(context, colours) {
 /** The signs of a page: a drawing and its meaning, of what there can be on it. */
 function signsOf(sides, terrain) {
   const has = (...codes) => codes.some((code) => terrain.includes(code)), worlds = sides.map((it) => it.world);
-  const { isRun } = worlds[0], saysWaits = isRun || worlds.some((it) => it.courses.needs.length > 0), faults = sides.flatMap((it) => it.faults);
+  const { isRun } = worlds[0], saysWaits = isRun || worlds.some((it) => it.courses.needs.length > 0);
+  const hasFaults = sides.some((it) => it.faults.all.length > 0);
   return [
     [true, agentSign(0), "an agent"],
     [true, goalSign, "where its path ends"],
@@ -64,8 +65,8 @@ function signsOf(sides, terrain) {
     [isRun, letterSign(false), "a message on its way"],
     [isRun, letterSign(true), "a message that nobody hears"],
     [worlds.some((it) => it.rotations.length > 0), ringSign, "a rotation: who turn round together"],
-    [faults.length > 0, faultSign, "a cell of the fault"],
-    [faults.length > 0, haloSign("fault"), "an agent of the fault"],
+    [hasFaults, faultSign, "a cell of a fault"],
+    [hasFaults, haloSign("fault"), "an agent of a fault"],
     [true, haloSign("ink"), "the agent that you chose"],
     [has(64, 79), terrainSign(0), "out of bounds"],
     [has(TREES), terrainSign(TREES), "trees"],

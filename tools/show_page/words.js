@@ -19,6 +19,13 @@ function listed(agents, most = 12) {
   return agents.length > most ? `${shown} and ${shownNumber(agents.length - most)} more` : shown;
 }
 
+/** Faults in a line, of which only some are named. */
+function faultsInWords(faults, most = 2) {
+  const more = faults.length - most;
+  const words = faults.slice(0, most).map((it) => it.words).join(" ");
+  return more > 0 ? `${words} ${counted(more, "more fault is", "more faults are")} marked.` : words;
+}
+
 /** An element with a class and children, each a text or an element. */
 function made(name, className, ...children) {
   const element = document.createElement(name);

@@ -29,9 +29,9 @@ class Courses:
     told: str = ""
 
     def cell(self, agent: int, time: int) -> Cell:
-        steps = [STEPS[chr(act)] for act in self.acts[agent][:time]]
+        east, west, south, north = (self.acts[agent].count(act, 0, time) for act in (b"e", b"w", b"s", b"n"))
         x, y = self.starts[agent]
-        return x + sum(dx for dx, _ in steps), y + sum(dy for _, dy in steps)
+        return x + east - west, y + south - north
 
 
 def by_path(lines: Iterator[bytes], plan: str) -> Courses:

@@ -77,7 +77,7 @@ def facts_of(side: Side, shown: Shown) -> dict[str, object]:
         "source": side.source,
         "agents": len(side.courses.starts),
         "end": side.courses.end,
-        "verdict": side.verdict,
+        "verdict": {name: value for name, value in side.verdict.items() if name != "faults"},
         "words": words_of(side, shown),
         "faults": [dataclasses.asdict(fault) for fault in side.faults],
         "isValid": side.is_valid,

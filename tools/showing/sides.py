@@ -6,7 +6,7 @@ from typing import Optional, Sequence
 from showing.courses import Courses, read_courses
 from showing.program import Program
 from showing.runs import Run
-from showing.verdicts import Fault, Ground, Scenario, faults_of, is_of_the_scenario, read_verdict
+from showing.verdicts import Fault, Ground, Scenario, Verdict, faults_of, is_of_the_scenario, read_verdict
 from showing.waits import Waits, no_waits, read_waits
 
 
@@ -19,7 +19,7 @@ class Side:
     files: Sequence[str]
     source: str
     courses: Courses
-    verdict: dict[str, object]
+    verdict: Verdict
     faults: Sequence[Fault]
     waits: Waits
     is_valid: bool

@@ -1,12 +1,15 @@
 """What `mapf check` says of a plan, and a fault in words, with the cells in which it is seen."""
 import dataclasses
+import itertools
 import json
-from typing import Optional, Sequence
+from typing import Any, Optional, Sequence
 
 from showing.courses import STEPS, Cell, Courses
 from showing.program import Program
 
 TERRAIN = {".": "land", "G": "land", "S": "swamp", "W": "water", "@": "out of bounds", "O": "out of bounds", "T": "trees"}
+# What the program says of a plan: whether it is accepted, and its numbers or its faults.
+Verdict = dict[str, Any]
 TOWARDS = {"n": "north", "e": "east", "s": "south", "w": "west"}
 # What a plan can have that is valid, but doesn't solve a scenario.
 OF_A_SCENARIO = ("TooFewRows", "SizeDiffers", "StartDiffers", "GoalDiffers")
@@ -122,24 +125,30 @@ def fault_of(said: str, courses: Courses, ground: Ground) -> Fault:
     return swap(said, *numbers, courses)
 
 
-def is_of_the_scenario(verdict: dict[str, object]) -> bool:
+def said_of(fault: dict[str, Any]) -> str:
+    """A listed fault as a line has it: its kind and its numbers, in their order."""
+    kind, *numbers = (value if isinstance(value, list) else [value] for value in fault.values())
+    return " ".join(map(str, itertools.chain(kind, *numbers)))
+
+
+def is_of_the_scenario(verdict: Verdict) -> bool:
     """Whether a plan is valid, and doesn't solve its scenario."""
-    return str(verdict.get("fault")).split()[0] in OF_A_SCENARIO
+    return not verdict["accepted"] and verdict["faults"][0]["kind"] in OF_A_SCENARIO
 
 
-def faults_of(verdict: dict[str, object], courses: Courses, ground: Ground, scenario: Optional[Scenario]) -> list[Fault]:
-    """The fault of a rejected plan, and the one for which its courses are those of its text."""
+def faults_of(verdict: Verdict, courses: Courses, ground: Ground, scenario: Optional[Scenario]) -> list[Fault]:
+    """The listed faults of a rejected plan, and the one for which its courses are those of its text."""
+    said = [said_of(fault) for fault in verdict.get("faults", [])]
     if scenario and is_of_the_scenario(verdict):
-        return [of_the_scenario(str(verdict["fault"]), courses, ground, scenario)]
-    said = [str(verdict["fault"])] if "fault" in verdict else []
+        return [of_the_scenario(it, courses, ground, scenario) for it in said]
     if courses.told and courses.told not in said:
         said.append(courses.told)
     return [fault_of(it, courses, ground) for it in said]
 
 
-def read_verdict(program: Program, files: Sequence[str], plan: str, scenario: Optional[Scenario]) -> dict[str, object]:
+def read_verdict(program: Program, files: Sequence[str], plan: str, scenario: Optional[Scenario]) -> Verdict:
     scen = ["--scen", scenario.file] if scenario else []
-    text, talk = program.answer("check", "--json", *scen, "--", *files)
+    text, talk = program.answer("check", "--json", "--all", *scen, "--", *files)
     if not text:
         talk.refuse(plan)
     return json.loads(text)
@@ -163,10 +172,11 @@ def read_ground(program: Program, file: str, map_name: str) -> tuple[Ground, byt
     return Ground(int(width.split()[1]), int(height.split()[1]), rows.replace(b"\n", b"")), text
 
 
-def in_words(verdict: dict[str, object], faults: Sequence[Fault], scen: str = "") -> str:
+def in_words(verdict: Verdict, faults: Sequence[Fault], scen: str = "") -> str:
     """What the page says of the plan, before anything is drawn."""
     if faults:
-        return " ".join(fault.words for fault in faults)
+        count = len(verdict["faults"])
+        return faults[0].words + (f" It is the first of {'more than ' if verdict['more'] else ''}{count:,} faults." if count > 1 else "")
     agents, cost, makespan = (verdict[name] for name in ("agents", "cost", "makespan"))
     solves = f", and solves {scen}" if scen else ""
     return f"The plan is accepted{solves}: {agents:,} {'agent' if agents == 1 else 'agents'}, sum of costs {cost:,}, makespan {makespan:,}."

@@ -8,35 +8,33 @@ import os
 import pathlib
 from typing import BinaryIO, Counter, Iterator, Optional, Sequence
 
-from judging.jobs import FOUND, Job
-from judging.marks import Marker, what_differs
-from judging.verdicts import COLUMNS, STALE, VERDICTS
+from tabling.jobs import Job
+from tabling.marks import Marker, what_differs
+from tabling.tables import STALE, Row, Table
 from whole_file import draft
 
-# The heading of a judge that kept no sums of what it judged.
-OLDER = ("map", "scenario", "plan", "agents", "verdict", "fault", "cost", "makespan", "seconds")
-Row = dict[str, str]
-# The names of the files of a job, and all that its list says of it.
-Files = tuple[str, str, str]
+# What a job is about, and all that its list says of it.
+Name = tuple[str, ...]
 Key = frozenset[tuple[str, str]]
 
 
 class BadResults(Exception):
-    """The file is another's, or is written by another judge."""
+    """The file is another's, or is written by another call."""
 
 
 class Results:
     """The open file, CSV or JSON lines by its name."""
 
-    def __init__(self, path: pathlib.Path, more: Sequence[str]):
+    def __init__(self, path: pathlib.Path, table: Table, more: Sequence[str]):
         self.path = path
+        self.table = table
         self.is_json = path.suffix in (".json", ".jsonl", ".ndjson")
         self.file = locked(path)
         # All columns: those of each table, and behind them those that jobs have beside.
-        self.columns: tuple[str, ...] = COLUMNS
+        self.columns = table.columns
         self.rows: list[Row] = []
-        # How many jobs of these files this call has still to judge.
-        self.open: Counter[Files] = collections.Counter()
+        # How many jobs about one thing this call has still to do.
+        self.open: Counter[Name] = collections.Counter()
         self._take_what_stands()
         wider = (*self.columns, *(name for name in more if name not in self.columns))
         if not self.is_json and wider != self.columns:
@@ -60,26 +58,31 @@ class Results:
             self.file.write(f"{csv_line(self.columns)}\n".encode())
 
     def _take_heading(self, line: str) -> None:
-        if line == csv_line(OLDER):
-            raise self._of_an_older_judge(1)
         try:
             self.columns = tuple(next(csv.reader([line], strict=True)))
         except (csv.Error, StopIteration):
             self.columns = ()
-        if self.columns[: len(COLUMNS)] != COLUMNS or len(set(self.columns)) < len(self.columns):
-            raise BadResults(f"{self.path}:1: another heading, {csv_line(COLUMNS)} was due")
+        self._refuse_older(self.columns, 1)
+        if not self._fits(self.columns) or len(set(self.columns)) < len(self.columns):
+            raise BadResults(f"{self.path}:1: another heading, {csv_line(self.table.columns)} was due")
 
-    def _of_an_older_judge(self, number: int) -> BadResults:
-        told = "is of an older judge, and doesn't say which files were judged; another file was due, or this one moved away"
-        return BadResults(f"{self.path}:{number}: the {'line' if self.is_json else 'heading'} {told}")
+    def _fits(self, columns: Sequence[str]) -> bool:
+        return columns[: len(self.table.columns)] == self.table.columns
+
+    def _refuse_older(self, columns: Sequence[str], number: int) -> None:
+        """Refuses the columns of a former table."""
+        for former, lack in self.table.older.items():
+            if columns[: len(former)] == former:
+                what = f"the {'line' if self.is_json else 'heading'} is of an older judge, and doesn't say {lack}"
+                raise BadResults(f"{self.path}:{number}: {what}; another file was due, or this one moved away")
 
     def _row(self, line: str, number: int) -> Row:
         """The result in a line."""
         values = self._values(line)
-        if values is not None and tuple(values) == OLDER:
-            raise self._of_an_older_judge(number)
-        fits = values is not None and tuple(values)[: len(COLUMNS)] == COLUMNS and values["verdict"] in (*VERDICTS, STALE)
-        if not fits:
+        columns = tuple(values or ())
+        if self.is_json:
+            self._refuse_older(columns, number)
+        if values is None or not self._fits(columns) or values["verdict"] not in (*self.table.verdicts, STALE):
             raise BadResults(f"{self.path}:{number}: the line is no result, one of this tool's was due")
         return values
 
@@ -94,24 +97,24 @@ class Results:
             return None
 
     def left(self, jobs: Sequence[Job], listed: Sequence[Job], marker: Marker) -> tuple[list[Job], list[str]]:
-        """The jobs without a result that still fits, and why others don't. What fits no more is marked as stale until its job is judged anew:
+        """The jobs without a result that still fits, and why others don't. What fits no more is marked as stale until its job is done anew:
         so whoever is stopped meanwhile has lost nothing. Lines of other lists and of other parts of this one stay."""
-        due = collections.Counter(map(key_of_job, listed))
-        jobs_by_key = {key_of_job(job): job for job in jobs}
-        files = {files_of(job.columns) for job in jobs}
+        due = collections.Counter(map(self._key_of_job, listed))
+        jobs_by_key = {self._key_of_job(job): job for job in jobs}
+        names = {self._name_of(job.columns) for job in jobs}
         standing, stale = collections.Counter(), {}
         for place, row in enumerate(self.rows):
-            key = key_of(row)
-            why = self._why_it_goes(row, jobs_by_key.get(key), due[key] > 0, files, marker)
+            key = self._key_of(row)
+            why = self._why_it_goes(row, jobs_by_key.get(key), due[key] > 0, names, marker)
             if why:
                 stale[place] = why
                 continue
             due[key] -= 1
             if key in jobs_by_key:
                 standing[key] += 1
-        left = list(without(jobs, standing))
-        reasons = [f"{self.rows[place]['plan']}: {why}" for place, why in stale.items()]
-        self.open = collections.Counter(files_of(job.columns) for job in left)
+        left = list(self._without(jobs, standing))
+        reasons = [f"{self._name_of(self.rows[place])[-1]}: {why}" for place, why in stale.items()]
+        self.open = collections.Counter(self._name_of(job.columns) for job in left)
         if stale:
             self._mark(set(stale))
         return left, reasons
@@ -119,16 +122,34 @@ class Results:
     def _mark(self, stale: set[int]) -> None:
         """Marks the lines in these places, and leaves out those whose jobs have others."""
         rows = [(place in stale, row) for place, row in enumerate(self.rows)]
-        self._write_anew([marked(row) if is_stale else row for is_stale, row in rows if not is_stale or self.open[files_of(row)]])
+        self._write_anew([marked(row) if is_stale else row for is_stale, row in rows if not is_stale or self.open[self._name_of(row)]])
 
-    def _why_it_goes(self, row: Row, job: Optional[Job], is_due: bool, files: set[Files], marker: Marker) -> str:
+    def _why_it_goes(self, row: Row, job: Optional[Job], is_due: bool, names: set[Name], marker: Marker) -> str:
         """Why a line doesn't hold any more; empty where it does, or is none of these jobs'."""
-        if row["verdict"] == STALE and files_of(row) in files:
+        if row["verdict"] == STALE and self._name_of(row) in names:
             return "stale since a call before"
         if job is not None and is_due:
             differs = what_differs(row, marker.of(job))
             return f"another {differs} since" if differs else ""
-        return "the list says something else of it" if not is_due and files_of(row) in files else ""
+        return "the list says something else of it" if not is_due and self._name_of(row) in names else ""
+
+    def _name_of(self, columns: Row) -> Name:
+        return tuple(columns[name] for name in self.table.names)
+
+    def _key_of(self, row: Row) -> Key:
+        """What a list says of a job, by what stands in a result. An empty column and none are the same."""
+        return frozenset((name, word) for name, word in row.items() if word and name not in self.table.own)
+
+    def _key_of_job(self, job: Job) -> Key:
+        return self._key_of(job.columns)
+
+    def _without(self, jobs: Sequence[Job], standing: Counter[Key]) -> Iterator[Job]:
+        """The jobs that have no result: each that stands is that of one job."""
+        for job in jobs:
+            if standing[self._key_of_job(job)] > 0:
+                standing[self._key_of_job(job)] -= 1
+            else:
+                yield job
 
     def _write_anew(self, rows: Sequence[Row]) -> None:
         """Replaces the file as a whole. The new one is locked before anybody can see it."""
@@ -148,11 +169,11 @@ class Results:
         """Writes a line, whole, by one call."""
         self.file.write(f"{self._line(row)}\n".encode(errors="surrogateescape"))
         self.rows.append(row)
-        self.open[files_of(row)] -= 1
+        self.open[self._name_of(row)] -= 1
 
     def close(self) -> None:
-        """Takes out what was stale and is judged anew, and sees to it that all is stored."""
-        rows = [row for row in self.rows if row["verdict"] != STALE or self.open.get(files_of(row), 1)]
+        """Takes out what was stale and is done anew, and sees to it that all is stored."""
+        rows = [row for row in self.rows if row["verdict"] != STALE or self.open.get(self._name_of(row), 1)]
         if len(rows) < len(self.rows):
             self._write_anew(rows)
         os.fsync(self.file.fileno())
@@ -167,8 +188,8 @@ def locked(path: pathlib.Path) -> BinaryIO:
             fcntl.flock(file, fcntl.LOCK_EX | fcntl.LOCK_NB)
         except OSError:
             file.close()
-            raise BadResults(f"{path}: another judge writes it") from None
-        # Another judge may have replaced it in between.
+            raise BadResults(f"{path}: another call writes it") from None
+        # Another call may have replaced it in between.
         if os.path.exists(path) and os.path.samestat(os.fstat(file.fileno()), os.stat(path)):
             return file
         file.close()
@@ -177,28 +198,6 @@ def locked(path: pathlib.Path) -> BinaryIO:
 def marked(row: Row) -> Row:
     """A line that fits no more. What it said is kept behind its new verdict."""
     return row if row["verdict"] == STALE else {**row, "verdict": STALE, "fault": f"was {row['verdict']} {row['fault']}".rstrip()}
-
-
-def key_of(row: Row) -> Key:
-    """What a list says of a job, by what stands in a result. An empty column and none are the same."""
-    return frozenset((name, word) for name, word in row.items() if word and name not in FOUND)
-
-
-def key_of_job(job: Job) -> Key:
-    return key_of(job.columns)
-
-
-def files_of(columns: Row) -> Files:
-    return columns["map"], columns["scenario"], columns["plan"]
-
-
-def without(jobs: Sequence[Job], standing: Counter[Key]) -> Iterator[Job]:
-    """The jobs that have no result: each that stands is that of one job."""
-    for job in jobs:
-        if standing[key_of_job(job)] > 0:
-            standing[key_of_job(job)] -= 1
-        else:
-            yield job
 
 
 def csv_line(values: Sequence[str]) -> str:

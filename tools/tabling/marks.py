@@ -1,4 +1,4 @@
-"""What a verdict depends on: the files of its job, by their SHA-256, and who judged them. A result that has other marks is of something else."""
+"""What a result depends on: the files of its job, by their SHA-256, and who judged them. A result that has other marks is of something else."""
 import functools
 import hashlib
 import os
@@ -6,16 +6,13 @@ import pathlib
 import re
 import stat
 import subprocess
-from typing import Optional
+from typing import Sequence
 
-from judging.jobs import Job
 from path_check import Program
+from tabling.jobs import Job
+from tabling.tables import JUDGE, Row, Table
 
 TOOLS = pathlib.Path(__file__).resolve().parent.parent
-# The files of this tool that have a say in a verdict.
-READERS = ("path_check.py", "plan_formats/*.py", "judging/verdicts.py")
-# The columns of a result that have its marks.
-MARKS = ("map_sha256", "scenario_sha256", "plan_sha256", "judge")
 # How much of a sum names a program.
 SHORT = 12
 # A program that hasn't said its version by then is asked no more.
@@ -63,35 +60,40 @@ def version_of(program: Program) -> str:
     return version_said(program.path) or program.path.name
 
 
-def sum_of_the_readers() -> str:
-    """The sum of the tool's own files that read plans."""
+def sum_of_readers(patterns: Sequence[str]) -> str:
+    """The sum of the files of a tool that have a say in its results."""
     total = hashlib.sha256()
-    for path in sorted(path for pattern in READERS for path in TOOLS.glob(pattern)):
+    for path in sorted(path for pattern in patterns for path in TOOLS.glob(pattern)):
         total.update(path.read_bytes())
     return total.hexdigest()
 
 
-def judge_of(program: Program, source: Optional[str], fills_waits: bool) -> str:
+def judge_of(program: Program, readers: Sequence[str], options: Sequence[str]) -> str:
     """Who judges: the program, the readers, and what was asked of them."""
-    name = f"{version_of(program)} {sha256_of(str(program.path))[:SHORT]} readers {sum_of_the_readers()[:SHORT]}"
-    return f"{name}{f' --from {source}' if source else ''}{' --fill-waits' if fills_waits else ''}"
+    named = f"{version_of(program)} {sha256_of(str(program.path))[:SHORT]} readers {sum_of_readers(readers)[:SHORT]}"
+    return " ".join([named, *options])
 
 
 class Marker:
     """Gives the marks of jobs. The sum of a file is made once."""
 
-    def __init__(self, judge: str):
+    def __init__(self, table: Table, judge: str):
+        self.table = table
         self.judge = judge
         self.sum_of = functools.lru_cache(maxsize=None)(sha256_of)
 
-    def of(self, job: Job) -> dict[str, str]:
-        names = (job.map, job.scenario, job.plan)
-        sums = [self.sum_of(job.file(name)) if name else "" for name in names]
-        if job.text is not None:
-            sums[-1] = hashlib.sha256(job.text.encode()).hexdigest()
-        return dict(zip(MARKS, (*sums, self.judge)))
+    def of(self, job: Job) -> Row:
+        sums = (self.sum_in(job, name) for name in self.table.files)
+        return {**dict(zip(self.table.sums, sums)), JUDGE: self.judge}
+
+    def sum_in(self, job: Job, name: str) -> str:
+        """The sum of what a column of a job names."""
+        if name in job.texts:
+            return hashlib.sha256(job.texts[name].encode()).hexdigest()
+        word = job.columns[name]
+        return self.sum_of(job.file(word)) if word else ""
 
 
-def what_differs(row: dict[str, str], marks: dict[str, str]) -> str:
+def what_differs(row: Row, marks: Row) -> str:
     """Which of its marks a result doesn't have, in words."""
-    return " and ".join(name.partition("_")[0] for name in MARKS if row[name] != marks[name])
+    return " and ".join(name.partition("_")[0] for name, mark in marks.items() if row[name] != mark)

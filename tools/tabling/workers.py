@@ -4,39 +4,22 @@ A job that crashes, is killed or takes too long harms no other: its process is g
 import dataclasses
 import json
 import os
-import pathlib
 import signal
 import subprocess
 import sys
 import time
 from multiprocessing import connection
-from typing import Iterator, Optional, Sequence
+from typing import Iterator, Sequence
 
-from judging.jobs import Job
-from judging.marks import Marker
-from judging.verdicts import FAILED, Verdict, judged, result_of
 from leaving import SIGNALS
-from path_check import Program
+from tabling.jobs import Job
+from tabling.tables import Row
+from tabling.work import Work
 
-TOOL = pathlib.Path(__file__).resolve().parent.parent / "judge.py"
 # No process of this tool opens more files.
 MOST_FILES = 1024
 # How many jobs a cluster gets ahead, for each of its threads.
 AHEAD = 4
-
-
-@dataclasses.dataclass(frozen=True)
-class Work:
-    """What holds of every job."""
-
-    program: pathlib.Path
-    # The format of all plans, or none where each is told by its beginning.
-    source: Optional[str]
-    # Whether agents wait at times that a schedule leaves out.
-    fills_waits: bool
-    seconds: float
-    # Who judges, as results say it.
-    judge: str
 
 
 @dataclasses.dataclass
@@ -59,7 +42,7 @@ def work_in_child(job: Job, work: Work, end: connection.Connection) -> None:
         os.closerange(end.fileno() + 1, MOST_FILES)
         for number in SIGNALS:
             signal.signal(number, signal.SIG_DFL)
-        end.send(judged(job, Program(work.program), work.source, work.fills_waits, work.judge))
+        end.send(work.result(job))
         status = 0
     finally:
         os._exit(status)
@@ -84,7 +67,7 @@ def kill(running: Running) -> None:
             continue
 
 
-def ended(running: Running, work: Work) -> dict[str, str]:
+def ended(running: Running, work: Work) -> Row:
     """The result of a job whose process has said it, has died, or has had its time."""
     result, fault = None, ""
     if running.end.poll():
@@ -101,10 +84,10 @@ def ended(running: Running, work: Work) -> dict[str, str]:
     if result is not None:
         return result
     died = f"ended by signal {os.WTERMSIG(status)}" if os.WIFSIGNALED(status) else "ended without a verdict"
-    return result_of(running.job, Verdict(FAILED, fault or died), time.monotonic() - running.begun, Marker(work.judge).of(running.job))
+    return work.failed(running.job, fault or died, time.monotonic() - running.begun)
 
 
-def on_this_machine(jobs: Sequence[Job], work: Work, processes: int) -> Iterator[dict[str, str]]:
+def on_this_machine(jobs: Sequence[Job], work: Work, processes: int) -> Iterator[Row]:
     """The results of jobs, each as soon as it is there."""
     waiting, running = iter(jobs), []
     try:
@@ -125,14 +108,13 @@ def on_this_machine(jobs: Sequence[Job], work: Work, processes: int) -> Iterator
             os.waitpid(it.process, 0)
 
 
-def on_a_cluster(jobs: Sequence[Job], work: Work, address: str) -> Iterator[dict[str, str]]:
+def on_a_cluster(jobs: Sequence[Job], work: Work, address: str) -> Iterator[Row]:
     """The results of jobs that a Dask cluster works on. Its workers find this tool, the program and all files under the same names as this
     process does."""
     from distributed import Client, as_completed  # only here: nothing else needs it
 
-    words = [sys.executable, str(TOOL), "--one", "--program", str(work.program.resolve()), "--seconds", str(work.seconds)]
-    words += ["--from", work.source] if work.source else []
-    words += ["--fill-waits"] if work.fills_waits else []
+    program = str(work.program.path.resolve())
+    words = [sys.executable, str(work.tool), "--one", "--program", program, "--seconds", str(work.seconds), *work.options]
     with Client(address) as client:
         ahead = AHEAD * max(1, sum(client.nthreads().values()))
         waiting = iter(jobs)
@@ -142,8 +124,7 @@ def on_a_cluster(jobs: Sequence[Job], work: Work, address: str) -> Iterator[dict
         def hand_on() -> None:
             job = next(waiting, None)
             if job is not None:
-                text = json.dumps({**dataclasses.asdict(job), "folder": str(job.folder.resolve())})
-                task = client.submit(subprocess.run, words, input=text, stdout=subprocess.PIPE, text=True, pure=False)
+                task = client.submit(subprocess.run, words, input=job.packed(), stdout=subprocess.PIPE, text=True, pure=False)
                 known[task.key] = job, time.monotonic()
                 tasks.add(task)
 
@@ -155,9 +136,9 @@ def on_a_cluster(jobs: Sequence[Job], work: Work, address: str) -> Iterator[dict
             yield from_cluster(task, job, work, time.monotonic() - begun)
 
 
-def from_cluster(task, job: Job, work: Work, seconds: float) -> dict[str, str]:
+def from_cluster(task, job: Job, work: Work, seconds: float) -> Row:
     """What a worker said of a job, or that it died of it."""
     try:
         return json.loads(task.result().stdout)
     except Exception as fault:  # whatever a cluster fails of is the result of this job
-        return result_of(job, Verdict(FAILED, f"no worker of the cluster answered: {type(fault).__name__}"), seconds, Marker(work.judge).of(job))
+        return work.failed(job, f"no worker of the cluster answered: {type(fault).__name__}", seconds)
