@@ -4,13 +4,13 @@
 _mapf() {
     local word=${COMP_WORDS[COMP_CWORD]} before=${COMP_WORDS[COMP_CWORD - 1]}
     local command='' offers='' at
-    local commands='map scen row check deps path cut continues run agent tape help'
+    local commands='map scen row rows check bound deps path cut continues run agent tape help'
     local faults='AgentCount AlreadyMoving AtEnd BadAct BadAgent BadEntry BadEvent BadHeader
         BadLength BadLine BadMagic BadMove BadNumber BadStart BadTable BadTear BadTerrain BadVersion
         BadWalk Broken Damaged Departs FieldCount GoalDiffers LineTooLong LongRow MissingRows
         NoHeader NoRoom NoSuchAgent NoSuchMessage NoSuchRow NoTape NoVersion NotMoving NotTight
         OpenFailed OtherCount OtherNumber OtherPlan OutOfGrid OutOfMemory OutOfRange PlanDamaged
-        ReadFailed ShortRow SizeDiffers StaleTape StartDiffers StoreFailed Swap TapeEmptied
+        ReadFailed Rotation ShortRow SizeDiffers StaleTape StartDiffers StoreFailed Swap TapeEmptied
         TapeExists TapeFailed TapeInUse TextAfter TooFewRows TooLarge TooLong TooMany Unfinished
         Vertex Waits WriteFailed WrongAgent WrongPlan'
     COMPREPLY=()
@@ -26,7 +26,7 @@ _mapf() {
         [[ -z $command && ${COMP_WORDS[at]} != -* ]] && command=${COMP_WORDS[at]}
     done
     case $command:$before in
-        check:--scen | check:--agents | deps:--cell | path:--agent) return 0 ;;
+        rows:--from | rows:--to | check:--scen | check:--agents | check:--all | deps:--cell | path:--agent) return 0 ;;
         agent:--tape) mapfile -t COMPREPLY < <(compgen -W 'new kept' -- "$word"); return ;;
     esac
     case $command in
@@ -34,7 +34,9 @@ _mapf() {
         map) offers='--explain -h --help' ;;
         scen) offers='--explain -h --help' ;;
         row) offers='--explain -h --help' ;;
-        check) offers='--scen --agents --json --explain -h --help' ;;
+        rows) offers='--from --to --straight --progress --explain -h --help' ;;
+        check) offers='--scen --agents --all --bound --no-rotation --json --explain -h --help' ;;
+        bound) offers='--agents --json --explain -h --help' ;;
         deps) offers='--cell --explain -h --help' ;;
         path) offers='--agent --explain -h --help' ;;
         cut) offers='--explain -h --help' ;;
