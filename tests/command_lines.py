@@ -22,6 +22,10 @@ MAP = FILES["M"].decode()
 SCEN = "version 1\n0\tm.map\t3\t1\t1\t0\t2\t0\t1\n0\tm.map\t3\t1\t0\t0\t1\t0\t1\n0\tm.map\t3\t1\t0\t0\t2\t0\t2\n"
 ACCEPTED = "accepted agents 2 cost 2 makespan 1\n"
 JSON = '{"accepted":true,"agents":2,"cost":2,"makespan":1}\n'
+AGREE = "rows 3 agree 3 differ 0 unreachable 0 size 0\n"
+STRAIGHT = "0 least 1\n1 least 1\n2 least 2\nrows 3 sum 4 greatest 2 unreachable 0 size 0\n"
+EMPTY = "rows 0 agree 0 differ 0 unreachable 0 size 0\n"
+BOUNDS_JSON = '{"cost":2,"cost_bound":2,"makespan":1,"makespan_bound":1,"agents":[{"cost":1,"bound":1},{"cost":1,"bound":1}]}\n'
 COMPLETE = "refused NoSuchAgent\ncomplete 0\n"
 NEEDS = "agents 2 moves 2 needs 1 rotations 0\nneed 1 0 0 1\n"
 VISITS = "visit 0 0 0\nvisit 1 1 1\n"
@@ -45,6 +49,26 @@ COMMANDS = [
     ("row M S 002", "shortest 2 0 listed 2 agrees\n"),
     ("row M S 000000000000000001", "shortest 1 0 listed 1 agrees\n"),
     ("row -- M S 2", "shortest 2 0 listed 2 agrees\n"),
+    ("rows M S", "0 shortest 1 0 listed 1 agrees\n1 shortest 1 0 listed 1 agrees\n2 shortest 2 0 listed 2 agrees\n" + AGREE),
+    ("rows M S --straight", STRAIGHT),
+    ("rows --straight M S --from 0 --to 3", STRAIGHT),
+    ("rows M --from=2 --to=4294967295 S", "2 shortest 2 0 listed 2 agrees\nrows 1 agree 1 differ 0 unreachable 0 size 0\n"),
+    ("rows M S --from 3", EMPTY),
+    ("rows M S --from 2 --to 2", EMPTY),
+    ("rows M S --from 0002 --to 1 --explain", EMPTY),
+    ("bound M P", "cost 2 of 2 makespan 1 of 1\n"),
+    ("bound --json M P", '{"cost":2,"cost_bound":2,"makespan":1,"makespan_bound":1}\n'),
+    ("bound M P --agents", "agent 0 cost 1 of 1\nagent 1 cost 1 of 1\ncost 2 of 2 makespan 1 of 1\n"),
+    ("bound M --agents P --json", BOUNDS_JSON),
+    ("bound M O --agents", "cost 0 of 0 makespan 0 of 0\n"),
+    ("check M P --all", ACCEPTED),
+    ("check M --all P", ACCEPTED),
+    ("check --all --json M P", JSON),
+    ("check M P --all=1", ACCEPTED),
+    ("check --all=4294967295 M P", ACCEPTED),
+    ("check M P --no-rotation", ACCEPTED),
+    ("check M P --bound", "accepted agents 2 cost 2 of 2 makespan 1 of 1\n"),
+    ("check --bound --no-rotation --all M P --scen S", "accepted agents 2 cost 2 of 2 makespan 1 of 1\n"),
     ("check M P", ACCEPTED),
     ("check M P --json", JSON),
     ("check M --json P", JSON),
@@ -158,6 +182,14 @@ OTHER_FILES = [
     ("check M P --scen M", 1, "NoVersion"),
     ("deps P M", 1, "BadHeader 1"),
     ("deps P M --cell 1 0", 1, "BadHeader 1"),
+    ("rows P S", 1, "BadHeader 1"),
+    ("rows M P", 1, "NoVersion"),
+    ("rows P M --from 9", 1, "BadHeader 1"),
+    ("rows M S --from 4", 1, "NoSuchRow"),
+    ("rows M S --from 4 --to 2", 1, "NoSuchRow"),
+    ("bound P M", 1, "BadHeader 1"),
+    ("bound M M", 1, "BadHeader 1"),
+    ("check M M --all", 1, "BadHeader 1"),
     ("path P M", 1, "BadHeader 1"),
     ("path M P --agent 2", 1, "NoSuchAgent"),
     ("path M O --agent 0", 1, "NoSuchAgent"),
@@ -188,6 +220,10 @@ OTHER_FILES = [
     ("scen N", 3, "OpenFailed"),
     ("row N S 0", 3, "OpenFailed"),
     ("row M N 0", 3, "OpenFailed"),
+    ("rows N S", 3, "OpenFailed"),
+    ("rows M N", 3, "OpenFailed"),
+    ("bound N P", 3, "OpenFailed"),
+    ("bound M N", 3, "OpenFailed"),
     ("check N P", 3, "OpenFailed"),
     ("check M N", 3, "OpenFailed"),
     ("check M P --scen N", 3, "OpenFailed"),
@@ -300,6 +336,28 @@ BAD = [
     ("check M P --agents 65536", "--agents", "from 0 to 65535"),
     ("check M P --agents 4294967298", "--agents", "from 0 to 65535"),
     ("check M P --agents two", "--agents", "from 0 to 65535"),
+    ("check M P --all=0", "--all", "from 1 to 4294967295"),
+    ("check M P --all=4294967296", "--all", "from 1 to 4294967295"),
+    ("check M P --all=", "--all", "--help"),
+    ("check M P --all=x", "--all", "from 1 to 4294967295"),
+    ("check M P --all 5", "'5'", "Usage: mapf check"),
+    ("check M P --all --all", "--all", "Usage: mapf check"),
+    ("check M P --bound=1", "--bound", "Usage: mapf check"),
+    ("check M P --no-rotations", "--no-rotations", "Usage: mapf check"),
+    ("deps M P --all", "'--all", "Usage: mapf deps"),
+    ("rows", "<map>", "Usage: mapf rows <map> <scen>"),
+    ("rows M", "<scen>", "Usage: mapf rows <map> <scen>"),
+    ("rows M S 0", "'0'", "Usage: mapf rows [OPTIONS] <map> <scen>"),
+    ("rows M S --from", "'--from <from>'", "--help"),
+    ("rows M S --from x", "--from", "from 0 to 4294967295"),
+    ("rows M S --from 4294967296", "--from", "from 0 to 4294967295"),
+    ("rows M S --to -1", "'-1'", "--help"),
+    ("rows M S --to 1.0", "--to", "from 0 to 4294967295"),
+    ("rows M S --json", "'--json'", "Usage: mapf rows"),
+    ("bound", "<map>", "Usage: mapf bound <map> <plan>"),
+    ("bound M", "<plan>", "Usage: mapf bound <map> <plan>"),
+    ("bound M P --agents 2", "'2'", "Usage: mapf bound [OPTIONS] <map> <plan>"),
+    ("bound M P --scen S", "'--scen'", "Usage: mapf bound"),
     ("path M P --agents 1", "'--agents'", "Usage: mapf path"),
     ("deps", "<map>", "Usage: mapf deps <map> <plan>"),
     ("deps M", "<plan>", "Usage: mapf deps <map> <plan>"),
@@ -404,7 +462,7 @@ def refusal(why: str, usage: str = "") -> bytes:
 
 # What is told in full.
 WHOLE = {
-    "": refusal("'mapf' requires a subcommand but one was not provided\n  [subcommands: map, scen, row, check, deps, path, cut, continues, run, agent, tape, help]", "<COMMAND>"),
+    "": refusal("'mapf' requires a subcommand but one was not provided\n  [subcommands: map, scen, row, rows, check, bound, deps, path, cut, continues, run, agent, tape, help]", "<COMMAND>"),
     "nope": refusal("unrecognized subcommand 'nope'", "<COMMAND>"),
     # Clap's own advice, by another measure.
     "mapp_": refusal("unrecognized subcommand 'mapp_'\n\n  tip: a similar subcommand exists: 'map'", "<COMMAND>"),

@@ -171,7 +171,7 @@ def listed(help_text: str, heading: str) -> list[str]:
 
 def options(help_text: str) -> list[str]:
     found = re.search(r"^Options:\n((?:  .*\n)+)", help_text, re.MULTILINE)
-    return re.findall(r"(?<=[ ,])--?[a-zA-Z]+", "".join(line[:26] for line in found[1].splitlines(True))) if found else []
+    return re.findall(r"(?<=[ ,])--?[a-zA-Z-]+", "".join(line[:26] for line in found[1].splitlines(True))) if found else []
 
 
 def outcomes(harness: Harness) -> Iterator[Outcome]:

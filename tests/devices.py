@@ -38,6 +38,11 @@ WRITING = [
     ("map C", CORNER_WRITTEN),
     ("scen S", ROW_WRITTEN),
     ("row C S 0", "shortest 2 0 listed 2.00000000 agrees\n"),
+    ("rows C S", "0 shortest 2 0 listed 2.00000000 agrees\nrows 1 agree 1 differ 0 unreachable 0 size 0\n"),
+    ("rows C S --straight", "0 least 2\nrows 1 sum 2 greatest 2 unreachable 0 size 0\n"),
+    ("bound M P --agents", "agent 0 cost 1 of 1\nagent 1 cost 1 of 1\ncost 2 of 2 makespan 1 of 1\n"),
+    ("check M X --all", "rejected Swap 0 1 0\nfaults 1 agents 2\n"),
+    ("check M P --bound", "accepted agents 2 cost 2 of 2 makespan 1 of 1\n"),
     ("check M P", "accepted agents 2 cost 2 makespan 1\n"),
     ("check M P --json", '{"accepted":true,"agents":2,"cost":2,"makespan":1}\n'),
     ("check M X", "rejected Swap 0 1 0\n"),
@@ -61,6 +66,8 @@ FAULTY = [
     ("map B", "mapf: ShortRow 6\n"),
     ("scen M", "mapf: NoVersion\n"),
     ("row C S 1", "mapf: NoSuchRow\n"),
+    ("rows C S --from 2", "mapf: NoSuchRow\n"),
+    ("bound M X", "mapf: Swap 0 1 0\n"),
     ("check M M", "mapf: BadHeader 1\n"),
     ("deps M X", "mapf: Swap 0 1 0\n"),
     ("deps M X --cell 1 0", "mapf: Swap 0 1 0\n"),
@@ -75,6 +82,7 @@ FAULTY = [
 # What such commands end with, where it is another status than 0 or a fault too.
 STATUSES = {
     "check M X": (1, ""),
+    "check M X --all": (1, ""),
     "run M P J": (1, "mapf: BadEvent 3\n"),
     "run Q R J --complete": (1, "mapf: BadEvent 3\n"),
     "run Q R E --complete": (1, ""),

@@ -12,6 +12,9 @@ Arguments:
 Options:
       --scen <scen>      The file of a scenario that the plan is to solve
       --agents <agents>  How many agents the plan is to have
+      --all <all>        Lists all faults, up to 1000 or to so many behind =
+      --bound            Tells what such plans cost at least
+      --no-rotation      Rejects a plan with a rotation
       --json             Writes the answer as JSON
       --explain          Explains a fault, behind its line
   -h, --help             Print help
@@ -20,7 +23,15 @@ Standard output is one line:
   accepted agents K cost C makespan M   the plan is valid
   rejected FAULT                        it isn't, and this is its least fault
 With --scen the plan must also solve the first rows of the scenario, as many as
-it has agents. With --agents it must have that many.
+it has agents. With --agents it must have that many. With --no-rotation a plan
+with nothing else against it must have no rotation, since one with a rotation
+can't be run; the fault is then `Rotation S I J ..`, as `mapf deps` lists it.
+With --bound the line says beside what such plans cost at least:
+  accepted agents K cost C of B makespan M of D
+With --all it is a line for each fault, up to 1000, or N with --all=N, as they
+come: by time, then kind, then agents; and then how many lines and agents:
+  faults F agents A                     these are all
+  faults F agents A more                there are more
 
 Status:
   0  the answer is `accepted`

@@ -32,13 +32,17 @@ import formats
 import judging
 import launcher
 import limits
+import listing
 import messages
 import refusals
 import replays
 import robots
+import rows_and_bounds
+import scenarios
 import shipping
 import showing
 import sources
+import tabling
 import vectors
 from harness import ROOT, SHIPPED, Harness, Outcome, Report
 from lanes import Lanes
@@ -68,8 +72,12 @@ PARTS: dict[str, tuple[str, Callable[[Harness], Iterator[Outcome]]]] = {
     "endings": ("how runs end: the events that complete them, or the rotation in the way", endings.outcomes),
     "chains": ("plans that go on from plans, beside a plain model", continuations.outcomes),
     "changing": ("fleets that go over from plan to plan while they drive", changing.outcomes),
+    "bounds": ("rows of scenarios, bounds of plans and lists of faults, up to the limits", rows_and_bounds.outcomes),
+    "scenarios": ("whole scenarios and bounds of plans, beside plain searches", scenarios.outcomes),
+    "listing": ("all faults of plans, beside a list of all pairs", listing.outcomes),
     "convert": ("plans of other formats, converted and back", converting.outcomes),
     "judge": ("many plans, judged as one table", judging.outcomes),
+    "rows": ("many scenarios, certified as one table", tabling.outcomes),
     "show": ("plans and runs as pages in a browser, and as pictures", showing.outcomes),
     "vectors": ("the answers of an independent implementation", vectors.outcomes),
     "fleet": ("robots as processes that are killed at random", fleet.outcomes),

@@ -21,12 +21,12 @@ TESTS = {
         *("lengths_and_certificates", "library_calls", "steps_on_a_map", "ten_thousand_hearings"),
         "what_takes_none",
     ],
-    "plan_trials": ["a_check", "a_plan", "an_agent_of_a_plan"],
+    "plan_trials": ["a_check", "a_plan", "an_agent_of_a_plan", "bounds", "listed_faults"],
     "robot_trials": ["a_dialogue"],
     "runner_trials": ["a_message", "a_message_with_entries", "a_replay", "a_replay_to_the_end", "agents_that_turn"],
     "tape_trials": ["a_tape_file"],
     "text_trials": ["a_map", "a_scenario"],
-    "walk_trials": ["a_search"],
+    "walk_trials": ["a_search", "a_straight_search"],
 }
 PREFIX = "memory_refused_to_"
 # What a test ends with that was told that memory is wanting.

@@ -3,6 +3,8 @@ import dataclasses
 import gzip
 from typing import Union
 
+from texts import SQUARE, TURN
+
 Text = Union[str, bytes]
 
 LAND = "type octile\nheight 2\nwidth 3\nmap\n...\n.@.\n"
@@ -120,6 +122,7 @@ COURSES = [
     Wrong("path shore wrong", plan("0 0 ee"), ("which is water (`W`).\n", "Between land and water, and between swamp and water, there is no move.\n", "    0 .axW\n")),
     Wrong("deps land wrong", plan("0 0 e", "2 0 w"), ("At time 1 agents 0 and 1 are both in column 1, row 0.\n", "at time 0:\n    0 axb\n")),
     Wrong("deps land wrong", plan("1 0 =", "0 0 -e"), ("Agent 0 has no act left since time 0, and stays in its last cell for ever.\n",)),
+    Wrong("bound land wrong --agents", plan("0 0 e", "2 0 w"), ("At time 1 agents 0 and 1 are both in column 1, row 0.\n", "at time 0:\n    0 axb\n")),
     Wrong("deps land wrong", plan("0 0 e", "1 0 w"), ("In step 0 agent 0 moves from 0 0 to 1 0, and agent 1 the other way", "at time 0:\n    0 ab.\n")),
 ]
 
@@ -127,6 +130,9 @@ COMMANDS = [
     Wrong("row land wrong 2", ROWS, ("The last row of wrong is row 1: rows count from 0.\n",)),
     Wrong("row land wrong 0", "version 1\n", ("wrong has no row.\n",)),
     Wrong("row land wrong 1", ROWS, ("wrong:3, read as a scenario:\n", marked(3, "0 b.map 4 4 0 0 3 0 3", "        ^^^"), "Row 1 is of a map with width and height `4 4`, and land has 3 and 2.\n", "The row names the map `b.map`.\n")),
+    Wrong("rows land wrong --from 3", ROWS, ("The last row of wrong is row 1: rows count from 0.\n",)),
+    Wrong("rows land wrong --from 1 --straight", "version 1\n", ("wrong has no row.\n",)),
+    Wrong("rows land wrong --to 0", "version 2\n", ("wrong:1, read as a scenario:\n", "The first line must be `version 1`.\n")),
     Wrong("path land wrong --agent 2", PAIR, ("The last agent of wrong is agent 1: agents count from 0.\n",)),
     Wrong("map nothing", "", ("nothing, to be read as a map: there is no such file.\nThe system says: No such file or directory (os error 2).\n",)),
     Wrong("check land wrong/plan", PAIR, ("wrong/plan, to be read as a plan: a part of its path is a file, and no folder.\nThe system says: Not a directory (os error 20).\n",)),
@@ -188,6 +194,9 @@ CONTINUATIONS = [
 REJECTED = [
     Wrong("check land wrong", plan("0 0 e", "2 0 w"), ("wrong:4, a plan on the map land:\n", "At time 1 agents 0 and 1 are both in column 1, row 0.\n", "at time 0:\n    0 axb\n")),
     Wrong("check land wrong --json", plan("0 0 e", "1 0 w"), ("In step 0 agent 0 moves from 0 0 to 1 0, and agent 1 the other way",)),
+    Wrong("check land wrong --all", plan("0 0 e", "1 0 w"), ("In step 0 agent 0 moves from 0 0 to 1 0, and agent 1 the other way",)),
+    Wrong("check square wrong --no-rotation", TURN, ("In this step the agents go round, each into the cell that the next one leaves",)),
+    Wrong("check square wrong --no-rotation --all --json", TURN, ("In this step the agents go round, each into the cell that the next one leaves",)),
     Wrong("check land wrong", plan("1 1 -"), ("Agent 0 starts in column 1, row 1, which is out of bounds (`@`).\n",)),
     Wrong("check land pair --scen wrong", "version 1\n", ("The scenario has fewer rows than agents are due: as many as the plan has,",)),
     Wrong("check land pair --agents 3", "", ("The plan has more or fewer agents than are due: with `--agents` so many,",)),
@@ -195,6 +204,6 @@ REJECTED = [
 
 # By what is read.
 INPUTS = {"a map": MAPS, "a scenario": SCENARIOS, "a plan": PLANS, "events": LISTS, "a plan on a map": COURSES, "a command": COMMANDS, "a verdict": REJECTED, "two plans": CONTINUATIONS}
-FILES = {"land": LAND, "shore": SHORE, "pair": PAIR, "rows": ROWS, "events": EVENTS}
+FILES = {"land": LAND, "shore": SHORE, "pair": PAIR, "rows": ROWS, "events": EVENTS, "square": SQUARE}
 # Beside the tape `wrong` another plan is kept, and beside `bare` what is none of a tape.
 FILES.update({"wrong.plan": f"mapf-tape 1 +\n{PAIR}".replace("0 0 e", "0 0 -e"), "bare": "", "bare.plan": PAIR})
