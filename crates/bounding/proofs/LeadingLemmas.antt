@@ -61,8 +61,12 @@ module _ (m : Grid) (p : Plan) (i : ℕ) (course : Course) (track : Track) (vali
       let at : position_of to ≡ moved act (position_of from) =
       is_track.places (suc t) ∙ ap (position_at course) (next t) ∙ sym (moved-place course t from act is (is_track.places t)) in
       valid (BadMove i t) (bad_at m p.courses t i course there (bad-moved m course t from act is (is_track.places t) other (λ legal.
-      never (leads.0 + 1, omega (arith, most), subst (WalksTo m false track.start to) (one_more leads.0)
-      (comes-on m false track.start from to ((leads.0 + 1) * 6625109) 6625109 leads.2 (inl (step_from_legal m from to (moved act (position_of from)) at legal, refl)))))))
+      never (
+        leads.0 + 1,
+        omega (arith, most),
+        subst (WalksTo m false track.start to) (one_more leads.0)
+            (comes-on m false track.start from to ((leads.0 + 1) * 6625109) 6625109 leads.2 (inl (step_from_legal m from to (moved act (position_of from)) at legal, refl))),
+      ))))
 
   by_act : (t : ℕ) (act : Act) → slice_get course.acts t ≡ Some act → Leads t → (Leads (suc t) → ⊥) → ⊥
   by_act t N is leads never = moves_on t N is (λ e. cc) leads never
