@@ -11,6 +11,8 @@ from tables import Measure
 
 # For how many seconds each text is run at least.
 LEAST_SECONDS = 10
+# After so many no more runs are made to look at memory.
+ENOUGH_SECONDS = 2
 
 
 def run_once(command: Sequence[str], output: pathlib.Path, statuses: Sequence[int]) -> float:
@@ -45,9 +47,11 @@ def most_held(status: str) -> int:
 
 def whole_peak_memory(command: Sequence[str]) -> int:
     """The most kilobytes of memory in five runs, as it was last seen before each end: one look may
-    come too early for a short run."""
-    most = 0
+    come too early for a short run. Of long ones there are fewer."""
+    most, begun = 0, time.perf_counter()
     for _ in range(5):
+        if time.perf_counter() - begun > ENOUGH_SECONDS:
+            break
         quiet = {"stdout": subprocess.DEVNULL, "stderr": subprocess.DEVNULL}
         child = subprocess.Popen(command, **quiet)
         while child.poll() is None:
