@@ -17,8 +17,6 @@ SHORT_SEEDS, LONG_SEEDS = range(1, 301), range(1, 3_001)
 SIDES = ((0, -1), (1, 0), (0, 1), (-1, 0))
 # Which terrain a straight step leads between.
 GROUNDS = (".GS", "W")
-# What no length of such a map is wrong by, as a float.
-SLACK = 1e-9
 # The words of a call, the files that they name, and how it ends.
 Call = tuple[list[str], dict[str, str], Ended]
 
@@ -94,9 +92,13 @@ class Row:
     def text(self) -> str:
         return " ".join(str(field) for field in ("0 m.map", *self.size, *self.start, *self.goal, self.listed))
 
-    def agrees(self, length: float) -> bool:
+    def agrees(self, straight: int, diagonal: int) -> bool:
+        """Whether the length is within a unit of the last decimal, by whole numbers: what is left of the listed one for the diagonal steps is
+        compared by its square."""
         scale = 10 ** len(self.listed.partition(".")[2])
-        return abs(int(self.listed.replace(".", "")) - scale * length) <= 1 + scale * SLACK
+        left = int(self.listed.replace(".", "")) - scale * straight
+        square = 2 * (scale * diagonal) ** 2
+        return (left < 1 or (left - 1) ** 2 <= square) and left >= -1 and (left + 1) ** 2 >= square
 
 
 def row_line(ground: Ground, row: Row) -> str:
@@ -105,8 +107,7 @@ def row_line(ground: Ground, row: Row) -> str:
     steps = octile(ground, row.start, row.goal)
     if steps is None:
         return "unreachable"
-    length = steps[0] + steps[1] * math.sqrt(2)
-    return f"shortest {steps[0]} {steps[1]} listed {row.listed} {'agrees' if row.agrees(length) else 'differs'}"
+    return f"shortest {steps[0]} {steps[1]} listed {row.listed} {'agrees' if row.agrees(*steps) else 'differs'}"
 
 
 def least_line(ground: Ground, row: Row) -> str:
