@@ -1,13 +1,8 @@
 """Faults explained to people: behind their line with `--explain`, and by `mapf help`."""
-import os
-import pathlib
-import pty
 import re
-import subprocess
-import tty
 from typing import Iterator, Mapping, Sequence
 
-from harness import LONGEST, ROOT, Ended, Harness, Outcome, compared, ended_as, has_terminals, shown, side_by_side
+from harness import ROOT, Ended, Harness, Outcome, compared, ended_as, has_terminals, shown, side_by_side
 from texts import BEHIND, LANE, SWAP
 from wrong_inputs import FILES, INPUTS, Wrong
 
@@ -70,26 +65,6 @@ def is_short(said: str) -> bool:
     )
 
 
-def on_a_terminal(harness: Harness, words: Sequence[str], folder: pathlib.Path, variables: Mapping[str, str]) -> Ended:
-    """Runs the program with a terminal as its standard error."""
-    near, far = pty.openpty()
-    tty.setraw(far)
-    environment = {name: value for name, value in os.environ.items() if name not in ("NO_COLOR", "TERM")}
-    how = {"cwd": folder, "stdin": subprocess.DEVNULL, "stdout": subprocess.PIPE, "stderr": far, "env": {**environment, **variables}}
-    err = b""
-    with subprocess.Popen([str(harness.program), *words], **how) as process:
-        os.close(far)
-        try:
-            while read := os.read(near, 4096):
-                err += read
-        except OSError:
-            # The other end is closed.
-            pass
-        os.close(near)
-        out, _ = process.communicate(timeout=LONGEST)
-    return Ended(process.returncode, out, err)
-
-
 def without_colour(err: bytes) -> bytes:
     """What stands between the escape sequences, each of which is ended before another one begins and on its line."""
     return re.sub(rb"(?:%s|%s)([^\x1b\n]*)%s" % tuple(map(re.escape, (MARKED, FRAMED, ENDED))), rb"\1", err)
@@ -101,7 +76,7 @@ def coloured(harness: Harness, of: str, wrong: Wrong) -> Sequence[Outcome]:
     words = [*wrong.words.split(), "--explain"]
     plain = harness.mapf(words, folder=harness.folder({name: as_bytes(text) for name, text in files.items()}))
     folder = harness.folder({name: as_bytes(text) for name, text in files.items()})
-    seen = on_a_terminal(harness, words, folder, {"TERM": "xterm"})
+    seen = harness.on_a_terminal(words, folder, {"TERM": "xterm"})
     ran = f"{shown(['mapf', *words])}  on a terminal, with wrong as {wrong.wrong!r:.200}"
     return [ended_as(f"{of}: {wrong.words} on a terminal", ran, Ended(seen.status, seen.out, without_colour(seen.err)), plain)]
 
@@ -115,7 +90,7 @@ def colours(harness: Harness) -> Iterator[Outcome]:
     for words in (["map", "wrong", "--explain"], ["deps", "M", "X", "--explain"]):
         plain = harness.mapf(words, folder=folder)
         for variables, has_colour in COLOURED:
-            seen = on_a_terminal(harness, words, folder, variables)
+            seen = harness.on_a_terminal(words, folder, variables)
             name = f"mapf {' '.join(words)}  on a terminal with {dict(variables)}"
             yield ended_as(name, name, Ended(seen.status, seen.out, without_colour(seen.err)), plain)
             yield compared(f"{name}: what is marked, and what frames it", name, (MARKED in seen.err, FRAMED in seen.err), (has_colour, has_colour))

@@ -9,6 +9,7 @@ import pty
 import signal
 import subprocess
 import sys
+import tty
 from typing import Callable, Iterable, Iterator, Mapping, Optional, Sequence
 
 ROOT = pathlib.Path(__file__).resolve().parent.parent
@@ -92,6 +93,28 @@ class Harness:
                     raise
                 err += f"(it had not ended after {longest} seconds)".encode()
             return Ended(process.returncode, out, err)
+
+    def on_a_terminal(
+        self, words: Sequence[str], folder: pathlib.Path, variables: Mapping[str, str] = {}, gets_output: bool = False
+    ) -> Ended:
+        """Runs the program under test with a terminal as its standard error, and perhaps as its standard output too. Of the
+        terminal and of colour its environment has these variables alone."""
+        near, far = pty.openpty()
+        tty.setraw(far)
+        environment = {name: value for name, value in os.environ.items() if name not in ("NO_COLOR", "TERM")}
+        pipes = {"stdin": subprocess.DEVNULL, "stdout": far if gets_output else subprocess.PIPE, "stderr": far}
+        err = b""
+        with subprocess.Popen([str(self.program), *words], cwd=folder, env={**environment, **variables}, **pipes) as process:
+            os.close(far)
+            try:
+                while read := os.read(near, 4096):
+                    err += read
+            except OSError:
+                # The other end is closed.
+                pass
+            os.close(near)
+            out, _ = process.communicate(timeout=LONGEST)
+        return Ended(process.returncode, out or b"", err)
 
 
 def has_terminals() -> bool:

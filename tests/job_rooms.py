@@ -14,7 +14,7 @@ import time
 from typing import Iterator, Mapping, Optional, Sequence
 
 import converting
-from harness import ROOT, Ended, Harness
+from harness import ROOT, Ended, Harness, shown
 
 # How often a call is stopped.
 STOPS = 8
@@ -106,3 +106,13 @@ def cluster(room: Room) -> Iterator[Optional[tuple[str, str]]]:
         for process in started:
             os.killpg(process.pid, signal.SIGKILL)
             process.wait()
+
+
+def on_a_cluster(room: Room, words: Sequence[str]) -> Optional[tuple[str, Ended]]:
+    """Runs a room's tool on a cluster: the command as one would type it, and what it did. None where there is no cluster."""
+    with cluster(room) as found:
+        if not found:
+            return None
+        python, address = found
+        command = [python, *room.words(*words, "--dask", address)[1:]]
+        return shown(command), room.harness.run(command, folder=room.folder)

@@ -9,7 +9,7 @@ from typing import Iterator, Sequence
 import judging_again
 import judging_costs
 from harness import VERSION, Harness, Outcome, compared, shown, side_by_side
-from job_rooms import Room, cluster
+from job_rooms import Room, on_a_cluster
 from judge_jobs import ACCEPTED, CLAIMED, COLUMNS, JOBS, TASKS, TEXTS, csv_of, differing, json_of, judge_room, verdicts
 from texts import BEHIND, LANE
 
@@ -226,15 +226,13 @@ def of_summaries(room: Room) -> Iterator[Outcome]:
 
 
 def of_a_cluster(room: Room) -> Iterator[Outcome]:
-    with cluster(room) as found:
-        if not found:
-            yield Outcome("a cluster", lacks="python3-distributed")
-            return
-        python, address = found
-        words = [python, *room.words("jobs.csv", "-o", "cluster.csv", "--dask", address)[1:]]
-        ended = room.harness.run(words, folder=room.folder)
-        wrote = (ended.status, differing(room.rows("cluster.csv"), JOBS), ended.err[-300:] if ended.status else b"")
-        yield compared("a cluster of two workers", shown(words), wrote, (0, [], b""))
+    found = on_a_cluster(room, ["jobs.csv", "-o", "cluster.csv"])
+    if not found:
+        yield Outcome("a cluster", lacks="python3-distributed")
+        return
+    ran, ended = found
+    wrote = (ended.status, differing(room.rows("cluster.csv"), JOBS), ended.err[-300:] if ended.status else b"")
+    yield compared("a cluster of two workers", ran, wrote, (0, [], b""))
 
 
 def outcomes(harness: Harness) -> Iterator[Outcome]:

@@ -386,13 +386,18 @@ def of_hearings(harness: Harness, version: int) -> list[Outcome]:
     return [asked(harness, f"an agent that hears of {count - 1} others at version {version}", "run M P E", files, Ended(0, lines(*replies), b""))]
 
 
-def of_a_ring(harness: Harness) -> list[Outcome]:
-    """As many agents as there may be, all of which turn round in one circle."""
-    count = MOST_AGENTS
+def ring(count: int) -> dict[str, bytes]:
+    """The map M of two rows, and the plan P by which its agents, an even number, turn round in one circle."""
     half = count // 2
     east = [f"{x} 0 {'e' if x + 1 < half else 's'}" for x in range(half)]
     west = [f"{x} 1 {'w' if x else 'n'}" for x in reversed(range(half))]
-    files = {"M": map_text(["." * half] * 2), "P": plan(*east, *west).encode(), "E": b"mapf-events 1\n"}
+    return {"M": map_text(["." * half] * 2), "P": plan(*east, *west).encode()}
+
+
+def of_a_ring(harness: Harness) -> list[Outcome]:
+    """As many agents as there may be, all of which turn round in one circle."""
+    count = MOST_AGENTS
+    files = {**ring(count), "E": b"mapf-events 1\n"}
     head = f"agents {count} moves {count} needs {count} rotations 1"
     needs = (f"need {i} 0 {(i + 1) % count} 1" for i in range(count))
     turn = " ".join(["rotation", "0", *map(str, range(count))])

@@ -1,16 +1,13 @@
 """Rows of scenarios, bounds of plans and lists of faults: whole answers, progress, and sizes up to the limits."""
 import functools
 import itertools
-import os
-import pty
 import subprocess
-import tty
 from typing import Iterator, Sequence
 
 from answers import FITS, TEXT_FAULTS, VERDICTS, answer
-from harness import LONGEST, Ended, Harness, Outcome, compared, has_terminals, side_by_side
-from limits import GREATEST_MAPS, MOST_ACTS, MOST_AGENTS, Test, asked, lines, map_text, winding_rows
-from texts import BEHIND, CORNER, LANE, NOBODY, SHORT, SQUARE, SWAP, TASKS, TURN, VERTEX, WALL, plan, scen
+from harness import Ended, Harness, Outcome, compared, has_terminals, side_by_side
+from limits import GREATEST_MAPS, MOST_ACTS, MOST_AGENTS, Test, asked, lines, map_text, ring, winding_rows
+from texts import BEHIND, CORNER, LANE, NOBODY, SHORT, SQUARE, SWAP, TURN, VERTEX, WALL, plan, scen
 
 # A row of each kind on the map WALL, whose middle cell is blocked.
 EACH_KIND = scen("w.map 3 1 1 0 1 0 0", "w.map 3 1 2 0 2 0 2", "w.map 3 1 0 0 2 0 2", "w.map 3 2 0 0 0 0 0")
@@ -148,25 +145,6 @@ def of_rotations(harness: Harness) -> Iterator[Outcome]:
 # ---- progress
 
 
-def on_a_terminal(harness: Harness, words: Sequence[str], files: dict[str, bytes], gets_rows: bool) -> bytes:
-    """What a command writes on a terminal that is its standard error, and perhaps its standard output too."""
-    near, far = pty.openpty()
-    tty.setraw(far)
-    how = {"cwd": harness.folder(files), "stdin": subprocess.DEVNULL, "stdout": far if gets_rows else subprocess.DEVNULL, "stderr": far}
-    said = b""
-    with subprocess.Popen([str(harness.program), *words], **how) as process:
-        os.close(far)
-        try:
-            while read := os.read(near, 4096):
-                said += read
-        except OSError:
-            # The other end is closed.
-            pass
-        os.close(near)
-        process.wait(timeout=LONGEST)
-    return said
-
-
 def of_progress(harness: Harness) -> Iterator[Outcome]:
     """How far it has come is said on a terminal, or where that is asked for, and changes nothing else."""
     count = 40
@@ -186,7 +164,7 @@ def of_progress(harness: Harness) -> Iterator[Outcome]:
         yield Outcome("progress on a terminal", lacks="terminal")
         return
     for gets_rows, due in ((False, told.err), (True, quiet.out)):
-        said_there = on_a_terminal(harness, ["rows", "M", "S"], files, gets_rows)
+        said_there = harness.on_a_terminal(["rows", "M", "S"], folder, gets_output=gets_rows).err
         yield compared(f"progress on a terminal{', which gets the rows too' if gets_rows else ''}", "mapf rows M S", said_there, due)
 
 
@@ -267,8 +245,7 @@ def of_great_bounds(harness: Harness) -> list[Outcome]:
     files = {"M": map_text(["." * (2 * in_row)] * (count // in_row)), "P": plan(*(f"{x} {y} ewe" for x, y in starts)).encode()}
     ends = f"cost {3 * count} of {count} makespan 3 of 1"
     each = (f"agent {agent} cost 3 of 1" for agent in range(count))
-    half = count // 2
-    ring = {"M": map_text(["." * half] * 2), "P": plan(*(f"{x} 0 {'e' if x + 1 < half else 's'}" for x in range(half)), *(f"{x} 1 {'w' if x else 'n'}" for x in reversed(range(half)))).encode()}
+    turning = ring(count)
     turn = " ".join(["Rotation", "0", *map(str, range(count))])
     steps = MOST_ACTS
     long = {"M": map_text(["." * steps]), "P": plan(f"0 0 {'e' * (steps - 1)}").encode()}
@@ -276,9 +253,9 @@ def of_great_bounds(harness: Harness) -> list[Outcome]:
     return [
         asked(harness, f"bounds of {count} agents", "bound M P --agents", files, Ended(0, lines(*each, ends), b"")),
         asked(harness, f"{count} agents accepted with bounds", "check M P --bound", files, answer(0, f"accepted agents {count} {ends}\n")),
-        asked(harness, f"{count} agents that turn", "check M P --no-rotation", ring, answer(1, f"rejected {turn}\n")),
-        asked(harness, f"{count} agents that turn, as JSON", "check M P --no-rotation --json", ring, answer(1, f'{{"accepted":false,"fault":"{turn}"}}\n')),
-        asked(harness, f"{count} agents that turn, listed", "check M P --no-rotation --all", ring, Ended(1, lines(f"rejected {turn}", f"faults 1 agents {count}"), b"")),
+        asked(harness, f"{count} agents that turn", "check M P --no-rotation", turning, answer(1, f"rejected {turn}\n")),
+        asked(harness, f"{count} agents that turn, as JSON", "check M P --no-rotation --json", turning, answer(1, f'{{"accepted":false,"fault":"{turn}"}}\n')),
+        asked(harness, f"{count} agents that turn, listed", "check M P --no-rotation --all", turning, Ended(1, lines(f"rejected {turn}", f"faults 1 agents {count}"), b"")),
         asked(harness, "the bound of one long way", "bound M P", long, answer(0, f"cost {steps - 1} of {steps - 1} makespan {steps - 1} of {steps - 1}\n")),
         asked(harness, "the bound of who goes to and fro", "bound M P", to_and_fro, answer(0, f"cost {steps} of 1 makespan {steps} of 1\n")),
     ]

@@ -5,7 +5,7 @@ import shlex
 from typing import Iterator, Sequence
 
 from harness import VERSION, Harness, Outcome, compared, shown, side_by_side
-from job_rooms import Room, cluster, stopped
+from job_rooms import Room, on_a_cluster, stopped
 from scenarios import Ground, Row, due_of_rows, random_ground, random_row
 from texts import LANE, SHORT, scen
 
@@ -210,16 +210,15 @@ def of_bad_lines(room: Room) -> Iterator[Outcome]:
 
 
 def of_a_cluster(room: Room) -> Iterator[Outcome]:
-    with cluster(room) as found:
-        if not found:
-            yield Outcome("a cluster", lacks="python3-distributed")
-            return
-        python, address = found
-        words = [python, *room.words("--maps", "maps", "scens", "many", "--straight", "-o", "cluster.csv", "--dask", address)[1:]]
-        ended = room.harness.run(words, folder=room.folder)
-        room.run("--maps", "maps", "scens", "many", "--straight", "-o", "here.csv")
-        wrote = (ended.status, found_in(room, "cluster.csv"))
-        yield compared("a cluster of two workers", shown(words), wrote, (0, found_in(room, "here.csv")))
+    words = ["--maps", "maps", "scens", "many", "--straight", "-o"]
+    found = on_a_cluster(room, [*words, "cluster.csv"])
+    if not found:
+        yield Outcome("a cluster", lacks="python3-distributed")
+        return
+    ran, ended = found
+    room.run(*words, "here.csv")
+    wrote = (ended.status, found_in(room, "cluster.csv"))
+    yield compared("a cluster of two workers", ran, wrote, (0, found_in(room, "here.csv")))
 
 
 def outcomes(harness: Harness) -> Iterator[Outcome]:
