@@ -1,14 +1,20 @@
 -- where a straight step may lead
 mod JoiningLemmas
+-- diagonal steps, by the straight ones beside them
+mod DiagonalLemmas
+-- the eight steps by their numbers, and sets of them
+mod StepLemmas
 -- lists in which one is added or replaced
 mod ListLemmas
--- what a search keeps
+-- what a search knows
 mod ExplorationLemmas
--- that all is forgotten
-mod ClearingLemmas
+-- and what waits
+mod WaitingLemmas
+-- that no step from a cell is forgotten
+mod LeavingLemmas
+-- behind each step
+mod OnwardLemmas
 -- that the answer is the least
 mod AnswerLemmas
--- and that no step from a cell is forgotten
-mod MoveLemmas
 -- whose number is that of the fewest steps, or of the shortest length
 mod LeastLemmas

@@ -4,7 +4,11 @@
 pub mod Joining
 -- what a walk takes at least
 pub mod Estimate
+-- the eight steps by their numbers
+pub mod Steps
 -- walks by their numbers, and the cells that a search has reached
 pub mod Reaching
--- and what it keeps while it goes on
+-- what it keeps while it goes on
 pub mod Exploring
+-- and the places where it is to go on
+pub mod Waiting

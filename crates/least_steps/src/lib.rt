@@ -2,6 +2,7 @@
 //! the search itself leaves.
 #![tactic(auto)]
 
+mod answer;
 mod distance;
 mod expand;
 mod joining;
@@ -10,6 +11,7 @@ mod parts;
 mod reached;
 mod step_fault;
 mod step_search;
+mod steps;
 
 pub use step_fault::StepFault;
 pub use step_search::StepSearch;

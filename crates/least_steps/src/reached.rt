@@ -1,30 +1,35 @@
 //! All that a search has reached, and what is known of it at any time.
-ghost use Rattle.std.specs.Prelude.{◌≡◌, ◌*◌, IfOk, IsTrue, None, length};
+ghost use Rattle.std.specs.Prelude.{◌≡◌, ℕ, ◌^◌, ◌<◌, ◌≤◌, ◌↔◌, IfOk, IsTrue, false};
 ghost use Rattle.grid.specs.Map.{IsMap};
 ghost use Rattle.scen.specs.Walk.{IsOn};
-ghost use Rattle.least_steps.specs.Code.Reaching.{AreOnMap, AreZero, AreBehind, Covers, HasAtMost, IsBehind, IsFound, IsGreater, IsLeft, IsLeastNumber, WalksTo};
-ghost use Rattle.least_steps.specs.Code.Exploring.{Advances};
+ghost use Rattle.least_steps.specs.Code.Exploring.{Comes, Has, IsNumberOf, Lowers};
+ghost use Rattle.least_steps.specs.Code.Reaching.{IsAbove, IsFound, number_in};
+ghost use Rattle.least_steps.specs.Code.Steps.{AreLegal};
 
-use crate::distance::distance;
 use crate::joining::number_of;
 use crate::open_list::Open;
-use crate::step_fault::StepFault;
+use crate::steps::legal_steps;
 use grid::{Cell, Map};
-use scen::STRAIGHT;
 use std::alloc::{AllocError, Global};
 use std::marker::Model;
 
-/// The cells that a search from a start has reached, with diagonal steps or without. For each cell of the map there is the number of a walk to
-/// it, 0 where none was found, and whether each step from it was taken since. `touched` are the cells with a number: so nothing of the map's
-/// size is cleared for the next search.
+/// No walk on a map has a number as great, with one step more.
+const NUMBER_LIMIT: u64 = 1 << 45;
+
+/// The base of marks when none was made yet.
+const GREATEST_BASE: u64 = 1 << 63;
+
+/// The cells that a search from a start has reached, with diagonal steps or without. The mark of a cell is the number of a walk to it, and a base
+/// that is so much less for each search that marks of those before it compare as if no walk led there: nothing of the map's size is cleared.
+/// `legal` has the legal steps from each cell, once they were asked for.
 #[derive(Debug, Drop)]
 pub(crate) struct Reached<'a> {
     map: &'a Map,
     aslant: bool,
     start: Cell,
-    numbers: Vec<u64>,
-    closed: Vec<bool>,
-    touched: Vec<Cell>,
+    base: u64,
+    marks: Vec<u64>,
+    legal: Vec<u8>,
 }
 
 impl<'a> Model for Reached<'a> {
@@ -32,9 +37,9 @@ impl<'a> Model for Reached<'a> {
 
     ghost Value = { Exploration };
 
-    ghost view = { λ r. record { map = r.map.now; aslant = r.aslant; start = r.start; numbers = r.numbers.items } };
+    ghost view = { λ r. record { map = r.map.now; aslant = r.aslant; start = r.start; base = r.base; marks = r.marks.items } };
 
-    ghost invariant = { λ r. IsExploration r.map.now r.aslant r.start r.numbers.items r.closed.items r.touched.items };
+    ghost invariant = { λ r. IsExploration r.map.now r.aslant r.start r.base r.marks.items r.legal.items };
 }
 
 impl<'a> Reached<'a> {
@@ -47,9 +52,9 @@ impl<'a> Reached<'a> {
             map,
             aslant: false,
             start: Cell { x: 0, y: 0 },
-            numbers: vec![in alloc; 0u64; cells]?,
-            closed: vec![in alloc; false; cells]?,
-            touched: Vec::new(alloc),
+            base: GREATEST_BASE,
+            marks: vec![in alloc; u64::MAX; cells]?,
+            legal: vec![in alloc; 0u8; cells]?,
         })
     }
 
@@ -70,185 +75,102 @@ impl<'a> Reached<'a> {
     }
 
     /// Forgets what was reached, and begins at another start.
-    pub(crate) fn begin(&mut self, start: Cell, aslant: bool) -> Result<(), AllocError>
-        requires { IsOn self.old.map start }
+    pub(crate) fn begin(&mut self, start: Cell, aslant: bool)
         ensures map { self.new.map ≡ self.old.map }
-        ensures start { IfOk result (λ _. self.new.start ≡ start) }
-        ensures aslant { IfOk result (λ _. self.new.aslant ≡ aslant) }
-        ensures begins { IfOk result (λ _. HasAtMost self.new.map self.new.numbers start 6625109) }
+        ensures start { self.new.start ≡ start }
+        ensures aslant { self.new.aslant ≡ aslant }
+        ensures above { (c : Cell) (n : ℕ) → IsOn self.new.map c → n < 2 ^ 45 → IsAbove self.new.map self.new.base self.new.marks c n }
     {
-        clear(self.map, &mut self.numbers, &self.touched);
-        self.touched.clear();
+        self.make_room();
+        self.base -= NUMBER_LIMIT;
         self.start = start;
         self.aslant = aslant;
-        let _is_first = self.reach(start, STRAIGHT)?;
-        Ok(())
     }
 
-    /// Whether the place still has its number, and no step from it was taken since.
-    #[inline(always)]
-    pub(crate) fn is_open(&self, place: Open) -> bool
-        ensures map { IsMap self.now.map }
-        ensures comes { IsTrue result → WalksTo self.now.map self.now.aslant self.now.start place.cell place.number }
+    /// Makes all marks anew, where the base is too small for another search: once in very many.
+    fn make_room(&mut self)
+        ensures map { self.new.map ≡ self.old.map }
+        ensures room { 2 ^ 45 ≤ self.new.base }
     {
-        let Cell { x, y } = place.cell;
-        if u32::from(x) >= self.map.width() || u32::from(y) >= self.map.height() {
-            return false;
+        if self.base >= NUMBER_LIMIT {
+            return;
         }
-        let at = number_of(self.map, place.cell);
-        if place.number == 0 {
-            return false;
-        }
-        if self.numbers[at] != place.number {
-            return false;
-        }
-        !self.closed[at]
+        self.marks.fill(u64::MAX);
+        self.base = GREATEST_BASE;
     }
 
     /// The number of a walk to the cell, if one was found.
     #[inline(always)]
     pub(crate) fn number(&self, cell: Cell) -> Option<u64>
         requires { IsOn self.now.map cell }
-        ensures { IsFound self.now.map self.now.numbers cell result }
+        ensures found { IsFound self.now.map self.now.base self.now.marks cell result }
+        ensures walks { (c : Cell) (n : ℕ) → IsOn self.now.map c → IsNumberOf self.now c n → Comes self.now c n }
     {
-        let number = self.numbers[number_of(self.map, cell)];
-        if number > 0 { Some(number) } else { None }
-    }
-
-    /// Keeps that a walk of this number comes to a cell, unless one of at most as much is known. The answer is whether it was kept.
-    #[inline(always)]
-    pub(crate) fn reach(&mut self, cell: Cell, number: u64) -> Result<bool, AllocError>
-        requires { WalksTo self.old.map self.old.aslant self.old.start cell number }
-        ensures advances { Advances self.old self.new }
-        ensures has { IfOk result (λ _. HasAtMost self.new.map self.new.numbers cell number) }
-    {
-        match self.number(cell) {
-            None => {
-                self.add(cell, number)?;
-                Ok(true)
-            }
-            Some(old) if old <= number => Ok(false),
-            Some(_) => {
-                self.lower(cell, number);
-                Ok(true)
-            }
+        let number = self.marks[number_of(self.map, cell)] - self.base;
+        if number < NUMBER_LIMIT {
+            Some(number)
+        } else {
+            None
         }
     }
 
-    /// Keeps the number of a cell that had none.
+    /// Whether the place still has its number.
     #[inline(always)]
-    fn add(&mut self, cell: Cell, number: u64) -> Result<(), AllocError>
-        requires comes { WalksTo self.old.map self.old.aslant self.old.start cell number }
-        requires absent { IsFound self.old.map self.old.numbers cell None }
-        ensures advances { Advances self.old self.new }
-        ensures has { IfOk result (λ _. HasAtMost self.new.map self.new.numbers cell number) }
+    pub(crate) fn has(&self, place: Open) -> bool
+        requires on { IsOn self.now.map place.cell }
+        requires limit { place.number < 2 ^ 45 }
+        ensures { IsTrue result ↔ IsNumberOf self.now place.cell place.number }
     {
-        let at = number_of(self.map, cell);
-        self.touched.push(cell)?;
-        self.numbers[at] = number;
-        self.closed[at] = false;
-        Ok(())
+        self.marks[number_of(self.map, place.cell)] - self.base == place.number
+    }
+
+    /// Whether no walk to the cell, whose mark is at this index, is known that has at most this number.
+    #[inline(always)]
+    pub(crate) fn is_above(&self, at: usize, cell: Cell, number: u64) -> bool
+        requires at { at ≡ number_in self.now.map cell }
+        requires on { IsOn self.now.map cell }
+        requires limit { number < 2 ^ 45 }
+        ensures yes { IsTrue result → IsAbove self.now.map self.now.base self.now.marks cell number }
+        ensures no { result ≡ false → Has self.now cell number }
+    {
+        self.marks[at] > self.base + number
     }
 
     /// Keeps a lesser number of a cell.
     #[inline(always)]
-    fn lower(&mut self, cell: Cell, number: u64)
-        requires comes { WalksTo self.old.map self.old.aslant self.old.start cell number }
-        requires greater { IsGreater self.old.map self.old.numbers cell number }
-        ensures advances { Advances self.old self.new }
-        ensures has { HasAtMost self.new.map self.new.numbers cell number }
+    pub(crate) fn lower(&mut self, at: usize, cell: Cell, number: u64)
+        requires at { at ≡ number_in self.old.map cell }
+        requires comes { Comes self.old cell number }
+        requires limit { number < 2 ^ 45 }
+        requires above { IsAbove self.old.map self.old.base self.old.marks cell number }
+        ensures { Lowers self.old self.new cell number }
     {
-        let at = number_of(self.map, cell);
-        self.numbers[at] = number;
-        self.closed[at] = false;
+        self.marks[at] = self.base + number;
     }
 
-    /// Closes a cell, after each step from it was taken behind a walk of this number, unless it has a lesser one by now.
+    /// The legal steps from a cell, looked up in the map when they are first asked for.
     #[inline(always)]
-    pub(crate) fn close(&mut self, cell: Cell, number: u64)
-        requires on { IsOn self.old.map cell }
-        requires left { IsLeft self.old.map self.old.aslant self.old.numbers cell number }
-        ensures { Advances self.old self.new }
+    pub(crate) fn legal(&mut self, cell: Cell) -> u8
+        requires { IsOn self.old.map cell }
+        ensures same { self.new ≡ self.old }
+        ensures legal { AreLegal self.old.map cell result }
+    {
+        let steps = self.legal[number_of(self.map, cell)];
+        if steps > 0 {
+            return steps;
+        }
+        self.learn(cell)
+    }
+
+    #[inline(never)]
+    fn learn(&mut self, cell: Cell) -> u8
+        requires { IsOn self.old.map cell }
+        ensures same { self.new ≡ self.old }
+        ensures legal { AreLegal self.old.map cell result }
     {
         let at = number_of(self.map, cell);
-        if self.numbers[at] == number {
-            self.closed[at] = true;
-        }
-    }
-
-    /// The least number of a walk to the goal, if what was reached proves it.
-    pub(crate) fn answer(&self, goal: Cell) -> Result<Option<u64>, StepFault>
-        requires start { IsOn self.now.map self.now.start }
-        requires goal { IsOn self.now.map goal }
-        requires begins { HasAtMost self.now.map self.now.numbers self.now.start 6625109 }
-        ensures { IfOk result (IsLeastNumber self.now.map self.now.aslant self.now.start goal) }
-    {
-        let found = self.number(goal);
-        let reach = Reach {
-            map: self.map,
-            aslant: self.aslant,
-            numbers: &self.numbers,
-            closed: &self.closed,
-        };
-        if !are_behind(reach, &self.touched, goal, found) {
-            return Err(StepFault::NotTight);
-        }
-        Ok(found)
-    }
-}
-
-/// Sets the numbers of these cells to 0.
-fn clear(map: &Map, numbers: &mut Vec<u64>, touched: &[Cell])
-    requires cells { length numbers.old.items ≡ map.now.width * map.now.height }
-    requires on_map { AreOnMap map.now touched.now }
-    requires covered { Covers map.now numbers.old.items touched.now }
-    ensures cells { length numbers.new.items ≡ length numbers.old.items }
-    ensures zero { AreZero numbers.new.items }
-{
-    for cell in touched {
-        numbers[number_of(map, *cell)] = 0;
-    }
-}
-
-/// What was reached of a map.
-#[derive(Clone, Copy)]
-struct Reach<'a> {
-    map: &'a Map,
-    aslant: bool,
-    numbers: &'a [u64],
-    closed: &'a [bool],
-}
-
-/// Whether no walk through one of the cells comes to the goal by a lesser number than was found.
-fn are_behind(reach: Reach<'_>, cells: &[Cell], goal: Cell, found: Option<u64>) -> bool
-    requires numbers { length reach.numbers.now ≡ reach.map.now.width * reach.map.now.height }
-    requires closed { length reach.closed.now ≡ reach.map.now.width * reach.map.now.height }
-    requires on_map { AreOnMap reach.map.now cells.now }
-    ensures { IsTrue result → AreBehind reach.entry.map.now reach.entry.aslant reach.entry.numbers.now reach.entry.closed.now goal found cells.now }
-{
-    for cell in cells {
-        if !is_behind(reach, *cell, goal, found) {
-            return false;
-        }
-    }
-    true
-}
-
-/// Whether no walk through the cell does.
-#[inline(always)]
-fn is_behind(reach: Reach<'_>, cell: Cell, goal: Cell, found: Option<u64>) -> bool
-    requires numbers { length reach.numbers.now ≡ reach.map.now.width * reach.map.now.height }
-    requires closed { length reach.closed.now ≡ reach.map.now.width * reach.map.now.height }
-    requires on_map { IsOn reach.map.now cell }
-    ensures { IsTrue result → IsBehind reach.entry.map.now reach.entry.aslant reach.entry.numbers.now reach.entry.closed.now goal found cell }
-{
-    let at = number_of(reach.map, cell);
-    if reach.closed[at] {
-        return true;
-    }
-    match found {
-        Some(number) => number
-            <= reach.numbers[at].saturating_add(distance(reach.aslant, goal, cell)),
-        None => false,
+        let steps = legal_steps(self.map, cell);
+        self.legal[at] = steps;
+        steps
     }
 }

@@ -186,12 +186,12 @@ nearer a b c d e f n near is =
     let apart : abs_diff e a + abs_diff f b ≤ abs_diff e c + abs_diff f d + 1 = omega (arith, near) in
     omega (arith, apart, is)
 
-least-next : (m : Grid) (aslant : Bool) (goal u v : Cell) (step : ℕ) → IsMove m aslant u v step → least_number aslant goal u ≤ least_number aslant goal v + step
+pub least-next : (m : Grid) (aslant : Bool) (goal u v : Cell) (step : ℕ) → IsMove m aslant u v step → least_number aslant goal u ≤ least_number aslant goal v + step
 least-next m true goal u v step move = distance_step goal step u.x u.y v.x v.y (beside m true u v step move)
 least-next m false goal u v step (inl h) = nearer u.x u.y v.x v.y goal.x goal.y step (side-apart u v h.0.side) h.1
 least-next m false goal u v step (inr h) = absurd (true≢false (sym h.0))
 
-least-none : (aslant : Bool) (goal u : Cell) → u.x ≡ goal.x → u.y ≡ goal.y → least_number aslant goal u ≡ 0
+pub least-none : (aslant : Bool) (goal u : Cell) → u.x ≡ goal.x → u.y ≡ goal.y → least_number aslant goal u ≡ 0
 least-none true goal u column row = omega (arith, column, row)
 least-none false goal u column row = omega (arith, column, row)
 

@@ -1,101 +1,91 @@
--- Each step was taken.
-use Rattle.std.proofs.Common.{subst, sym}
-use Rattle.scen.specs.Walk.{IsOn}
+-- Each step of the set is taken in turn.
+use Rattle.std.proofs.Common.{◌≡◌, ◌∙◌, ◌+◌, ◌<◌, inl, inr, arith, refl, subst, sym}
+use Rattle.std.proofs.lemmas.Nat.Bits.{bit_at-zero}
+use Rattle.least_steps.specs.Code.Steps.{AreLegal, HasStep, IsLegalStep, cell_behind, weight}
+use Rattle.least_steps.specs.Code.Exploring.{Exploration, Has}
+use Rattle.least_steps.specs.Code.Waiting.{Goes}
 use Rattle.least_steps.specs.Laws.Ways.{end-on}
-use Rattle.least_steps.proofs.ExplorationLemmas.{advances-on, through}
-use Rattle.least_steps.proofs.MoveLemmas.{left}
+use Rattle.least_steps.proofs.OnwardLemmas.{left_behind, onward_kind, onward_legal}
+use Rattle.least_steps.proofs.StepLemmas.{in_without, less_without, without_in}
+use Rattle.least_steps.proofs.WaitingLemmas.{goes-nowhere, goes-on, place-still}
 use Rattle.least_steps.proofs.expand.expand.Goals as goal
 
-pub returns-in_err-go_aslant : goal.returns-in_err-go_aslant
-returns-in_err-go_aslant c =
-    let a = c.args.reached.now in
-    let b = c.go.new.reached in
-    let d = c.go-2.new.reached in
-    let e = c.go-3.new.reached in
-    let f = c.go-4.new.reached in
-    let sides = through a b d e f c.go.ensures.advances c.go-2.ensures.advances c.go-3.ensures.advances c.go-4.ensures.advances in
-    let g = c.go_aslant.new.reached in
-    advances-on a f g sides c.go_aslant.ensures.advances
+pub legal-legal-requires : goal.legal-legal-requires
+legal-legal-requires c =
+    let e = c.args.reached.now in
+    end-on e.map e.aslant e.start c.args.place.cell c.args.place.number c.requires.place.comes
 
-pub returns-in_err-go_aslant-2 : goal.returns-in_err-go_aslant-2
-returns-in_err-go_aslant-2 c =
-    let a = c.args.reached.now in
-    let b = c.go.new.reached in
-    let d = c.go-2.new.reached in
-    let e = c.go-3.new.reached in
-    let f = c.go-4.new.reached in
-    let sides = through a b d e f c.go.ensures.advances c.go-2.ensures.advances c.go-3.ensures.advances c.go-4.ensures.advances in
-    let g = c.go_aslant.new.reached in
-    let h = c.go_aslant-2.new.reached in
-    advances-on a f h sides (advances-on f g h c.go_aslant.ensures.advances c.go_aslant-2.ensures.advances)
+pub loop-steps-init : goal.loop-steps-init
+loop-steps-init c = record {
+  goes = subst (λ e. Goes c.args.reached.now c.args.waiting.now e c.args.waiting.now) (sym c.legal-legal.ensures.same) (goes-nowhere c.args.reached.now c.args.waiting.now);
+  among = λ k few there. there;
+  taken = λ k few there. inl there;
+}
 
-pub returns-in_err-go_aslant-3 : goal.returns-in_err-go_aslant-3
-returns-in_err-go_aslant-3 c =
-    let a = c.args.reached.now in
-    let b = c.go.new.reached in
-    let d = c.go-2.new.reached in
-    let e = c.go-3.new.reached in
-    let f = c.go-4.new.reached in
-    let sides = through a b d e f c.go.ensures.advances c.go-2.ensures.advances c.go-3.ensures.advances c.go-4.ensures.advances in
-    let g = c.go_aslant.new.reached in
-    let h = c.go_aslant-2.new.reached in
-    let i = c.go_aslant-3.new.reached in
-    advances-on a f i sides (advances-on f h i (advances-on f g h c.go_aslant.ensures.advances c.go_aslant-2.ensures.advances) c.go_aslant-3.ensures.advances)
+pub go-requires-clause-place : goal.go-requires-clause-place
+go-requires-clause-place c = place-still c.args.reached.now c.loop-steps.reached c.args.place c.loop-steps.invariant.goes.advances c.requires.place
 
-pub returns-in_err-go_aslant-4 : goal.returns-in_err-go_aslant-4
-returns-in_err-go_aslant-4 c =
-    let a = c.args.reached.now in
-    let b = c.go.new.reached in
-    let d = c.go-2.new.reached in
-    let e = c.go-3.new.reached in
-    let f = c.go-4.new.reached in
-    let sides = through a b d e f c.go.ensures.advances c.go-2.ensures.advances c.go-3.ensures.advances c.go-4.ensures.advances in
-    let g = c.go_aslant.new.reached in
-    let h = c.go_aslant-2.new.reached in
-    let i = c.go_aslant-3.new.reached in
-    let j = c.go_aslant-4.new.reached in
-    let all = advances-on a f j sides (through f g h i j c.go_aslant.ensures.advances c.go_aslant-2.ensures.advances c.go_aslant-3.ensures.advances c.go_aslant-4.ensures.advances) in
-    all
+pub go-requires-clause-legal : goal.go-requires-clause-legal
+go-requires-clause-legal c =
+    let step = c.first_of-step.result in
+    let few = c.first_of-step.ensures.few in
+    let own = c.onward-steps.ensures in
+    let there = onward_legal c.args.place.by c.legal-legal.result c.onward-steps.result c.is_aslant.result own.aslant own.straight step
+    (c.loop-steps.invariant.among step few c.first_of-step.ensures.there) in
+    subst (λ m. IsLegalStep m c.args.place.cell step) (sym c.loop-steps.invariant.goes.advances.map) ((c.legal-legal.ensures.legal step few).0 there)
 
-pub close-requires-clause-on : goal.close-requires-clause-on
-close-requires-clause-on c =
-    let a = c.args.reached.now in
-    let b = c.go.new.reached in
-    let d = c.go-2.new.reached in
-    let e = c.go-3.new.reached in
-    let f = c.go-4.new.reached in
-    let sides = through a b d e f c.go.ensures.advances c.go-2.ensures.advances c.go-3.ensures.advances c.go-4.ensures.advances in
-    let g = c.go_aslant.new.reached in
-    let h = c.go_aslant-2.new.reached in
-    let i = c.go_aslant-3.new.reached in
-    let j = c.go_aslant-4.new.reached in
-    let all = advances-on a f j sides (through f g h i j c.go_aslant.ensures.advances c.go_aslant-2.ensures.advances c.go_aslant-3.ensures.advances c.go_aslant-4.ensures.advances) in
-    subst (λ m. IsOn m c.args.from.cell) (sym all.map) (end-on a.map a.aslant a.start c.args.from.cell c.args.from.number c.requires.comes)
+pub go-requires-clause-kind : goal.go-requires-clause-kind
+go-requires-clause-kind c = λ none.
+    let step = c.first_of-step.result in
+    let same : c.is_aslant.result ≡ c.loop-steps.reached.aslant =
+    c.is_aslant.ensures ∙ subst (λ (e : Exploration). e.aslant ≡ c.args.reached.now.aslant) (sym c.legal-legal.ensures.same) refl
+    ∙ sym c.loop-steps.invariant.goes.advances.aslant in
+    onward_kind c.args.place.by c.legal-legal.result c.onward-steps.result c.is_aslant.result c.onward-steps.ensures.straight step
+    (c.loop-steps.invariant.among step c.first_of-step.ensures.few c.first_of-step.ensures.there) (same ∙ none)
 
-pub close-requires-clause-left : goal.close-requires-clause-left
-close-requires-clause-left c =
-    left c.args.from.cell c.args.from.number c.saturating_sub-west.result c.saturating_add-east.result c.saturating_sub-north.result c.saturating_add-south.result
-    c.args.reached.now c.go.new.reached c.go-2.new.reached c.go-3.new.reached c.go-4.new.reached
-    c.go_aslant.new.reached c.go_aslant-2.new.reached c.go_aslant-3.new.reached c.go_aslant-4.new.reached c.requires.map
-    c.saturating_sub-west.ensures c.saturating_add-east.ensures c.saturating_sub-north.ensures c.saturating_add-south.ensures
-    c.go.ensures.advances c.go-2.ensures.advances c.go-3.ensures.advances c.go-4.ensures.advances
-    c.go_aslant.ensures.advances c.go_aslant-2.ensures.advances c.go_aslant-3.ensures.advances c.go_aslant-4.ensures.advances
-    c.in_ok-to_west.to_west c.in_ok-to_east.to_east c.in_ok-to_north.to_north c.in_ok-to_south.to_south
-    c.in_ok-to_west.ensures.legal c.in_ok-to_east.ensures.legal c.in_ok-to_north.ensures.legal c.in_ok-to_south.ensures.legal
-    c.in_ok-to_west.ensures.has c.in_ok-to_east.ensures.has c.in_ok-to_north.ensures.has c.in_ok-to_south.ensures.has
-    c.in_ok-go_aslant.ensures.has c.in_ok-go_aslant-2.ensures.has c.in_ok-go_aslant-3.ensures.has c.in_ok-go_aslant-4.ensures.has
+pub loop-steps-smaller : goal.loop-steps-smaller
+loop-steps-smaller c =
+    subst (λ n. n < c.loop-steps.steps) (sym c.without-steps.ensures) (less_without c.loop-steps.steps c.first_of-step.result c.first_of-step.ensures.there)
 
-pub returns : goal.returns
-returns c =
-    let a = c.args.reached.now in
-    let b = c.go.new.reached in
-    let d = c.go-2.new.reached in
-    let e = c.go-3.new.reached in
-    let f = c.go-4.new.reached in
-    let sides = through a b d e f c.go.ensures.advances c.go-2.ensures.advances c.go-3.ensures.advances c.go-4.ensures.advances in
-    let g = c.go_aslant.new.reached in
-    let h = c.go_aslant-2.new.reached in
-    let i = c.go_aslant-3.new.reached in
-    let j = c.go_aslant-4.new.reached in
-    let all = advances-on a f j sides (through f g h i j c.go_aslant.ensures.advances c.go_aslant-2.ensures.advances c.go_aslant-3.ensures.advances c.go_aslant-4.ensures.advances) in
-    advances-on a j c.close.new.self all c.close.ensures
+pub loop-steps-preserved : goal.loop-steps-preserved
+loop-steps-preserved c =
+    let e = c.loop-steps.reached in
+    let f = c.go.new.reached in
+    let steps = c.loop-steps.steps in
+    let step = c.first_of-step.result in
+    let all = c.loop-steps.invariant in
+    record {
+      goes = goes-on c.args.reached.now e f c.args.waiting.now c.loop-steps.waiting c.go.new.waiting all.goes c.go.ensures.goes;
+      among = λ k few there. all.among k few (without_in steps step k c.first_of-step.ensures.there (subst (λ n. HasStep n k) c.without-steps.ensures there));
+      taken = λ k few there. elim (all.taken k few there) [
+        | inl still ↦ elim (in_without steps step k still) [
+          | inl own ↦ inr (subst (λ j. Has f (cell_behind j c.args.place.cell) (c.args.place.number + weight j)) (sym own) c.in_ok-go.ensures.has)
+          | inr other ↦ inl (subst (λ n. HasStep n k) (sym c.without-steps.ensures) other)
+        ]
+        | inr has ↦ inr (c.go.ensures.goes.advances.falls (cell_behind k c.args.place.cell) (c.args.place.number + weight k) has)
+      ];
+    }
+
+pub returns-in_err-go-clause-goes : goal.returns-in_err-go-clause-goes
+returns-in_err-go-clause-goes c =
+    goes-on c.args.reached.now c.loop-steps.reached c.go.new.reached c.args.waiting.now c.loop-steps.waiting c.go.new.waiting c.loop-steps.invariant.goes
+    c.go.ensures.goes
+
+pub returns-clause-left : goal.returns-clause-left
+returns-clause-left c =
+    let e = c.loop-steps.reached in
+    let all = c.loop-steps.invariant in
+    let own = c.onward-steps.ensures in
+    let place = place-still c.args.reached.now e c.args.place all.goes.advances c.requires.place in
+    let same : e.aslant ≡ c.is_aslant.result =
+    all.goes.advances.aslant ∙ sym (c.is_aslant.ensures ∙ subst (λ (d : Exploration). d.aslant ≡ c.args.reached.now.aslant) (sym c.legal-legal.ensures.same) refl) in
+    left_behind e c.args.place.cell c.args.place.number c.args.place.by c.legal-legal.result c.onward-steps.result
+    (subst (λ m. AreLegal m c.args.place.cell c.legal-legal.result) (sym all.goes.advances.map) c.legal-legal.ensures.legal)
+    place.arrival (λ aslant. own.aslant (sym same ∙ aslant)) (λ none. own.straight (sym same ∙ none))
+    (λ k few there. elim (all.taken k few there) [
+      | inl still ↦
+          let none = bit_at-zero k in
+          let zero = subst (λ n. HasStep n k) c.loop-steps-test.false still in
+          absurd (omega (arith, none, zero))
+      | inr has ↦ has
+    ])

@@ -1,17 +1,38 @@
--- A walk comes to the cell by one straight step more.
-use Rattle.std.proofs.Common.{inl, refl, subst, sym}
-use Rattle.grid.specs.Map.{IsStraightStep}
-use Rattle.scen.specs.Walk.{IsOn}
-use Rattle.least_steps.specs.Laws.Ways.{comes-on, end-on}
+-- A place is put into the list, and then its cell has its number.
+use Rattle.std.proofs.Common.{◌+◌, ap}
+use Rattle.least_steps.specs.declared.open_list.Open.{Open}
+use Rattle.least_steps.proofs.WaitingLemmas.{goes-lower, goes-on, goes-push, place-after}
 use Rattle.least_steps.proofs.expand.go.Goals as goal
 
-pub is_step-requires : goal.is_step-requires
-is_step-requires c =
+pub returns-in_err-push-clause-goes : goal.returns-in_err-push-clause-goes
+returns-in_err-push-clause-goes c =
     let e = c.args.reached.now in
-    subst (λ m. IsOn m c.args.from.cell) (sym c.map.ensures.now) (end-on e.map e.aslant e.start c.args.from.cell c.args.from.number c.requires.comes)
+    let from = c.args.from in
+    let number = from.number + c.weight_of.result in
+    let place : Open = record { number = number; cell = c.cell_after-cell.result; by = c.args.step } in
+    goes-push e c.args.waiting.now c.push.new.self place
+    (place-after e from c.args.step c.cell_after-cell.result number c.requires.place c.requires.has c.requires.most c.requires.step c.requires.legal c.requires.kind
+    c.cell_after-cell.ensures (ap (λ w. from.number + w) c.weight_of.ensures))
+    c.push.ensures.keeps c.push.ensures.only
 
-pub arrive-requires : goal.arrive-requires
-arrive-requires c =
+pub lower-requires-clause-comes : goal.lower-requires-clause-comes
+lower-requires-clause-comes c =
     let e = c.args.reached.now in
-    let step = subst (λ m. IsStraightStep m c.args.from.cell c.args.to) c.map.ensures.now (c.is_step.ensures.0 (search c.if-not-is_step.false)) in
-    comes-on e.map e.aslant e.start c.args.from.cell c.args.to c.args.from.number 6625109 c.requires.comes (inl (step, refl))
+    let from = c.args.from in
+    let place = place-after e from c.args.step c.cell_after-cell.result (from.number + c.weight_of.result) c.requires.place c.requires.has c.requires.most c.requires.step
+    c.requires.legal c.requires.kind c.cell_after-cell.ensures (ap (λ w. from.number + w) c.weight_of.ensures) in
+    place.comes
+
+pub returns-in_ok-push-clause-goes : goal.returns-in_ok-push-clause-goes
+returns-in_ok-push-clause-goes c =
+    let e = c.args.reached.now in
+    let f = c.lower.new.self in
+    let from = c.args.from in
+    let number = from.number + c.weight_of.result in
+    let place : Open = record { number = number; cell = c.cell_after-cell.result; by = c.args.step } in
+    goes-on e e f c.args.waiting.now c.push.new.self c.push.new.self
+    (goes-push e c.args.waiting.now c.push.new.self place
+    (place-after e from c.args.step c.cell_after-cell.result number c.requires.place c.requires.has c.requires.most c.requires.step c.requires.legal c.requires.kind
+    c.cell_after-cell.ensures (ap (λ w. from.number + w) c.weight_of.ensures))
+    c.push.ensures.keeps c.push.ensures.only)
+    (goes-lower e f c.push.new.self place c.lower.ensures c.in_ok-push.ensures.has)

@@ -1,10 +1,13 @@
--- Off the map no walk begins or ends; on it both cells stay.
+-- Off the map no walk begins or ends; on it the search that came to its end had begun.
 use Rattle.std.proofs.Common.{◌≡◌, ◌∙◌, ℕ, None, Some, subst, sym}
 use Rattle.std.proofs.lemmas.Bool.{true≢false}
 use Rattle.scen.specs.Certificate.{AreOn}
-use Rattle.scen.specs.Walk.{IsOn}
+use Rattle.least_steps.specs.declared.open_list.OpenList.{OpenList}
+use Rattle.least_steps.specs.Code.Exploring.{Exploration}
+use Rattle.least_steps.specs.Code.Waiting.{IsSearch}
 use Rattle.least_steps.specs.Laws.Ways.{ends-on}
 use Rattle.least_steps.proofs.step_search.StepSearch.search.Goals as goal
+use Rattle.least_steps.proofs.step_search.StepSearch.search.Goals.{then-not-branch+in_ok-begin-2+in_ok-spread, else-not-branch}
 
 no_none : (n : ℕ) → None ≡ Some n → ⊥
 no_none n h = cc
@@ -18,21 +21,12 @@ returns-then-not-are_on-clause-answer c = (
       true≢false (sym is_on ∙ c.if-not-are_on.true),
 )
 
-pub begin-requires : goal.begin-requires
-begin-requires c = (subst (λ m. AreOn m c.args.start c.args.goal) c.map.ensures.now (c.are_on.ensures.0 c.if-not-are_on.false)).0
-
-pub approach-requires : goal.approach-requires
-approach-requires c =
-    let on = subst (λ m. AreOn m c.args.start c.args.goal) c.map.ensures.now (c.are_on.ensures.0 c.if-not-are_on.false) in
-    subst (λ m. IsOn m c.args.goal) (sym c.in_ok-begin.ensures.map) on.1
-
-pub answer-requires-clause-start : goal.answer-requires-clause-start
-answer-requires-clause-start c =
-    let on = subst (λ m. AreOn m c.args.start c.args.goal) c.map.ensures.now (c.are_on.ensures.0 c.if-not-are_on.false) in
-    subst (λ m. IsOn m c.approach.new.reached.start) (sym (c.approach.ensures.map ∙ c.in_ok-begin.ensures.map))
-    (subst (IsOn c.self.inside.reached.map) (sym (c.approach.ensures.start ∙ c.in_ok-begin.ensures.start)) on.0)
-
-pub answer-requires-clause-goal : goal.answer-requires-clause-goal
-answer-requires-clause-goal c =
-    let on = subst (λ m. AreOn m c.args.start c.args.goal) c.map.ensures.now (c.are_on.ensures.0 c.if-not-are_on.false) in
-    subst (λ m. IsOn m c.args.goal) (sym (c.approach.ensures.map ∙ c.in_ok-begin.ensures.map)) on.1
+pub answer-requires-clause-search : goal.answer-requires-clause-search
+answer-requires-clause-search c = elim c.if-not-branch.branch [
+  | then-not-branch+in_ok-begin-2+in_ok-spread w ↦
+      subst (λ (e : Exploration). IsSearch e c.if-not-branch.waiting c.args.goal) (sym w.reached-is)
+      (subst (λ (o : OpenList). IsSearch w.spread.new.reached o c.args.goal) (sym w.waiting-is) w.in_ok-spread.ensures.search)
+  | else-not-branch w ↦
+      subst (λ (e : Exploration). IsSearch e c.if-not-branch.waiting c.args.goal) (sym w.reached-is)
+      (subst (λ (o : OpenList). IsSearch c.approach.new.reached o c.args.goal) (sym w.waiting-is) c.in_ok-approach.ensures.search)
+]
