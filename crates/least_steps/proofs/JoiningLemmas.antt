@@ -1,5 +1,5 @@
 -- The characters of a map tell where a straight step may lead.
-use Rattle.std.proofs.Common.{◌≡◌, ◌∙◌, ℕ, ◌<◌, Bool, true, false, length, get_or, map, Some, None, refl, sym, ap, subst}
+use Rattle.std.proofs.Common.{◌≡◌, ◌∙◌, ℕ, ◌<◌, Bool, true, false, length, get_or, map, Some, refl, sym, ap, subst}
 use Rattle.std.specs.Prelude.{◌==◌, ◌&&◌, ◌||◌, IsTrue, nat_lt}
 use Rattle.std.proofs.lemmas.Bool.{and_from, cond-true, lt-ltb}
 use Rattle.std.proofs.lemmas.List.{get_or-map}
@@ -85,9 +85,3 @@ joined-characters m is_map u v i j u_in v_in at_u at_v =
     ∙ ap IsTrue (alike-characters t s)
     ∙ ap (λ o. AreJoined o (Some s)) (sym (there m is_map u u_in.0 u_in.1))
     ∙ ap (λ o. AreJoined (terrain_at m u) o) (sym (there m is_map v v_in.0 v_in.1))
-
--- within the map there is some terrain
-pub inside-on : (m : Grid) → IsMap m → (c : Cell) → c.x < m.width → c.y < m.height → terrain_at m c ≡ None → ⊥
-inside-on m is_map c column row none = some_none (get_or m.terrain (number_in m c) Floor) (sym (there m is_map c column row) ∙ none) where
-  some_none : (t : Terrain) → Some t ≡ None → ⊥
-  some_none t h = cc

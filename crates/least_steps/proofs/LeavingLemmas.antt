@@ -78,12 +78,6 @@ module _ (e : Exploration) (p : Cell) (k n : ℕ) (has : Has e p k) (on : IsOn e
 
 -- ---- behind a step along a row
 
-next_to : (a b d : ℕ) → AreNext a b → AreNext a d → (d ≡ b → ⊥) → (b + 1 ≡ a) × (d ≡ a + 1) ⊎ ((b ≡ a + 1) × (d + 1 ≡ a))
-next_to a b d (inl f) (inl g) other = absurd (other (omega (arith, f, g)))
-next_to a b d (inl f) (inr g) other = inl (omega (arith, f), g)
-next_to a b d (inr f) (inl g) other = inr (f, omega (arith, g))
-next_to a b d (inr f) (inr g) other = absurd (other (omega (arith, f, g)))
-
 pub never_next : (a : ℕ) → AreNext a a → ⊥
 never_next a (inl h) = omega (arith, h)
 never_next a (inr h) = omega (arith, h)

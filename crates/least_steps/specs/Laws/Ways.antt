@@ -163,9 +163,6 @@ pub comes_at_once : (m : Grid) (aslant : Bool) (start : Cell) → IsOn m start �
 comes_at_once m aslant start on =
     (start ∷ [], 0, record { straight = 0; diagonal = 0; is_walk = (refl, refl, on, refl, refl); kinds = λ _. refl; number = refl }, refl)
 
-pub some_number : (m : Grid) (aslant : Bool) (start c : Cell) (n : ℕ) → WalksTo m aslant start c n → 0 < n
-some_number m aslant start c n comes = let number = comes.3 in omega (arith, number)
-
 -- ---- what it takes at least
 
 next-apart : (a b : ℕ) → AreNext a b → abs_diff a b ≤ 1
