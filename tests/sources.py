@@ -63,6 +63,8 @@ MADE = {
     "plan_text/plan_reader.rt: Progress: add_line": PASSED_ON,
     "plan_text/plan_text_fault.rt: From<AllocError> for PlanTextFault: from": NAMED_ANEW,
     "planned/planned_fault.rt: From<OutOfMemory> for PlannedFault: from": NAMED_ANEW,
+    "proof_check/progress.rt: unjudged": NAMED_ANEW,
+    "proof_text/proof_fault.rt: From<AllocError> for ProofFault: from": NAMED_ANEW,
     "robot/answering.rt: answer_hear": PASSED_ON,
     "robot/answering.rt: answer_tell": PASSED_ON,
     "robot/file_tape.rt: From<AllocError> for FileTapeFault: from": NAMED_ANEW,

@@ -1,0 +1,10 @@
+-- The code's own words, of which no promise speaks.
+
+-- numbers that rise
+pub mod Rising
+-- what is asked, and what was found under it
+pub mod Trails
+-- the nodes that are due
+pub mod Stack
+-- what the lines so far said
+pub mod Progressing
