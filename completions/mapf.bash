@@ -4,15 +4,15 @@
 _mapf() {
     local word=${COMP_WORDS[COMP_CWORD]} before=${COMP_WORDS[COMP_CWORD - 1]}
     local command='' offers='' at
-    local commands='map scen row rows check bound deps path cut continues run agent tape help'
+    local commands='map scen row rows check bound deps path cut continues optimal run agent tape help'
     local faults='AgentCount AlreadyMoving AtEnd BadAct BadAgent BadEntry BadEvent BadHeader
-        BadLength BadLine BadMagic BadMove BadNumber BadStart BadTable BadTear BadTerrain BadVersion
-        BadWalk Broken Damaged Departs FieldCount GoalDiffers LineTooLong LongRow MissingRows
-        NoHeader NoRoom NoSuchAgent NoSuchMessage NoSuchRow NoTape NoVersion NotMoving NotTight
-        OpenFailed OtherCount OtherNumber OtherPlan OutOfGrid OutOfMemory OutOfRange PlanDamaged
-        ReadFailed Rotation ShortRow SizeDiffers StaleTape StartDiffers StoreFailed Swap TapeEmptied
-        TapeExists TapeFailed TapeInUse TextAfter TooFewRows TooLarge TooLong TooMany Unfinished
-        Vertex Waits WriteFailed WrongAgent WrongPlan'
+        BadLength BadLine BadMagic BadMove BadNode BadNumber BadStart BadTable BadTear BadTerrain
+        BadVersion BadWalk Broken Damaged Departs FieldCount GoalDiffers LeafTooLow LineTooLong
+        LongRow MissingRows NoHeader NoRoom NoSuchAgent NoSuchMessage NoSuchRow NoTape NoVersion
+        NotMoving NotTight OffMap OpenFailed OtherCount OtherNumber OtherPlan OutOfGrid OutOfMemory
+        OutOfRange PlanDamaged ReadFailed Rotation ShortRow SizeDiffers StaleTape StartDiffers
+        StoreFailed Swap TapeEmptied TapeExists TapeFailed TapeInUse TextAfter TooFewRows TooLarge
+        TooLong TooMany Unfinished Vertex Waits WriteFailed WrongAgent WrongPlan'
     COMPREPLY=()
     # bash takes the = of --name=VALUE for a word of its own.
     if [[ $word == = ]]; then
@@ -41,6 +41,7 @@ _mapf() {
         path) offers='--agent --explain -h --help' ;;
         cut) offers='--explain -h --help' ;;
         continues) offers='--explain -h --help' ;;
+        optimal) offers='--json --explain -h --help' ;;
         run) offers='--complete --explain -h --help' ;;
         agent) offers='--tape --explain -h --help' ;;
         tape) offers='--explain -h --help' ;;

@@ -10,6 +10,7 @@ from texts import (
     LANE,
     NOBODY,
     ONWARD,
+    PROOF,
     RELAY,
     ROW,
     ROW_WRITTEN,
@@ -124,6 +125,42 @@ TEXT_FAULTS = [
     (LANE, f"{NOBODY}\n", "TextAfter 4"),
     ("type octile\nheight 1\nwidth 3\nmap\n..\n", "mapf-plan 2\n", "ShortRow 5"),
     ("", SWAP, "BadHeader 1"),
+]
+
+# Proofs for the plan BEHIND, and what is told of them: in a line the tests go by form, numbers, agents and steps, limits, what is there.
+TREE = PROOF.replace("leaf\n", "")
+PROOFS = [
+    (f"{TREE}leaf\n", "optimal cost 2 nodes 1\n"),
+    ("mapf-proof 1\nobjective makespan\nbound 0\nleaf\n", "bound 0 makespan 1 nodes 1\n"),
+    (f"{TREE}at 0 65535 2 0\nleaf\nleaf\n", "optimal cost 2 nodes 3\n"),
+    (f"{TREE}stays 1 0\nleaf\nleaf\n", "optimal cost 2 nodes 3\n"),
+    ("mapf-proof 1\nobjective cost\nbound 3\nleaf\n", "refused LeafTooLow 4 2\n"),
+    ("mapf-proof 1\nobjective cost\nbound 4294967295\nleaf\n", "refused LeafTooLow 4 2\n"),
+    ("mapf-proof 1\nobjective cost\nbound 4\nstays 0 2\nleaf\nleaf\n", "refused LeafTooLow 6 2\n"),
+    (f"{TREE}at 2 0 0 0\nleaf\nleaf\n", "refused NoSuchAgent 4\n"),
+    (f"{TREE}vertex 0 2 0 9 9\n", "refused NoSuchAgent 4\n"),
+    (f"{TREE}at 1 0 3 0\n", "refused OffMap 4\n"),
+    (f"{TREE}goes 1 0 2 0 3 0\n", "refused OffMap 4\n"),
+    (f"{TREE}swap 0 0 0 0 0 1 0\n", "BadNode 4"),
+    (f"{TREE}swap 0 9 0 0 0 1 1\n", "BadNode 4"),
+    (f"{TREE}swap 0 0 0 0 0 1 65536\n", "BadNumber 4"),
+    (f"{TREE}swap 0 1 0 0 0 1\n", "BadNode 4"),
+    (f"{TREE}leaf \n", "BadNode 4"),
+    (f"{TREE}LEAF\n", "BadNode 4"),
+    (f"{TREE}at 0 01 0 0\n", "BadNumber 4"),
+    (f"{TREE}{'x' * 128}\n", "BadNode 4"),
+    (f"{TREE}{'x' * 129}\n", "TooMany 4"),
+    (f"{TREE}leaf", "Unfinished 4"),
+    (f"{TREE}leaf\n\n", "TextAfter 5"),
+    (f"{TREE}leaf\nleaf\n", "TextAfter 5"),
+    (f"{TREE}at 0 0 0 0\nleaf\n", "Unfinished 6"),
+    (TREE, "Unfinished 4"),
+    ("mapf-proof 2\n", "BadHeader 1"),
+    ("mapf-proof 1\nobjective costs\n", "BadHeader 2"),
+    ("mapf-proof 1\nobjective cost\nbound\n", "BadHeader 3"),
+    ("mapf-proof 1\nobjective cost\nbound 02\n", "BadNumber 3"),
+    ("mapf-proof 1\nobjective cost\nbound 4294967296\n", "BadNumber 3"),
+    ("", "Unfinished 1"),
 ]
 
 # The commands that run a valid plan.
@@ -675,6 +712,16 @@ def of_continuations(harness: Harness) -> Iterator[Outcome]:
         yield asked(harness, "continues M P Q", {"M": LANE, "P": old, "Q": new}, answer(0 if text.endswith("\n") else 1, text))
 
 
+def of_proofs(harness: Harness) -> Iterator[Outcome]:
+    """The faults of a map, of a plan's text and of a plan come before those of a proof, which is not read then."""
+    for map_text, text, fault in TEXT_FAULTS:
+        yield asked(harness, "optimal M P T", {"M": map_text, "P": text, "T": "no proof"}, answer(1, fault))
+    for text, fault in PLAN_FAULTS:
+        yield asked(harness, "optimal M P T --json", {"M": LANE, "P": text, "T": "no proof"}, answer(1, fault))
+    for text, due in PROOFS:
+        yield asked(harness, "optimal M P T", {"M": LANE, "P": BEHIND, "T": text}, answer(0 if due.startswith(("optimal", "bound")) else 1, due))
+
+
 def of_checks(harness: Harness) -> Iterator[Outcome]:
     for text, status, words, numbers in VERDICTS:
         files = {"M": LANE, "P": text, "S": "no scenario"}
@@ -837,6 +884,7 @@ def outcomes(harness: Harness) -> Iterator[Outcome]:
     yield from of_checks(harness)
     yield from of_cuts(harness)
     yield from of_continuations(harness)
+    yield from of_proofs(harness)
     yield from of_graphs_and_runs(harness)
     yield from of_agents(harness)
     yield from of_stale_tapes(harness)

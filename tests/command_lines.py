@@ -14,6 +14,9 @@ FILES = {
     "O": b"mapf-plan 1\nnumber 7\nagents 0\n",
     # A plan that goes on from P.
     "Q": b"mapf-plan 1\nnumber 7\nagents 2\nagent 1 0 e--w\nagent 0 0 e--w\n",
+    # Proofs that no plan from the ends of P to those costs less, by the sum of costs and by the makespan.
+    "F": b"mapf-proof 1\nobjective cost\nbound 2\nleaf\n",
+    "G": b"mapf-proof 1\nobjective makespan\nbound 1\nleaf\n",
     # A tape on which nothing is kept yet.
     "K": b"",
 }
@@ -35,6 +38,8 @@ CUT_AT_0 = "mapf-plan 1\nnumber 7\nagents 2\nagent 1 0 =\nagent 0 0 =\n"
 CUT_AT_1 = "mapf-plan 1\nnumber 7\nagents 2\nagent 1 0 e\nagent 0 0 e\n"
 UNCUT = "mapf-plan 1\nnumber 7\nagents 2\nagent 1 0 e-\nagent 0 0 e\n"
 CONTINUES = "continues from 2, adds 2 moves\n"
+OPTIMAL = "optimal cost 2 nodes 1\n"
+OPTIMAL_JSON = '{"optimal":true,"cost":2,"bound":2,"nodes":1}\n'
 KEPT = "at 1 0 done 0\nrecords 0 torn 0\n"
 
 # Words that are a command, and what it writes. After `--` each word is a word, and none an option.
@@ -135,6 +140,11 @@ COMMANDS = [
     ("continues M O O", "continues from 0, adds 0 moves\n"),
     ("continues M P Q --explain", CONTINUES),
     ("continues --explain M P Q", CONTINUES),
+    ("optimal M P F", OPTIMAL),
+    ("optimal M P G", "optimal makespan 1 nodes 1\n"),
+    ("optimal M -- --json F", OPTIMAL),
+    ("optimal M P F --json", OPTIMAL_JSON),
+    ("optimal --json M --explain P F", OPTIMAL_JSON),
     ("run M P E", "moving 2 0\n"),
     ("run M P -", "moving 2 0\n"),
     ("run -- -h --json -", "moving 2 0\n"),
@@ -204,6 +214,9 @@ OTHER_FILES = [
     ("continues P P Q", 1, "BadHeader 1"),
     ("continues M M Q", 1, "BadHeader 1"),
     ("continues M P M", 1, "BadHeader 1"),
+    ("optimal M P P", 1, "BadHeader 1"),
+    ("optimal M F F", 1, "BadHeader 1"),
+    ("optimal F P F --json", 1, "BadHeader 1"),
     ("run P M E", 1, "BadHeader 1"),
     ("run M E P", 1, "BadHeader 1"),
     ("run M P P", 1, "NoHeader"),
@@ -241,6 +254,10 @@ OTHER_FILES = [
     ("continues M N Q", 3, "OpenFailed"),
     ("continues M P N", 3, "OpenFailed"),
     ("continues S S N", 3, "OpenFailed"),
+    ("optimal N P F", 3, "OpenFailed"),
+    ("optimal M N F", 3, "OpenFailed"),
+    ("optimal M P N", 3, "OpenFailed"),
+    ("optimal S S N --json", 3, "OpenFailed"),
     ("run N P E", 3, "OpenFailed"),
     ("run M N E", 3, "OpenFailed"),
     ("run S S N", 3, "OpenFailed"),
@@ -411,6 +428,11 @@ BAD = [
     ("continues M P", "<new>", "Usage: mapf continues <map> <old> <new>"),
     ("continues M P Q Q", "'Q'", "Usage: mapf continues [OPTIONS] <map> <old> <new>"),
     ("continues M P Q --json", "'--json'", "Usage: mapf continues"),
+    ("optimal", "<map>", "Usage: mapf optimal <map> <plan> <proof>"),
+    ("optimal M", "<plan>", "Usage: mapf optimal <map> <plan> <proof>"),
+    ("optimal M P", "<proof>", "Usage: mapf optimal <map> <plan> <proof>"),
+    ("optimal M P F F", "'F'", "Usage: mapf optimal [OPTIONS] <map> <plan> <proof>"),
+    ("optimal M P F --bound", "'--bound'", "Usage: mapf optimal"),
     ("deps M P --agent 0", "'--agent'", "Usage: mapf deps"),
     ("agent M P 0 T --agent 0", "'--agent'", "Usage: mapf agent"),
     ("run", "<map>", "Usage: mapf run"),
@@ -462,7 +484,7 @@ def refusal(why: str, usage: str = "") -> bytes:
 
 # What is told in full.
 WHOLE = {
-    "": refusal("'mapf' requires a subcommand but one was not provided\n  [subcommands: map, scen, row, rows, check, bound, deps, path, cut, continues, run, agent, tape, help]", "<COMMAND>"),
+    "": refusal("'mapf' requires a subcommand but one was not provided\n  [subcommands: map, scen, row, rows, check, bound, deps, path, cut, continues, optimal, run, agent, tape, help]", "<COMMAND>"),
     "nope": refusal("unrecognized subcommand 'nope'", "<COMMAND>"),
     # Clap's own advice, by another measure.
     "mapp_": refusal("unrecognized subcommand 'mapp_'\n\n  tip: a similar subcommand exists: 'map'", "<COMMAND>"),

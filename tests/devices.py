@@ -14,7 +14,7 @@ from typing import Iterator, Optional, Sequence
 import command_lines
 import help_texts
 from harness import LONGEST, VERSION, Ended, Harness, Outcome, compared, ended_as, has_terminals, side_by_side
-from texts import BEHIND, CORNER, CORNER_WRITTEN, LANE, NOBODY, ONWARD, ROW, ROW_WRITTEN, SHORT, SQUARE, SWAP, TASKS, TURN, events
+from texts import BEHIND, CORNER, CORNER_WRITTEN, LANE, NOBODY, ONWARD, PROOF, ROW, ROW_WRITTEN, SHORT, SQUARE, SWAP, TASKS, TURN, events
 
 FILES = {
     "M": LANE.encode(),
@@ -30,6 +30,7 @@ FILES = {
     "O": NOBODY.encode(),
     "Q": SQUARE.encode(),
     "R": TURN.encode(),
+    "Z": PROOF.encode(),
 }
 REPLIES = "refused Waits 0 1\nmoving 2 0\narrived 2 0\nrefused Waits 0 1\n"
 
@@ -53,6 +54,7 @@ WRITING = [
     ("path M P --agent 1", "0 0 0\n1 1 0\n"),
     ("cut M P 1", "mapf-plan 1\nnumber 7\nagents 2\nagent 1 0 e\nagent 0 0 e\n"),
     ("continues M P Y", "continues from 2, adds 2 moves\n"),
+    ("optimal M P Z", "optimal cost 2 nodes 1\n"),
     ("run M P E", REPLIES),
     ("run M P J", "moving 2 0\n"),
     ("run M O E --complete", "refused NoSuchAgent\n" * 4 + "complete 0\n"),
@@ -74,6 +76,7 @@ FAULTY = [
     ("path M P --agent 2", "mapf: NoSuchAgent\n"),
     ("cut M X 1", "mapf: Swap 0 1 0\n"),
     ("continues M Y P", "mapf: Departs 0 4\n"),
+    ("optimal M P P", "mapf: BadHeader 1\n"),
     ("run M X E", "mapf: Swap 0 1 0\n"),
     ("run M X E --complete", "mapf: Swap 0 1 0\n"),
     ("agent M P 2 T", "mapf: NoSuchAgent\n"),
@@ -107,15 +110,15 @@ ODD_STREAMS = [
 # Commands that read a folder.
 UNREADABLE = [
     *("map D", "scen D", "row D S 0", "row C D 0", "check D P", "check M D", "check M P --scen D"),
-    *("deps D P", "deps M D", "deps M D --cell 1 0", "path D P", "path M D", "cut D P 0", "cut M D 0", "continues D P Y", "continues M D Y", "continues M P D", "run D P E", "run M D E", "run M P D", "run M P D --complete", "agent D P 0 T", "agent M D 0 T"),
+    *("deps D P", "deps M D", "deps M D --cell 1 0", "path D P", "path M D", "cut D P 0", "cut M D 0", "continues D P Y", "continues M D Y", "continues M P D", "optimal D P Z", "optimal M D Z", "optimal M P D", "run D P E", "run M D E", "run M P D", "run M P D --complete", "agent D P 0 T", "agent M D 0 T"),
 ]
 # Commands with a file that is not there, and one in front of it, which is opened all the same, or behind it, which is not.
 OPENED = [
     *(("row M no 0", "M"), ("check M no", "M"), ("check M P --scen no", "M"), ("check M P --scen no", "P")),
-    *(("deps M no", "M"), ("path M no", "M"), ("cut M no 0", "M"), ("continues M no Y", "M"), ("continues M P no", "P"), ("run M no E", "M"), ("run M P no", "P"), ("agent M no 0 T", "M")),
+    *(("deps M no", "M"), ("path M no", "M"), ("cut M no 0", "M"), ("continues M no Y", "M"), ("continues M P no", "P"), ("optimal M no Z", "M"), ("optimal M P no", "P"), ("run M no E", "M"), ("run M P no", "P"), ("agent M no 0 T", "M")),
 ]
 NOT_OPENED = [
-    *(("row no S 0", "S"), ("check no P", "P"), ("check M no --scen F", "F"), ("deps no P", "P"), ("path no P", "P"), ("cut no P 0", "P"), ("continues M no Y", "Y")),
+    *(("row no S 0", "S"), ("check no P", "P"), ("check M no --scen F", "F"), ("deps no P", "P"), ("path no P", "P"), ("cut no P 0", "P"), ("continues M no Y", "Y"), ("optimal M no Z", "Z")),
     *(("run no P E", "P"), ("run M no E", "E"), ("agent no P 0 T", "P")),
 ]
 

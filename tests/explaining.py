@@ -31,7 +31,7 @@ ADVICE = [
     ("OpenFailed", "--explain"),
 ]
 # How the texts of an example begin, and the command that reads what stands there.
-HEADERS = {"type octile": "map", "version 1": "scen", "mapf-plan 1": "plan", "mapf-events": "events"}
+HEADERS = {"type octile": "map", "version 1": "scen", "mapf-plan 1": "plan", "mapf-events": "events", "mapf-proof": "proof"}
 
 
 def as_bytes(text: object) -> bytes:
@@ -140,7 +140,7 @@ def parts_of(of: str, text: str) -> dict[str, str]:
     """The texts that an example has, by what each is."""
     if of in ("a map", "a scenario", "a plan", "a list of events"):
         return {{"a map": "map", "a scenario": "scen", "a plan": "plan", "a list of events": "events"}[of]: text}
-    pieces = re.split(r"(?m)^(?=type octile$|mapf-plan 1$|mapf-events)", text)
+    pieces = re.split(r"(?m)^(?=type octile$|mapf-plan 1$|mapf-events|mapf-proof)", text)
     return {HEADERS[next(head for head in HEADERS if piece.startswith(head))]: piece for piece in pieces if piece}
 
 
@@ -148,9 +148,9 @@ def example_answer(harness: Harness, texts: dict[str, str]) -> str:
     """What the program says of these texts."""
     texts = {"map": LANE, "plan": BEHIND, **texts} if "map" not in texts and "scen" not in texts else texts
     folder = harness.folder({name: text.encode("ascii") for name, text in texts.items()})
-    command = {"events": "run", "plan": "deps", "scen": "scen", "map": "map"}
+    command = {"proof": "optimal", "events": "run", "plan": "deps", "scen": "scen", "map": "map"}
     last = next(name for name in command if name in texts)
-    names = [name for name in ("map", "plan", "events", "scen") if name in texts]
+    names = [name for name in ("map", "plan", "events", "proof", "scen") if name in texts]
     ended = harness.mapf([command[last], *names], folder=folder)
     said = ended.err.decode("ascii").removeprefix("mapf: ") or ended.out.decode("ascii").splitlines()[-1]
     return said.strip()

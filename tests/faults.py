@@ -23,6 +23,7 @@ from texts import (
     LANE,
     NOBODY,
     ONWARD,
+    PROOF,
     ROW,
     ROW_WRITTEN,
     SHORT,
@@ -60,6 +61,8 @@ FILES = {
     "J": events("start 0", "jump"),
     "L": events("start 0", "tear 1 3"),
     "V": "mapf-events 3\n",
+    "Z": PROOF,
+    "Z9": PROOF.replace("2", "9"),
 }
 # The tape is no file of the table: it is put there before each run.
 TAPE = "T"
@@ -152,6 +155,11 @@ CASES = [
     Case("continues M Y P", answer(1, "Departs 0 4")),
     Case("continues M A P", answer(1, "BadAct 4 12")),
     Case("continues M P A", answer(1, "BadAct 4 12")),
+    Case("optimal M P Z", answer(0, "optimal cost 2 nodes 1\n")),
+    Case("optimal M P Z --json", answer(0, '{"optimal":true,"cost":2,"bound":2,"nodes":1}\n')),
+    Case("optimal M P Z9", answer(1, "refused LeafTooLow 4 2\n")),
+    Case("optimal M X Z", answer(1, "Swap 0 1 0")),
+    Case("optimal M P A", answer(1, "BadHeader 1")),
     Case("run M P E", answer(0, REPLIES)),
     Case("run M P E2", answer(0, TELLING)),
     Case("run M P J", Ended(1, b"moving 2 0\n", b"mapf: BadEvent 3\n")),

@@ -11,7 +11,7 @@ from typing import Callable, Iterator, Mapping, Sequence
 
 from answers import answer
 from harness import Ended, Harness, Outcome, compared, shown, side_by_side
-from texts import LANE, SQUARE, plan, scen
+from texts import BEHIND, LANE, PROOF, SQUARE, plan, scen
 
 MOST_ACTS, MOST_AGENTS, MOST_ACTS_OF_ALL = 65_535, 10_000, 16_777_216
 # Map sizes at the limit of 4,194,304 cells, or at that of a side.
@@ -556,6 +556,16 @@ def of_what_an_agent_keeps(harness: Harness) -> list[Outcome]:
     ]
 
 
+def of_proofs(harness: Harness) -> list[Outcome]:
+    """Trees as deep as they may be, and deeper: each node is the first child of the one before."""
+    outcomes = []
+    for depth, due in ((65_535, answer(0, "optimal cost 2 nodes 131071\n")), (65_536, answer(1, "TooMany 65540"))):
+        text = PROOF.replace("leaf\n", "vertex 0 1 9 0 0\n" * depth + "leaf\n" * (depth + 1))
+        files = {"M": LANE.encode(), "P": BEHIND.encode(), "T": text.encode()}
+        outcomes.append(asked(harness, f"a tree of a depth of {depth}", "optimal M P T", files, due))
+    return outcomes
+
+
 TESTS: Sequence[Test] = (
     of_maps,
     *(functools.partial(of_walks, width=width, height=height) for width, height in ((2_048, 2_047), (65_535, 63), (64, 65_535))),
@@ -571,6 +581,7 @@ TESTS: Sequence[Test] = (
     of_many_cells,
     *(functools.partial(of_long_runs, version=version) for version in (1, 2)),
     of_long_tapes,
+    of_proofs,
     of_what_an_agent_keeps,
 )
 

@@ -34,6 +34,7 @@ import launcher
 import limits
 import listing
 import messages
+import proving
 import refusals
 import replays
 import robots
@@ -74,6 +75,7 @@ PARTS: dict[str, tuple[str, Callable[[Harness], Iterator[Outcome]]]] = {
     "changing": ("fleets that go over from plan to plan while they drive", changing.outcomes),
     "bounds": ("rows of scenarios, bounds of plans and lists of faults, up to the limits", rows_and_bounds.outcomes),
     "scenarios": ("whole scenarios and bounds of plans, beside plain searches", scenarios.outcomes),
+    "proofs": ("proofs that plans are the best, beside a plain model and a search of all joint plans", proving.outcomes),
     "listing": ("all faults of plans, beside a list of all pairs", listing.outcomes),
     "convert": ("plans of other formats, converted and back", converting.outcomes),
     "judge": ("many plans, judged as one table", judging.outcomes),

@@ -1,7 +1,8 @@
 #!/usr/bin/env python3
-"""Vectors of `rows`, of `bound` with `check --bound`, and of `check --all` and `--no-rotation`, by the plain models of scenarios.py and listing.py.
+"""Vectors of `rows`, of `bound` with `check --bound`, of `check --all` and `--no-rotation`, and of `optimal`, by the plain models of scenarios.py, listing.py
+and proving.py.
 
-Usage: scenario_vectors.py KIND > vectors/KIND.jsonl      (KIND: rows, bound, faults)
+Usage: scenario_vectors.py KIND > vectors/KIND.jsonl      (KIND: rows, bound, faults, optimal)
 The same vectors come each time.
 """
 import itertools
@@ -11,9 +12,10 @@ from typing import Callable, Iterator
 
 sys.dont_write_bytecode = True
 from listing import calls as fault_calls  # noqa: E402
+from proving import calls as proof_calls  # noqa: E402
 from scenarios import Call, bound_calls, row_calls  # noqa: E402
 
-KINDS: dict[str, Callable[[int], Iterator[Call]]] = {"rows": row_calls, "bound": bound_calls, "faults": fault_calls}
+KINDS: dict[str, Callable[[int], Iterator[Call]]] = {"rows": row_calls, "bound": bound_calls, "faults": fault_calls, "optimal": proof_calls}
 COUNT = 300
 
 

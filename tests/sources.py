@@ -64,6 +64,7 @@ MADE = {
     "plan_text/plan_text_fault.rt: From<AllocError> for PlanTextFault: from": NAMED_ANEW,
     "planned/planned_fault.rt: From<OutOfMemory> for PlannedFault: from": NAMED_ANEW,
     "proof_check/progress.rt: unjudged": NAMED_ANEW,
+    "proof_commands/optimal_command.rt: tell": NO_TEXT,
     "proof_text/proof_fault.rt: From<AllocError> for ProofFault: from": NAMED_ANEW,
     "robot/answering.rt: answer_hear": PASSED_ON,
     "robot/answering.rt: answer_tell": PASSED_ON,

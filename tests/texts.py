@@ -24,6 +24,8 @@ def beside(mark: str, kept: str) -> bytes:
 
 # Two agents that go one cell east behind one another.
 BEHIND = plan("1 0 e-", "0 0 e")
+# That no plan between the ends of BEHIND costs less.
+PROOF = "mapf-proof 1\nobjective cost\nbound 2\nleaf\n"
 # The same, and behind it both come back.
 ONWARD = plan("1 0 e--w", "0 0 e--w")
 # Two that exchange their cells.

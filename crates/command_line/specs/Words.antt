@@ -109,6 +109,13 @@ commands =
       flags = explain_flag ∷ [];
     }
     ∷ record {
+      name = codes "optimal";
+      required = codes "map" ∷ codes "plan" ∷ codes "proof" ∷ [];
+      options = [];
+      cells = [];
+      flags = codes "json" ∷ explain_flag ∷ [];
+    }
+    ∷ record {
       name = codes "run";
       required = codes "map" ∷ codes "plan" ∷ codes "events" ∷ [];
       options = [];
@@ -292,6 +299,10 @@ IsCommand name rows (line.Query map_file plan_file query) =
 IsCommand name rows (line.Continues map_file old_file new_file) =
     (name ≡ codes "continues") × (first_of (codes "map") rows ≡ Some (string_bytes map_file))
     × (first_of (codes "old") rows ≡ Some (string_bytes old_file)) × (first_of (codes "new") rows ≡ Some (string_bytes new_file))
+IsCommand name rows (line.Optimal l) =
+    (name ≡ codes "optimal") × (first_of (codes "map") rows ≡ Some (string_bytes l.map))
+    × (first_of (codes "plan") rows ≡ Some (string_bytes l.plan)) × (first_of (codes "proof") rows ≡ Some (string_bytes l.proof))
+    × (l.json ≡ true ↔ IsFlagGiven (codes "json") rows)
 IsCommand name rows (line.Run map_file plan_file events_file complete) =
     (name ≡ codes "run") × (first_of (codes "map") rows ≡ Some (string_bytes map_file))
     × (first_of (codes "plan") rows ≡ Some (string_bytes plan_file)) × (first_of (codes "events") rows ≡ Some (string_bytes events_file))

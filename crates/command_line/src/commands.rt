@@ -16,14 +16,14 @@ pub(crate) fn text_commands() -> &'static [CommandText<'static>]
 
 /// The commands over plans.
 pub(crate) fn plan_commands() -> &'static [CommandText<'static>]
-    ensures { map shape_of_text result.now ≡ shapes_of (take 6 (drop 4 commands)) }
+    ensures { map shape_of_text result.now ≡ shapes_of (take 7 (drop 4 commands)) }
 {
     PLAN_COMMANDS
 }
 
 /// The commands of runs and agents.
 pub(crate) fn run_commands() -> &'static [CommandText<'static>]
-    ensures { map shape_of_text result.now ≡ shapes_of (drop 10 commands) }
+    ensures { map shape_of_text result.now ≡ shapes_of (drop 11 commands) }
 {
     RUN_COMMANDS
 }
@@ -307,6 +307,39 @@ Example:
             Required("map", "The file of the map"),
             Required("old", "The file of the plan that is gone on from"),
             Required("new", "The file of the plan that goes on"),
+            EXPLAIN,
+        ],
+    },
+    CommandText {
+        name: "optimal",
+        about: "Says whether a proof shows that no plan costs less than a plan",
+        after_help: "\
+The proof shows of all valid plans on the map with as many agents, each with the
+same start and the same last cell, that their sum of costs, or their makespan,
+is no less than its bound. C is what the plan costs, and N how many nodes the
+tree of the proof has. Standard output is one line:
+  optimal cost C nodes N   the bound is C: no such plan costs less
+  bound B cost C nodes N   the bound is B, which is less
+  refused FAULT            the proof proves nothing; this is its first fault:
+                           it names an agent or a cell that isn't there, or a
+                           leaf doesn't come to the bound
+For the makespan it says `makespan` in place of `cost`.
+
+Status:
+  0  the answer is `optimal` or `bound`
+  1  the answer is `refused`, or a text or the plan has a fault: one line on
+     standard error
+  2  a bad command line
+  3  a file can't be opened (--explain says which, and why), a device failed, or
+     memory was refused
+
+Example:
+  mapf optimal examples/corner.map examples/corner.plan examples/corner.proof",
+        words: &[
+            Required("map", "The file of the map"),
+            Required("plan", "The file of the plan"),
+            Required("proof", "The file of the proof"),
+            Flag("json", "Writes the answer as JSON"),
             EXPLAIN,
         ],
     },

@@ -13,5 +13,5 @@ mod spelling;
 mod words;
 
 pub use command_line::{Asked, LineFault};
-pub use lines::{CheckLine, Line, PlanQuery, RowsLine};
+pub use lines::{CheckLine, Line, OptimalLine, PlanQuery, RowsLine};
 pub use words::line;

@@ -35,6 +35,8 @@ pub enum Line {
         old: String,
         new: String,
     },
+    /// Says whether a proof shows that a plan on a map is optimal.
+    Optimal(OptimalLine),
     /// Runs a plan on the events of a text; `complete` asks for how the run ends too.
     Run {
         map: String,
@@ -81,6 +83,15 @@ pub struct CheckLine {
     pub all: Option<u32>,
     pub bound: bool,
     pub no_rotation: bool,
+    pub json: bool,
+}
+
+/// `json` asks for the answer as JSON.
+#[derive(Debug, Drop, PartialEq, Eq)]
+pub struct OptimalLine {
+    pub map: String,
+    pub plan: String,
+    pub proof: String,
     pub json: bool,
 }
 

@@ -1,10 +1,10 @@
-//! The queries on a plan, and `continues`: how their words are read.
+//! The queries on a plan, `continues` and `optimal`: how their words are read.
 ghost use Rattle.std.specs.Prelude.{◌≡◌, codes, IfOk, IfErr};
 ghost use Rattle.clap.specs.Words.{found_of, rows_of};
 ghost use Rattle.command_line.specs.Words.{HasValues, IsCommand};
 ghost use Rattle.command_line.specs.Code.Parts.{HasWords, IsRefusal};
 
-use crate::lines::{Line, PlanQuery};
+use crate::lines::{Line, OptimalLine, PlanQuery};
 use crate::words::{has_flag, long_number, optional_cell, optional_number, word};
 use crate::{LineFault, help};
 use clap::ArgMatches;
@@ -85,4 +85,18 @@ pub(crate) fn read_continues(alloc: Global, given: &ArgMatches<'_>) -> Result<Li
         old: word(alloc, given, "old")?,
         new: word(alloc, given, "new")?,
     })
+}
+
+/// Reads `optimal` by the words that it was given.
+pub(crate) fn read_optimal(alloc: Global, given: &ArgMatches<'_>) -> Result<Line, LineFault>
+    ensures ok { IfOk result (IsCommand (codes "optimal") (rows_of (found_of given.now))) }
+    ensures err { IfErr result (λ e. HasWords (codes "optimal") (rows_of (found_of given.now)) → e ≡ LineFault.OutOfMemory) }
+    ensures refusal { IfErr result IsRefusal }
+{
+    Ok(Line::Optimal(OptimalLine {
+        map: word(alloc, given, "map")?,
+        plan: word(alloc, given, "plan")?,
+        proof: word(alloc, given, "proof")?,
+        json: has_flag(given, "json"),
+    }))
 }

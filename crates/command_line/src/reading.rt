@@ -6,7 +6,7 @@ ghost use Rattle.command_line.specs.Code.Parts.{HasWords, IsRefusal};
 
 use crate::agent_words::{read_agent, read_tape};
 use crate::lines::{CheckLine, Line, RowsLine};
-use crate::plan_words::{read_bound, read_continues, read_cut, read_deps, read_path};
+use crate::plan_words::{read_bound, read_continues, read_cut, read_deps, read_optimal, read_path};
 use crate::words::{
     has_flag, long_number, no_command, optional_long_number, optional_number, optional_word, word,
 };
@@ -40,6 +40,7 @@ pub(crate) fn read_command(
         "path" => read_path(alloc, given),
         "cut" => read_cut(alloc, given),
         "continues" => read_continues(alloc, given),
+        "optimal" => read_optimal(alloc, given),
         "run" => read_run(alloc, given),
         "agent" => read_agent(alloc, given),
         "tape" => read_tape(alloc, given),

@@ -86,8 +86,9 @@ fn packer_of(bytes: &[u8]) -> Option<(&'static str, &'static str)> {
 }
 
 /// What the first line of a text begins with, and what the text looks like then.
-static FORMATS: [(&str, Beginning); 11] = [
+static FORMATS: [(&str, Beginning); 12] = [
     ("mapf-plan", Beginning::Of(FileKind::Plan)),
+    ("mapf-proof", Beginning::Of(FileKind::Proof)),
     ("mapf-events", Beginning::Of(FileKind::Events)),
     ("type ", Beginning::Of(FileKind::Map)),
     ("type\t", Beginning::Of(FileKind::Map)),

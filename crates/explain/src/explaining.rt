@@ -71,7 +71,17 @@ fn put_explanation<R: Files>(
             };
             put_fault(rt, alloc, &[input], told, page);
         }
+        [file] if file.kind == FileKind::Proof => put_fault_of_proof(rt, files, told, page),
         _ => put_fault(rt, alloc, files, told, page),
+    }
+}
+
+/// Explains a fault of a proof by its line, or one of the system.
+fn put_fault_of_proof<R: Files>(rt: &R, files: &[NamedFile<'_>], told: &Told<'_>, page: &mut Page) {
+    if told.count() > 0 {
+        explain_text(rt, files, FileKind::Proof, told, page);
+    } else {
+        explain_device(rt, files, told, page);
     }
 }
 

@@ -9,6 +9,7 @@ pub enum FileKind {
     Scenario,
     Plan,
     Events,
+    Proof,
     Tape,
     /// A plan beside a tape, behind a first line.
     KeptPlan,
@@ -29,6 +30,7 @@ impl FileKind {
             FileKind::Scenario => "a scenario",
             FileKind::Plan => "a plan",
             FileKind::Events => "a list of events",
+            FileKind::Proof => "a proof",
             FileKind::Tape => "a tape",
             FileKind::KeptPlan => "the plan of a tape",
         }

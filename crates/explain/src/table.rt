@@ -5,7 +5,9 @@ use crate::other_faults::{
     reply_entries, tape_entries,
 };
 use crate::page::Page;
-use crate::text_faults::{event_entries, map_entries, plan_entries, scenario_entries};
+use crate::text_faults::{
+    event_entries, map_entries, plan_entries, proof_entries, scenario_entries,
+};
 
 /// What is known of a fault.
 pub(crate) struct Entry {
@@ -20,7 +22,7 @@ pub(crate) struct Entry {
 }
 
 /// How many groups of faults there are.
-pub(crate) const GROUPS: usize = 11;
+pub(crate) const GROUPS: usize = 12;
 
 /// What the faults of a group are faults of.
 pub(crate) fn group_name(group: usize) -> &'static str {
@@ -29,12 +31,13 @@ pub(crate) fn group_name(group: usize) -> &'static str {
         1 => "a scenario",
         2 => "a plan",
         3 => "a list of events",
-        4 => "a plan on its map",
-        5 => "a plan beside a scenario",
-        6 => "a plan beside an older one",
-        7 => "a command",
-        8 => "a tape",
-        9 => "a message",
+        4 => "a proof",
+        5 => "a plan on its map",
+        6 => "a plan beside a scenario",
+        7 => "a plan beside an older one",
+        8 => "a command",
+        9 => "a tape",
+        10 => "a message",
         _ => "a reply",
     }
 }
@@ -46,12 +49,13 @@ pub(crate) fn group_entries(group: usize) -> &'static [Entry] {
         1 => scenario_entries(),
         2 => plan_entries(),
         3 => event_entries(),
-        4 => course_entries(),
-        5 => fit_entries(),
-        6 => departing_entries(),
-        7 => command_entries(),
-        8 => tape_entries(),
-        9 => message_entries(),
+        4 => proof_entries(),
+        5 => course_entries(),
+        6 => fit_entries(),
+        7 => departing_entries(),
+        8 => command_entries(),
+        9 => tape_entries(),
+        10 => message_entries(),
         _ => reply_entries(),
     }
 }

@@ -200,3 +200,74 @@ static EVENTS: [Entry; 3] = [
         answer: "Unfinished 2",
     },
 ];
+
+/// The faults of a proof.
+pub(crate) fn proof_entries() -> &'static [Entry] {
+    &PROOF
+}
+
+static PROOF: [Entry; 9] = [
+    Entry {
+        name: "BadHeader",
+        numbers: "line",
+        sentence: "Line 1 is `mapf-proof 1`, line 2 `objective cost` or `objective makespan`, line 3 `bound` and a number; this one isn't.",
+        example: "type octile\nheight 1\nwidth 3\nmap\n...\nmapf-plan 1\nnumber 7\nagents 1\nagent 0 0 e\nmapf-proof 2\n",
+        answer: "BadHeader 1",
+    },
+    Entry {
+        name: "BadNode",
+        numbers: "line",
+        sentence: "A node is `vertex I J T X Y`, `swap I J T X Y U V`, `at I T X Y`, `goes I T X Y U V`, `stays I T` or `leaf`, of two agents that differ, and of two cells that share a side; this one isn't.",
+        example: "type octile\nheight 1\nwidth 3\nmap\n...\nmapf-plan 1\nnumber 7\nagents 1\nagent 0 0 e\nmapf-proof 1\nobjective cost\nbound 1\nvertex 0 0 1 1 0\n",
+        answer: "BadNode 4",
+    },
+    Entry {
+        name: "BadNumber",
+        numbers: "line",
+        sentence: "A number must be digits alone, without zeros in front, a bound below 4294967296 and any other below 65536.",
+        example: "type octile\nheight 1\nwidth 3\nmap\n...\nmapf-plan 1\nnumber 7\nagents 1\nagent 0 0 e\nmapf-proof 1\nobjective cost\nbound 01\n",
+        answer: "BadNumber 3",
+    },
+    Entry {
+        name: "TooMany",
+        numbers: "line",
+        sentence: "More than the limits allow: 128 bytes in a line, 65535 nodes above one, 4294967295 nodes in all.",
+        example: "",
+        answer: "TooMany 4",
+    },
+    Entry {
+        name: "Unfinished",
+        numbers: "line",
+        sentence: "The text ends before the LF of a line that is due: each node that is no leaf has two children.",
+        example: "type octile\nheight 1\nwidth 3\nmap\n...\nmapf-plan 1\nnumber 7\nagents 1\nagent 0 0 e\nmapf-proof 1\nobjective cost\nbound 1\nstays 0 1\nleaf\n",
+        answer: "Unfinished 6",
+    },
+    Entry {
+        name: "TextAfter",
+        numbers: "line",
+        sentence: "Nothing may follow the last leaf that is due.",
+        example: "type octile\nheight 1\nwidth 3\nmap\n...\nmapf-plan 1\nnumber 7\nagents 1\nagent 0 0 e\nmapf-proof 1\nobjective cost\nbound 1\nleaf\nleaf\n",
+        answer: "TextAfter 5",
+    },
+    Entry {
+        name: "NoSuchAgent",
+        numbers: "line",
+        sentence: "The node names an agent that the plan has not. Agents count from 0.",
+        example: "type octile\nheight 1\nwidth 3\nmap\n...\nmapf-plan 1\nnumber 7\nagents 1\nagent 0 0 e\nmapf-proof 1\nobjective cost\nbound 1\nstays 1 1\n",
+        answer: "refused NoSuchAgent 4",
+    },
+    Entry {
+        name: "OffMap",
+        numbers: "line",
+        sentence: "The node names a cell that is not on the map. Columns and rows count from 0.",
+        example: "type octile\nheight 1\nwidth 3\nmap\n...\nmapf-plan 1\nnumber 7\nagents 1\nagent 0 0 e\nmapf-proof 1\nobjective cost\nbound 1\nat 0 1 3 0\n",
+        answer: "refused OffMap 4",
+    },
+    Entry {
+        name: "LeafTooLow",
+        numbers: "line least",
+        sentence: "Under what the nodes above the leaf ask, the agents by themselves cost so much at least, which is below the bound.",
+        example: "type octile\nheight 1\nwidth 3\nmap\n...\nmapf-plan 1\nnumber 7\nagents 1\nagent 0 0 e\nmapf-proof 1\nobjective cost\nbound 2\nleaf\n",
+        answer: "refused LeafTooLow 4 1",
+    },
+];

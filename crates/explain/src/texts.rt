@@ -76,6 +76,7 @@ fn explain_format<R: Files>(
         FileKind::Scenario => explain_scenario(told, line, page),
         FileKind::Plan => explain_plan_text(rt, file.path, told, line, page),
         FileKind::Events => explain_events(told, line, page),
+        FileKind::Proof => put_sentence(told.name(), file.kind, page),
         FileKind::Tape | FileKind::KeptPlan => {}
     }
 }
@@ -105,7 +106,9 @@ fn put_place(file: NamedFile<'_>, told: &Told<'_>, line: &Line, page: &mut Page)
 /// Says that the line ends as on Windows, where that is refused. The answer is whether that says all.
 fn put_line_end(kind: FileKind, fault: Fault, line: &Line, page: &mut Page) -> bool {
     let bytes = line.bytes();
-    if !matches!(kind, FileKind::Plan | FileKind::Events) || !ends_with_return(bytes) {
+    if !matches!(kind, FileKind::Plan | FileKind::Events | FileKind::Proof)
+        || !ends_with_return(bytes)
+    {
         return false;
     }
     let is_all = matches!(fault, Fault::BadHeader | Fault::NoHeader);

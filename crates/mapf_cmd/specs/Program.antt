@@ -33,6 +33,7 @@ use Rattle.plan_commands.specs.CutCommand.{AnswersCut}
 use Rattle.plan_commands.specs.DepsCellCommand.{AnswersDepsCell}
 use Rattle.plan_commands.specs.DepsCommand.{AnswersDeps}
 use Rattle.plan_commands.specs.PathCommand.{AnswersPath}
+use Rattle.proof_commands.specs.OptimalCommand.{AnswersOptimal}
 use Rattle.run_commands.specs.RunCommand.{AnswersRun}
 use Rattle.agent_commands.specs.AgentCommand.{AnswersAgent}
 use Rattle.agent_commands.specs.TapeCommand.{AnswersTape, EndsWithoutTape}
@@ -109,6 +110,8 @@ PerformsOn remaining input_left contents (line.Query map_file plan_file query) o
     OnTwoFiles (λ a b c d. AnswersQuery remaining remaining contents query a b c d old new end) × (new_in ≡ old_in)
 PerformsOn remaining input_left contents (line.Continues map_file old_file new_file) old_in new_in old new end =
     OnThreeFiles (λ a b c d e f. AnswersContinues remaining remaining remaining contents a b c d e f old new end) × (new_in ≡ old_in)
+PerformsOn remaining input_left contents (line.Optimal l) old_in new_in old new end =
+    OnThreeFiles (λ a b c d e f. AnswersOptimal remaining remaining remaining contents l.json a b c d e f old new end) × (new_in ≡ old_in)
 PerformsOn remaining input_left contents (line.Run map_file plan_file events_file complete) old_in new_in old new end =
     OnThreeFiles (λ a b c d e f. AnswersRun remaining remaining remaining contents a b c d e f complete old new end) × (new_in ≡ old_in)
 PerformsOn remaining input_left contents (line.Agent map_file plan_file id tape_file claim) old_in new_in old new end =

@@ -1,4 +1,4 @@
-//! Which of two plans has a fault, of which the words don't tell.
+//! Which file has a fault, where the words don't tell.
 use explain::open_again;
 use planned::read_checked;
 use std::rt::Files;
@@ -17,19 +17,30 @@ pub(crate) fn is_of_new<R: Files + AllocGlobal>(
     has_fault(rt, map, new, words) && !has_fault(rt, map, old, words)
 }
 
+/// Whether a map and a plan are read and checked once more without a fault, so that a proof for that plan has one.
+// Compiled by itself, for its room on the stack.
+#[inline(never)]
+pub(crate) fn is_of_proof<R: Files + AllocGlobal>(rt: &R, map: &str, plan: &str) -> bool {
+    matches!(checked_again(rt, map, plan), Some(None))
+}
+
 fn has_fault<R: Files + AllocGlobal>(rt: &R, map: &str, plan: &str, words: &FaultWords) -> bool {
-    match fault_of(rt, map, plan) {
-        Some(found) => found.name() == words.name() && found.numbers() == words.numbers(),
-        None => false,
+    match checked_again(rt, map, plan) {
+        Some(Some(found)) => found.name() == words.name() && found.numbers() == words.numbers(),
+        _ => false,
     }
 }
 
-/// The fault of a plan on a map, if both can be opened once more.
-fn fault_of<R: Files + AllocGlobal>(rt: &R, map: &str, plan: &str) -> Option<FaultWords> {
+/// The fault of a plan on a map, or that there is none, if both can be opened once more.
+fn checked_again<R: Files + AllocGlobal>(
+    rt: &R,
+    map: &str,
+    plan: &str,
+) -> Option<Option<FaultWords>> {
     let mut map = Counted::new(open_again(rt, map)?);
     let mut plan = Counted::new(open_again(rt, plan)?);
     match read_checked(rt.alloc(), &mut map, &mut plan) {
-        Ok(_) => None,
-        Err(fault) => Some(fault.words()),
+        Ok(_) => Some(None),
+        Err(fault) => Some(Some(fault.words())),
     }
 }

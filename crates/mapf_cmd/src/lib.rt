@@ -11,10 +11,11 @@ pub use agent_commands::{Seat, agent_cmd, tape_cmd};
 pub use check_commands::{
     BoundForm, CheckTerms, Verdict, bound_cmd, check_cmd, check_fit_cmd, verdict_json,
 };
-pub use command_line::{Asked, CheckLine, Line, LineFault, PlanQuery, RowsLine, line};
+pub use command_line::{Asked, CheckLine, Line, LineFault, OptimalLine, PlanQuery, RowsLine, line};
 pub use explain::Style;
 pub use plan_commands::{continues_cmd, cut_cmd, deps_cell_cmd, deps_cmd, path_cmd};
 pub use program::{Screen, run};
+pub use proof_commands::optimal_cmd;
 pub use run_commands::run_cmd;
 pub use tape_claim::{LockFile, TapeClaim};
 pub use text_commands::{

@@ -6,6 +6,7 @@ ghost use Rattle.text_commands.specs.RowCommand.{AnswersRow};
 ghost use Rattle.text_commands.specs.RowsCommand.{AnswersRows, ShowsProgress};
 ghost use Rattle.text_commands.specs.ScenCommand.{RewritesScen};
 ghost use Rattle.plan_commands.specs.ContinuesCommand.{AnswersContinues};
+ghost use Rattle.proof_commands.specs.OptimalCommand.{AnswersOptimal};
 ghost use Rattle.run_commands.specs.RunCommand.{AnswersRun};
 ghost use Rattle.agent_commands.specs.AgentCommand.{AnswersAgent};
 ghost use Rattle.agent_commands.specs.TapeCommand.{AnswersTape, EndsWithoutTape};
@@ -13,9 +14,10 @@ ghost use Rattle.mapf_cmd.specs.Program.{AnswersQuery, CheckOn, OnFileOrInput, O
 
 use agent_commands::{Seat, agent_command, tape_command};
 use check_commands::{BoundForm, CheckTerms, bound_command, check_command};
-use command_line::{CheckLine, Line, PlanQuery, RowsLine};
+use command_line::{CheckLine, Line, OptimalLine, PlanQuery, RowsLine};
 use explain::{FileKind, NamedFile};
 use plan_commands::continues_command;
+use proof_commands::optimal_command;
 use run_commands::run_command;
 use std::alloc::Global;
 use std::io::{ErrorKind, Read, Write};
@@ -48,6 +50,7 @@ where
         Line::Check(check) => check_on_files(rt, check, out),
         Line::Query { map, plan, query } => query_on_files(rt, map, plan, *query, out),
         Line::Continues { map, old, new } => continues_on_files(rt, [map, old, new], out),
+        Line::Optimal(optimal) => optimal_on_files(rt, optimal, out),
         Line::Run {
             map,
             plan,
@@ -250,6 +253,20 @@ fn continues_on_files<R: Files + AllocGlobal, W: Write>(
     Ok(continues_command::perform(rt.alloc(), &mut map, &mut old, &mut new, out))
 }
 
+fn optimal_on_files<R: Files + AllocGlobal, W: Write>(
+    rt: &R,
+    line: &OptimalLine,
+    out: &mut Counted<W>,
+) -> io::Result<Ending>
+    ensures { MatchResult result (λ ending. OnThreeFiles (λ a b c d e f. AnswersOptimal R.File.remaining R.File.remaining R.File.remaining W.contents line.now.json a b c d e f out.old out.new (end_of ending)))
+        (λ _. out.new ≡ out.old) }
+{
+    let mut map = Counted::new(fs::open(rt, &line.map)?);
+    let mut plan = Counted::new(fs::open(rt, &line.plan)?);
+    let mut proof = Counted::new(fs::open(rt, &line.proof)?);
+    Ok(optimal_command::perform(rt.alloc(), &mut map, &mut plan, &mut proof, line.json, out))
+}
+
 fn run_on_files<R: Files + AllocGlobal, W: Write>(
     rt: &R,
     paths: [&str; 3],
@@ -320,7 +337,7 @@ fn open_if_there<R: Files>(rt: &R, path: &str) -> io::Result<Option<R::File>> {
 pub(crate) fn files_of(
     line: &Line,
 ) -> (NamedFile<'_>, Option<NamedFile<'_>>, Option<NamedFile<'_>>) {
-    use FileKind::{Events, Map, Plan, Scenario, Tape};
+    use FileKind::{Events, Map, Plan, Proof, Scenario, Tape};
     match line {
         Line::Map { file } => (file_of(Map, file), None, None),
         Line::Scen { file } => (file_of(Scenario, file), None, None),
@@ -340,6 +357,11 @@ pub(crate) fn files_of(
             file_of(Map, map),
             Some(file_of(Plan, old)),
             Some(file_of(Plan, new)),
+        ),
+        Line::Optimal(optimal) => (
+            file_of(Map, &optimal.map),
+            Some(file_of(Plan, &optimal.plan)),
+            Some(file_of(Proof, &optimal.proof)),
         ),
         Line::Run {
             map,

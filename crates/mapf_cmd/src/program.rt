@@ -5,7 +5,7 @@ ghost use Rattle.text_io.specs.Counted.{counted_inner};
 ghost use Rattle.text_commands.specs.Ending.{end_of};
 ghost use Rattle.mapf_cmd.specs.Program.{AnswersLine, AnswersWords, Performs, ShowsOn};
 
-use crate::blamed_plan::is_of_new;
+use crate::blamed_plan::{is_of_new, is_of_proof};
 use crate::on_files::{file_of, files_of, perform_on_files};
 use crate::parted_plans::parting;
 use crate::unperformed::end_unperformed;
@@ -159,6 +159,10 @@ fn explain_by_files<R: Files + AllocGlobal, E: Write>(
         (Line::Continues { map, old, new }, (first, _, Some(third)))
             if is_of_new(rt, [map, old, new], &words) => {
             explain(rt, &[first, third], &[words], style, err);
+        }
+        (Line::Optimal(optimal), (_, _, Some(proof)))
+            if is_of_proof(rt, &optimal.map, &optimal.plan) => {
+            explain(rt, &[proof], &[words], style, err);
         }
         (_, (first, Some(second), Some(third))) => {
             explain(rt, &[first, second, third], &[words], style, err);

@@ -2,7 +2,8 @@
 use crate::endings::{End, Ended};
 use crate::texts::{
     ACCEPTED, ACCEPTED_JSON, AGREES, ANSWERED, ASKED, BOUNDED, BOUNDS, COMPLETED, CONTINUED, CUT,
-    EVENTS, LISTED, NEEDS, PATH, PATHS, REJECTED, REPLIES, ROWS, STRAIGHT, SWAP, VISITS,
+    EVENTS, LISTED, NEEDS, PATH, PATHS, PROOF, PROVED, REJECTED, REPLIES, ROWS, STRAIGHT, SWAP,
+    VISITS,
 };
 use fakes::{
     BEHIND, CORNER, CORNER_WRITTEN, DiskFiles, FakeDisk, Keeper, LANE, ROW, ROW_WRITTEN, TASKS,
@@ -14,7 +15,7 @@ use std::test::Fail;
 use text_io::Counted;
 
 /// Command lines with their status and what they write.
-static LINES: [(&str, u8, &str); 24] = [
+static LINES: [(&str, u8, &str); 25] = [
     ("map C", 0, CORNER_WRITTEN),
     ("scen S", 0, ROW_WRITTEN),
     ("row C S 0", 0, AGREES),
@@ -33,6 +34,7 @@ static LINES: [(&str, u8, &str); 24] = [
     ("path M P --agent 1", 0, PATH),
     ("cut M P 1", 0, CUT),
     ("continues M P P", 0, CONTINUED),
+    ("optimal M P Z", 0, PROVED),
     ("run M P E", 0, REPLIES),
     ("run M P E --complete", 0, COMPLETED),
     ("agent M P 0 T", 0, ANSWERED),
@@ -41,12 +43,12 @@ static LINES: [(&str, u8, &str); 24] = [
     (
         "--version",
         0,
-        "mapf 0.1.0\nproved by rattle-kit-13b logic dac8208d650f15bf\n",
+        "mapf 0.1.0\nproved by rattle-kit-13f logic dac8208d650f15bf\n",
     ),
 ];
 
 /// The files that they read.
-static TEXTS: [(&str, &str); 7] = [
+static TEXTS: [(&str, &str); 8] = [
     ("C", CORNER),
     ("S", ROW),
     ("M", LANE),
@@ -54,6 +56,7 @@ static TEXTS: [(&str, &str); 7] = [
     ("X", SWAP),
     ("F", TASKS),
     ("E", EVENTS),
+    ("Z", PROOF),
 ];
 
 /// The tapes, of which the last was kept, and what is beside them.

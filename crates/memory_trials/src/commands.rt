@@ -2,8 +2,8 @@
 use crate::endings::{End, Ended};
 use crate::texts::{
     ACCEPTED, ACCEPTED_JSON, AGREES, ANSWERED, ASKED, BOUNDED, BOUNDS, BOUNDS_JSON, COMPLETED,
-    CONTINUED, CUT, EVENTS, KEPT, LISTED, LISTED_JSON, NEEDS, PATH, PATHS, REJECTED, REJECTED_JSON,
-    REPLIES, ROWS, STRAIGHT, SWAP, VISITS,
+    CONTINUED, CUT, EVENTS, KEPT, LISTED, LISTED_JSON, NEEDS, PATH, PATHS, PROOF, PROVED,
+    PROVED_JSON, REJECTED, REJECTED_JSON, REPLIES, ROWS, STRAIGHT, SWAP, VISITS,
 };
 use fakes::{
     BEHIND, CORNER, CORNER_WRITTEN, DiskFiles, FakeDisk, Keeper, LANE, ROW, ROW_WRITTEN, TASKS,
@@ -11,8 +11,8 @@ use fakes::{
 use grid::Cell;
 use mapf_cmd::{
     BoundForm, CheckTerms, RowsAsked, agent_cmd, bound_cmd, check_cmd, check_fit_cmd,
-    continues_cmd, cut_cmd, deps_cell_cmd, deps_cmd, map_cmd, path_cmd, row_cmd, rows_cmd, run_cmd,
-    scen_cmd, tape_cmd,
+    continues_cmd, cut_cmd, deps_cell_cmd, deps_cmd, map_cmd, optimal_cmd, path_cmd, row_cmd,
+    rows_cmd, run_cmd, scen_cmd, tape_cmd,
 };
 use std::alloc::Global;
 use std::test::Fail;
@@ -39,6 +39,8 @@ enum Command {
     Cut,
     /// Asks whether the plan goes on from itself.
     Continues,
+    /// Perhaps as JSON.
+    Optimal(bool),
     /// Perhaps says how the run ends.
     Run(bool),
     Agent,
@@ -47,7 +49,7 @@ enum Command {
 }
 
 /// Each command with its status and what it writes: last the one that writes the tape.
-static COMMANDS: [(Command, u8, &str); 26] = [
+static COMMANDS: [(Command, u8, &str); 28] = [
     (Command::Map, 0, CORNER_WRITTEN),
     (Command::Scen, 0, ROW_WRITTEN),
     (Command::Row, 0, AGREES),
@@ -70,6 +72,8 @@ static COMMANDS: [(Command, u8, &str); 26] = [
     (Command::Path(Some(1)), 0, PATH),
     (Command::Cut, 0, CUT),
     (Command::Continues, 0, CONTINUED),
+    (Command::Optimal(false), 0, PROVED),
+    (Command::Optimal(true), 0, PROVED_JSON),
     (Command::Run(false), 0, REPLIES),
     (Command::Run(true), 0, COMPLETED),
     (Command::Tape, 0, KEPT),
@@ -145,6 +149,9 @@ fn perform_on_plan(alloc: Global, command: Command, out: &mut Out<'_>, err: &mut
         Command::Path(agent) => path_cmd(alloc, map, plan, agent, out, err),
         Command::Cut => cut_cmd(alloc, map, plan, 1, out, err),
         Command::Continues => continues_cmd(alloc, map, plan, &mut reader(BEHIND), out, err),
+        Command::Optimal(json) => {
+            optimal_cmd(alloc, map, plan, &mut reader(PROOF), json, out, err)
+        }
         Command::Run(complete) => {
             run_cmd(alloc, map, plan, &mut reader(EVENTS), complete, out, err)
         }

@@ -45,6 +45,14 @@ pub const CUT: &str = "mapf-plan 1\nnumber 7\nagents 2\nagent 1 0 e\nagent 0 0 e
 /// What is said of the plan BEHIND as one that goes on from itself.
 pub const CONTINUED: &str = "continues from 2, adds 0 moves\n";
 
+/// That no plan with the ends of BEHIND costs less: in the first leaf an agent has to be looked for anew.
+pub const PROOF: &str = "mapf-proof 1\nobjective cost\nbound 2\nvertex 0 1 1 2 0\nleaf\nleaf\n";
+
+/// What is said of the plan BEHIND by that proof.
+pub const PROVED: &str = "optimal cost 2 nodes 3\n";
+
+pub const PROVED_JSON: &str = "{\"optimal\":true,\"cost\":2,\"bound\":2,\"nodes\":3}\n";
+
 pub const VISITS: &str = "visit 0 0 0\nvisit 1 1 1\n";
 
 /// Of the one row of the scenario ROW.

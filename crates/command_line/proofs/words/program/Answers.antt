@@ -18,7 +18,7 @@ abbrev with_all : App → List Shape → App
 with_all app shapes = fold with_subcommand app shapes
 
 all_lists : (bare first second third : App) (xs ys zs : List Shape) → bare ≡ bare_program → first ≡ with_all bare xs → second ≡ with_all first ys
-    → third ≡ with_all second zs → xs ≡ shapes_of (take 4 commands) → ys ≡ shapes_of (take 6 (drop 4 commands)) → zs ≡ shapes_of (drop 10 commands)
+    → third ≡ with_all second zs → xs ≡ shapes_of (take 4 commands) → ys ≡ shapes_of (take 7 (drop 4 commands)) → zs ≡ shapes_of (drop 11 commands)
     → third ≡ program_app
 all_lists bare first second third xs ys zs b f s t x y z = t ∙ ap₂ with_all (s ∙ ap₂ with_all (f ∙ ap₂ with_all b x) y) z
 

@@ -27,6 +27,13 @@ returns-in-Continues g c =
     (λ _. (c.args.input.now ≡ c.args.input.now) × (done.new.out ≡ c.args.out.now) × (c.args.err.now ≡ c.args.err.now)) in
     subst Ends (sym c.in-Continues.is) (MatchResult-weaker done.result done.ensures (λ _ on. ((on, refl), refl)) (λ _ kept. (refl, kept, refl)))
 
+pub returns-in-Optimal : goal.returns-in-Optimal
+returns-in-Optimal g c =
+    let done = c.optimal_on_files in
+    let Ends : Line → Type 0 = λ line. MatchResult done.result (λ ending. PerformsOn g.R.File.Read.remaining g.I.Read.remaining g.W.Write.contents line c.args.input.now c.args.input.now c.args.out.now done.new.out (end_of ending) × ShowsOn g.E.Write.contents c.args.is_watched line c.args.err.now c.args.err.now)
+    (λ _. (c.args.input.now ≡ c.args.input.now) × (done.new.out ≡ c.args.out.now) × (c.args.err.now ≡ c.args.err.now)) in
+    subst Ends (sym c.in-Optimal.is) (MatchResult-weaker done.result done.ensures (λ _ on. ((on, refl), refl)) (λ _ kept. (refl, kept, refl)))
+
 pub returns-in-Run : goal.returns-in-Run
 returns-in-Run g c =
     let done = c.run_on_files in

@@ -15,6 +15,7 @@ shows_none told is_watched (line.Scen file) now = refl
 shows_none told is_watched (line.Row a b c) now = refl
 shows_none told is_watched (line.Check l) now = refl
 shows_none told is_watched (line.Query a b c) now = refl
+shows_none told is_watched (line.Optimal l) now = refl
 shows_none told is_watched (line.Continues a b c) now = refl
 shows_none told is_watched (line.Run a b c d) now = refl
 shows_none told is_watched (line.Agent a b c d e) now = refl

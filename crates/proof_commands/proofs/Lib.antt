@@ -1,0 +1,2 @@
+-- where the agents of a plan go, one after another
+mod EndsLemmas

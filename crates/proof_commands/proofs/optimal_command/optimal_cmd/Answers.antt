@@ -1,0 +1,5 @@
+use Rattle.text_commands.specs.Ending.{end_of}
+use Rattle.proof_commands.proofs.optimal_command.optimal_cmd.Goals as goal
+
+pub returns : goal.returns
+returns g c = record { end = end_of c.perform.result; ends = c.perform.ensures; concludes = c.conclude.ensures }
