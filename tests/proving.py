@@ -16,7 +16,8 @@ import optimal_model as model
 from answers import answer
 from harness import ROOT, Ended, Harness, Outcome, ended_as, side_by_side
 from optimal_model import Distinctions, Task
-from path_model import STEPS, Cell, Fault
+from path_model import Cell, Fault
+from plain_formats import plan_text
 from scenarios import Call, outcomes_of
 
 # Of three seeds, two make an instance that can be solved.
@@ -25,7 +26,6 @@ SIZES = ((2, 2), (3, 2), (3, 3), (4, 3), (5, 1), (7, 1), (4, 4), (2, 4))
 Walk = list[Cell]
 # A node's word and its numbers.
 Split = tuple[str, list[int]]
-ACTS = {step: act for act, step in STEPS.items()}
 TOOL = ROOT / "tools" / "prove.py"
 SHORT_PLANNED, LONG_PLANNED = range(1, 7), range(1, 61)
 # How long the tool searches.
@@ -199,14 +199,6 @@ def proof_text(root: Node, objective: str, bound: int) -> str:
     return "".join(f"{line}\n" for line in lines)
 
 
-def plan_text(walks: Sequence[Walk]) -> str:
-    lines = ["mapf-plan 1", "number 1", f"agents {len(walks)}"]
-    for walk in walks:
-        acts = "".join(ACTS[to[0] - cell[0], to[1] - cell[1]] for cell, to in zip(walk, walk[1:]))
-        lines.append(f"agent {walk[0][0]} {walk[0][1]} {acts or '='}")
-    return "".join(f"{line}\n" for line in lines)
-
-
 # ---- damage
 
 
@@ -265,7 +257,7 @@ def calls(seed: int) -> Iterator[Call]:
     texts += [damaged(rng, instance, right, at) for at in range(len(right.split("\n")))]
     for text in texts:
         words = ["optimal", "m", "p", "t", *rng.choice(([], [], ["--json"]))]
-        yield words, {"m": instance.map_text(), "p": plan_text(walks), "t": text}, due(instance, walks, best, objective, text, "--json" in words)
+        yield words, {"m": instance.map_text(), "p": plan_text(walks, 1), "t": text}, due(instance, walks, best, objective, text, "--json" in words)
 
 
 # ---- tools/prove.py

@@ -25,11 +25,12 @@ from typing import Iterator, NamedTuple, Optional, Sequence
 
 sys.dont_write_bytecode = True
 sys.path.append(str(pathlib.Path(__file__).resolve().parent.parent / "examples" / "fleet"))
+from plan_formats import mapf_plan  # noqa: E402
+from plan_formats.walks import STEPS, walk_of  # noqa: E402
 from planning import Reservations, search  # noqa: E402
 
 Cell = tuple[int, int]
 Walk = list[Cell]
-STEPS = {(0, -1): "n", (1, 0): "e", (0, 1): "s", (-1, 0): "w", (0, 0): "-"}
 # From which terrain a straight step leads to which.
 JOINED = {(one, other) for group in (".GS", "W") for one in group for other in group}
 # Of so many conflicts of a node the one is taken that makes both children cost most.
@@ -78,7 +79,7 @@ class Ground:
     def beside(self, cell: Cell) -> Iterator[Cell]:
         x, y = cell
         own = self.rows[y][x]
-        for dx, dy in STEPS:
+        for dx, dy in STEPS.values():
             u, v = x + dx, y + dy
             if (dx, dy) == (0, 0) or 0 <= u < self.width and 0 <= v < self.height and (own, self.rows[v][u]) in JOINED:
                 yield u, v
@@ -326,14 +327,6 @@ def keeps(walk: Walk, asked: Asked) -> bool:
     return asked.may_be(0, walk[0]) and all(asked.may_step(when, at(walk, when), at(walk, when + 1)) for when in times)
 
 
-def plan_text(walks: Sequence[Walk]) -> str:
-    lines = ["mapf-plan 1", "number 0", f"agents {len(walks)}"]
-    for walk in walks:
-        acts = "".join(STEPS[u - x, v - y] for (x, y), (u, v) in zip(walk, walk[1:]))
-        lines.append(f"agent {walk[0][0]} {walk[0][1]} {acts or '='}")
-    return "\n".join([*lines, ""])
-
-
 def read_tasks(text: str, count: int) -> list[tuple[Cell, Cell]]:
     rows = [line.split("\t") for line in text.splitlines()[1:] if line.strip()]
     if len(rows) < count:
@@ -364,7 +357,7 @@ def main(words: Sequence[str]) -> int:
     plan, proof = given.out
     proof.write_text(planning.proof(), encoding="ascii")
     if walks:
-        plan.write_text(plan_text(walks), encoding="ascii")
+        plan.write_text("".join(mapf_plan.write([walk_of(walk) for walk in walks])), encoding="ascii")
     is_best = walks is not None and cost_of(walks) == planning.bound()
     cost = f" cost {cost_of(walks)}" if walks else ""
     print(f"{'optimal' if is_best else f'bound {planning.bound()}'}{cost} nodes {planning.count}")

@@ -133,6 +133,12 @@ def read_number(digits: bytes, most: int = MOST_NUMBER) -> int:
     return min(int(text or b"0"), most + 1) if len(text) <= 20 else most + 1
 
 
+def walk_of(cells: Sequence[Cell]) -> Walk:
+    """The walk along these cells, one for each time, that stand in no text. A KeyError says that a step is none."""
+    xs, ys = (array(NARROW, numbers) for numbers in zip(*cells))
+    return Walk(xs, ys, acts_of(xs, ys), lambda time: 0)
+
+
 def acts_of(xs: Numbers, ys: Numbers) -> str:
     """The acts between these cells. A KeyError says that a step is none."""
     steps = zip(map(sub, islice(xs, 1, None), xs), map(sub, islice(ys, 1, None), ys))
