@@ -31,7 +31,9 @@ sys.path[:0] = [str(BENCH), *(str(BENCH.parent / it) for it in ("tests", "tools"
 import completing  # noqa: E402
 import far  # noqa: E402
 import generate  # noqa: E402
+import proofs  # noqa: E402
 import tables  # noqa: E402
+from plain_formats import plan_text  # noqa: E402
 from timing import LEAST_SECONDS, Bench, peak_memory, whole_peak_memory  # noqa: E402
 from whole_file import draft  # noqa: E402
 
@@ -42,6 +44,8 @@ AGENTS, MOST_ACTS, ALL_ACTS = 10_000, 1600, (400, 800, 1600)
 FEWER_SIDE, FEWER_ROWS = 4, 100
 # Out of so many times as many pairs of cells come those that are spread over all lengths.
 CANDIDATES = 4
+# The sides of the maps of proofs, how many agents there are, and how many nodes: an odd number.
+PROOFS = ((32, 20, 100_001), (512, 100, 1_001))
 # What the page calls some kinds of maps and plans.
 NAMES = {
     "terrain": "mixed terrain",
@@ -276,6 +280,26 @@ def measure_dependencies(bench: Bench, side: int) -> None:
         bench.report(name, measured, [whole_peak_memory(it) for it in commands], row)
 
 
+def measure_proof(bench: Bench, side: int, agents: int, nodes: int) -> None:
+    """Measures programs that check a proof that no plan costs less."""
+    paths = bench.files(f"proof-{side}", "map", "plan", "proof")
+    map_text = generate.map_text("sparse", side, side, 1)
+    walks = proofs.walks_on(map_text, 1, agents)
+    texts = map_text, plan_text(walks, 7), proofs.proof_text(walks, 1, nodes)
+    for path, text in zip(paths, texts):
+        path.write_text(text)
+    commands = bench.commands(["optimal", *map(str, paths)])
+    measured = bench.measure_alike(f"optimal {side}", commands)
+    most = [whole_peak_memory(it) for it in commands]
+    row = ("proofs", f"{nodes:,} nodes, {agents} agents on {side} x {side}")
+    bench.report(f"optimal {side}, {agents} agents", measured, most, row)
+
+
+def measure_proofs(bench: Bench) -> None:
+    for side, agents, nodes in PROOFS:
+        measure_proof(bench, side, agents, nodes)
+
+
 def write_dense_plan(
     bench: Bench, name: str, kind: str = "crowd", side: int = 48
 ) -> tuple[list[str], str]:
@@ -381,6 +405,7 @@ MEASURED = {
     ),
     "check": lambda bench, given: measure_checks(bench, given.side),
     "deps": lambda bench, given: measure_dependencies(bench, given.side),
+    "optimal": lambda bench, given: measure_proofs(bench),
     "run": lambda bench, given: measure_runs(bench),
     "complete": lambda bench, given: measure_endings(bench),
 }

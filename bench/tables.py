@@ -44,6 +44,7 @@ TABLES = {
     "waits": Table("Acts"),
     "checkers": Table("Checker", "its", 0),
     "dependencies": Table("Plan"),
+    "proofs": Table("Proof"),
     "runs": Table("Events"),
     "endings": Table("Written"),
 }

@@ -59,6 +59,11 @@ impl Ground {
         (usize::from(y) + 1) * self.stride + usize::from(x) + 1
     }
 
+    /// The cell of a place.
+    pub fn cell(&self, place: usize) -> Cell {
+        ((place % self.stride - 1) as u16, (place / self.stride - 1) as u16)
+    }
+
     #[inline(always)]
     pub fn steps(&self, place: usize) -> u8 {
         self.steps[place]

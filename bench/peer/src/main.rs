@@ -1,4 +1,4 @@
-//! A plain Rust program that does the work of `mapf map`, `mapf scen`, `mapf row`, `mapf rows`, `mapf check`, `mapf deps` and `mapf run`, to measure it beside: it reads a text,
+//! A plain Rust program that does the work of `mapf map`, `mapf scen`, `mapf row`, `mapf rows`, `mapf check`, `mapf deps`, `mapf optimal` and `mapf run`, to measure it beside: it reads a text,
 //! checks it and writes it in canonical form, with the same faults, or solves rows of a scenario, with no certificate.
 mod buckets;
 mod check;
@@ -8,6 +8,7 @@ mod ground;
 mod jumps;
 mod map;
 mod onward;
+mod optimal;
 mod output;
 mod paces;
 mod pairs;
@@ -71,6 +72,11 @@ fn run(words: &[&str]) -> Result<Option<bool>, Fault> {
             deps::tell(open(map)?, open(plan)?, output)?;
             Ok(Some(true))
         }
+        ["optimal", map, plan, proof] => {
+            let (line, good) = optimal::prove(open(map)?, open(plan)?, open(proof)?)?;
+            writeln!(output().map_err(failed)?, "{line}").map_err(failed)?;
+            Ok(Some(good))
+        }
         ["run", map, plan, events] => Ok(Some(run::replay(open(map)?, open(plan)?, open(events)?, false, output)?)),
         ["run", map, plan, events, "--complete"] => Ok(Some(run::replay(open(map)?, open(plan)?, open(events)?, true, output)?)),
         _ => Ok(None),
@@ -84,7 +90,7 @@ fn main() -> ExitCode {
         Ok(Some(true)) => ExitCode::SUCCESS,
         Ok(Some(false)) => ExitCode::from(1),
         Ok(None) => {
-            eprintln!("usage: peer map FILE | peer scen FILE | peer row MAP SCEN N | peer rows MAP SCEN [--straight | --jump] | peer check MAP PLAN | peer pairs MAP PLAN | peer deps MAP PLAN | peer run MAP PLAN EVENTS [--complete]");
+            eprintln!("usage: peer map FILE | peer scen FILE | peer row MAP SCEN N | peer rows MAP SCEN [--straight | --jump] | peer check MAP PLAN | peer pairs MAP PLAN | peer deps MAP PLAN | peer optimal MAP PLAN PROOF | peer run MAP PLAN EVENTS [--complete]");
             ExitCode::from(2)
         }
         Err(Fault::Text(text)) => {

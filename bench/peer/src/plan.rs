@@ -24,6 +24,11 @@ impl Plan {
         let from = if agent == 0 { 0 } else { self.ends[agent - 1] };
         &self.acts[from..self.ends[agent]]
     }
+
+    /// The least time from which an agent stays for ever.
+    pub fn cost_of(&self, agent: usize) -> usize {
+        self.acts_of(agent).iter().rposition(|&b| b != b'-').map_or(0, |at| at + 1)
+    }
 }
 
 /// The place of the first LF, by the search that the standard library has for readers.
@@ -138,12 +143,18 @@ fn read_agent(line: &[u8], number: u64, plan: &mut Plan) -> Result<(), Fault> {
 
 /// A plan that is valid on the map, with the map's width and height.
 pub fn read_checked(map: File, plan: File) -> Result<(usize, usize, Plan), Fault> {
+    let (width, height, _, plan) = read_with_cells(map, plan)?;
+    Ok((width, height, plan))
+}
+
+/// The same with the map's cells before the plan.
+pub fn read_with_cells(map: File, plan: File) -> Result<(usize, usize, Vec<u8>, Plan), Fault> {
     let (width, height, cells) = map::read_map(map)?;
     let plan = read_plan(plan)?;
     let (width, height) = (width as usize, height as usize);
     match check(width, height, &cells, &plan) {
         Some((name, numbers)) => fault(name, &numbers),
-        None => Ok((width, height, plan)),
+        None => Ok((width, height, cells, plan)),
     }
 }
 
@@ -159,13 +170,11 @@ pub fn judge(map: File, plan: File, checker: Checker) -> Result<(String, bool), 
         let numbers: String = numbers.iter().map(|n| format!(" {n}")).collect();
         return Ok((format!("rejected {name}{numbers}"), false));
     }
-    let mut from = 0;
     let (mut sum, mut makespan) = (0, 0);
-    for &end in &plan.ends {
-        let cost = plan.acts[from..end].iter().rposition(|&b| b != b'-').map_or(0, |at| at + 1);
+    for agent in 0..plan.starts.len() {
+        let cost = plan.cost_of(agent);
         sum += cost;
         makespan = makespan.max(cost);
-        from = end;
     }
     Ok((format!("accepted agents {} cost {sum} makespan {makespan}", plan.starts.len()), true))
 }
