@@ -1,7 +1,13 @@
 pub mod AlongLemmas
+pub mod ApartLemmas
 pub mod AskedLemmas
-pub mod LayerLemmas
+pub mod ExpandLemmas
+pub mod FarLemmas
+pub mod GoalSearchLemmas
+pub mod LegalLemmas
 pub mod ListLemmas
+pub mod MarkLemmas
+pub mod SearchLemmas
 pub mod SideLemmas
-pub mod StampLemmas
+pub mod StateLemmas
 pub mod TrackLemmas

@@ -1,12 +1,12 @@
--- Straight steps lead to one of four cells.
-use Rattle.std.proofs.Common.{◌≡◌, ◌∙◌, ℕ, ◌+◌, ◌-◌, ◌*◌, ◌<◌, ◌≤◌, ltb, inl, inr, arith, sym, ap, subst}
+-- Cells by their numbers, and those beside one.
+use Rattle.std.proofs.Common.{◌≡◌, ◌∙◌, ℕ, ◌+◌, ◌-◌, ◌*◌, ◌/◌, ◌%◌, ◌<◌, ltb, inl, inr, sym, ap, subst}
 use Rattle.std.specs.Prelude.{◌&&◌, None, Some, Option, slice_get}
 use Rattle.std.proofs.lemmas.Bool.{cases_Bool, and_parts, cond-false, ltb-true}
+use Rattle.std.proofs.lemmas.Nat.{div-mul-add, mod-mul-add}
 use Rattle.grid.specs.declared.cell.Cell.{Cell}
 use Rattle.grid.specs.declared.terrain.Terrain.{Terrain}
-use Rattle.grid.specs.Map.{AreJoined, Grid, IsMap, IsStraightStep, ShareSide, terrain_at}
+use Rattle.grid.specs.Map.{AreJoined, Grid, terrain_at}
 use Rattle.least_costs.specs.declared.sides.Sides.{Sides}
-use Rattle.least_costs.specs.Code.Layers.{IsOneOf}
 
 pub same_cells : (u v : Cell) → u.x ≡ v.x → u.y ≡ v.y → u ≡ v
 same_cells u v e f = ap {A = ℕ} {B = Cell} (λ x. record { x = x; y = u.y }) e ∙ ap {A = ℕ} {B = Cell} (λ y. record { x = v.x; y = y }) f
@@ -36,28 +36,8 @@ pub record AreSides (u : Cell) (sides : Sides) : Type 0 where
   pub south : u.y < 65535 → sides.south ≡ record { x = u.x; y = u.y + 1 }
   pub east : u.x < 65535 → sides.east ≡ record { x = u.x + 1; y = u.y }
 
-pub one_of : (m : Grid) (u v : Cell) (sides : Sides) → IsMap m → AreSides u sides → IsStraightStep m u v → IsOneOf sides v
-one_of m u v sides is_map are step = by_side step.side
-  where
-    on : (v.x < m.width) × (v.y < m.height)
-    on = on_map m (terrain_at m u) v step.joined
-
-    wide : m.width ≤ 65535
-    wide = is_map.size.width_limit
-
-    high : m.height ≤ 65535
-    high = is_map.size.height_limit
-
-    by_side : ShareSide u v → IsOneOf sides v
-    by_side (inl column) = elim column.1 [
-      | inl above ↦ inl (same_cells v (record { x = u.x; y = u.y - 1 }) (sym column.0) (omega (arith, above)) ∙ sym are.north)
-      | inr below ↦
-          let room : u.y < 65535 = omega (arith, on.1, high, below) in
-          inr (inl (same_cells v (record { x = u.x; y = u.y + 1 }) (sym column.0) below ∙ sym (are.south room)))
-    ]
-    by_side (inr row) = elim row.1 [
-      | inl left ↦ inr (inr (inl (same_cells v (record { x = u.x - 1; y = u.y }) (omega (arith, left)) (sym row.0) ∙ sym are.west)))
-      | inr right ↦
-          let room : u.x < 65535 = omega (arith, on.0, wide, right) in
-          inr (inr (inr (same_cells v (record { x = u.x + 1; y = u.y }) right (sym row.0) ∙ sym (are.east room))))
-    ]
+-- no two cells of a map have one number
+pub same_number : (width : ℕ) (c d : Cell) → c.x < width → d.x < width → c.y * width + c.x ≡ d.y * width + d.x → c ≡ d
+same_number width c d left right same = same_cells c d
+    (sym (mod-mul-add c.y width c.x left) ∙ ap (λ n. n % width) same ∙ mod-mul-add d.y width d.x right)
+    (sym (div-mul-add c.y width c.x left) ∙ ap (λ n. n / width) same ∙ div-mul-add d.y width d.x right)

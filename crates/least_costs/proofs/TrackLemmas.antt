@@ -1,12 +1,9 @@
--- When a walk comes to rest, and how far it has to go before.
-use Rattle.std.proofs.Common.{◌≡◌, ◌∙◌, ℕ, zero, suc, ◌+◌, ◌-◌, ◌<◌, ◌≤◌, List, inl, inr, arith, sym, ap, subst}
+-- When a walk comes to rest.
+use Rattle.std.proofs.Common.{◌≡◌, ◌∙◌, ℕ, ◌+◌, ◌-◌, ◌<◌, ◌≤◌, inl, inr, arith, sym, ap}
 use Rattle.std.proofs.lemmas.Bool.{cases_lt}
 use Rattle.grid.specs.declared.cell.Cell.{Cell}
-use Rattle.grid.specs.Map.{Grid}
 use Rattle.model.specs.Costs.{IsCost, RestsFrom, cost}
 use Rattle.model.specs.Timetable.{Track, cell_at}
-use Rattle.optimality.specs.Walkers.{IsAgentWalk, MayFollow}
-use Rattle.least_costs.specs.Code.Tables.{IsEstimate, IsGoalTable, table_at}
 
 -- `cost` is the least time from which an agent stays
 abbrev pub CostLaw : Type 0
@@ -41,36 +38,3 @@ waits_on law track goal t to_goal there last = (law track).least t (omega (arith
           (law track).rests later at_end ∙ to_goal ∙ sym there
       | inr now ↦ let same : later ≡ t = omega (arith, past, now) in ap (cell_at track) same
     ]
-
--- ---- how far it has to go
-
-pub estimated : (m : Grid) (goal : Cell) (steps : List ℕ) → IsGoalTable m goal steps → (start : Cell) (track : Track) → IsAgentWalk m (record { start = start; goal = goal }) track
-    → (n t : ℕ) → t + n ≡ cost track → table_at m.width steps (cell_at track t) ≤ n
-estimated m goal steps table start track walker zero t at =
-    let there : t ≡ cost track = omega (arith, at) in
-    let none : table_at m.width steps (cell_at track t) ≡ 0 =
-    ap (λ k. table_at m.width steps (cell_at track k)) there ∙ ap (table_at m.width steps) walker.to_goal ∙ table.at_goal in
-    subst (λ k. k ≤ 0) (sym none) (omega arith)
-estimated m goal steps table start track walker (suc n) t at =
-    let rest = estimated m goal steps table start track walker n (t + 1) (omega (arith, at)) in
-    by_step (walker.steps t) rest
-  where
-    by_step : MayFollow m (cell_at track t) (cell_at track (t + 1)) → table_at m.width steps (cell_at track (t + 1)) ≤ n
-        → table_at m.width steps (cell_at track t) ≤ suc n
-    by_step (inl same) rest = subst (λ c. table_at m.width steps c ≤ suc n) same (more (table_at m.width steps (cell_at track (t + 1))) n rest)
-      where
-        more : (k n : ℕ) → k ≤ n → k ≤ suc n
-        more k n h = omega (arith, h)
-    by_step (inr step) rest = both (table_at m.width steps (cell_at track t)) (table_at m.width steps (cell_at track (t + 1))) n (table.tight _ _ step) rest
-      where
-        both : (j k n : ℕ) → j ≤ k + 1 → k ≤ n → j ≤ suc n
-        both j k n h i = omega (arith, h, i)
-
-pub estimate : (m : Grid) (goal : Cell) (steps : List ℕ) → IsGoalTable m goal steps → (c : Cell) → IsEstimate (record { map = m; goal = goal }) c (table_at m.width steps c)
-estimate m goal steps table c start track t walker within at =
-    let left : t + (cost track - t) ≡ cost track = omega (arith, within) in
-    let most = estimated m goal steps table start track walker (cost track - t) t left in
-    subst (λ v. t + table_at m.width steps v ≤ cost track) at (sum t (table_at m.width steps (cell_at track t)) (cost track) within most)
-  where
-    sum : (t k n : ℕ) → t ≤ n → k ≤ n - t → t + k ≤ n
-    sum t k n h i = omega (arith, h, i)

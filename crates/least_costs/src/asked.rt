@@ -1,42 +1,13 @@
 //! What is asked of a walk: what it forbids in a step, and when the walk may end.
-ghost use Rattle.std.specs.Prelude.{◌≡◌, ℕ, ◌+◌, ◌<◌, ◌≤◌, IfOk, false, true, Some, slice_get};
+ghost use Rattle.std.specs.Prelude.{◌≡◌, ℕ, ◌+◌, ◌<◌, ◌≤◌, true, Some, slice_get};
 ghost use Rattle.grid.specs.declared.cell.Cell.{Cell};
 ghost use Rattle.model.specs.Costs.{cost};
 ghost use Rattle.model.specs.Timetable.{Track, cell_at};
 ghost use Rattle.optimality.specs.declared.constraint.Constraint.{Constraint};
 ghost use Rattle.optimality.specs.Constraints.{Meets, MeetsAll};
-ghost use Rattle.least_costs.specs.Code.Layers.{AreImplied};
 
 use grid::Cell;
 use optimality::Constraint;
-use std::alloc::AllocError;
-
-/// Puts there what may forbid something in the step from the time on.
-pub(crate) fn put_rules(
-    asked: &[Constraint],
-    time: u32,
-    rules: &mut Vec<Constraint>,
-) -> Result<(), AllocError>
-    ensures { IfOk result (λ _. AreImplied asked.now rules.new.items) }
-{
-    rules.clear();
-    for constraint in asked {
-        if concerns(*constraint, time) {
-            rules.push(*constraint)?;
-        }
-    }
-    Ok(())
-}
-
-#[inline(always)]
-fn concerns(constraint: Constraint, time: u32) -> bool {
-    match constraint {
-        Constraint::Away(at, _) | Constraint::There(at, _) => at > 0 && at - 1 == time,
-        Constraint::AwayFrom(from, _) => from.saturating_sub(1) <= time,
-        Constraint::NotTaken(at, _, _) => at == time,
-        Constraint::Above(_) | Constraint::Within(_) => false,
-    }
-}
 
 /// Whether the step from the time on, or the cell to which it leads, is forbidden.
 #[inline(always)]
@@ -53,7 +24,7 @@ pub(crate) fn is_forbidden(rules: &[Constraint], time: u32, from: Cell, to: Cell
 }
 
 #[inline(always)]
-fn forbids(rule: Constraint, time: u32, from: Cell, to: Cell) -> bool
+pub(crate) fn forbids(rule: Constraint, time: u32, from: Cell, to: Cell) -> bool
     ensures { result ≡ true → (track : Track) → Meets track rule → cell_at track time ≡ from → cell_at track (time + 1) ≡ to → ⊥ }
 {
     match rule {
@@ -88,34 +59,6 @@ fn forbids_start(constraint: Constraint, start: Cell) -> bool
     }
 }
 
-/// Whether a walk may come to the goal at the time, and stay there.
-pub(crate) fn may_rest(asked: &[Constraint], goal: Cell, time: u32) -> bool
-    ensures { result ≡ false → (track : Track) → MeetsAll asked.now track → cost track ≡ time → cell_at track time ≡ goal → ⊥ }
-{
-    for constraint in asked {
-        if !lets_rest(*constraint, goal, time) {
-            return false;
-        }
-    }
-    true
-}
-
-#[inline(always)]
-fn lets_rest(constraint: Constraint, goal: Cell, time: u32) -> bool
-    ensures { result ≡ false → (track : Track) → Meets track constraint → cost track ≡ time → cell_at track time ≡ goal → ⊥ }
-{
-    model::laws::costs();
-    match constraint {
-        Constraint::Away(at, cell) => at < time || cell != goal,
-        Constraint::AwayFrom(_, cell) => cell != goal,
-        Constraint::There(at, cell) => at < time || cell == goal,
-        Constraint::NotTaken(at, one, other) if at >= time && one == goal => other != goal,
-        Constraint::NotTaken(_, _, _) => true,
-        Constraint::Above(least) => least < time,
-        Constraint::Within(most) => time <= most,
-    }
-}
-
 /// What a walk to the goal costs at least that is as it is asked; the greatest number where there
 /// is none.
 pub(crate) fn lowest(asked: &[Constraint], goal: Cell) -> u32
@@ -133,8 +76,13 @@ fn low(constraint: Constraint, goal: Cell) -> u32
 {
     model::laws::costs();
     match constraint {
-        Constraint::Above(least) => least.saturating_add(1),
+        Constraint::Away(at, cell) if cell == goal => at.saturating_add(1),
         Constraint::AwayFrom(_, cell) if cell == goal => u32::MAX,
+        Constraint::There(at, cell) if cell != goal => at.saturating_add(1),
+        Constraint::NotTaken(at, one, other) if one == goal && other == goal => {
+            at.saturating_add(1)
+        }
+        Constraint::Above(least) => least.saturating_add(1),
         _ => 0,
     }
 }

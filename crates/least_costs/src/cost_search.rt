@@ -1,14 +1,17 @@
-//! What an agent costs at least, by layers of the cells where it may be.
-ghost use Rattle.std.specs.Prelude.{◌≡◌, ◌+◌, ◌<◌, ◌≤◌, IfOk, [], None, MatchOption, length};
+//! What an agent costs at least.
+ghost use Rattle.std.specs.Prelude.{◌≡◌, ◌+◌, ◌<◌, ◌≤◌, IfOk, [], length};
+ghost use Rattle.optimality.specs.declared.constraint.Ends.{Ends as ends_type};
 ghost use Rattle.optimality.specs.Walkers.{CostsAtLeast, IsLeastCost};
-ghost use Rattle.least_costs.specs.Code.Layers.{HasCell, IsLayer, IsLower, IsNone};
 
-use crate::asked::{highest, lowest, may_rest, put_rules};
-use crate::expand::{Turn, expand_all};
+use crate::asked::{highest, lowest};
+use crate::expand::Query;
+use crate::frontier::Frontier;
 use crate::goal_steps::GoalSteps;
-use crate::room::{Room, State};
+use crate::rules::Rules;
+use crate::seek::{Arrival, seek};
+use crate::states::State;
 use crate::way::{is_way, may_start};
-use grid::Cell;
+use grid::{Cell, Map};
 use least_steps::StepFault;
 use optimality::{Constraint, Ends};
 use std::alloc::{AllocError, Global};
@@ -21,29 +24,19 @@ pub struct Least {
     pub walk: Vec<Cell>,
 }
 
+/// What is known of an agent beforehand: it costs so much at least, and perhaps a walk that was as fewer things asked.
+#[derive(Clone, Copy, Debug)]
+pub struct Known<'a> {
+    pub cost: u32,
+    pub walk: &'a [Cell],
+}
+
 /// Searches, one after another: what one needed is kept for the next.
 #[derive(Debug, Drop)]
 pub struct CostSearch {
     alloc: Global,
-    room: Room,
-    layer: Vec<State>,
-    history: Vec<State>,
-    rules: Vec<Constraint>,
-}
-
-/// What is searched: a walk from a start to a goal that is as it is asked.
-#[derive(Clone, Copy)]
-struct Query<'a> {
-    goal: &'a GoalSteps<'a>,
-    start: Cell,
-    asked: &'a [Constraint],
-}
-
-/// That a walk comes to the goal at a time, and the place in the history of the state before.
-#[derive(Clone, Copy)]
-struct Arrival {
-    time: u32,
-    from: u32,
+    rules: Rules,
+    front: Frontier,
 }
 
 impl CostSearch {
@@ -51,151 +44,94 @@ impl CostSearch {
     pub fn new(alloc: Global) -> CostSearch {
         CostSearch {
             alloc,
-            room: Room::new(alloc),
-            layer: Vec::new(alloc),
-            history: Vec::new(alloc),
-            rules: Vec::new(alloc),
+            rules: Rules::new(alloc),
+            front: Frontier::new(alloc),
         }
     }
 
     /// What an agent costs at least on its way from the start to the goal, if it walks as it is
-    /// asked: a walk that costs so much, or that all cost as much as the limit. It begins with
-    /// walks that cost no more than `from`, which is quickest where none costs less.
+    /// asked: a walk that costs so much, or that all cost as much as the limit.
     pub fn least(
         &mut self,
-        goal: &GoalSteps<'_>,
+        goal: &mut GoalSteps<'_>,
         start: Cell,
         asked: &[Constraint],
-        from: u32,
+        known: &Known<'_>,
         limit: u32,
     ) -> Result<Least, StepFault>
-        ensures bound { IfOk result (λ l. CostsAtLeast goal.now.map (record { start = start; goal = goal.now.goal }) asked.now l.cost) }
-        ensures walk { IfOk result (λ l. 0 < length l.walk.items → IsLeastCost goal.now.map (record { start = start; goal = goal.now.goal }) asked.now l.cost) }
+        ensures same { goal.new ≡ goal.old }
+        ensures bound { CostsAtLeast goal.old.map (record { start = start; goal = goal.old.goal }) asked.now known.now.cost
+            → IfOk result (λ l. CostsAtLeast goal.old.map (record { start = start; goal = goal.old.goal }) asked.now l.cost) }
+        ensures walk { CostsAtLeast goal.old.map (record { start = start; goal = goal.old.goal }) asked.now known.now.cost
+            → IfOk result (λ l. 0 < length l.walk.items → IsLeastCost goal.old.map (record { start = start; goal = goal.old.goal }) asked.now l.cost) }
         ensures limit { IfOk result (λ l. length l.walk.items ≡ 0 → limit ≤ l.cost) }
     {
-        if !may_start(goal.map(), start, asked) {
+        let map = goal.map();
+        let ends = Ends {
+            start,
+            goal: goal.goal(),
+        };
+        if !may_start(map, start, asked) {
             return Ok(unwalked(self.alloc, limit));
         }
-        let low = goal.least(start).max(lowest(asked, goal.goal()));
-        if low >= limit {
+        let steps = goal.exactly(start)?;
+        let lowest = lowest(asked, ends.goal);
+        let least = steps.max(lowest);
+        if least.max(known.cost) >= limit {
             return Ok(unwalked(self.alloc, limit));
         }
-        let query = Query { goal, start, asked };
-        let high = highest(asked, limit);
-        match self.seek(&query, low.max(from).min(high), high)? {
-            Some(arrival) => self.walked(&query, arrival),
+        if least == 0 {
+            return walked(map, ends, asked, stay(self.alloc, start)?, 0);
+        }
+        let highest = highest(asked, limit);
+        self.rules.take(asked)?;
+        let query = Query {
+            start,
+            asked,
+            rules: &self.rules,
+            lowest,
+            highest,
+        };
+        match seek(
+            &query,
+            goal,
+            &mut self.front,
+            known.walk,
+            least.max(known.cost).min(highest),
+        )? {
+            Some(arrival) => {
+                let closed = self.front.closed.as_slice();
+                let walk = trace(self.alloc, goal, known.walk, closed, arrival)?;
+                walked(map, ends, asked, walk, arrival.time)
+            }
             None => Ok(unwalked(self.alloc, limit)),
         }
     }
+}
 
-    /// The first arrival, if there is one of a walk that costs no more than `high`: first among
-    /// those that cost no more than `first`, then among ever more.
-    fn seek(
-        &mut self,
-        query: &Query<'_>,
-        first: u32,
-        high: u32,
-    ) -> Result<Option<Arrival>, AllocError>
-        requires { first ≤ high }
-        ensures { IfOk result (λ found. MatchOption found (IsNone query.now.goal.now query.now.start query.now.asked.now high)
-            (λ arrival. IsLower query.now.goal.now query.now.start query.now.asked.now arrival.time)) }
-    {
-        let mut budget = first;
-        let mut more = 1u32;
-        while budget < high {
-            let found = self.search(query, budget)?;
-            if found.is_some() {
-                return Ok(found);
-            }
-            budget = budget.saturating_add(more).min(high);
-            more = more.saturating_mul(2);
-        }
-        self.search(query, high)
+/// A walk that was found, if it leads from the start to the goal, is as it is asked and costs so much.
+fn walked(
+    map: &Map,
+    ends: Ends,
+    asked: &[Constraint],
+    walk: Vec<Cell>,
+    cost: u32,
+) -> Result<Least, StepFault>
+    ensures least { CostsAtLeast map.now ends asked.now cost → IfOk result (λ l. IsLeastCost map.now ends asked.now l.cost) }
+    ensures walk { IfOk result (λ l. 0 < length l.walk.items) }
+{
+    let is_least = walk.len() == cost as usize + 1;
+    if !is_least || !is_way(map, ends, asked, &walk) {
+        return Err(StepFault::NotTight);
     }
+    Ok(Least { cost, walk })
+}
 
-    /// The first arrival, if there is one of a walk that costs no more than the budget.
-    fn search(&mut self, query: &Query<'_>, budget: u32) -> Result<Option<Arrival>, AllocError>
-        ensures { IfOk result (λ found. MatchOption found (IsNone query.now.goal.now query.now.start query.now.asked.now budget)
-            (λ arrival. IsLower query.now.goal.now query.now.start query.now.asked.now arrival.time)) }
-    {
-        let goal = query.goal.goal();
-        if query.start == goal && may_rest(query.asked, goal, 0) {
-            return Ok(Some(Arrival { time: 0, from: 0 }));
-        }
-        self.begin(query)?;
-        for time in 0..budget {
-            if let Some(from) = self.step(query, time, budget)? {
-                return Ok(Some(Arrival {
-                    time: time + 1,
-                    from,
-                }));
-            }
-            if self.layer.is_empty() {
-                return Ok(None);
-            }
-        }
-        Ok(None)
-    }
-
-    /// The first layer is the start.
-    fn begin(&mut self, query: &Query<'_>) -> Result<(), AllocError>
-        ensures { IfOk result (λ _. HasCell self.new.layer.items query.now.start) }
-    {
-        let map = query.goal.map();
-        let cells = map.width() as usize * map.height() as usize;
-        self.room.fit(self.alloc, map.width(), cells)?;
-        self.history.clear();
-        self.layer.clear();
-        self.layer.push(State {
-            cell: query.start,
-            from: 0,
-        })?;
-        Ok(())
-    }
-
-    /// Makes the next layer of the one at a time. The answer is the place in the history of the
-    /// state from which a walk comes to the goal, if one does.
-    fn step(&mut self, query: &Query<'_>, time: u32, budget: u32) -> Result<Option<u32>, AllocError>
-        requires time { time < budget }
-        requires layer { IsLayer query.now.goal.now query.now.start query.now.asked.now time budget self.old.layer.items }
-        ensures { IfOk result (λ found. found ≡ None
-            → IsLayer query.now.goal.now query.now.start query.now.asked.now (time + 1) budget self.new.layer.items) }
-    {
-        put_rules(query.asked, time, &mut self.rules)?;
-        let first = u32::try_from(self.history.len()).unwrap_or(u32::MAX);
-        self.history.extend_from_slice(&self.layer)?;
-        let turn = Turn {
-            goal: query.goal,
-            asked: query.asked,
-            rules: &self.rules,
-            time,
-            budget,
-        };
-        let found = expand_all(&turn, &mut self.room, &self.layer, first)?;
-        self.room.hand_out(&mut self.layer);
-        Ok(found)
-    }
-
-    /// The walk of an arrival, if it is one.
-    fn walked(&self, query: &Query<'_>, arrival: Arrival) -> Result<Least, StepFault>
-        requires { IsLower query.now.goal.now query.now.start query.now.asked.now arrival.time }
-        ensures least { IfOk result (λ l. IsLeastCost query.now.goal.now.map (record { start = query.now.start; goal = query.now.goal.now.goal }) query.now.asked.now l.cost) }
-        ensures walk { IfOk result (λ l. 0 < length l.walk.items) }
-    {
-        let ends = Ends {
-            start: query.start,
-            goal: query.goal.goal(),
-        };
-        let walk = trace(self.alloc, &self.history, ends.goal, arrival)?;
-        let is_least = walk.len() == arrival.time as usize + 1;
-        if !is_least || !is_way(query.goal.map(), ends, query.asked, &walk) {
-            return Err(StepFault::NotTight);
-        }
-        Ok(Least {
-            cost: arrival.time,
-            walk,
-        })
-    }
+/// The walk that stays in a cell.
+fn stay(alloc: Global, cell: Cell) -> Result<Vec<Cell>, AllocError> {
+    let mut walk = Vec::new(alloc);
+    walk.push(cell)?;
+    Ok(walk)
 }
 
 /// No walk costs less than the limit.
@@ -212,23 +148,30 @@ fn unwalked(alloc: Global, limit: u32) -> Least
 /// The cells of an arrival, from the start on. They are checked, so no promise is made of them.
 fn trace(
     alloc: Global,
-    history: &[State],
-    goal: Cell,
+    goal: &GoalSteps<'_>,
+    known: &[Cell],
+    closed: &[State],
     arrival: Arrival,
 ) -> Result<Vec<Cell>, AllocError> {
     let mut walk = Vec::new(alloc);
     walk.reserve(arrival.time as usize + 1)?;
-    walk.push(goal)?;
-    let mut from = arrival.from;
+    let mut from = Some(arrival.from);
+    let mut time = 0;
     for _ in 0..arrival.time {
-        match history.get(from as usize) {
-            Some(state) => {
-                walk.push(state.cell)?;
-                from = state.from;
-            }
-            None => break,
-        }
+        let Some(state) = from.and_then(|place| closed.get(place as usize)) else {
+            break;
+        };
+        walk.push(state.cell)?;
+        time = state.time as usize;
+        from = state.from;
+    }
+    for cell in known.iter().take(time).rev() {
+        walk.push(*cell)?;
     }
     walk.reverse();
+    let last = walk.last().copied();
+    if let Some(last) = last {
+        goal.follow(last, &mut walk)?;
+    }
     Ok(walk)
 }

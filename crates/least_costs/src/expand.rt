@@ -1,122 +1,202 @@
-//! The steps from a layer of a search to the next.
-ghost use Rattle.std.specs.Prelude.{◌≡◌, ℕ, ◌+◌, ◌<◌, ◌≤◌, IfOk, false, true, None, Some, slice_get};
-ghost use Rattle.least_costs.specs.declared.room.State.{State};
-ghost use Rattle.least_costs.specs.Code.Layers.{AreImplied, AreIn, PassesOn, IsExpanded, IsOffered};
+//! The steps from a state of a search.
+ghost use Rattle.std.specs.Prelude.{◌≡◌, ◌+◌, ◌-◌, ◌^◌, ◌<◌, IfOk, false, true};
+ghost use Rattle.model.specs.Timetable.{Track, cell_at};
+ghost use Rattle.least_costs.specs.Code.Searching.{AllGoOn, IsLookedAt, IsOffered, IsPosed, IsWanted, ComesOn, PassesOn, wanted};
+ghost use Rattle.least_costs.specs.Code.Tables.{IsEstimate};
+ghost use Rattle.least_costs.specs.GoalView.{GoalView};
 
-use crate::asked::{is_forbidden, may_rest};
+use crate::frontier::Frontier;
 use crate::goal_steps::GoalSteps;
-use crate::room::{Room, State};
+use crate::rules::{Moment, Rules};
 use crate::sides::sides_of;
+use crate::states::State;
 use grid::Cell;
 use optimality::Constraint;
 use std::alloc::AllocError;
 
-/// A step of a search, from a time on: what is asked, what of it may forbid something in this step,
-/// and how much a walk may cost.
+/// What is looked for: a walk from the start to the goal that is as it is asked, rests no sooner than `lowest`, and costs
+/// no more than `highest`.
 #[derive(Clone, Copy)]
-pub(crate) struct Turn<'a> {
-    pub(crate) goal: &'a GoalSteps<'a>,
+pub(crate) struct Query<'a> {
+    pub(crate) start: Cell,
     pub(crate) asked: &'a [Constraint],
-    pub(crate) rules: &'a [Constraint],
+    pub(crate) rules: &'a Rules,
+    pub(crate) lowest: u32,
+    pub(crate) highest: u32,
+}
+
+/// The state from which steps are taken: its cell and time, its place among the closed ones, and what is asked of who
+/// comes to a cell next, if anything. The step to the cell `last` comes last. Walks are looked for that cost no more than
+/// the budget.
+#[derive(Clone, Copy)]
+pub(crate) struct Turn {
+    pub(crate) cell: Cell,
     pub(crate) time: u32,
+    pub(crate) place: u32,
+    pub(crate) moment: Moment,
+    pub(crate) is_free: bool,
+    pub(crate) last: Cell,
     pub(crate) budget: u32,
 }
 
-/// Takes the steps from a layer. The answer is the place of the state from which one comes to the
-/// goal, to rest there.
-pub(crate) fn expand_all(
-    turn: &Turn<'_>,
-    room: &mut Room,
-    layer: &[State],
-    first: u32,
-) -> Result<Option<u32>, AllocError>
-    requires rules { AreImplied turn.now.asked.now turn.now.rules.now }
-    requires time { turn.now.time < turn.now.budget }
-    ensures { IfOk result (λ found. found ≡ None → (k : ℕ) (s : State) → slice_get layer.now k ≡ Some s
-        → IsExpanded turn.now.goal.now turn.now.asked.now turn.now.time turn.now.budget s.cell room.new) }
-{
-    let mut place = first;
-    for state in layer {
-        if expand(turn, room, place, state.cell)? {
-            return Ok(Some(place));
-        }
-        place = place.wrapping_add(1);
-    }
-    Ok(None)
+/// A cell to which a step may lead, and how many steps it is from the goal at least.
+#[derive(Clone, Copy)]
+pub(crate) struct Beside {
+    pub(crate) cell: Cell,
+    pub(crate) steps: u32,
 }
 
-/// Takes the steps from a cell. The answer is whether one comes to the goal, to rest there.
+/// Takes the steps from a state, one that leads nearer to the goal last. The answer is whether one comes to the goal, to
+/// rest there.
 #[inline(always)]
-fn expand(turn: &Turn<'_>, room: &mut Room, place: u32, cell: Cell) -> Result<bool, AllocError>
-    requires rules { AreImplied turn.now.asked.now turn.now.rules.now }
-    requires time { turn.now.time < turn.now.budget }
-    ensures keeps { AreIn room.old room.new }
-    ensures goes { IfOk result (λ found. found ≡ false
-        → IsExpanded turn.now.goal.now turn.now.asked.now turn.now.time turn.now.budget cell room.new) }
+pub(crate) fn expand(
+    query: &Query<'_>,
+    goal: &GoalSteps<'_>,
+    front: &mut Frontier,
+    turn: Turn,
+) -> Result<bool, AllocError>
+    requires ready { IsPosed goal.now query.now }
+    requires time { turn.time < 2 ^ 32 - 1 }
+    ensures leads { IfOk result (λ found. found ≡ false → ComesOn (wanted goal.now query.now) turn.budget front.old front.new) }
+    ensures goes { IfOk result (λ found. found ≡ false → AllGoOn (wanted goal.now query.now) front.new turn.cell turn.time) }
 {
-    let _height = turn.goal.map().height();
-    let sides = sides_of(cell);
-    if offer(turn, room, place, cell, sides.north)? {
+    let ways = goal.ways(turn.cell);
+    let sides = sides_of(turn.cell);
+    let own = look(goal, true, turn.cell);
+    let north = look(goal, ways.north, sides.north);
+    let west = look(goal, ways.west, sides.west);
+    let east = look(goal, ways.east, sides.east);
+    let south = look(goal, ways.south, sides.south);
+    let last = nearer(nearer(nearer(nearer(own, north), west), east), south);
+    let mut turn = turn;
+    turn.last = last.cell;
+    if offer_unless(query, goal, front, turn, own)? {
         return Ok(true);
     }
-    if offer(turn, room, place, cell, sides.west)? {
+    if offer_unless(query, goal, front, turn, north)? {
         return Ok(true);
     }
-    if offer(turn, room, place, cell, sides.east)? {
+    if offer_unless(query, goal, front, turn, west)? {
         return Ok(true);
     }
-    if offer(turn, room, place, cell, sides.south)? {
+    if offer_unless(query, goal, front, turn, east)? {
         return Ok(true);
     }
-    offer(turn, room, place, cell, cell)
+    if offer_unless(query, goal, front, turn, south)? {
+        return Ok(true);
+    }
+    let found = offer(query, goal, front, turn, last)?;
+    Ok(found)
 }
 
-/// Takes a step, unless it leads too far or is forbidden. The answer is whether it comes to the
-/// goal, to rest there.
+/// A cell to which a step may lead, and how many steps it is from the goal at least; the greatest number where the way
+/// there isn't open.
+#[inline(always)]
+fn look(goal: &GoalSteps<'_>, is_open: bool, cell: Cell) -> Beside
+    ensures cell { result.cell ≡ cell }
+    ensures beside { IsLookedAt goal.now result }
+    ensures steps { is_open ≡ true → IsEstimate goal.now cell result.steps }
+{
+    let steps = if is_open {
+        goal.at_least(cell)
+    } else {
+        u32::MAX
+    };
+    Beside { cell, steps }
+}
+
+/// The second, where it is nearer to the goal, or else the first.
+#[inline(always)]
+fn nearer(first: Beside, second: Beside) -> Beside
+    ensures { (g : GoalView) → IsEstimate g first.cell first.steps → IsLookedAt g second → IsEstimate g result.cell result.steps }
+{
+    if second.steps < first.steps {
+        second
+    } else {
+        first
+    }
+}
+
+/// Takes a step, unless it is the one that comes last.
+#[inline(always)]
+fn offer_unless(
+    query: &Query<'_>,
+    goal: &GoalSteps<'_>,
+    front: &mut Frontier,
+    turn: Turn,
+    to: Beside,
+) -> Result<bool, AllocError>
+    requires ready { IsPosed goal.now query.now }
+    requires time { turn.time < 2 ^ 32 - 1 }
+    requires beside { IsLookedAt goal.now to }
+    ensures leads { IfOk result (λ found. found ≡ false → ComesOn (wanted goal.now query.now) turn.budget front.old front.new) }
+    ensures goes { IfOk result (λ found. found ≡ false → IsEstimate goal.now to.cell to.steps → (to.cell ≡ turn.last → ⊥)
+        → IsOffered (wanted goal.now query.now) front.new turn.time turn.cell to.cell) }
+{
+    if to.cell == turn.last {
+        return Ok(false);
+    }
+    offer(query, goal, front, turn, to)
+}
+
+/// Takes a step, unless it leads too far or is forbidden. The answer is whether it comes to the goal, to rest there.
 #[inline(always)]
 fn offer(
-    turn: &Turn<'_>,
-    room: &mut Room,
-    place: u32,
-    from: Cell,
-    to: Cell,
+    query: &Query<'_>,
+    goal: &GoalSteps<'_>,
+    front: &mut Frontier,
+    turn: Turn,
+    to: Beside,
 ) -> Result<bool, AllocError>
-    requires rules { AreImplied turn.now.asked.now turn.now.rules.now }
-    requires time { turn.now.time < turn.now.budget }
-    ensures keeps { AreIn room.old room.new }
-    ensures goes { IfOk result (λ found. found ≡ false
-        → IsOffered turn.now.goal.now turn.now.asked.now turn.now.time turn.now.budget from to room.new) }
+    requires ready { IsPosed goal.now query.now }
+    requires time { turn.time < 2 ^ 32 - 1 }
+    requires beside { IsLookedAt goal.now to }
+    ensures leads { IfOk result (λ found. found ≡ false → ComesOn (wanted goal.now query.now) turn.budget front.old front.new) }
+    ensures goes { IfOk result (λ found. found ≡ false → IsEstimate goal.now to.cell to.steps
+        → IsOffered (wanted goal.now query.now) front.new turn.time turn.cell to.cell) }
 {
-    let least = u64::from(turn.goal.least(to)) + u64::from(turn.time) + 1;
-    if least > u64::from(turn.budget) {
+    let time = turn.time + 1;
+    let through = u64::from(to.steps) + u64::from(time);
+    if through > u64::from(query.highest) {
         return Ok(false);
     }
-    if is_forbidden(turn.rules, turn.time, from, to) {
+    if !turn.is_free && is_ruled_out(query, turn, to.cell) {
         return Ok(false);
     }
-    if rests(turn, from, to) {
+    if rests(query, goal, turn, to.cell) {
         return Ok(true);
     }
-    room.add(State {
-        cell: to,
-        from: place,
-    })?;
+    let state = State {
+        cell: to.cell,
+        time,
+        from: Some(turn.place),
+    };
+    front.put(state, through, turn.budget)?;
     Ok(false)
+}
+
+/// Whether the step, or where it leads, is forbidden by what is asked.
+#[inline(always)]
+fn is_ruled_out(query: &Query<'_>, turn: Turn, to: Cell) -> bool
+    requires { turn.time < 2 ^ 32 - 1 }
+    ensures { result ≡ true → (g : GoalView) (track : Track) → IsPosed g query.now → IsWanted (wanted g query.now) track
+        → cell_at track turn.time ≡ turn.cell → cell_at track (turn.time + 1) ≡ to → ⊥ }
+{
+    query.rules.forbid(turn.moment, turn.time, turn.cell, to)
+        || !query.rules.let_come(turn.moment, turn.time + 1, to)
 }
 
 /// Whether a step comes to the goal, to rest there.
 #[inline(always)]
-fn rests(turn: &Turn<'_>, from: Cell, to: Cell) -> bool
-    requires { turn.now.time < turn.now.budget }
-    ensures { result ≡ false → PassesOn turn.now.goal.now turn.now.asked.now turn.now.time from to }
+fn rests(query: &Query<'_>, goal: &GoalSteps<'_>, turn: Turn, to: Cell) -> bool
+    requires ready { IsPosed goal.now query.now }
+    requires time { turn.time < 2 ^ 32 - 1 }
+    ensures { result ≡ false → PassesOn (wanted goal.now query.now) turn.time turn.cell to }
 {
     model::laws::costs();
-    let goal = turn.goal.goal();
-    if to != goal {
+    let end = goal.goal();
+    if to != end || turn.cell == end {
         return false;
     }
-    if from == goal {
-        return false;
-    }
-    may_rest(turn.asked, goal, turn.time + 1)
+    turn.time + 1 >= query.lowest
 }

@@ -5,13 +5,19 @@
 mod asked;
 mod cost_search;
 mod expand;
+mod frontier;
+mod goal_search;
 mod goal_steps;
-mod room;
+mod legal_steps;
+mod marks;
+mod rules;
+mod seek;
 mod sides;
-mod spread;
+mod states;
 mod walk;
 mod way;
 
-pub use cost_search::{CostSearch, Least};
+pub use cost_search::{CostSearch, Known, Least};
 pub use goal_steps::GoalSteps;
+pub use legal_steps::LegalSteps;
 pub use walk::meets;

@@ -1,5 +1,6 @@
 //! Where the numbers of cells stand, and which cells are beside one.
 ghost use Rattle.std.specs.Prelude.{◌≡◌, ◌+◌, ◌-◌, ◌*◌, ◌<◌, ◌≤◌, MatchOption};
+ghost use Rattle.least_costs.specs.Code.Places.{between};
 
 use grid::Cell;
 
@@ -53,4 +54,13 @@ pub(crate) fn place_of(width: u32, count: usize, cell: Cell) -> Option<usize>
     } else {
         None
     }
+}
+
+/// How many steps lead from the one cell to the other where no cell is blocked.
+#[inline(always)]
+pub(crate) fn steps_between(one: Cell, other: Cell) -> u32
+    ensures value { result ≡ between one other }
+    ensures limit { result ≤ 131070 }
+{
+    u32::from(one.x.abs_diff(other.x)) + u32::from(one.y.abs_diff(other.y))
 }

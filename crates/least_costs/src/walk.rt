@@ -107,3 +107,35 @@ pub(crate) fn cost_of(walk: &[Cell]) -> usize
     }
     rest
 }
+
+/// How many steps of a walk are as it is asked. They are tried, so no promise is made of them.
+pub(crate) fn steps_allowed(walk: &[Cell], asked: &[Constraint]) -> usize {
+    let mut count = walk.len().saturating_sub(1);
+    for constraint in asked {
+        if !meets(walk, *constraint) {
+            count = count.min(steps_before(walk, *constraint));
+        }
+    }
+    count
+}
+
+/// How many steps a walk makes before it isn't as it is asked.
+fn steps_before(walk: &[Cell], constraint: Constraint) -> usize {
+    match constraint {
+        Constraint::Away(time, _) | Constraint::There(time, _) => {
+            (time as usize).saturating_sub(1)
+        }
+        Constraint::NotTaken(time, _, _) => time as usize,
+        Constraint::AwayFrom(time, cell) => {
+            let mut count = time as usize;
+            for at in count..walk.len() {
+                if walk[at] == cell {
+                    break;
+                }
+                count = at;
+            }
+            count.saturating_sub(1)
+        }
+        Constraint::Above(_) | Constraint::Within(_) => walk.len(),
+    }
+}

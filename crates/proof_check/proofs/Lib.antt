@@ -12,3 +12,5 @@ mod StackLemmas
 mod LineLemmas
 -- what was read holds
 mod ReadingLemmas
+-- the agents at a leaf
+mod LeafLemmas

@@ -5,20 +5,20 @@ use Rattle.std.proofs.lemmas.Bool.{cases_lt}
 use Rattle.std.proofs.lemmas.List.{get_or_append_left, get_or_push, length-append}
 use Rattle.std.proofs.lemmas.Option.{get_or_from_slice_get, slice_get-get_or, slice_get_within}
 
--- what is so of each number by its place is so behind one more
-pub pushed : (P : ℕ → ℕ → Type 0) (numbers : List ℕ) (n : ℕ) → ((k a : ℕ) → slice_get numbers k ≡ Some a → P k a) → P (length numbers) n
-    → (k a : ℕ) → slice_get (numbers ++ n ∷ []) k ≡ Some a → P k a
-pushed P numbers n each own k a is =
-    let within = slice_get_within (numbers ++ n ∷ []) k a is in
-    let all = length-append numbers (n ∷ []) in
-    elim (cases_lt k (length numbers)) [
+-- what is so of each by its place is so behind one more
+pub pushed : {X : Type 0} (P : ℕ → X → Type 0) (xs : List X) (x : X) → ((k : ℕ) (a : X) → slice_get xs k ≡ Some a → P k a) → P (length xs) x
+    → (k : ℕ) (a : X) → slice_get (xs ++ x ∷ []) k ≡ Some a → P k a
+pushed P xs x each own k a is =
+    let within = slice_get_within (xs ++ x ∷ []) k a is in
+    let all = length-append xs (x ∷ []) in
+    elim (cases_lt k (length xs)) [
       | inl old ↦
-          each k a (slice_get-get_or numbers k a old
-          ∙ ap Some (sym (get_or_append_left numbers (n ∷ []) a k old) ∙ get_or_from_slice_get (numbers ++ n ∷ []) k a a is))
+          each k a (slice_get-get_or xs k a old
+          ∙ ap Some (sym (get_or_append_left xs (x ∷ []) a k old) ∙ get_or_from_slice_get (xs ++ x ∷ []) k a a is))
       | inr past ↦
-          let last : length numbers ≡ k = omega (arith, within, all, past) in
-          let same : n ≡ a = sym (get_or_push numbers n a k last) ∙ get_or_from_slice_get (numbers ++ n ∷ []) k a a is in
-          subst (λ p. P p a) last (subst (λ b. P (length numbers) b) same own)
+          let last : length xs ≡ k = omega (arith, within, all, past) in
+          let same : x ≡ a = sym (get_or_push xs x a k last) ∙ get_or_from_slice_get (xs ++ x ∷ []) k a a is in
+          subst (λ p. P p a) last (subst (λ b. P (length xs) b) same own)
     ]
 
 -- ---- what came of a call

@@ -8,3 +8,7 @@ pub mod Trails
 pub mod Stack
 -- what the lines so far said
 pub mod Progressing
+-- what was read of a proof, line by line
+pub mod LinesRead
+-- what is asked of each agent, beside what it costs at least
+pub mod AgentsAsked

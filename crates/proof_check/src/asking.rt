@@ -93,6 +93,23 @@ pub(crate) fn concerns(whom: Whom, agent: usize) -> bool
     }
 }
 
+/// Puts there what is asked of an agent.
+pub(crate) fn put_constraints(
+    asked: &mut Vec<Constraint>,
+    demands: &[Demand],
+    agent: usize,
+) -> Result<(), AllocError>
+    ensures { IfOk result (λ _. asked.new.items ≡ constraints_of demands.now agent) }
+{
+    asked.clear();
+    for demand in demands {
+        if concerns(demand.whom, agent) {
+            asked.push(demand.constraint)?;
+        }
+    }
+    Ok(())
+}
+
 /// What is asked of an agent.
 pub(crate) fn constraints_of(
     alloc: Global,
@@ -102,10 +119,6 @@ pub(crate) fn constraints_of(
     ensures { IfOk result (λ asked. asked.items ≡ constraints_of demands.now agent) }
 {
     let mut asked = Vec::new(alloc);
-    for demand in demands {
-        if concerns(demand.whom, agent) {
-            asked.push(demand.constraint)?;
-        }
-    }
+    put_constraints(&mut asked, demands, agent)?;
     Ok(asked)
 }

@@ -7,13 +7,12 @@ ghost use Rattle.optimality.specs.Judging.{AreAtLeast, LeafIsLow, LeafStands};
 ghost use Rattle.optimality.specs.Walkers.{CostsAtLeast, IsLeastCost};
 ghost use Rattle.proof_check.specs.Code.Trails.{AreFoundLeast, AreTables, IsTimely, IsTrail, child_demands};
 
-use crate::asking::{concerns, constraints_of};
+use crate::asking::{concerns, put_constraints};
 use crate::totals::total_below;
 use crate::trail::{Child, Kept, Trail};
-use grid::Map;
-use least_costs::{CostSearch, GoalSteps, Least, meets};
+use least_costs::{CostSearch, GoalSteps, Known, Least, LegalSteps, meets};
 use least_steps::StepFault;
-use optimality::{Demand, Ends, Objective};
+use optimality::{Constraint, Demand, Ends, Objective};
 use std::alloc::{AllocError, Global};
 
 /// What a bound is of, and the bound.
@@ -31,19 +30,25 @@ pub(crate) struct Judge<'a> {
     pub(crate) tables: Vec<GoalSteps<'a>>,
     pub(crate) search: CostSearch,
     pub(crate) trail: Trail,
+    /// What was asked of an agent when it was last looked for.
+    pub(crate) asked: Vec<Constraint>,
 }
 
 impl<'a> Judge<'a> {
     /// Nothing is asked of the agents that go from these starts to these goals.
-    pub(crate) fn new(alloc: Global, map: &'a Map, ends: Vec<Ends>) -> Result<Judge<'a>, StepFault>
+    pub(crate) fn new(
+        alloc: Global,
+        legal: &'a LegalSteps<'a>,
+        ends: Vec<Ends>,
+    ) -> Result<Judge<'a>, AllocError>
         ensures ends { IfOk result (λ j. j.ends ≡ ends) }
-        ensures tables { IfOk result (λ j. AreTables map.now ends.items j.tables.items) }
-        ensures trail { IfOk result (λ j. IsTrail map.now ends.items j.trail.demands.items j.trail.kept.items) }
+        ensures tables { IfOk result (λ j. AreTables legal.now ends.items j.tables.items) }
+        ensures trail { IfOk result (λ j. IsTrail legal.now ends.items j.trail.demands.items j.trail.kept.items) }
         ensures demands { IfOk result (λ j. j.trail.demands.items ≡ []) }
     {
         let mut tables = Vec::new(alloc);
         for own in &ends {
-            let table = GoalSteps::to(alloc, map, own.goal)?;
+            let table = GoalSteps::new(alloc, legal, own.start, own.goal)?;
             add_table(&mut tables, table)?;
         }
         let trail = Trail::new(alloc, ends.len())?;
@@ -53,6 +58,7 @@ impl<'a> Judge<'a> {
             tables,
             search: CostSearch::new(alloc),
             trail,
+            asked: Vec::new(alloc),
         })
     }
 
@@ -61,7 +67,7 @@ impl<'a> Judge<'a> {
         requires parent { asked ≤ length self.old.trail.demands.items }
         requires timely { IsTimely child }
         ensures ends { IfOk result (λ _. self.new.ends ≡ self.old.ends) }
-        ensures tables { IfOk result (λ _. self.new.tables ≡ self.old.tables) }
+        ensures tables { IfOk result (λ _. self.new.tables.items ≡ self.old.tables.items) }
         ensures demands { IfOk result (λ _. self.new.trail.demands.items ≡ take asked self.old.trail.demands.items ++ child_demands self.old.ends.items child) }
         ensures trail { (m : Grid) → AreTables m self.old.ends.items self.old.tables.items → IsTrail m self.old.ends.items self.old.trail.demands.items self.old.trail.kept.items
             → IfOk result (λ _. IsTrail m self.old.ends.items self.new.trail.demands.items self.new.trail.kept.items) }
@@ -74,11 +80,14 @@ impl<'a> Judge<'a> {
     /// Looks for what agents cost of whom more is asked than at the parent, where that isn't known.
     fn look_anew(&mut self, asked: usize, bound: u32) -> Result<(), StepFault>
         ensures ends { IfOk result (λ _. self.new.ends ≡ self.old.ends) }
-        ensures tables { IfOk result (λ _. self.new.tables ≡ self.old.tables) }
+        ensures tables { IfOk result (λ _. self.new.tables.items ≡ self.old.tables.items) }
         ensures demands { IfOk result (λ _. self.new.trail.demands ≡ self.old.trail.demands) }
         ensures trail { (m : Grid) → AreTables m self.old.ends.items self.old.tables.items → IsTrail m self.old.ends.items self.old.trail.demands.items self.old.trail.kept.items
             → IfOk result (λ _. IsTrail m self.old.ends.items self.new.trail.demands.items self.new.trail.kept.items) }
     {
+        if let Some(agent) = self.trail.only_agent(asked) {
+            return self.look_at(agent, asked, bound);
+        }
         for agent in 0..self.ends.len() {
             self.look_at(agent, asked, bound)?;
         }
@@ -88,7 +97,7 @@ impl<'a> Judge<'a> {
     /// Looks for what an agent costs, where that isn't known.
     fn look_at(&mut self, agent: usize, asked: usize, bound: u32) -> Result<(), StepFault>
         ensures ends { IfOk result (λ _. self.new.ends ≡ self.old.ends) }
-        ensures tables { IfOk result (λ _. self.new.tables ≡ self.old.tables) }
+        ensures tables { IfOk result (λ _. self.new.tables.items ≡ self.old.tables.items) }
         ensures demands { IfOk result (λ _. self.new.trail.demands ≡ self.old.trail.demands) }
         ensures trail { (m : Grid) → AreTables m self.old.ends.items self.old.tables.items → IsTrail m self.old.ends.items self.old.trail.demands.items self.old.trail.kept.items
             → IfOk result (λ _. IsTrail m self.old.ends.items self.new.trail.demands.items self.new.trail.kept.items) }
@@ -123,31 +132,40 @@ impl<'a> Judge<'a> {
         }
     }
 
-    /// What an agent costs at least under all that is asked of it, if that is below the bound.
+    /// What an agent, which is known to cost `from` at least, costs at least under all that is asked of it, if that is below the
+    /// bound.
     fn least(&mut self, agent: usize, from: u32, bound: u32) -> Result<Least, StepFault>
         ensures ends { IfOk result (λ _. self.new.ends ≡ self.old.ends) }
-        ensures tables { IfOk result (λ _. self.new.tables ≡ self.old.tables) }
+        ensures tables { IfOk result (λ _. self.new.tables.items ≡ self.old.tables.items) }
         ensures trail { IfOk result (λ _. self.new.trail ≡ self.old.trail) }
         ensures least { (m : Grid) (own : ends_type) → AreTables m self.old.ends.items self.old.tables.items → slice_get self.old.ends.items agent ≡ Some own
+            → CostsAtLeast m own (constraints_of self.old.trail.demands.items agent) from
             → IfOk result (λ found. CostsAtLeast m own (constraints_of self.old.trail.demands.items agent) found.cost) }
         ensures costs { (m : Grid) (own : ends_type) → AreTables m self.old.ends.items self.old.tables.items → slice_get self.old.ends.items agent ≡ Some own
+            → CostsAtLeast m own (constraints_of self.old.trail.demands.items agent) from
             → IfOk result (λ found. found.cost < bound → IsLeastCost m own (constraints_of self.old.trail.demands.items agent) found.cost) }
     {
         let Some(own) = self.ends.get(agent) else {
             return Err(StepFault::NotTight);
         };
         let start = own.start;
-        let asked = constraints_of(self.alloc, &self.trail.demands, agent)?;
-        let Some(table) = self.tables.get(agent) else {
+        put_constraints(&mut self.asked, &self.trail.demands, agent)?;
+        if agent >= self.tables.len() {
             return Err(StepFault::NotTight);
+        }
+        let known = Known {
+            cost: from,
+            walk: self.trail.walk_of(agent),
         };
-        self.search.least(table, start, &asked, from, bound)
+        let table = &mut self.tables[agent];
+        let found = self.search.least(table, start, &self.asked, &known, bound)?;
+        Ok(found)
     }
 
     /// What the agents cost at least together, if the leaf at hand is too low.
     pub(crate) fn judge_leaf(&mut self, aim: Aim) -> Result<Option<u32>, StepFault>
         ensures ends { IfOk result (λ _. self.new.ends ≡ self.old.ends) }
-        ensures tables { IfOk result (λ _. self.new.tables ≡ self.old.tables) }
+        ensures tables { IfOk result (λ _. self.new.tables.items ≡ self.old.tables.items) }
         ensures trail { IfOk result (λ _. self.new.trail ≡ self.old.trail) }
         ensures judged { (m : Grid) → AreTables m self.old.ends.items self.old.tables.items → IsTrail m self.old.ends.items self.old.trail.demands.items self.old.trail.kept.items
             → IfOk result (λ low. MatchOption low (LeafStands m self.old.ends.items aim.objective aim.bound self.old.trail.demands.items)
@@ -168,6 +186,7 @@ impl<'a> Judge<'a> {
             → IfOk result (λ numbers. AreAtLeast m self.now.ends.items self.now.trail.demands.items numbers.items) }
     {
         let mut numbers = Vec::new(self.alloc);
+        numbers.reserve(self.ends.len())?;
         for agent in 0..self.ends.len() {
             add_number(&mut numbers, self.cost_of(agent))?;
         }
@@ -175,14 +194,15 @@ impl<'a> Judge<'a> {
     }
 
     /// What each agent costs at least, looked for anew where it is below the bound.
-    fn least_costs(&mut self, bound: u32) -> Result<Vec<u32>, StepFault>
+    pub(crate) fn least_costs(&mut self, bound: u32) -> Result<Vec<u32>, StepFault>
         ensures ends { IfOk result (λ _. self.new.ends ≡ self.old.ends) }
-        ensures tables { IfOk result (λ _. self.new.tables ≡ self.old.tables) }
+        ensures tables { IfOk result (λ _. self.new.tables.items ≡ self.old.tables.items) }
         ensures trail { IfOk result (λ _. self.new.trail ≡ self.old.trail) }
-        ensures found { (m : Grid) → AreTables m self.old.ends.items self.old.tables.items
+        ensures found { (m : Grid) → AreTables m self.old.ends.items self.old.tables.items → IsTrail m self.old.ends.items self.old.trail.demands.items self.old.trail.kept.items
             → IfOk result (λ numbers. AreFoundLeast m self.old.ends.items self.old.trail.demands.items bound numbers.items) }
     {
         let mut numbers = Vec::new(self.alloc);
+        numbers.reserve(self.ends.len())?;
         for agent in 0..self.ends.len() {
             let from = self.cost_of(agent);
             let found = self.least(agent, from, bound)?;

@@ -18,6 +18,7 @@ use crate::judge::{Aim, Judge};
 use crate::placing::{has_agents, has_cells};
 use crate::trail::Child;
 use grid::Map;
+use least_costs::LegalSteps;
 use least_steps::StepFault;
 use optimality::{Ends, Node, Objective};
 use proof_text::{ProofClaim, ProofFault, read_bound, read_header, read_node, read_objective};
@@ -51,12 +52,13 @@ impl<'a> Progress<'a> {
     pub(crate) fn new(
         alloc: Global,
         map: &'a Map,
+        legal: &'a LegalSteps<'a>,
         ends: Vec<Ends>,
-    ) -> Result<Progress<'a>, StepFault>
-        ensures progress { IfOk result (λ p. IsProgress map.now ends.items p) }
+    ) -> Result<Progress<'a>, AllocError>
+        ensures progress { legal.now ≡ map.now → IfOk result (λ p. IsProgress map.now ends.items p) }
         ensures stage { IfOk result (λ p. p.stage ≡ Stage.Header) }
     {
-        let judge = Judge::new(alloc, map, ends)?;
+        let judge = Judge::new(alloc, legal, ends)?;
         Ok(Progress {
             map,
             judge,
@@ -202,7 +204,7 @@ impl<'a> Progress<'a> {
     }
 
     /// Goes on to the node that is due next, and says how many nodes are above it.
-    fn go_on(&mut self, bound: u32) -> Result<u32, ProofFault>
+    pub(crate) fn go_on(&mut self, bound: u32) -> Result<u32, ProofFault>
         ensures { (m : Grid) (ends : List ends_type) (others : List due_node) (next : due_node) → IsProgress m ends self.old
             → self.old.due.items ≡ others ++ next ∷ [] → MatchResult result
             (λ above. (above ≡ next.above) × IsProgress m ends self.new × HasGoneTo ends others next self.old self.new) IsUnjudged }

@@ -8,16 +8,15 @@ ghost use Rattle.optimality.specs.Judging.{BoundHolds};
 ghost use Rattle.proof_text.specs.ProofFault.{ProofFaultAt, proof_outcome};
 ghost use Rattle.proof_text.specs.ProofText.{ProofText};
 
-use crate::progress::{Progress, Stage, unjudged};
+use crate::line_reader::read_line;
+use crate::progress::Progress;
 use grid::Map;
+use least_costs::LegalSteps;
 use optimality::Ends;
 use proof_text::{ProofClaim, ProofFault};
 use std::alloc::Global;
 use std::io::Read;
 use text_io::{Counted, PIECE, Source, TakenLine};
-
-/// A line of a proof has no more bytes before its LF.
-const LONGEST_LINE: usize = 128;
 
 /// Reads a proof that no valid plan on the map costs less whose agents go from these starts to these goals, the whole text. The first
 /// fault is answered; a reader that fails is not read again, and the answer is then the fault that its bytes decide, or else
@@ -52,24 +51,14 @@ fn read_lines<R: Read>(
 {
     text_io::laws::places();
     optimality::laws::leaves();
-    let mut room = [0; LONGEST_LINE];
-    let mut progress = match Progress::new(alloc, map, ends) {
-        Ok(progress) => progress,
-        Err(fault) => return Err(unjudged(fault)),
-    };
+    let legal = LegalSteps::of(alloc, map)?;
+    let mut progress = Progress::new(alloc, map, &legal, ends)?;
     let mut number = 1u64;
     'lines: while progress.is_line_due() {
-        match source.take_line(&mut room) {
-            TakenLine::WithLineFeed(count) => {
-                progress.add_line(&room[..count], number)?;
-                number = number.saturating_add(1);
-            }
-            TakenLine::AtEnd(_) => return Err(ProofFault::Unfinished(number)),
-            TakenLine::TooLong => return Err(ProofFault::TooMany(number)),
-            TakenLine::Failed => return Err(ProofFault::ReadFailed),
-        }
+        number = read_line(source, &mut progress, number)?;
     }
-    match source.take_line(&mut room[..0]) {
+    let mut no_room = [0; 0];
+    match source.take_line(&mut no_room) {
         TakenLine::AtEnd(_) => Ok(progress.claim()),
         TakenLine::Failed => Err(ProofFault::ReadFailed),
         TakenLine::WithLineFeed(_) | TakenLine::TooLong => Err(ProofFault::TextAfter(number)),

@@ -10,7 +10,7 @@ ghost use Rattle.proof_check.specs.Code.Trails.{AreKeptWithin, IsTimely, IsTrail
 use crate::asking::{add_first, add_second};
 use grid::Cell;
 use least_costs::Least;
-use optimality::{Demand, Ends, Node};
+use optimality::{Demand, Ends, Node, Whom};
 use std::alloc::{AllocError, Global};
 use std::mem;
 
@@ -136,9 +136,32 @@ impl Trail {
         }
     }
 
+    /// The agent of which alone something is asked from a place on, if there is one.
+    pub(crate) fn only_agent(&self, place: usize) -> Option<usize> {
+        match self.demands_from(place) {
+            [demand] => only(demand.whom),
+            _ => None,
+        }
+    }
+
+    /// The walk that is kept of an agent, if there is one.
+    pub(crate) fn walk_of(&self, agent: usize) -> &[Cell] {
+        match self.known(agent) {
+            Some(kept) => &kept.walk,
+            None => &[],
+        }
+    }
+
     /// The demands from a place on.
     pub(crate) fn demands_from(&self, place: usize) -> &[Demand] {
         self.demands.get(place..).unwrap_or(&[])
+    }
+}
+
+fn only(whom: Whom) -> Option<usize> {
+    match whom {
+        Whom::Only(agent) => Some(agent as usize),
+        Whom::AllBut(_) => None,
     }
 }
 

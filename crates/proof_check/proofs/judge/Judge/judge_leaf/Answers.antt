@@ -14,4 +14,4 @@ returns-in-None-clause-judged c = λ m tables trail. (
 pub returns-clause-judged : goal.returns-clause-judged
 returns-clause-judged c = λ m tables trail.
     judged_by m c.args.self.now.ends.items c.args.aim.objective c.args.aim.bound c.args.self.now.trail.demands.items c.in_ok-least.least.items c.deref-2.result.now
-    c.total_below-2.result c.deref-2.ensures.value (c.in_ok-least.ensures.found m tables) c.total_below-2.ensures
+    c.total_below-2.result c.deref-2.ensures.value (c.in_ok-least.ensures.found m tables trail) c.total_below-2.ensures

@@ -11,8 +11,8 @@ loop-agent-preserved c =
       tables = at.tables ∙ before.tables;
       demands = at.demands ∙ before.demands;
       trail = λ m tables trail.
-          subst (λ e. IsTrail m e.items c.look_at.new.self.trail.demands.items c.look_at.new.self.trail.kept.items) before.ends
-          (at.trail m (subst (λ t. AreTables m c.loop-agent.self.ends.items t.items) (sym before.tables)
+          subst (λ e. IsTrail m e.items c.look_at-in-loop-agent.new.self.trail.demands.items c.look_at-in-loop-agent.new.self.trail.kept.items) before.ends
+          (at.trail m (subst (AreTables m c.loop-agent.self.ends.items) (sym before.tables)
           (subst (λ e. AreTables m e.items c.args.self.now.tables.items) (sym before.ends) tables))
           (subst (λ e. IsTrail m e.items c.loop-agent.self.trail.demands.items c.loop-agent.self.trail.kept.items) (sym before.ends) (before.trail m tables trail)));
     }

@@ -5,7 +5,7 @@ use Rattle.proof_check.proofs.judge.Judge.new.Goals as goal
 
 pub loop-own-preserved : goal.loop-own-preserved
 loop-own-preserved c =
-    let m = c.args.map.now in
+    let m = c.args.legal.now in
     let ends = c.deref-own-items.result.now in
     let i = c.loop-own.own-index in
     subst (AreTables m (take (i + 1) ends)) (sym c.in_ok-add_table.ensures)

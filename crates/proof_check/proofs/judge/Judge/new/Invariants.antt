@@ -3,4 +3,4 @@ use Rattle.proof_check.specs.Code.Trails.{AreTables}
 use Rattle.proof_check.proofs.judge.Judge.new.Given as goal
 
 abbrev pub invariant-loop-own : goal.invariant-loop-own
-invariant-loop-own l = AreTables l.map (take l.own-index l.own-items) l.tables.items
+invariant-loop-own l = AreTables l.legal (take l.own-index l.own-items) l.tables.items

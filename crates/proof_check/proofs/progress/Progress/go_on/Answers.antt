@@ -14,7 +14,7 @@ returns-in-Ok c = λ m ends others next progress is.
     let new = c.go_to.new.self in
     let popped = same_last others c.pop.new.self.items next c.in-Some.next (sym is ∙ c.in-Some.ensures.items) in
     let same : new.ends ≡ old.ends = c.in-Ok.ensures.ends in
-    let tables : new.tables ≡ old.tables = c.in-Ok.ensures.tables in
+    let tables : new.tables.items ≡ old.tables.items = c.in-Ok.ensures.tables in
     let asked : new.trail.demands.items ≡ take c.in-Some.next.asked old.trail.demands.items ++ child_demands old.ends.items c.in-Some.next.child = c.in-Ok.ensures.demands in
     let trail : AreTables m old.ends.items old.tables.items → IsTrail m old.ends.items old.trail.demands.items old.trail.kept.items
     → IsTrail m old.ends.items new.trail.demands.items new.trail.kept.items = c.in-Ok.ensures.trail m in
@@ -25,7 +25,7 @@ returns-in-Ok c = λ m ends others next progress is.
       record {
         same_map = progress.same_map;
         same_ends = ap (λ v. v.items) same ∙ progress.same_ends;
-        tables = subst (λ v. AreTables m ends v.items) (sym tables) progress.tables;
+        tables = subst (AreTables m ends) (sym tables) progress.tables;
         trail = subst (λ (e : List Ends). IsTrail m e new.trail.demands.items new.trail.kept.items) progress.same_ends
             (trail (subst (λ (e : List Ends). AreTables m e old.tables.items) (sym progress.same_ends) progress.tables)
             (subst (λ (e : List Ends). IsTrail m e old.trail.demands.items old.trail.kept.items) (sym progress.same_ends) progress.trail));

@@ -1,0 +1,21 @@
+-- Which straight steps are legal from each cell of a map.
+use Rattle.std.specs.Prelude.{◌≡◌, ℕ, ◌+◌, ◌-◌, ◌*◌, ◌<◌, ◌≤◌, ◌⊎◌, true, List, Some, length, slice_get}
+use Rattle.grid.specs.declared.cell.Cell.{Cell}
+use Rattle.grid.specs.Map.{Grid, IsStraightStep}
+use Rattle.least_costs.specs.declared.legal_steps.Ways.{Ways}
+
+-- each legal step from the cell leads to one beside it to which there is a way
+abbrev pub AreWays : Grid → Cell → Ways → Type 0
+AreWays m u ways = (v : Cell) → IsStraightStep m u v
+    → ((v ≡ record { x = u.x; y = u.y - 1 }) × (ways.north ≡ true)) ⊎ ((v ≡ record { x = u.x; y = u.y + 1 }) × (u.y < 65535) × (ways.south ≡ true))
+    ⊎ ((v ≡ record { x = u.x - 1; y = u.y }) × (ways.west ≡ true)) ⊎ ((v ≡ record { x = u.x + 1; y = u.y }) × (u.x < 65535) × (ways.east ≡ true))
+
+-- so are those of the cells that the list has, row by row
+abbrev pub AreAllWays : Grid → List Ways → Type 0
+AreAllWays m all = (u : Cell) (ways : Ways) → u.x < m.width → slice_get all (u.y * m.width + u.x) ≡ Some ways → AreWays m u ways
+
+-- it has all cells of the map
+pub record HasAllWays (m : Grid) (width : ℕ) (all : List Ways) : Type 0 where
+  pub same_width : width ≡ m.width
+  pub count : m.width * m.height ≤ length all
+  pub legal : AreAllWays m all
