@@ -2,6 +2,7 @@
 import re
 from typing import Iterator, Mapping, Sequence
 
+import low_leaves
 from harness import ROOT, Ended, Harness, Outcome, compared, ended_as, has_terminals, shown, side_by_side
 from texts import BEHIND, LANE, SWAP
 from wrong_inputs import FILES, INPUTS, Wrong
@@ -172,4 +173,5 @@ def outcomes(harness: Harness) -> Iterator[Outcome]:
     yield from help_on_all(harness)
     yield from side_by_side([lambda name=name: help_on_one(harness, name) for name in sorted(documented())])
     yield from side_by_side([lambda of=of, wrong=wrong: explained(harness, of, wrong) for of, all_of in INPUTS.items() for wrong in all_of])
+    yield from low_leaves.outcomes(harness)
     yield from colours(harness)

@@ -8,6 +8,7 @@ use crate::departing::explain_departing;
 use crate::devices::explain_device;
 use crate::faults::Fault;
 use crate::files::{FileKind, NamedFile};
+use crate::leaves::explain_leaf;
 use crate::page::{Page, Style};
 use crate::plan_faults::explain_plan;
 use crate::row_words::{no_such_agent, no_such_row, size_differs};
@@ -102,6 +103,7 @@ fn put_fault<R: Files>(
         Fault::OtherNumber | Fault::OtherCount | Fault::Departs => {
             explain_departing(rt, files, told, page);
         }
+        Fault::LeafTooLow => explain_leaf(rt, alloc, files, told, page),
         _ => put_fault_of_file(rt, alloc, files, told, page),
     }
 }

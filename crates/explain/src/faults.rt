@@ -42,6 +42,7 @@ pub(crate) enum Fault {
     BadLength,
     TooMany,
     Unfinished,
+    LeafTooLow,
     BadAgent,
     BadAct,
     NoHeader,
@@ -49,7 +50,7 @@ pub(crate) enum Fault {
     Other,
 }
 
-static NAMED: [(&str, Fault); 43] = [
+static NAMED: [(&str, Fault); 44] = [
     ("OpenFailed", Fault::OpenFailed),
     ("ReadFailed", Fault::ReadFailed),
     ("NoSuchRow", Fault::NoSuchRow),
@@ -89,6 +90,7 @@ static NAMED: [(&str, Fault); 43] = [
     ("BadLength", Fault::BadLength),
     ("TooMany", Fault::TooMany),
     ("Unfinished", Fault::Unfinished),
+    ("LeafTooLow", Fault::LeafTooLow),
     ("BadAgent", Fault::BadAgent),
     ("BadAct", Fault::BadAct),
     ("NoHeader", Fault::NoHeader),

@@ -10,6 +10,7 @@ mod explaining;
 mod faults;
 mod files;
 mod help;
+mod leaves;
 mod lines;
 mod map_words;
 mod other_faults;

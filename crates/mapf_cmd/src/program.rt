@@ -18,6 +18,9 @@ use tape_claim::{LockFile, TapeClaim};
 use text_commands::{Ending, conclude};
 use text_io::{Counted, Failure, FaultWords};
 
+/// The fault of a proof that the map and the plan explain too.
+const LEAF_TOO_LOW: &str = "LeafTooLow";
+
 /// What is known of the error output: how explanations look there, and whether somebody watches it, who wants to see progress.
 #[derive(Clone, Copy, Debug)]
 pub struct Screen {
@@ -161,7 +164,7 @@ fn explain_by_files<R: Files + AllocGlobal, E: Write>(
             explain(rt, &[first, third], &[words], style, err);
         }
         (Line::Optimal(optimal), (_, _, Some(proof)))
-            if is_of_proof(rt, &optimal.map, &optimal.plan) => {
+            if words.name() != LEAF_TOO_LOW && is_of_proof(rt, &optimal.map, &optimal.plan) => {
             explain(rt, &[proof], &[words], style, err);
         }
         (_, (first, Some(second), Some(third))) => {

@@ -5,5 +5,7 @@
 pub mod ShownText
 -- what `mapf optimal` does and answers
 pub mod OptimalCommand
+-- what is shown of a leaf for which a proof is refused
+pub mod LeafShown
 -- The code's own words, of which no promise speaks.
 pub mod Code

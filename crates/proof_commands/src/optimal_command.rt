@@ -62,13 +62,13 @@ pub fn perform<M: Read, P: Read, F: Read, W: Write>(
 
 /// A map, and a plan that is valid on it.
 #[derive(Debug, Drop)]
-struct PlanOnMap {
-    map: Map,
-    plan: CheckedPlan,
+pub(crate) struct PlanOnMap {
+    pub(crate) map: Map,
+    pub(crate) plan: CheckedPlan,
 }
 
 /// Reads the map and then the plan, and checks the plan.
-fn read_on_map<M: Read, P: Read>(
+pub(crate) fn read_on_map<M: Read, P: Read>(
     alloc: Global,
     map: &mut Counted<M>,
     plan: &mut Counted<P>,
