@@ -12,7 +12,8 @@ next_apart : (a b c : ℕ) → AreNext a b → (a - c) + (c - a) ≤ (b - c) + (
 next_apart a b c (inl e) = omega (arith, e)
 next_apart a b c (inr e) = omega (arith, e)
 
-side_apart : (u v c : Cell) → ShareSide u v → between u c ≤ between v c + 1
+-- cells that share a side are as far from a third, but for one
+pub side_apart : (u v c : Cell) → ShareSide u v → between u c ≤ between v c + 1
 side_apart u v c (inl column) =
     let one = next_apart u.y v.y c.y column.1 in
     let same : (u.x - c.x) + (c.x - u.x) ≡ (v.x - c.x) + (c.x - v.x) = ap (λ x. (x - c.x) + (c.x - x)) column.0 in

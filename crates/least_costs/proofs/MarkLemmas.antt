@@ -1,38 +1,18 @@
 -- The marks of cells, as rows come up.
-use Rattle.std.proofs.Common.{◌≡◌, ◌≢◌, ◌∙◌, ℕ, ◌+◌, ◌-◌, ◌<◌, ◌≤◌, ◌⊎◌, List, [], ◌∷◌, ◌++◌, length, replicate, take, false, Some, inl, inr, arith, refl, sym, ap, subst}
+use Rattle.std.proofs.Common.{◌≡◌, ◌∙◌, ℕ, ◌+◌, ◌-◌, ◌<◌, ◌≤◌, List, [], ◌∷◌, ◌++◌, length, replicate, take, Some, inl, inr, arith, refl, sym, ap, subst}
 use Rattle.std.specs.Prelude.{slice_get, slice_set}
 use Rattle.std.proofs.lemmas.Bool.{cases_lt, cases_order}
-use Rattle.std.proofs.lemmas.List.{get_or-replicate, get_or-set_other, get_or-set_same, get_or_append_left, get_or-append_right, length-append, length-replicate, length-set, take_all}
+use Rattle.std.proofs.lemmas.List.{get_or-replicate, get_or_append_left, get_or-append_right, length-append, length-replicate, take_all}
 use Rattle.std.proofs.lemmas.Option.{slice_get-get_or, slice_get_past, slice_get_within}
 use Rattle.grid.specs.declared.cell.Cell.{Cell}
-use Rattle.least_costs.specs.declared.marks.Mark.{Mark}
 use Rattle.least_costs.specs.declared.marks.MarkRow.{MarkRow}
 use Rattle.least_costs.specs.declared.marks.Marks.{Marks}
 use Rattle.least_costs.specs.Code.Marks.{AreSameMarks, IsPut, mark_in_row, mark_of, mark_or_none}
-use Rattle.least_costs.proofs.ListLemmas.{get-last}
+use Rattle.least_costs.proofs.ListLemmas.{differ, get-last, set_here, set_there}
 use Rattle.least_costs.proofs.SideLemmas.{same_cells}
 
-abbrev pub none : Mark
-none = record { steps = 4294967295; is_settled = false }
-
-differ : (i j : ℕ) → (i < j) ⊎ (j < i) → i ≢ j
-differ i j (inl less) same = omega (arith, less, same)
-differ i j (inr more) same = omega (arith, more, same)
-
--- ---- a list with one in the place of another
-
-pub set_here : {A : Type 0} (xs : List A) (i : ℕ) (x : A) → i < length xs → slice_get (slice_set xs i x) i ≡ Some x
-set_here xs i x within =
-    slice_get-get_or (slice_set xs i x) i x (subst (λ n. i < n) (sym (length-set xs i x)) within) ∙ ap Some (get_or-set_same xs i x x within)
-
-pub set_there : {A : Type 0} (xs : List A) (i k : ℕ) (x : A) → k ≢ i → slice_get (slice_set xs i x) k ≡ slice_get xs k
-set_there xs i k x other = elim (cases_lt k (length xs)) [
-  | inl within ↦
-      slice_get-get_or (slice_set xs i x) k x (subst (λ n. k < n) (sym (length-set xs i x)) within)
-      ∙ ap Some (get_or-set_other xs i k x x other) ∙ sym (slice_get-get_or xs k x within)
-  | inr past ↦
-      slice_get_past (slice_set xs i x) k (subst (λ n. n ≤ k) (sym (length-set xs i x)) past) ∙ sym (slice_get_past xs k past)
-]
+abbrev pub none : ℕ
+none = 4294967295
 
 -- ---- marks
 
@@ -45,7 +25,7 @@ pub no_marks : (c : Cell) → mark_of [] c ≡ none
 no_marks c = mark_of-is [] c ∙ ap (λ r. mark_in_row r c.x) (slice_get_past [] c.y (omega arith))
 
 -- what is read of a row that is there
-pub read : (rows : List MarkRow) (c : Cell) (row : MarkRow) (mark : Mark) → slice_get rows c.y ≡ Some row → slice_get row.marks.items c.x ≡ Some mark → mark_of rows c ≡ mark
+pub read : (rows : List MarkRow) (c : Cell) (row : MarkRow) (mark : ℕ) → slice_get rows c.y ≡ Some row → slice_get row.marks.items c.x ≡ Some mark → mark_of rows c ≡ mark
 read rows c row mark there is = mark_of-is rows c ∙ ap (λ r. mark_in_row r c.x) there ∙ ap mark_or_none is
 
 pub read_none : (rows : List MarkRow) (c : Cell) (row : MarkRow) → slice_get rows c.y ≡ Some row → length row.marks.items ≤ c.x → mark_of rows c ≡ none
@@ -93,7 +73,7 @@ same_row rows y old new there same c = elim (cases_order c.y y) [
 ]
 
 -- marks of cells that aren't reached, at the end of a row
-pub same_marks : (old : List Mark) (n x : ℕ) → mark_or_none (slice_get (old ++ replicate n none) x) ≡ mark_or_none (slice_get old x)
+pub same_marks : (old : List ℕ) (n x : ℕ) → mark_or_none (slice_get (old ++ replicate n none) x) ≡ mark_or_none (slice_get old x)
 same_marks old n x = elim (cases_lt x (length old)) [
   | inl before ↦ ap mark_or_none (slice_get-get_or (old ++ replicate n none) x none (more x (length old) n (length (old ++ replicate n none)) before total)
       ∙ ap Some (get_or_append_left old (replicate n none) none x before) ∙ sym (slice_get-get_or old x none before))
@@ -117,10 +97,10 @@ same_marks old n x = elim (cases_lt x (length old)) [
     within i k n t h j e = omega (arith, h, j, e)
 
 -- a mark in the place of another
-pub put_here : (rows : List MarkRow) (c : Cell) (new : MarkRow) (mark : Mark) → c.y < length rows → slice_get new.marks.items c.x ≡ Some mark → mark_of (slice_set rows c.y new) c ≡ mark
+pub put_here : (rows : List MarkRow) (c : Cell) (new : MarkRow) (mark : ℕ) → c.y < length rows → slice_get new.marks.items c.x ≡ Some mark → mark_of (slice_set rows c.y new) c ≡ mark
 put_here rows c new mark within is = read (slice_set rows c.y new) c new mark (set_here rows c.y new within) is
 
-pub put_others : (rows : List MarkRow) (cell : Cell) (old new : MarkRow) (mark : Mark) → slice_get rows cell.y ≡ Some old → new.marks.items ≡ slice_set old.marks.items cell.x mark
+pub put_others : (rows : List MarkRow) (cell : Cell) (old new : MarkRow) (mark : ℕ) → slice_get rows cell.y ≡ Some old → new.marks.items ≡ slice_set old.marks.items cell.x mark
     → (c : Cell) → (c ≡ cell → ⊥) → mark_of (slice_set rows cell.y new) c ≡ mark_of rows c
 put_others rows cell old new mark there is c other = elim (cases_order c.y cell.y) [
   | inl row ↦ elim (cases_order c.x cell.x) [
@@ -136,14 +116,14 @@ put_others rows cell old new mark there is c other = elim (cases_order c.y cell.
 ]
 
 -- a row to which room was added
-pub resized : (old new : List Mark) (n k : ℕ) → k ≡ length old → k ≤ n → new ≡ take n old ++ replicate (n - k) none
+pub resized : (old new : List ℕ) (n k : ℕ) → k ≡ length old → k ≤ n → new ≡ take n old ++ replicate (n - k) none
     → (x : ℕ) → mark_or_none (slice_get new x) ≡ mark_or_none (slice_get old x)
 resized old new n k count more is x =
     let all : length old ≤ n = omega (arith, count, more) in
     ap (λ l. mark_or_none (slice_get l x)) (is ∙ ap (λ l. l ++ replicate (n - k) none) (take_all n old all)) ∙ same_marks old (n - k) x
 
 -- a mark in the place of another
-pub put_in_row : (old new : Marks) (cell : Cell) (mark : Mark) (y x : ℕ) (row into : MarkRow) → y ≡ cell.y → x ≡ cell.x → slice_get old.rows.items y ≡ Some row
+pub put_in_row : (old new : Marks) (cell : Cell) (mark : ℕ) (y x : ℕ) (row into : MarkRow) → y ≡ cell.y → x ≡ cell.x → slice_get old.rows.items y ≡ Some row
     → x < length row.marks.items → into.marks.items ≡ slice_set row.marks.items x mark → new.rows.items ≡ slice_set old.rows.items y into → IsPut old cell mark new
 put_in_row old new cell mark y x row into down right there within is rows = record {
   here = ap (λ l. mark_of l cell) set
@@ -161,7 +141,7 @@ put_in_row old new cell mark y x row into down right there within is rows = reco
     is_now : into.marks.items ≡ slice_set row.marks.items cell.x mark
     is_now = is ∙ ap (λ k. slice_set row.marks.items k mark) right
 
-pub put_after : (old middle : Marks) (cell : Cell) (mark : Mark) (new : Marks) → AreSameMarks old middle → IsPut middle cell mark new → IsPut old cell mark new
+pub put_after : (old middle : Marks) (cell : Cell) (mark : ℕ) (new : Marks) → AreSameMarks old middle → IsPut middle cell mark new → IsPut old cell mark new
 put_after old middle cell mark new same put = record {
   here = put.here;
   others = λ c other. (put.others c other ∙ same c);

@@ -1,7 +1,7 @@
 -- Cells by their numbers, and those beside one.
-use Rattle.std.proofs.Common.{◌≡◌, ◌∙◌, ℕ, ◌+◌, ◌-◌, ◌*◌, ◌/◌, ◌%◌, ◌<◌, ltb, inl, inr, sym, ap, subst}
+use Rattle.std.proofs.Common.{◌≡◌, ◌∙◌, ℕ, ◌+◌, ◌-◌, ◌*◌, ◌/◌, ◌%◌, ◌<◌, ◌⊎◌, ltb, inl, inr, arith, sym, ap, subst}
 use Rattle.std.specs.Prelude.{◌&&◌, None, Some, Option, slice_get}
-use Rattle.std.proofs.lemmas.Bool.{cases_Bool, and_parts, cond-false, ltb-true}
+use Rattle.std.proofs.lemmas.Bool.{cases_Bool, cases_order, and_parts, cond-false, ltb-true}
 use Rattle.std.proofs.lemmas.Nat.{div-mul-add, mod-mul-add}
 use Rattle.grid.specs.declared.cell.Cell.{Cell}
 use Rattle.grid.specs.declared.terrain.Terrain.{Terrain}
@@ -41,3 +41,16 @@ pub same_number : (width : ℕ) (c d : Cell) → c.x < width → d.x < width →
 same_number width c d left right same = same_cells c d
     (sym (mod-mul-add c.y width c.x left) ∙ ap (λ n. n % width) same ∙ mod-mul-add d.y width d.x right)
     (sym (div-mul-add c.y width c.x left) ∙ ap (λ n. n / width) same ∙ div-mul-add d.y width d.x right)
+
+pub same_or_other : (c d : Cell) → (c ≡ d) ⊎ (c ≡ d → ⊥)
+same_or_other c d = elim (cases_order c.x d.x) [
+  | inl x ↦ elim (cases_order c.y d.y) [
+    | inl y ↦ inl (same_cells c d x y)
+    | inr y ↦ inr (λ same. apart c.y d.y y (ap (λ (e : Cell). e.y) same))
+  ]
+  | inr x ↦ inr (λ same. apart c.x d.x x (ap (λ (e : Cell). e.x) same))
+]
+  where
+    apart : (i j : ℕ) → (i < j) ⊎ (j < i) → i ≡ j → ⊥
+    apart i j (inl less) same = omega (arith, less, same)
+    apart i j (inr more) same = omega (arith, more, same)

@@ -1,9 +1,9 @@
 -- Lists of states, and the slots of those that are closed.
-use Rattle.std.proofs.Common.{◌≡◌, ◌≢◌, ◌∙◌, ℕ, ◌<◌, ◌≤◌, ◌⊎◌, List, [], ◌∷◌, ◌++◌, length, get_or, Some, inl, inr, arith, refl, sym, ap, subst}
+use Rattle.std.proofs.Common.{◌≡◌, ◌≢◌, ◌∙◌, ℕ, ◌<◌, ◌≤◌, ◌⊎◌, ◌-◌, List, [], ◌∷◌, ◌++◌, reverse, length, get_or, Some, inl, inr, arith, refl, sym, ap, subst}
 use Rattle.std.specs.Prelude.{slice_get, slice_set}
 use Rattle.std.proofs.lemmas.Bool.{cases_order}
-use Rattle.std.proofs.lemmas.List.{get_or-set_other, get_or-set_same, length-set}
-use Rattle.std.proofs.lemmas.Option.{get_or_from_slice_get, none-some, slice_get_read, slice_get_within}
+use Rattle.std.proofs.lemmas.List.{get_or-reverse, get_or-set_other, get_or-set_same, length-reverse, length-set}
+use Rattle.std.proofs.lemmas.Option.{get_or_from_slice_get, none-some, slice_get-get_or, slice_get_read, slice_get_within}
 use Rattle.grid.specs.declared.cell.Cell.{Cell}
 use Rattle.least_costs.specs.declared.states.Slot.{Slot}
 use Rattle.least_costs.specs.declared.states.State.{State}
@@ -27,6 +27,21 @@ has_or_last states s c t is = elim (get-added states s is.0 is.1 is.2) [
   | inl same ↦ inr (ap (λ (it : State). it.cell) same ∙ is.3, ap (λ (it : State). it.time) same ∙ is.4)
   | inr old ↦ inl (is.0, is.1, old, is.3, is.4)
 ]
+
+pub has_reversed : (states : List State) (c : Cell) (t : ℕ) → HasState states c t → HasState (reverse states) c t
+has_reversed states c t is =
+    let inside = slice_get_within states is.0 is.1 is.2 in
+    let k = length states - 1 - is.0 in
+    let less : k < length states = omega (arith, inside) in
+    let back : length states - 1 - k ≡ is.0 = omega (arith, inside) in
+    let count : k < length (reverse states) = subst (λ n. k < n) (sym (length-reverse states)) less in (
+      k,
+      is.1,
+      slice_get-get_or (reverse states) k is.1 count
+          ∙ ap Some (get_or-reverse states k is.1 less ∙ ap (λ j. get_or states j is.1) back ∙ get_or_from_slice_get states is.0 is.1 is.1 is.2),
+      is.3,
+      is.4,
+    )
 
 -- ---- slots
 

@@ -1,7 +1,7 @@
 //! The steps from a state of a search.
 ghost use Rattle.std.specs.Prelude.{◌≡◌, ◌+◌, ◌-◌, ◌^◌, ◌<◌, IfOk, false, true};
 ghost use Rattle.model.specs.Timetable.{Track, cell_at};
-ghost use Rattle.least_costs.specs.Code.Searching.{AllGoOn, IsLookedAt, IsOffered, IsPosed, IsWanted, ComesOn, PassesOn, wanted};
+ghost use Rattle.least_costs.specs.Code.Searching.{AllGoOn, IsLookedAt, IsOffered, IsPosed, IsWanted, LeadsTo, PassesOn, wanted};
 ghost use Rattle.least_costs.specs.Code.Tables.{IsEstimate};
 ghost use Rattle.least_costs.specs.GoalView.{GoalView};
 
@@ -26,8 +26,7 @@ pub(crate) struct Query<'a> {
 }
 
 /// The state from which steps are taken: its cell and time, its place among the closed ones, and what is asked of who
-/// comes to a cell next, if anything. The step to the cell `last` comes last. Walks are looked for that cost no more than
-/// the budget.
+/// comes to a cell next, if anything. Walks are looked for that cost no more than the budget.
 #[derive(Clone, Copy)]
 pub(crate) struct Turn {
     pub(crate) cell: Cell,
@@ -35,7 +34,6 @@ pub(crate) struct Turn {
     pub(crate) place: u32,
     pub(crate) moment: Moment,
     pub(crate) is_free: bool,
-    pub(crate) last: Cell,
     pub(crate) budget: u32,
 }
 
@@ -46,8 +44,7 @@ pub(crate) struct Beside {
     pub(crate) steps: u32,
 }
 
-/// Takes the steps from a state, one that leads nearer to the goal last. The answer is whether one comes to the goal, to
-/// rest there.
+/// Takes the steps from a state. The answer is whether one comes to the goal, to rest there.
 #[inline(always)]
 pub(crate) fn expand(
     query: &Query<'_>,
@@ -57,7 +54,7 @@ pub(crate) fn expand(
 ) -> Result<bool, AllocError>
     requires ready { IsPosed goal.now query.now }
     requires time { turn.time < 2 ^ 32 - 1 }
-    ensures leads { IfOk result (λ found. found ≡ false → ComesOn (wanted goal.now query.now) turn.budget front.old front.new) }
+    ensures leads { IfOk result (λ found. found ≡ false → LeadsTo (wanted goal.now query.now) turn.budget front.old front.new) }
     ensures goes { IfOk result (λ found. found ≡ false → AllGoOn (wanted goal.now query.now) front.new turn.cell turn.time) }
 {
     let ways = goal.ways(turn.cell);
@@ -67,25 +64,19 @@ pub(crate) fn expand(
     let west = look(goal, ways.west, sides.west);
     let east = look(goal, ways.east, sides.east);
     let south = look(goal, ways.south, sides.south);
-    let last = nearer(nearer(nearer(nearer(own, north), west), east), south);
-    let mut turn = turn;
-    turn.last = last.cell;
-    if offer_unless(query, goal, front, turn, own)? {
+    if offer(query, goal, front, turn, own)? {
         return Ok(true);
     }
-    if offer_unless(query, goal, front, turn, north)? {
+    if offer(query, goal, front, turn, north)? {
         return Ok(true);
     }
-    if offer_unless(query, goal, front, turn, west)? {
+    if offer(query, goal, front, turn, west)? {
         return Ok(true);
     }
-    if offer_unless(query, goal, front, turn, east)? {
+    if offer(query, goal, front, turn, east)? {
         return Ok(true);
     }
-    if offer_unless(query, goal, front, turn, south)? {
-        return Ok(true);
-    }
-    let found = offer(query, goal, front, turn, last)?;
+    let found = offer(query, goal, front, turn, south)?;
     Ok(found)
 }
 
@@ -105,40 +96,6 @@ fn look(goal: &GoalSteps<'_>, is_open: bool, cell: Cell) -> Beside
     Beside { cell, steps }
 }
 
-/// The second, where it is nearer to the goal, or else the first.
-#[inline(always)]
-fn nearer(first: Beside, second: Beside) -> Beside
-    ensures { (g : GoalView) → IsEstimate g first.cell first.steps → IsLookedAt g second → IsEstimate g result.cell result.steps }
-{
-    if second.steps < first.steps {
-        second
-    } else {
-        first
-    }
-}
-
-/// Takes a step, unless it is the one that comes last.
-#[inline(always)]
-fn offer_unless(
-    query: &Query<'_>,
-    goal: &GoalSteps<'_>,
-    front: &mut Frontier,
-    turn: Turn,
-    to: Beside,
-) -> Result<bool, AllocError>
-    requires ready { IsPosed goal.now query.now }
-    requires time { turn.time < 2 ^ 32 - 1 }
-    requires beside { IsLookedAt goal.now to }
-    ensures leads { IfOk result (λ found. found ≡ false → ComesOn (wanted goal.now query.now) turn.budget front.old front.new) }
-    ensures goes { IfOk result (λ found. found ≡ false → IsEstimate goal.now to.cell to.steps → (to.cell ≡ turn.last → ⊥)
-        → IsOffered (wanted goal.now query.now) front.new turn.time turn.cell to.cell) }
-{
-    if to.cell == turn.last {
-        return Ok(false);
-    }
-    offer(query, goal, front, turn, to)
-}
-
 /// Takes a step, unless it leads too far or is forbidden. The answer is whether it comes to the goal, to rest there.
 #[inline(always)]
 fn offer(
@@ -151,7 +108,7 @@ fn offer(
     requires ready { IsPosed goal.now query.now }
     requires time { turn.time < 2 ^ 32 - 1 }
     requires beside { IsLookedAt goal.now to }
-    ensures leads { IfOk result (λ found. found ≡ false → ComesOn (wanted goal.now query.now) turn.budget front.old front.new) }
+    ensures leads { IfOk result (λ found. found ≡ false → LeadsTo (wanted goal.now query.now) turn.budget front.old front.new) }
     ensures goes { IfOk result (λ found. found ≡ false → IsEstimate goal.now to.cell to.steps
         → IsOffered (wanted goal.now query.now) front.new turn.time turn.cell to.cell) }
 {

@@ -88,13 +88,16 @@ impl Frontier {
         }
     }
 
-    /// Goes on to walks that cost one more. The answer is whether any state waits.
+    /// Goes on to walks that cost one more. The answer is whether any state waits. What was put first comes up first: the
+    /// search began where the walk that was known went furthest.
     pub(crate) fn raise(&mut self) -> bool
         requires { self.old.waiting.items ≡ [] }
         ensures { IsRaised self.old self.new result }
     {
         mem::swap(&mut self.waiting, &mut self.next);
         mem::swap(&mut self.next, &mut self.after);
-        !self.waiting.is_empty() || !self.next.is_empty()
+        let is_any = !self.waiting.is_empty() || !self.next.is_empty();
+        self.waiting.reverse();
+        is_any
     }
 }

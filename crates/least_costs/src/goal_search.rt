@@ -1,13 +1,13 @@
 //! A search from a goal toward a start, which goes on when it is asked for more.
-ghost use Rattle.std.specs.Prelude.{◌≡◌, ℕ, ◌+◌, ◌≤◌, IfOk, IfSome, [], false, true};
+ghost use Rattle.std.specs.Prelude.{◌≡◌, ℕ, ◌+◌, ◌-◌, ◌≤◌, IfOk, IfSome, [], true};
 ghost use Rattle.grid.specs.Map.{Grid};
-ghost use Rattle.least_costs.specs.Code.GoalSearches.{AreBeyond, IsGoalSearch, IsPending, LowersMarks};
+ghost use Rattle.least_costs.specs.Code.GoalSearches.{AreBeyond, HasSpread, IsGoalSearch, IsPending, LowersMarks};
 ghost use Rattle.least_costs.specs.Code.Places.{between};
 ghost use Rattle.least_costs.specs.Code.Marks.{mark_at};
 ghost use Rattle.least_costs.specs.Code.Tables.{IsEstimate};
 
 use crate::legal_steps::LegalSteps;
-use crate::marks::{Mark, Marks};
+use crate::marks::Marks;
 use crate::sides::{sides_of, steps_between};
 use grid::{Cell, Map};
 use least_steps::StepFault;
@@ -50,13 +50,7 @@ impl GoalSearch {
         ensures goal { IfOk result (λ s. s.goal ≡ goal) }
     {
         let mut marks = Marks::new(alloc, map.width());
-        marks.put(
-            goal,
-            Mark {
-                steps: 0,
-                is_settled: false,
-            },
-        )?;
+        marks.put(goal, 0)?;
         let mut next = Vec::new(alloc);
         put_last(
             &mut next,
@@ -82,6 +76,12 @@ impl GoalSearch {
         self.goal
     }
 
+    /// How many steps lead from the cell to the goal on the best way found.
+    #[inline(always)]
+    pub(crate) fn found(&self, cell: Cell) -> u32 {
+        self.marks.at(cell)
+    }
+
     /// How many steps the cell is from the goal, if that is settled.
     #[inline(always)]
     pub(crate) fn settled(&self, cell: Cell) -> Option<u32>
@@ -89,8 +89,8 @@ impl GoalSearch {
     {
         model::laws::costs();
         let mark = self.marks.at(cell);
-        if mark.is_settled {
-            Some(mark.steps)
+        if mark <= self.found_within(cell) {
+            Some(mark)
         } else {
             None
         }
@@ -102,12 +102,15 @@ impl GoalSearch {
         ensures { (m : Grid) → IsGoalSearch m self.now → IsEstimate (record { map = m; goal = self.now.goal }) cell result }
     {
         model::laws::costs();
-        let mark = self.marks.at(cell);
-        if mark.is_settled {
-            mark.steps
-        } else {
-            self.through.saturating_sub(steps_between(cell, self.start))
-        }
+        self.marks.at(cell).min(self.found_within(cell))
+    }
+
+    /// Each way from the cell to the goal of so few steps is found.
+    #[inline(always)]
+    fn found_within(&self, cell: Cell) -> u32
+        ensures { result ≡ self.now.through - between cell self.now.start }
+    {
+        self.through.saturating_sub(steps_between(cell, self.start))
     }
 
     /// How many steps the cell is from the goal: goes on until that is settled. The greatest number
@@ -121,12 +124,11 @@ impl GoalSearch {
     {
         model::laws::costs();
         for _ in 0..u64::MAX {
-            let mark = self.marks.at(cell);
-            if mark.is_settled {
-                return Ok(mark.steps);
+            if let Some(steps) = self.settled(cell) {
+                return Ok(steps);
             }
             if self.next.is_empty() && self.later.is_empty() {
-                return Ok(u32::MAX);
+                return Ok(self.marks.at(cell));
             }
             self.go_far(legal)?;
         }
@@ -157,12 +159,11 @@ impl GoalSearch {
             return self.turn();
         }
         let waiting = self.next[count - 1];
-        let mark = self.marks.at(waiting.cell);
-        if mark.is_settled || mark.steps != waiting.steps {
-            self.next.truncate(count - 1);
-            return Ok(());
+        if self.marks.at(waiting.cell) == waiting.steps {
+            self.spread(legal, waiting)?;
         }
-        self.settle(legal, waiting)
+        let _ = self.next.swap_remove(count - 1);
+        Ok(())
     }
 
     /// Goes on to what waits for later.
@@ -179,15 +180,14 @@ impl GoalSearch {
         Ok(())
     }
 
-    /// Reaches the cells beside one, and settles it. It waits on until then, and is left out when
-    /// it comes up again: so memory may run out in between.
+    /// Reaches the cells beside one, which waits on until all are reached: memory may run out in between.
     #[inline(always)]
-    fn settle(&mut self, legal: &LegalSteps<'_>, waiting: Waiting) -> Result<(), StepFault>
+    fn spread(&mut self, legal: &LegalSteps<'_>, waiting: Waiting) -> Result<(), StepFault>
         requires search { IsGoalSearch legal.now self.old }
-        requires mark { mark_at self.old.marks waiting.cell ≡ record { steps = waiting.steps; is_settled = false } }
-        requires next { waiting.steps + between waiting.cell self.old.start ≡ self.old.through }
+        requires mark { mark_at self.old.marks waiting.cell ≡ waiting.steps }
         ensures search { IsGoalSearch legal.now self.new }
-        ensures goal { self.new.goal ≡ self.old.goal }
+        ensures beyond { AreBeyond self.old self.new }
+        ensures spread { IfOk result (λ _. HasSpread legal.now self.new.marks waiting.cell) }
     {
         let ways = legal.from(waiting.cell);
         let sides = sides_of(waiting.cell);
@@ -196,13 +196,6 @@ impl GoalSearch {
         self.reach(ways.south, sides.south, steps)?;
         self.reach(ways.west, sides.west, steps)?;
         self.reach(ways.east, sides.east, steps)?;
-        self.marks.put(
-            waiting.cell,
-            Mark {
-                steps: waiting.steps,
-                is_settled: true,
-            },
-        )?;
         Ok(())
     }
 
@@ -212,19 +205,13 @@ impl GoalSearch {
         ensures search { (m : Grid) → IsGoalSearch m self.old → IsGoalSearch m self.new }
         ensures beyond { AreBeyond self.old self.new }
         ensures lowers { LowersMarks steps self.old.marks self.new.marks }
-        ensures reached { IfOk result (λ _. is_step ≡ true → (mark_at self.new.marks cell).steps ≤ steps) }
+        ensures reached { IfOk result (λ _. is_step ≡ true → mark_at self.new.marks cell ≤ steps) }
     {
-        if !is_step || self.marks.at(cell).steps <= steps {
+        if !is_step || self.marks.at(cell) <= steps {
             return Ok(());
         }
         self.wait(Waiting { cell, steps })?;
-        self.marks.put(
-            cell,
-            Mark {
-                steps,
-                is_settled: false,
-            },
-        )?;
+        self.marks.put(cell, steps)?;
         Ok(())
     }
 

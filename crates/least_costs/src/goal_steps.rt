@@ -80,17 +80,17 @@ impl<'a> GoalSteps<'a> {
         Ok(())
     }
 
-    /// A cell beside one that is so many steps from the goal.
+    /// A cell beside one from which so many steps lead to the goal.
     fn nearer(&self, cell: Cell, steps: u32) -> Option<Cell> {
         let ways = self.legal.from(cell);
         let sides = sides_of(cell);
-        if ways.north && self.search.settled(sides.north) == Some(steps) {
+        if ways.north && self.search.found(sides.north) == steps {
             Some(sides.north)
-        } else if ways.south && self.search.settled(sides.south) == Some(steps) {
+        } else if ways.south && self.search.found(sides.south) == steps {
             Some(sides.south)
-        } else if ways.west && self.search.settled(sides.west) == Some(steps) {
+        } else if ways.west && self.search.found(sides.west) == steps {
             Some(sides.west)
-        } else if ways.east && self.search.settled(sides.east) == Some(steps) {
+        } else if ways.east && self.search.found(sides.east) == steps {
             Some(sides.east)
         } else {
             None

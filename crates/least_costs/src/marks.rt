@@ -1,32 +1,22 @@
-//! What a search knows of each cell.
-ghost use Rattle.std.specs.Prelude.{◌≡◌, ◌<◌, IfOk, IfErr, false, length};
+//! How far each cell is from a goal, as far as a search has found.
+ghost use Rattle.std.specs.Prelude.{◌≡◌, ◌<◌, ◌≤◌, IfOk, IfErr, length};
 ghost use Rattle.grid.specs.declared.cell.Cell.{Cell};
 ghost use Rattle.least_costs.specs.Code.Marks.{mark_at, IsPut, HasMarkRoom, AreSameMarks};
 
 use grid::Cell;
 use std::alloc::{AllocError, Global};
 
-/// How many steps lead from a cell on the best way found, the greatest number where none was; and
-/// whether no better way is to be found.
-#[derive(Clone, Copy, Debug)]
-pub(crate) struct Mark {
-    pub(crate) steps: u32,
-    pub(crate) is_settled: bool,
-}
-
 /// The mark of a cell to which no way was found.
-const UNREACHED: Mark = Mark {
-    steps: u32::MAX,
-    is_settled: false,
-};
+const UNREACHED: u32 = u32::MAX;
 
 /// The marks of a row, from the west.
 #[derive(Debug, Drop)]
 pub(crate) struct MarkRow {
-    marks: Vec<Mark>,
+    marks: Vec<u32>,
 }
 
-/// A mark for each cell, row by row. A row takes memory once a cell of it is reached.
+/// A mark for each cell, row by row: how many steps lead from it to the goal on the best way found. A row takes memory once
+/// a cell of it is reached.
 #[derive(Debug, Drop)]
 pub(crate) struct Marks {
     alloc: Global,
@@ -37,7 +27,7 @@ pub(crate) struct Marks {
 impl Marks {
     /// No cell is reached. The width is that of a row at first.
     pub(crate) fn new(alloc: Global, width: u32) -> Marks
-        ensures { (c : Cell) → mark_at result c ≡ record { steps = 4294967295; is_settled = false } }
+        ensures { (c : Cell) → mark_at result c ≡ 4294967295 }
     {
         Marks {
             alloc,
@@ -47,8 +37,9 @@ impl Marks {
     }
 
     #[inline(always)]
-    pub(crate) fn at(&self, cell: Cell) -> Mark
-        ensures { result ≡ mark_at self.now cell }
+    pub(crate) fn at(&self, cell: Cell) -> u32
+        ensures mark { result ≡ mark_at self.now cell }
+        ensures limit { result ≤ 4294967295 }
     {
         let (row, column) = (usize::from(cell.y), usize::from(cell.x));
         if row < self.rows.len() && column < self.rows[row].marks.len() {
@@ -59,7 +50,7 @@ impl Marks {
     }
 
     #[inline(always)]
-    pub(crate) fn put(&mut self, cell: Cell, mark: Mark) -> Result<(), AllocError>
+    pub(crate) fn put(&mut self, cell: Cell, mark: u32) -> Result<(), AllocError>
         ensures put { IfOk result (λ _. IsPut self.old cell mark self.new) }
         ensures none { IfErr result (λ _. AreSameMarks self.old self.new) }
     {

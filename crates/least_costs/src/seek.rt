@@ -1,6 +1,6 @@
 //! A search for a walk that costs least.
 ghost use Rattle.std.specs.Prelude.{◌≡◌, ◌-◌, ◌^◌, ◌<◌, ◌≤◌, IfOk, [], MatchOption};
-ghost use Rattle.least_costs.specs.Code.Searching.{AllCost, IsPosed, IsCostSearch, IsUnwalked, IsAdvancedSearch, IsPutOff, wanted};
+ghost use Rattle.least_costs.specs.Code.Searching.{AllCost, IsPosed, IsCostSearch, IsUnwalked, HasGoneOn, IsPutOff, wanted};
 
 use crate::expand::{Query, Turn, expand};
 use crate::frontier::Frontier;
@@ -93,7 +93,7 @@ fn go_on(
     requires search { IsCostSearch (wanted goal.old query.now) budget front.old }
     requires budget { budget ≤ query.now.highest }
     ensures same { goal.new ≡ goal.old }
-    ensures search { IfOk result (IsAdvancedSearch (wanted goal.old query.now) budget front.new) }
+    ensures search { IfOk result (HasGoneOn (wanted goal.old query.now) budget front.new) }
 {
     if front.waiting.is_empty() {
         return Ok(Advance::Exhausted);
@@ -121,7 +121,6 @@ fn go_on(
         place,
         moment,
         is_free: query.rules.are_none(moment),
-        last: state.cell,
         budget,
     };
     if expand(query, goal, front, turn)? {

@@ -8,7 +8,7 @@ ghost use Rattle.optimality.specs.Walkers.{CostsAtLeast, IsLeastCost};
 ghost use Rattle.proof_check.specs.Code.Trails.{AreFoundLeast, AreTables, IsTimely, IsTrail, child_demands};
 
 use crate::asking::{concerns, put_constraints};
-use crate::totals::total_below;
+use crate::totals::{limit_beside, total_below};
 use crate::trail::{Child, Kept, Trail};
 use least_costs::{CostSearch, GoalSteps, Known, Least, LegalSteps, meets};
 use least_steps::StepFault;
@@ -63,7 +63,7 @@ impl<'a> Judge<'a> {
     }
 
     /// Goes to a child, by how many demands were made at its parent.
-    pub(crate) fn go_to(&mut self, asked: usize, child: Child, bound: u32) -> Result<(), StepFault>
+    pub(crate) fn go_to(&mut self, asked: usize, child: Child, aim: Aim) -> Result<(), StepFault>
         requires parent { asked ≤ length self.old.trail.demands.items }
         requires timely { IsTimely child }
         ensures ends { IfOk result (λ _. self.new.ends ≡ self.old.ends) }
@@ -74,11 +74,11 @@ impl<'a> Judge<'a> {
     {
         self.trail.go_back(asked);
         self.trail.add(child, &self.ends)?;
-        self.look_anew(asked, bound)
+        self.look_anew(asked, aim)
     }
 
     /// Looks for what agents cost of whom more is asked than at the parent, where that isn't known.
-    fn look_anew(&mut self, asked: usize, bound: u32) -> Result<(), StepFault>
+    fn look_anew(&mut self, asked: usize, aim: Aim) -> Result<(), StepFault>
         ensures ends { IfOk result (λ _. self.new.ends ≡ self.old.ends) }
         ensures tables { IfOk result (λ _. self.new.tables.items ≡ self.old.tables.items) }
         ensures demands { IfOk result (λ _. self.new.trail.demands ≡ self.old.trail.demands) }
@@ -86,27 +86,31 @@ impl<'a> Judge<'a> {
             → IfOk result (λ _. IsTrail m self.old.ends.items self.new.trail.demands.items self.new.trail.kept.items) }
     {
         if let Some(agent) = self.trail.only_agent(asked) {
-            return self.look_at(agent, asked, bound);
+            return self.look_at(agent, asked, aim);
         }
         for agent in 0..self.ends.len() {
-            self.look_at(agent, asked, bound)?;
+            self.look_at(agent, asked, aim)?;
         }
         Ok(())
     }
 
-    /// Looks for what an agent costs, where that isn't known.
-    fn look_at(&mut self, agent: usize, asked: usize, bound: u32) -> Result<(), StepFault>
+    /// Looks for what an agent costs, where that isn't known, unless all leaves below stand whatever it is.
+    fn look_at(&mut self, agent: usize, asked: usize, aim: Aim) -> Result<(), StepFault>
         ensures ends { IfOk result (λ _. self.new.ends ≡ self.old.ends) }
         ensures tables { IfOk result (λ _. self.new.tables.items ≡ self.old.tables.items) }
         ensures demands { IfOk result (λ _. self.new.trail.demands ≡ self.old.trail.demands) }
         ensures trail { (m : Grid) → AreTables m self.old.ends.items self.old.tables.items → IsTrail m self.old.ends.items self.old.trail.demands.items self.old.trail.kept.items
             → IfOk result (λ _. IsTrail m self.old.ends.items self.new.trail.demands.items self.new.trail.kept.items) }
     {
-        let from = self.cost_of(agent);
-        if from >= bound || self.is_as_before(agent, asked) {
+        if self.is_as_before(agent, asked) {
             return Ok(());
         }
-        let found = self.least(agent, from, bound)?;
+        let from = self.cost_of(agent);
+        let limit = self.limit_of(agent, aim);
+        if from >= limit {
+            return Ok(());
+        }
+        let found = self.least(agent, from, limit)?;
         self.trail.keep(agent, found)?;
         Ok(())
     }
@@ -120,6 +124,17 @@ impl<'a> Judge<'a> {
             Some(kept) => kept.cost,
             None => 0,
         }
+    }
+
+    /// From what cost of the agent on all leaves below stand, by what the others cost at least.
+    fn limit_of(&self, agent: usize, aim: Aim) -> u32 {
+        let mut limit = aim.bound;
+        for other in 0..self.ends.len() {
+            if other != agent {
+                limit = limit_beside(aim.objective, limit, self.cost_of(other));
+            }
+        }
+        limit
     }
 
     /// Whether the agent's walk is as the demands from a place on ask too.

@@ -87,7 +87,7 @@ impl Progress<'_> {
         let Stage::Nodes(aim) = self.stage else {
             return Err(ProofFault::NotTight);
         };
-        let _above = self.go_on(aim.bound)?;
+        let _above = self.go_on(aim)?;
         let least = match self.judge.least_costs(aim.bound) {
             Ok(least) => least,
             Err(fault) => return Err(unjudged(fault)),

@@ -157,7 +157,7 @@ impl<'a> Progress<'a> {
             × (due_of self.new ≡ nodes_due aim.objective aim.bound (self.old.nodes + 1) (subtrees ends self.old.judge.trail.demands.items others)))
             (IsLeafRefused m ends aim (subtree_of ends self.old.judge.trail.demands.items next).demands number) }
     {
-        let _above = self.go_on(aim.bound)?;
+        let _above = self.go_on(aim)?;
         self.judge_leaf(aim, number)?;
         self.nodes = self.nodes.saturating_add(1);
         Ok(())
@@ -173,7 +173,7 @@ impl<'a> Progress<'a> {
             (λ fault. IsUnjudged fault ⊎ IsMisplaced m ends node number fault) }
     {
         self.check_place(node, number)?;
-        let above = self.go_on(aim.bound)?;
+        let above = self.go_on(aim)?;
         self.split(node, above)?;
         self.nodes = self.nodes.saturating_add(1);
         Ok(())
@@ -204,7 +204,7 @@ impl<'a> Progress<'a> {
     }
 
     /// Goes on to the node that is due next, and says how many nodes are above it.
-    pub(crate) fn go_on(&mut self, bound: u32) -> Result<u32, ProofFault>
+    pub(crate) fn go_on(&mut self, aim: Aim) -> Result<u32, ProofFault>
         ensures { (m : Grid) (ends : List ends_type) (others : List due_node) (next : due_node) → IsProgress m ends self.old
             → self.old.due.items ≡ others ++ next ∷ [] → MatchResult result
             (λ above. (above ≡ next.above) × IsProgress m ends self.new × HasGoneTo ends others next self.old self.new) IsUnjudged }
@@ -215,7 +215,7 @@ impl<'a> Progress<'a> {
         if next.asked > self.judge.trail.demands.len() || !is_timely(next.child) {
             return Err(ProofFault::NotTight);
         }
-        match self.judge.go_to(next.asked, next.child, bound) {
+        match self.judge.go_to(next.asked, next.child, aim) {
             Ok(()) => Ok(next.above),
             Err(fault) => Err(unjudged(fault)),
         }

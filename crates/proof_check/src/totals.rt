@@ -15,6 +15,15 @@ pub(crate) fn total_below(objective: Objective, numbers: &[u32], bound: u32) -> 
     }
 }
 
+/// From what number on another one makes the total as much as a limit, beside this one.
+pub(crate) fn limit_beside(objective: Objective, limit: u32, number: u32) -> u32 {
+    match objective {
+        Objective::Cost => limit.saturating_sub(number),
+        Objective::Makespan if number >= limit => 0,
+        Objective::Makespan => limit,
+    }
+}
+
 fn sum_below(numbers: &[u32], bound: u32) -> Option<u32>
     ensures { MatchOption result (bound ≤ sum numbers.now) (λ total. (total ≡ sum numbers.now) × (total < bound)) }
 {

@@ -1,5 +1,5 @@
 -- How far a search has come, and what its steps come to.
-use Rattle.std.specs.Prelude.{◌≡◌, ℕ, ◌+◌, ◌<◌, ◌≤◌, ◌⊎◌, Bool, false, List, [], ◌∷◌, ◌++◌, Some, slice_get}
+use Rattle.std.specs.Prelude.{◌≡◌, ℕ, ◌+◌, ◌<◌, ◌≤◌, ◌⊎◌, Bool, false, List, [], ◌∷◌, ◌++◌, Some, reverse, slice_get}
 use Rattle.grid.specs.declared.cell.Cell.{Cell}
 use Rattle.model.specs.Costs.{cost}
 use Rattle.model.specs.Timetable.{Track, cell_at}
@@ -74,7 +74,7 @@ abbrev pub AllThrough : Wanted → List State → ℕ → Type 0
 AllThrough w states n = (k : ℕ) (s : State) (track : Track) → slice_get states k ≡ Some s → IsWanted w track → s.time < cost track → cell_at track s.time ≡ s.cell → n ≤ cost track
 
 -- from the one frontier the search came to the other: it has reached no less, and what waits waits rightly
-pub record ComesOn (w : Wanted) (budget : ℕ) (old new : Frontier) : Type 0 where
+pub record LeadsTo (w : Wanted) (budget : ℕ) (old new : Frontier) : Type 0 where
   pub closed : new.closed ≡ old.closed
   pub keeps : (track : Track) (t : ℕ) → IsWanted w track → t < cost track → HasReached old (cell_at track t) t → HasReached new (cell_at track t) t
   pub next : AllThrough w old.next.items (budget + 1) → AllThrough w new.next.items (budget + 1)
@@ -89,12 +89,12 @@ pub record IsCostSearch (w : Wanted) (budget : ℕ) (f : Frontier) : Type 0 wher
   pub after : AllThrough w f.after.items (budget + 2)
 
 -- what came of going on
-abbrev pub IsAdvancedSearch : Wanted → ℕ → Frontier → Advance → Type 0
-IsAdvancedSearch w budget f On = IsCostSearch w budget f
-IsAdvancedSearch w budget f (Arrived from) = Unit {0}
-IsAdvancedSearch w budget f Exhausted = IsCostSearch w budget f × (f.waiting.items ≡ [])
+abbrev pub HasGoneOn : Wanted → ℕ → Frontier → Advance → Type 0
+HasGoneOn w budget f On = IsCostSearch w budget f
+HasGoneOn w budget f (Arrived from) = Unit {0}
+HasGoneOn w budget f Exhausted = IsCostSearch w budget f × (f.waiting.items ≡ [])
 
--- a state was put behind those that were there, or it wasn't
+-- a state was put behind those that were there
 abbrev pub IsPutBehind : List State → List State → State → Type 0
 IsPutBehind old new s = new ≡ old ++ s ∷ []
 
@@ -109,10 +109,10 @@ pub record HasPut (old new : Frontier) (s : State) (through budget : ℕ) : Type
 abbrev pub IsPutOff : Frontier → Frontier → State → (through budget highest : ℕ) → Type 0
 IsPutOff old new s through budget highest = HasPut old new s through budget ⊎ ((new ≡ old) × (highest < through))
 
--- what waited for the next budget waits for this one, and the rest one closer
+-- what waited for the next budget waits for this one, the first last, and the rest one closer
 pub record IsRaised (old new : Frontier) (is_any : Bool) : Type 0 where
   pub closed : new.closed ≡ old.closed
-  pub waiting : new.waiting.items ≡ old.next.items
+  pub waiting : new.waiting.items ≡ reverse old.next.items
   pub next : new.next.items ≡ old.after.items
   pub after : new.after.items ≡ []
   pub none : is_any ≡ false → (old.next.items ≡ []) × (old.after.items ≡ [])

@@ -1,6 +1,5 @@
 -- The cell waits before it has its mark.
 use Rattle.std.proofs.Common.{◌<◌, ◌∙◌, sym, ap, subst}
-use Rattle.least_costs.specs.declared.marks.Mark.{Mark}
 use Rattle.least_costs.specs.Code.Marks.{mark_at}
 use Rattle.least_costs.proofs.GoalSearchLemmas.{reached, same_still}
 use Rattle.least_costs.proofs.goal_search.GoalSearch.reach.Goals as goal
@@ -14,6 +13,6 @@ pub returns-clause-search : goal.returns-clause-search
 returns-clause-search c = λ m is.
     let s = c.wait.new.self in
     let cell = c.args.cell in
-    let fewer = subst (λ (k : Mark). c.args.steps < k.steps) (c.at.ensures ∙ ap (λ marks. mark_at marks cell) (sym c.wait.ensures.marks)) c.if-at-steps.false in
+    let fewer = subst (λ k. c.args.steps < k) (c.at.ensures.mark ∙ ap (λ marks. mark_at marks cell) (sym c.wait.ensures.marks)) c.if-at-steps.false in
     reached m s.goal s.start s.marks c.put.new.self s.next.items s.later.items s.through cell c.args.steps c.in_ok-put.ensures.put fewer c.in_ok-wait.ensures.waits
     (c.wait.ensures.search m is)

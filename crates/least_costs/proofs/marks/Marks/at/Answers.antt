@@ -7,8 +7,8 @@ use Rattle.least_costs.proofs.MarkLemmas.{read, read_none, read_off}
 use Rattle.least_costs.proofs.marks.Marks.at.Goals as goal
 use Rattle.least_costs.proofs.marks.Marks.at.Goals.{else-row-len-via-then-row-len+else-column-len, else-row-len-via-else-row-len}
 
-pub returns-then-column-len : goal.returns-then-column-len
-returns-then-column-len c =
+pub returns-then-column-len-clause-mark : goal.returns-then-column-len-clause-mark
+returns-then-column-len-clause-mark c =
     let rows = c.args.self.now.rows.items in
     let cell = c.args.cell in
     let first = c.index.result.now in
@@ -24,8 +24,8 @@ returns-then-column-len c =
     let is = slice_get_read row.marks.items (length row.marks.items) c.from-column.result mark refl has c.index-then-column-len-2.ensures in
     sym (read rows cell row mark there (subst (λ k. slice_get row.marks.items k ≡ Some mark) c.from-column.ensures is))
 
-pub returns-else-row-len : goal.returns-else-row-len
-returns-else-row-len c =
+pub returns-else-row-len-clause-mark : goal.returns-else-row-len-clause-mark
+returns-else-row-len-clause-mark c =
     let rows = c.args.self.now.rows.items in
     let cell = c.args.cell in
     elim c.else-row-len.branch [
