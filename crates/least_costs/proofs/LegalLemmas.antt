@@ -1,5 +1,5 @@
 -- Each legal step leads to a cell to which there is a way, and back.
-use Rattle.std.proofs.Common.{◌≡◌, ◌∙◌, ℕ, ◌+◌, ◌-◌, ◌*◌, ◌<◌, ◌≤◌, ◌⊎◌, true, List, [], ◌∷◌, ◌++◌, length, Some, None, inl, inr, arith, refl, sym, ap, subst}
+use Rattle.std.proofs.Common.{◌≡◌, ◌∙◌, ℕ, ◌+◌, ◌-◌, ◌*◌, ◌<◌, ◌≤◌, ◌⊎◌, ◌↔◌, true, List, [], ◌∷◌, ◌++◌, length, Some, None, inl, inr, arith, refl, sym, ap, subst}
 use Rattle.std.specs.Prelude.{Option, slice_get}
 use Rattle.std.proofs.lemmas.Bool.{cases_lt}
 use Rattle.std.proofs.lemmas.List.{get_or_append_left, length-append}
@@ -13,14 +13,16 @@ use Rattle.least_costs.specs.declared.legal_steps.Ways.{Ways}
 use Rattle.least_costs.specs.declared.sides.Sides.{Sides}
 use Rattle.least_costs.specs.Code.Ways.{AreAllWays, AreWays}
 use Rattle.least_costs.proofs.ListLemmas.{get-last}
-use Rattle.least_costs.proofs.SideLemmas.{AreSides, on_map, same_cells, same_number}
+use Rattle.least_costs.proofs.SideLemmas.{AreSides, from_map, on_map, same_cells, same_number}
 
 -- ---- a step, and the way for it
 
 module _ (m : Grid) (u : Cell) (sides : Sides) (ways : Ways) (are : AreSides u sides) where
   -- the way for each step to one of the sides
-  pub ways_hold : IsMap m → (IsStraightStep m u sides.north → ways.north ≡ true) → (IsStraightStep m u sides.south → ways.south ≡ true)
-      → (IsStraightStep m u sides.west → ways.west ≡ true) → (IsStraightStep m u sides.east → ways.east ≡ true) → AreWays m u ways
+  ways_hold : IsMap m → (IsStraightStep m u sides.north → ways.north ≡ true) → (IsStraightStep m u sides.south → ways.south ≡ true)
+      → (IsStraightStep m u sides.west → ways.west ≡ true) → (IsStraightStep m u sides.east → ways.east ≡ true) → (v : Cell) → IsStraightStep m u v
+      → ((v ≡ record { x = u.x; y = u.y - 1 }) × (ways.north ≡ true)) ⊎ ((v ≡ record { x = u.x; y = u.y + 1 }) × (u.y < 65535) × (ways.south ≡ true))
+      ⊎ ((v ≡ record { x = u.x - 1; y = u.y }) × (ways.west ≡ true)) ⊎ ((v ≡ record { x = u.x + 1; y = u.y }) × (u.x < 65535) × (ways.east ≡ true))
   ways_hold is_map north south west east v step = by_side step.side
     where
       on : (v.x < m.width) × (v.y < m.height)
@@ -57,10 +59,31 @@ module _ (m : Grid) (u : Cell) (sides : Sides) (ways : Ways) (are : AreSides u s
             inr (inr (inr (same, room, east (to sides.east (same ∙ sym (are.east room))))))
       ]
 
+  -- and each way is a step
+  pub are_ways : IsMap m → (IsStraightStep m u sides.north ↔ (ways.north ≡ true)) → (IsStraightStep m u sides.south ↔ (ways.south ≡ true))
+      → (IsStraightStep m u sides.west ↔ (ways.west ≡ true)) → (IsStraightStep m u sides.east ↔ (ways.east ≡ true)) → AreWays m u ways
+  are_ways is_map north south west east = record {
+    hold = ways_hold is_map north.0 south.0 west.0 east.0;
+    north = λ is. subst (IsStraightStep m u) are.north (north.1 is);
+    south = λ is. (let room = low (south.1 is) in (room, subst (IsStraightStep m u) (are.south room) (south.1 is)));
+    west = λ is. subst (IsStraightStep m u) are.west (west.1 is);
+    east = λ is. (let room = left (east.1 is) in (room, subst (IsStraightStep m u) (are.east room) (east.1 is)));
+  }
+    where
+      low : IsStraightStep m u sides.south → u.y < 65535
+      low step =
+          let on = from_map m u (terrain_at m sides.south) step.joined in
+          let high = is_map.size.height_limit in omega (arith, on.1, high)
+
+      left : IsStraightStep m u sides.east → u.x < 65535
+      left step =
+          let on = from_map m u (terrain_at m sides.east) step.joined in
+          let wide = is_map.size.width_limit in omega (arith, on.0, wide)
+
   -- each legal step leads to a side to which there is a way
   pub way_of : AreWays m u ways → (v : Cell) → IsStraightStep m u v
       → ((v ≡ sides.north) × (ways.north ≡ true)) ⊎ ((v ≡ sides.south) × (ways.south ≡ true)) ⊎ ((v ≡ sides.west) × (ways.west ≡ true)) ⊎ ((v ≡ sides.east) × (ways.east ≡ true))
-  way_of legal v step = elim (legal v step) [
+  way_of legal v step = elim (legal.hold v step) [
     | inl north ↦ inl (north.0 ∙ sym are.north, north.1)
     | inr (inl south) ↦ inr (inl (south.0 ∙ sym (are.south south.1), south.2))
     | inr (inr (inl west)) ↦ inr (inr (inl (west.0 ∙ sym are.west, west.1)))

@@ -7,11 +7,12 @@ use crate::asked::{highest, lowest};
 use crate::expand::Query;
 use crate::frontier::Frontier;
 use crate::goal_steps::GoalSteps;
+use crate::legal_steps::LegalSteps;
 use crate::rules::Rules;
 use crate::seek::{Arrival, seek};
 use crate::states::State;
 use crate::way::{is_way, may_start};
-use grid::{Cell, Map};
+use grid::Cell;
 use least_steps::StepFault;
 use optimality::{Constraint, Ends};
 use std::alloc::{AllocError, Global};
@@ -66,12 +67,12 @@ impl CostSearch {
             → IfOk result (λ l. 0 < length l.walk.items → IsLeastCost goal.old.map (record { start = start; goal = goal.old.goal }) asked.now l.cost) }
         ensures limit { IfOk result (λ l. length l.walk.items ≡ 0 → limit ≤ l.cost) }
     {
-        let map = goal.map();
+        let legal = goal.legal();
         let ends = Ends {
             start,
             goal: goal.goal(),
         };
-        if !may_start(map, start, asked) {
+        if !may_start(goal.map(), start, asked) {
             return Ok(unwalked(self.alloc, limit));
         }
         let steps = goal.exactly(start)?;
@@ -81,7 +82,7 @@ impl CostSearch {
             return Ok(unwalked(self.alloc, limit));
         }
         if least == 0 {
-            return walked(map, ends, asked, stay(self.alloc, start)?, 0);
+            return walked(legal, ends, asked, stay(self.alloc, start)?, 0);
         }
         let highest = highest(asked, limit);
         self.rules.take(asked)?;
@@ -102,7 +103,7 @@ impl CostSearch {
             Some(arrival) => {
                 let closed = self.front.closed.as_slice();
                 let walk = trace(self.alloc, goal, known.walk, closed, arrival)?;
-                walked(map, ends, asked, walk, arrival.time)
+                walked(legal, ends, asked, walk, arrival.time)
             }
             None => Ok(unwalked(self.alloc, limit)),
         }
@@ -111,17 +112,17 @@ impl CostSearch {
 
 /// A walk that was found, if it leads from the start to the goal, is as it is asked and costs so much.
 fn walked(
-    map: &Map,
+    legal: &LegalSteps<'_>,
     ends: Ends,
     asked: &[Constraint],
     walk: Vec<Cell>,
     cost: u32,
 ) -> Result<Least, StepFault>
-    ensures least { CostsAtLeast map.now ends asked.now cost → IfOk result (λ l. IsLeastCost map.now ends asked.now l.cost) }
+    ensures least { CostsAtLeast legal.now ends asked.now cost → IfOk result (λ l. IsLeastCost legal.now ends asked.now l.cost) }
     ensures walk { IfOk result (λ l. 0 < length l.walk.items) }
 {
     let is_least = walk.len() == cost as usize + 1;
-    if !is_least || !is_way(map, ends, asked, &walk) {
+    if !is_least || !is_way(legal, ends, asked, &walk) {
         return Err(StepFault::NotTight);
     }
     Ok(Least { cost, walk })

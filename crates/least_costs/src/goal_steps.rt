@@ -106,6 +106,13 @@ impl<'a> GoalSteps<'a> {
     }
 
     #[inline(always)]
+    pub(crate) fn legal(&self) -> &'a LegalSteps<'a>
+        ensures { result.now ≡ self.now.map }
+    {
+        self.legal
+    }
+
+    #[inline(always)]
     pub(crate) fn map(&self) -> &'a Map
         ensures { result.now ≡ self.now.map }
     {

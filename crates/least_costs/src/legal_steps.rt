@@ -1,5 +1,6 @@
 //! Which straight steps are legal from each cell of a map.
-ghost use Rattle.std.specs.Prelude.{◌≡◌, ◌+◌, ◌*◌, ◌<◌, IfOk, length};
+ghost use Rattle.std.specs.Prelude.{◌≡◌, ◌+◌, ◌*◌, ◌<◌, IfOk, length, true};
+ghost use Rattle.grid.specs.Map.{IsStraightStep};
 ghost use Rattle.least_costs.specs.Code.Ways.{AreAllWays, AreWays};
 
 use crate::sides::{place_of, sides_of};
@@ -62,6 +63,24 @@ impl<'a> LegalSteps<'a> {
         ensures { result.now ≡ self.now }
     {
         self.map
+    }
+
+    /// Whether a straight step leads from the one cell to the other.
+    #[inline(always)]
+    pub(crate) fn is_step(&self, from: Cell, to: Cell) -> bool
+        ensures { result ≡ true → IsStraightStep self.now from to }
+    {
+        let ways = self.from(from);
+        let sides = sides_of(from);
+        if to == sides.north {
+            ways.north
+        } else if to == sides.south {
+            ways.south
+        } else if to == sides.west {
+            ways.west
+        } else {
+            ways.east && to == sides.east
+        }
     }
 
     /// Where a straight step may lead from a cell.

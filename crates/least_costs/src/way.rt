@@ -8,14 +8,20 @@ ghost use Rattle.optimality.specs.Constraints.{MeetsAll};
 ghost use Rattle.optimality.specs.Walkers.{along, IsAgentWalk, MayFollow};
 
 use crate::asked::forbid_start;
+use crate::legal_steps::LegalSteps;
 use crate::walk::{cost_of, meets_all};
-use grid::{Cell, Map, Terrain, step4};
+use grid::{Cell, Map, Terrain};
 use optimality::{Constraint, Ends};
 
 /// Whether a walk goes from the start to the goal, is as it is asked, and has no cell beyond the
 /// one in which it comes to rest.
-pub(crate) fn is_way(map: &Map, ends: Ends, asked: &[Constraint], walk: &[Cell]) -> bool
-    ensures walker { result ≡ true → IsAgentWalk map.now ends (along walk.now) }
+pub(crate) fn is_way(
+    legal: &LegalSteps<'_>,
+    ends: Ends,
+    asked: &[Constraint],
+    walk: &[Cell],
+) -> bool
+    ensures walker { result ≡ true → IsAgentWalk legal.now ends (along walk.now) }
     ensures meets { result ≡ true → MeetsAll asked.now (along walk.now) }
     ensures cost { result ≡ true → length walk.now ≡ cost (along walk.now) + 1 }
 {
@@ -26,7 +32,7 @@ pub(crate) fn is_way(map: &Map, ends: Ends, asked: &[Constraint], walk: &[Cell])
     if walk[0] != ends.start || walk[cost] != ends.goal {
         return false;
     }
-    if !is_passable(map, ends.start) || !are_steps(map, walk) {
+    if !is_passable(legal.map(), ends.start) || !are_steps(legal, walk) {
         return false;
     }
     meets_all(walk, asked)
@@ -46,13 +52,13 @@ pub(crate) fn may_start(map: &Map, start: Cell, asked: &[Constraint]) -> bool
 }
 
 /// Whether each cell may follow the one before it.
-fn are_steps(map: &Map, walk: &[Cell]) -> bool
-    ensures { result ≡ true → (k : ℕ) (u v : Cell) → slice_get walk.now k ≡ Some u → slice_get walk.now (k + 1) ≡ Some v → MayFollow map.now u v }
+fn are_steps(legal: &LegalSteps<'_>, walk: &[Cell]) -> bool
+    ensures { result ≡ true → (k : ℕ) (u v : Cell) → slice_get walk.now k ≡ Some u → slice_get walk.now (k + 1) ≡ Some v → MayFollow legal.now u v }
 {
     for at in 1..walk.len() {
         let from = walk[at - 1];
         let to = walk[at];
-        if to != from && !step4(map, from, to) {
+        if to != from && !legal.is_step(from, to) {
             return false;
         }
     }

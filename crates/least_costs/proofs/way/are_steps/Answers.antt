@@ -8,11 +8,11 @@ use Rattle.grid.specs.Map.{IsStraightStep}
 use Rattle.optimality.specs.Walkers.{MayFollow}
 use Rattle.least_costs.proofs.AlongLemmas.{at_place}
 use Rattle.least_costs.proofs.way.are_steps.Goals as goal
-use Rattle.least_costs.proofs.way.are_steps.Goals.{else-ne-via-then-ne+else-not-step4, else-ne-via-else-ne}
+use Rattle.least_costs.proofs.way.are_steps.Goals.{else-ne-via-then-ne+else-not-is_step, else-ne-via-else-ne}
 
 pub loop-at-preserved : goal.loop-at-preserved
 loop-at-preserved c = λ k u v less first second.
-    let m = c.args.map.now in
+    let m = c.args.legal.now in
     let cells = c.args.walk.now in
     let at = c.loop-at.at in
     let none : Cell = record { x = 0; y = 0 } in
@@ -26,7 +26,7 @@ loop-at-preserved c = λ k u v less first second.
           let within : at < length cells = c.loop-at-test.true in
           let earlier : at - 1 < length cells = omega (arith, within) in
           let may : MayFollow m from to = elim c.else-ne.branch [
-            | else-ne-via-then-ne+else-not-step4 w ↦ (let step : IsStraightStep m from to = search rules in inr step)
+            | else-ne-via-then-ne+else-not-is_step w ↦ (let step : IsStraightStep m from to = search rules in inr step)
             | else-ne-via-else-ne w ↦ (let same : to ≡ from = search rules in inl same)
           ] in
           subst (λ (x : Cell). MayFollow m x v) (at_place cells none k (at - 1) u place earlier first)

@@ -17,7 +17,7 @@ returns-clause-walker c = λ _.
     let within : n < length cells = omega (arith, c.if-walk-cost.false) in
     let first : slice_index_or cells 0 none ≡ ends.start = search rules in
     let last : slice_index_or cells n none ≡ ends.goal = search rules in
-    let passable : IsPassable c.args.map.now ends.start = search rules in
+    let passable : IsPassable c.args.legal.now ends.start = search rules in
     let followed : c.are_steps.result ≡ true = search rules in
-    walks c.args.map.now ends cells n (slice_get-get_or cells 0 none some ∙ ap Some first) c.cost_of-cost.ensures.cost
+    walks c.args.legal.now ends cells n (slice_get-get_or cells 0 none some ∙ ap Some first) c.cost_of-cost.ensures.cost
     (slice_get-get_or cells n none within ∙ ap Some last) passable (c.are_steps.ensures followed)

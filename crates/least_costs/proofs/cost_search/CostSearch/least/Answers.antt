@@ -56,9 +56,9 @@ found c known =
       })
     ] in
     subst (λ (d : Cell). IfOk c.walked-in-Some.result (λ l. IsLeastCost g.map (record { start = start; goal = d }) asked l.cost)) c.goal.ensures
-    (subst (λ (m : Grid). IfOk c.walked-in-Some.result (λ l. IsLeastCost m (record { start = start; goal = c.goal.result }) asked l.cost)) c.map-map.ensures
+    (subst (λ (m : Grid). IfOk c.walked-in-Some.result (λ l. IsLeastCost m (record { start = start; goal = c.goal.result }) asked l.cost)) c.legal-legal.ensures
     (c.walked-in-Some.ensures.least
-    (subst (λ (m : Grid). CostsAtLeast m (record { start = start; goal = c.goal.result }) asked time) (sym c.map-map.ensures)
+    (subst (λ (m : Grid). CostsAtLeast m (record { start = start; goal = c.goal.result }) asked time) (sym c.legal-legal.ensures)
     (subst (λ (d : Cell). CostsAtLeast g.map (record { start = start; goal = d }) asked time) (sym c.goal.ensures) lower))))
 
 pub returns-in_ok-walk-in-Some-clause-bound : goal.returns-in_ok-walk-in-Some-clause-bound
