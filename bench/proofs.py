@@ -1,4 +1,4 @@
-"""Plans of shortest walks that don't conflict, and proofs that none costs less."""
+"""Plans, and proofs that none costs less."""
 import random
 from typing import Optional, Sequence
 
@@ -70,13 +70,47 @@ class Taken:
         self.steps.update((time, *step) for time, step in enumerate(zip(walk, walk[1:])))
 
 
-def walks_on(map_text: str, seed: int, count: int) -> list[Walk]:
-    """Shortest walks of so many agents, of which no two conflict."""
-    rows = map_text.split("\n")[4:-1]
+class Crossing:
+    """Agents along even rows to the east and as many along even columns to the south, each straight
+    from the diagonal x + y = side - 1 to the edge. The n-th of both come to one cell at a time, so
+    one of them has to wait: no plan costs less than its walks and one for each pair."""
+
+    def __init__(self, side: int, pairs: int, time: int) -> None:
+        self.side, self.time = side, time
+        self.rows = range(side - 2 * pairs, side, 2)
+        self.columns = [side - 1 + time - y for y in self.rows]
+
+    def walks(self) -> list[Walk]:
+        """Those along rows wait at first, so that no two conflict."""
+        side = self.side
+        along_rows = [[(x, y) for x in range(side - 1 - y, side)] for y in self.rows]
+        along_columns = [[(x, y) for y in range(side - 1 - x, side)] for x in self.columns]
+        return [walk[:1] + walk for walk in along_rows] + along_columns
+
+    def split_lines(self) -> list[str]:
+        """A node for each pair: one of the two isn't where they meet."""
+        pairs = zip(self.rows, self.columns)
+        count = len(self.rows)
+        return [
+            f"vertex {n} {count + n} {self.time} {x} {y}" for n, (y, x) in enumerate(pairs)
+        ]
+
+    def clear(self, rows: Sequence[str]) -> list[str]:
+        """The rows of a map, in which the cells of the walks are floor."""
+        cleared = [list(row) for row in rows]
+        for walk in self.walks():
+            for x, y in walk:
+                cleared[y][x] = "."
+        return ["".join(row) for row in cleared]
+
+
+def walks_beside(rows: Sequence[str], walks: list[Walk], seed: int, count: int) -> list[Walk]:
+    """Walks, and shortest ones of others beside, so many in all, of which no two conflict."""
     width, height = len(rows[0]), len(rows)
     rng = random.Random(f"walks {width} {height} {seed}")
-    walks: list[Walk] = []
     taken = Taken(2 * (width + height))
+    for walk in walks:
+        taken.add(walk)
     while len(walks) < count:
         start, goal = ((rng.randrange(width), rng.randrange(height)) for _ in range(2))
         if not (is_floor(rows, start) and is_floor(rows, goal)):
@@ -88,28 +122,52 @@ def walks_on(map_text: str, seed: int, count: int) -> list[Walk]:
     return walks
 
 
-def split_line(rng: random.Random, walks: Sequence[Walk]) -> str:
-    """A node that splits by where an agent's walk is, as by a conflict with another one, or by the
-    agent alone: then one child asks for another walk, whichever a program has found."""
-    one, other = rng.sample(range(len(walks)), 2)
-    time = rng.randrange(1, max(2, len(walks[one])))
-    x, y = at(walks[one], time)
-    return rng.choice((f"vertex {one} {other} {time} {x} {y}", f"at {one} {time} {x} {y}"))
+def tree(splits: Sequence[str]) -> list[str]:
+    """A node, and both its children, split on by the others."""
+    if not splits:
+        return ["leaf"]
+    below = tree(splits[1:])
+    return [splits[0], *below, *below]
 
 
-def proof_text(walks: Sequence[Walk], seed: int, nodes: int) -> str:
-    """The text of a proof that no plan costs less than these walks, with so many nodes, an odd
-    number. Of the splits below a node each child has a quarter at least."""
-    rng = random.Random(f"proof {len(walks)} {seed}")
-    bound = sum(len(walk) - 1 for walk in walks)
-    lines, left = ["mapf-proof 1", "objective cost", f"bound {bound}"], [nodes // 2]
+def repeated(below: list[str], copies: int, rows: Sequence[str], agents: int) -> list[str]:
+    """So many copies of a tree, under splits by a blocked cell, which ask nothing of anybody. Of the
+    copies below a split each child has a quarter at least."""
+    rng = random.Random(f"copies {copies}")
+    x, y = next((x, y) for y, row in enumerate(rows) for x in range(len(row)) if row[x] == "@")
+    lines, left = [], [copies]
     while left:
-        splits = left.pop()
-        if splits == 0:
-            lines.append("leaf")
+        count = left.pop()
+        if count == 1:
+            lines += below
             continue
-        lines.append(split_line(rng, walks))
-        below = splits - 1
-        first = rng.randrange(below // 4, below - below // 4 + 1)
-        left += [below - first, first]
-    return "\n".join([*lines, ""])
+        one, other = rng.sample(range(agents), 2)
+        lines.append(f"vertex {one} {other} {rng.randrange(len(rows))} {x} {y}")
+        least = max(1, count // 4)
+        first = rng.randint(least, count - least)
+        left += [count - first, first]
+    return lines
+
+
+def proof_text(bound: int, lines: Sequence[str]) -> str:
+    return "\n".join(["mapf-proof 1", "objective cost", f"bound {bound}", *lines, ""])
+
+
+def parts_of(text: str) -> tuple[list[str], list[str]]:
+    """The lines of a proof's head, and those of its tree."""
+    lines = text.split("\n")[:-1]
+    return lines[:3], lines[3:]
+
+
+def scenario_text(rows: Sequence[str], seed: int, agents: int) -> str:
+    """So many rows between cells of floor from which ways lead to the others, no two with a cell in
+    common."""
+    rng = random.Random(f"scenario {seed}")
+    cells = [(x, y) for y, row in enumerate(rows) for x in range(len(row)) if row[x] == "."]
+    middle = min(cells, key=lambda cell: distance(cell, (len(rows[0]) // 2, len(rows) // 2)))
+    near = [cell for cell in cells if shortest_walk(rows, middle, cell)]
+    ends = rng.sample(near, 2 * agents)
+    size = f"0\tm.map\t{len(rows[0])}\t{len(rows)}"
+    pairs = zip(ends[::2], ends[1::2])
+    lines = [f"{size}\t{x}\t{y}\t{u}\t{v}\t0" for (x, y), (u, v) in pairs]
+    return "\n".join(["version 1", *lines, ""])

@@ -566,6 +566,20 @@ def of_proofs(harness: Harness) -> list[Outcome]:
     return outcomes
 
 
+def of_walled_agents(harness: Harness) -> list[Outcome]:
+    """Two halves of a map with one gap between them. The first agent ends in the gap, once the second one is through: it comes there at time 50 at
+    the soonest, so the first one costs 51. If it cost less, the second one would never come through. Many others go 90 steps, so that the bound is
+    far above what the second one costs."""
+    side, gap, others = 200, 100, 60
+    rows = ["." * gap + ("." if y == gap else "@") + "." * (side - gap - 1) for y in range(side)]
+    agents = [f"{gap - 1} {gap + 1} {'-' * 49}ne", f"{gap // 2} {gap} {'e' * 100}"]
+    agents += [f"0 {y} {'e' * 90}" for y in range(others)]
+    bound = 51 + 100 + 90 * others
+    text = f"mapf-proof 1\nobjective cost\nbound {bound}\nstays 0 50\nleaf\nleaf\n"
+    files = {"M": map_text(rows), "P": plan(*agents).encode(), "T": text.encode()}
+    return [asked(harness, f"one of {len(agents)} agents is walled off", "optimal M P T", files, answer(0, f"optimal cost {bound} nodes 3\n"))]
+
+
 TESTS: Sequence[Test] = (
     of_maps,
     *(functools.partial(of_walks, width=width, height=height) for width, height in ((2_048, 2_047), (65_535, 63), (64, 65_535))),
@@ -582,6 +596,7 @@ TESTS: Sequence[Test] = (
     *(functools.partial(of_long_runs, version=version) for version in (1, 2)),
     of_long_tapes,
     of_proofs,
+    of_walled_agents,
     of_what_an_agent_keeps,
 )
 

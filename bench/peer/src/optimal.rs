@@ -116,7 +116,7 @@ pub fn prove(map: File, plan: File, proof: File) -> Result<(String, bool), Fault
     let mut lines = Lines::new(proof);
     let (objective, bound) = lines.header()?;
     let ground = Ground::new(width, height, &cells);
-    let team = Team::new(&ground, &ends_of(&plan));
+    let team = Team::new(&ground, &ends_of(&plan), objective, bound);
     let mut tree = Tree { width: width as u32, height: height as u32, team, open: Vec::new(), depth: 0 };
     let nodes = match judge(&mut lines, &mut tree, objective, bound)? {
         Ok(nodes) => nodes,

@@ -34,10 +34,12 @@ impl Search {
         Search { rules: Rules::default(), states: Vec::new(), waiting: Vec::new(), at_hand: 0, first: 0, seen: Seen::new() }
     }
 
-    /// A walk of least cost, by its place at each time up to that; none where there is none.
-    pub fn least(&mut self, ground: &Ground, far: &mut Far, (start, goal): (Cell, Cell), asked: &[Asked]) -> Option<Vec<u32>> {
+    /// A walk of least cost, by its place at each time up to that; none where there is none below the limit.
+    pub fn least(&mut self, ground: &Ground, far: &mut Far, (start, goal): (Cell, Cell), asked: &[Asked], limit: u64) -> Option<Vec<u32>> {
         let (place, goal) = (ground.place(start) as u32, ground.place(goal) as u32);
+        let most = limit.checked_sub(1)?;
         self.rules.take(ground, asked, goal);
+        self.rules.most = self.rules.most.min(most.min(u32::MAX.into()) as u32);
         self.raise(ground, far, goal, asked);
         let is_out = far.exactly(ground, place) == NOWHERE || self.rules.least == NOWHERE;
         if is_out || !self.rules.is_in_reach(start, 0) || !asked.iter().all(|it| it.allows(place, place, 0)) {
@@ -50,10 +52,6 @@ impl Search {
         while let Some(number) = self.next() {
             let state = self.states[number as usize];
             let through = self.through(far.exactly(ground, state.place), state.time).max(state.through);
-            if through > self.rules.most {
-                // Others that wait may still cost less: this one was only known to cost as much at least.
-                continue;
-            }
             if through > state.through {
                 self.open(State { through, ..state });
             } else if self.is_new(state) {
@@ -99,8 +97,8 @@ impl Search {
 
     #[inline(always)]
     fn open(&mut self, state: State) {
-        // No walk leads on from there.
-        if state.through == NOWHERE {
+        // No walk leads on from there, or all cost too much.
+        if state.through == NOWHERE || state.through > self.rules.most {
             return;
         }
         let at = (state.through - self.first) as usize;

@@ -9,7 +9,7 @@ struct Agent {
     ends: (Cell, Cell),
     far: Far,
     asked: Vec<Asked>,
-    /// A least walk, by its place at each time up to its cost; without places where there is none.
+    /// A least walk, by its place at each time up to its cost; without places where all leaves below stand whatever it is.
     walk: Vec<u32>,
 }
 
@@ -27,8 +27,11 @@ pub struct Team<'a> {
     agents: Vec<Agent>,
     search: Search,
     changes: Vec<Change>,
+    objective: Objective,
+    /// What a leaf has to come to.
+    bound: u64,
     sum: u64,
-    /// How many agents have no walk.
+    /// How many agents have no walk by which a leaf might be too low.
     stuck: usize,
 }
 
@@ -39,11 +42,11 @@ fn place(ground: &Ground, [x, y]: [u16; 2]) -> u32 {
 
 impl<'a> Team<'a> {
     /// Agents with these starts and goals, of whom nothing is asked.
-    pub fn new(ground: &'a Ground, ends: &[(Cell, Cell)]) -> Team<'a> {
+    pub fn new(ground: &'a Ground, ends: &[(Cell, Cell)], objective: Objective, bound: u64) -> Team<'a> {
         let agent = |&ends: &(Cell, Cell)| Agent { ends, far: Far::new(ground, ends.0, ends.1), asked: Vec::new(), walk: Vec::new() };
         let agents: Vec<Agent> = ends.iter().map(agent).collect();
         let stuck = agents.len();
-        let mut team = Team { ground, agents, search: Search::new(), changes: Vec::new(), sum: 0, stuck };
+        let mut team = Team { ground, agents, search: Search::new(), changes: Vec::new(), objective, bound, sum: 0, stuck };
         for agent in 0..ends.len() {
             team.walk_anew(agent);
         }
@@ -80,9 +83,19 @@ impl<'a> Team<'a> {
         old
     }
 
+    /// From what cost of an agent on all leaves below stand.
+    fn limit_of(&self, agent: usize) -> u64 {
+        let own = (self.agents[agent].walk.len() as u64).saturating_sub(1);
+        match self.objective {
+            Objective::Cost => self.bound.saturating_sub(self.sum - own),
+            Objective::Makespan => self.bound,
+        }
+    }
+
     fn walk_anew(&mut self, agent: usize) {
+        let limit = self.limit_of(agent);
         let it = &mut self.agents[agent];
-        let walk = self.search.least(self.ground, &mut it.far, it.ends, &it.asked).unwrap_or_default();
+        let walk = self.search.least(self.ground, &mut it.far, it.ends, &it.asked, limit).unwrap_or_default();
         let old = self.put_walk(agent, walk);
         self.changes.push(Change::Walked(agent, old));
     }
