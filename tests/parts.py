@@ -36,6 +36,7 @@ import listing
 import messages
 import proving
 import refusals
+import repairing
 import replays
 import robots
 import rows_and_bounds
@@ -79,6 +80,7 @@ PARTS: dict[str, tuple[str, Callable[[Harness], Iterator[Outcome]]]] = {
     "listing": ("all faults of plans, beside a list of all pairs", listing.outcomes),
     "convert": ("plans of other formats, converted and back", converting.outcomes),
     "judge": ("many plans, judged as one table", judging.outcomes),
+    "repair": ("plans in which agents rotate, planned anew", repairing.outcomes),
     "rows": ("many scenarios, certified as one table", tabling.outcomes),
     "show": ("plans and runs as pages in a browser, and as pictures", showing.outcomes),
     "vectors": ("the answers of an independent implementation", vectors.outcomes),

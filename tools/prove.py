@@ -13,7 +13,6 @@ be none, and then none is written. Status 0: the plan is optimal; 1: the time wa
 leads from a start to its goal.
 """
 import argparse
-import collections
 import dataclasses
 import heapq
 import itertools
@@ -25,14 +24,12 @@ from typing import Iterator, NamedTuple, Optional, Sequence
 
 sys.dont_write_bytecode = True
 sys.path.append(str(pathlib.Path(__file__).resolve().parent.parent / "examples" / "fleet"))
+from ground import BadMap, Cell, Ground, Walk, traced  # noqa: E402
 from plan_formats import mapf_plan  # noqa: E402
-from plan_formats.walks import STEPS, walk_of  # noqa: E402
+from plan_formats.walks import walk_of  # noqa: E402
 from planning import Reservations, search  # noqa: E402
+from progress import Progress  # noqa: E402
 
-Cell = tuple[int, int]
-Walk = list[Cell]
-# From which terrain a straight step leads to which.
-JOINED = {(one, other) for group in (".GS", "W") for one in group for other in group}
 # Of so many conflicts of a node the one is taken that makes both children cost most.
 COMPARED = 6
 # So many orders of the agents are tried for a plan where the time is over.
@@ -64,71 +61,29 @@ class Asked:
         return all((cell, to) == (here, there) for then, here, there in self.taken if then == when)
 
 
-class Ground:
-    """A map, and how far its cells are from goals."""
-
-    def __init__(self, text: str) -> None:
-        lines = [line.removesuffix("\r") for line in text.split("\n")]
-        try:
-            self.height, self.width = int(lines[1].split()[1]), int(lines[2].split()[1])
-            self.rows = [lines[4 + y][: self.width] for y in range(self.height)]
-        except (IndexError, ValueError):
-            raise BadTask("the map is none: `mapf map` says why") from None
-        self.kept: dict[Cell, dict[Cell, int]] = {}
-
-    def beside(self, cell: Cell) -> Iterator[Cell]:
-        x, y = cell
-        own = self.rows[y][x]
-        for dx, dy in STEPS.values():
-            u, v = x + dx, y + dy
-            if (dx, dy) == (0, 0) or 0 <= u < self.width and 0 <= v < self.height and (own, self.rows[v][u]) in JOINED:
-                yield u, v
-
-    def steps_to(self, goal: Cell) -> dict[Cell, int]:
-        """How many steps lead from each cell to a goal, at least."""
-        if goal not in self.kept:
-            far, queue = {goal: 0}, collections.deque([goal])
-            while queue:
-                cell = queue.popleft()
-                for to in self.beside(cell):
-                    if to not in far:
-                        far[to] = far[cell] + 1
-                        queue.append(to)
-            self.kept[goal] = far
-        return self.kept[goal]
-
-    def least_walk(self, start: Cell, goal: Cell, asked: Asked) -> Optional[Walk]:
-        """A walk that comes to the goal as soon as may be and stays there, under what is asked; none where there is none."""
-        far, end = self.steps_to(goal), asked.horizon()
-        if start not in far or not asked.may_be(0, start):
-            return None
-        stays_from = end
-        while stays_from and asked.may_be(stays_from - 1, goal) and (stays_from == end or asked.may_step(stays_from - 1, goal, goal)):
-            stays_from -= 1
-        if start == goal and stays_from == 0:
-            return [start]
-        before: dict[tuple[int, Cell], Optional[Cell]] = {(0, start): None}
-        heap = [(max(far[start], stays_from), 0, start)]
-        while heap:
-            _, less, cell = heapq.heappop(heap)
-            when = -less
-            if cell == goal and when >= stays_from:
-                return self.traced(before, goal, when)
-            # Behind the horizon nothing is asked, and a shortest way is open.
-            for to in self.beside(cell):
-                if (when + 1, to) not in before and to in far and asked.may_step(when, cell, to):
-                    before[when + 1, to] = cell
-                    heapq.heappush(heap, (max(when + 1 + far[to], stays_from), -when - 1, to))
+def least_walk(ground: Ground, start: Cell, goal: Cell, asked: Asked) -> Optional[Walk]:
+    """A walk that comes to the goal as soon as may be and stays there, under what is asked; none where there is none."""
+    far, end = ground.steps_to(goal), asked.horizon()
+    if start not in far or not asked.may_be(0, start):
         return None
-
-    @staticmethod
-    def traced(before: dict[tuple[int, Cell], Optional[Cell]], cell: Cell, when: int) -> Walk:
-        walk: Walk = []
-        at: Optional[Cell] = cell
-        while at is not None:
-            walk.append(at)
-            at, when = before[when, at], when - 1
-        return walk[::-1]
+    stays_from = end
+    while stays_from and asked.may_be(stays_from - 1, goal) and (stays_from == end or asked.may_step(stays_from - 1, goal, goal)):
+        stays_from -= 1
+    if start == goal and stays_from == 0:
+        return [start]
+    before: dict[tuple[int, Cell], Optional[Cell]] = {(0, start): None}
+    heap = [(max(far[start], stays_from), 0, start)]
+    while heap:
+        _, less, cell = heapq.heappop(heap)
+        when = -less
+        if cell == goal and when >= stays_from:
+            return traced(before, goal, when)
+        # Behind the horizon nothing is asked, and a shortest way is open.
+        for to in ground.beside(cell):
+            if (when + 1, to) not in before and to in far and asked.may_step(when, cell, to):
+                before[when + 1, to] = cell
+                heapq.heappush(heap, (max(when + 1 + far[to], stays_from), -when - 1, to))
+    return None
 
 
 class Conflict(NamedTuple):
@@ -181,30 +136,13 @@ class Node:
         return cost_of(self.walks)
 
 
-class Progress:
-    """A line on the terminal, written anew each half second."""
-
-    def __init__(self) -> None:
-        self.is_shown, self.due, self.width = sys.stderr.isatty(), 0.0, 0
-
-    def show(self, line: str) -> None:
-        now = time.monotonic()
-        if self.is_shown and now >= self.due:
-            print(f"\r{line:{self.width}}", end="", file=sys.stderr, flush=True)
-            self.due, self.width = now + 0.5, len(line)
-
-    def end(self) -> None:
-        if self.width:
-            print(file=sys.stderr)
-
-
 class Search:
     """The search, which goes on where plans may cost least."""
 
     def __init__(self, ground: Ground, tasks: Sequence[tuple[Cell, Cell]], is_disjoint: bool) -> None:
         self.ground, self.tasks, self.is_disjoint = ground, tasks, is_disjoint
         none = (Asked(),) * len(tasks)
-        walks = [ground.least_walk(start, goal, Asked()) for start, goal in tasks]
+        walks = [least_walk(ground, start, goal, Asked()) for start, goal in tasks]
         for agent, walk in enumerate(walks):
             if walk is None:
                 raise BadTask(f"no walk leads from the start of agent {agent} to its goal")
@@ -224,7 +162,7 @@ class Search:
         walks = list(node.walks)
         for agent, more in changes.items():
             if not keeps(walks[agent], more):
-                walk = self.ground.least_walk(*self.tasks[agent], more)
+                walk = least_walk(self.ground, *self.tasks[agent], more)
                 if walk is None:
                     return Node(asked, None)
                 walks[agent] = walk
@@ -351,7 +289,7 @@ def main(words: Sequence[str]) -> int:
         ground = Ground(given.map.read_text(encoding="latin-1"))
         planning = Search(ground, read_tasks(given.scen.read_text(encoding="latin-1"), given.agents), given.disjoint)
         walks = planning.run(given.seconds) or planning.some_plan()
-    except (BadTask, OSError) as fault:
+    except (BadMap, BadTask, OSError) as fault:
         print(f"prove: {fault}", file=sys.stderr)
         return 2
     plan, proof = given.out
