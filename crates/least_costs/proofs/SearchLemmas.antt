@@ -9,7 +9,7 @@ use Rattle.model.specs.Laws.Tracks.{cell_at-start}
 use Rattle.model.specs.Timetable.{Track, cell_at}
 use Rattle.least_costs.specs.declared.frontier.Frontier.{Frontier}
 use Rattle.least_costs.specs.declared.states.State.{State}
-use Rattle.least_costs.specs.Code.Searching.{AllCost, AllThrough, AllGoOn, HasPut, IsOffered, IsRaised, IsCostSearch, IsUnwalked, IsWanted, HasReached, LeadsTo, PassesOn, Wanted}
+use Rattle.least_costs.specs.Code.Searching.{AllCost, AllThrough, AllGoOn, HasPut, IsOffered, IsRaised, IsCostSearch, IsUnwalked, IsWanted, HasReached, HasComeOn, PassesOn, Wanted}
 use Rattle.least_costs.specs.Code.States.{HasState}
 use Rattle.least_costs.proofs.ListLemmas.{get-added}
 use Rattle.least_costs.proofs.TrackLemmas.{CostLaw, waits_on}
@@ -85,7 +85,7 @@ module _ (w : Wanted) where
 
   -- ---- from one frontier to another
 
-  pub stays_put : (b : ℕ) (f : Frontier) → LeadsTo w b f f
+  pub stays_put : (b : ℕ) (f : Frontier) → HasComeOn w b f f
   stays_put b f = record {
     closed = refl;
     keeps = λ track t is before known. known;
@@ -93,7 +93,7 @@ module _ (w : Wanted) where
     after = λ all. all;
   }
 
-  pub leads_on : (b : ℕ) (f g h : Frontier) → LeadsTo w b f g → LeadsTo w b g h → LeadsTo w b f h
+  pub leads_on : (b : ℕ) (f g h : Frontier) → HasComeOn w b f g → HasComeOn w b g h → HasComeOn w b f h
   leads_on b f g h first second = record {
     closed = second.closed ∙ first.closed;
     keeps = λ track t is before known. second.keeps track t is before (first.keeps track t is before known);
@@ -101,7 +101,7 @@ module _ (w : Wanted) where
     after = λ all. second.after (first.after all);
   }
 
-  pub put_leads : (old new : Frontier) (s : State) (through b : ℕ) → CostsThrough s through → HasPut old new s through b → LeadsTo w b old new
+  pub put_leads : (old new : Frontier) (s : State) (through b : ℕ) → CostsThrough s through → HasPut old new s through b → HasComeOn w b old new
   put_leads old new s through b costs has = record {
     closed = has.closed;
     keeps = λ track t is before known. put_keeps old new s through b has (cell_at track t) t known;
@@ -136,11 +136,11 @@ module _ (w : Wanted) where
 
   -- ---- a step
 
-  pub goes_still : (b : ℕ) (f g : Frontier) (c : Cell) (t : ℕ) → LeadsTo w b f g → AllGoOn w f c t → AllGoOn w g c t
+  pub goes_still : (b : ℕ) (f g : Frontier) (c : Cell) (t : ℕ) → HasComeOn w b f g → AllGoOn w f c t → AllGoOn w g c t
   goes_still b f g c t leads goes track is before at =
       let both = goes track is before at in (both.0, leads.keeps track (t + 1) is both.0 both.1)
 
-  pub offered_still : (b : ℕ) (f g : Frontier) (t : ℕ) (u v : Cell) → LeadsTo w b f g → IsOffered w f t u v → IsOffered w g t u v
+  pub offered_still : (b : ℕ) (f g : Frontier) (t : ℕ) (u v : Cell) → HasComeOn w b f g → IsOffered w f t u v → IsOffered w g t u v
   offered_still b f g t u v leads offered track is before at next =
       let both = offered track is before at next in (both.0, leads.keeps track (t + 1) is both.0 both.1)
 
@@ -267,7 +267,7 @@ module _ (w : Wanted) where
       (leads.next (subst (λ l. AllThrough w l (b + 1)) (sym taken.next) reach.next))
       (leads.after (subst (λ l. AllThrough w l (b + 2)) (sym taken.after) reach.after))
     where
-      leads : LeadsTo w b g h
+      leads : HasComeOn w b g h
       leads = put_leads g h s through b costs has
 
       keeps : (track : Track) (t : ℕ) → IsWanted w track → t < cost track → HasReached f (cell_at track t) t → HasReached h (cell_at track t) t
@@ -277,7 +277,7 @@ module _ (w : Wanted) where
       ]
 
   -- it is closed, and the reach went on from it
-  pub taken_on : (b : ℕ) (f g h : Frontier) (s : State) → IsCostSearch w b f → IsTaken f g s → g.closed ≡ f.closed ++ s ∷ [] → LeadsTo w b g h → AllGoOn w h s.cell s.time → IsCostSearch w b h
+  pub taken_on : (b : ℕ) (f g h : Frontier) (s : State) → IsCostSearch w b f → IsTaken f g s → g.closed ≡ f.closed ++ s ∷ [] → HasComeOn w b g h → AllGoOn w h s.cell s.time → IsCostSearch w b h
   taken_on b f g h s reach taken same leads goes =
       searches_on b f h reach keeps
       (λ k it at. elim (get-added f.closed s k it (subst (λ l. slice_get l k ≡ Some it) (leads.closed ∙ same) at)) [

@@ -1,7 +1,7 @@
 //! The steps from a state of a search.
 ghost use Rattle.std.specs.Prelude.{◌≡◌, ◌+◌, ◌-◌, ◌^◌, ◌<◌, IfOk, false, true};
 ghost use Rattle.model.specs.Timetable.{Track, cell_at};
-ghost use Rattle.least_costs.specs.Code.Searching.{AllGoOn, IsLookedAt, IsOffered, IsPosed, IsWanted, LeadsTo, PassesOn, wanted};
+ghost use Rattle.least_costs.specs.Code.Searching.{AllGoOn, IsLookedAt, IsOffered, IsPosed, IsWanted, HasComeOn, PassesOn, wanted};
 ghost use Rattle.least_costs.specs.Code.Tables.{IsEstimate};
 ghost use Rattle.least_costs.specs.GoalView.{GoalView};
 
@@ -54,7 +54,7 @@ pub(crate) fn expand(
 ) -> Result<bool, AllocError>
     requires ready { IsPosed goal.now query.now }
     requires time { turn.time < 2 ^ 32 - 1 }
-    ensures leads { IfOk result (λ found. found ≡ false → LeadsTo (wanted goal.now query.now) turn.budget front.old front.new) }
+    ensures leads { IfOk result (λ found. found ≡ false → HasComeOn (wanted goal.now query.now) turn.budget front.old front.new) }
     ensures goes { IfOk result (λ found. found ≡ false → AllGoOn (wanted goal.now query.now) front.new turn.cell turn.time) }
 {
     let ways = goal.ways(turn.cell);
@@ -108,7 +108,7 @@ fn offer(
     requires ready { IsPosed goal.now query.now }
     requires time { turn.time < 2 ^ 32 - 1 }
     requires beside { IsLookedAt goal.now to }
-    ensures leads { IfOk result (λ found. found ≡ false → LeadsTo (wanted goal.now query.now) turn.budget front.old front.new) }
+    ensures leads { IfOk result (λ found. found ≡ false → HasComeOn (wanted goal.now query.now) turn.budget front.old front.new) }
     ensures goes { IfOk result (λ found. found ≡ false → IsEstimate goal.now to.cell to.steps
         → IsOffered (wanted goal.now query.now) front.new turn.time turn.cell to.cell) }
 {

@@ -74,7 +74,7 @@ abbrev pub AllThrough : Wanted → List State → ℕ → Type 0
 AllThrough w states n = (k : ℕ) (s : State) (track : Track) → slice_get states k ≡ Some s → IsWanted w track → s.time < cost track → cell_at track s.time ≡ s.cell → n ≤ cost track
 
 -- from the one frontier the search came to the other: it has reached no less, and what waits waits rightly
-pub record LeadsTo (w : Wanted) (budget : ℕ) (old new : Frontier) : Type 0 where
+pub record HasComeOn (w : Wanted) (budget : ℕ) (old new : Frontier) : Type 0 where
   pub closed : new.closed ≡ old.closed
   pub keeps : (track : Track) (t : ℕ) → IsWanted w track → t < cost track → HasReached old (cell_at track t) t → HasReached new (cell_at track t) t
   pub next : AllThrough w old.next.items (budget + 1) → AllThrough w new.next.items (budget + 1)

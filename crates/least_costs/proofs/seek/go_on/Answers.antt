@@ -2,7 +2,7 @@
 use Rattle.std.proofs.Common.{◌≤◌, inl, inr, arith, refl, subst, sym}
 use Rattle.model.specs.Costs.{cost}
 use Rattle.least_costs.specs.declared.frontier.Frontier.{Frontier}
-use Rattle.least_costs.specs.Code.Searching.{AllGoOn, IsCostSearch, LeadsTo, wanted}
+use Rattle.least_costs.specs.Code.Searching.{AllGoOn, IsCostSearch, HasComeOn, wanted}
 use Rattle.least_costs.specs.GoalView.{GoalView}
 use Rattle.least_costs.proofs.SearchLemmas.{taken_dear, taken_on, taken_put, taken_seen}
 use Rattle.least_costs.proofs.seek.go_on.Goals as goal
@@ -47,5 +47,5 @@ returns-else-branch-clause-search c =
     let h = c.expand.new.front in
     let s = c.in-Some.state in
     taken_on w b f g h s c.requires.search (record { waiting = c.in-Some.ensures.items; next = refl; after = refl }) (c.in_ok-add.ensures.new c.if-not-branch.false)
-    (subst (λ (v : GoalView). LeadsTo (wanted v q) b g h) c.exactly.ensures.same (c.in_ok-expand.ensures.leads c.if-branch.false))
+    (subst (λ (v : GoalView). HasComeOn (wanted v q) b g h) c.exactly.ensures.same (c.in_ok-expand.ensures.leads c.if-branch.false))
     (subst (λ (v : GoalView). AllGoOn (wanted v q) h s.cell s.time) c.exactly.ensures.same (c.in_ok-expand.ensures.goes c.if-branch.false))
