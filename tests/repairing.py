@@ -14,7 +14,7 @@ from scenarios import Ground
 from texts import HALL, LANE, SQUARE, plan
 
 TOOL = ROOT / "tools" / "repair.py"
-SHORT_SEEDS, LONG_SEEDS = range(1, 41), range(1, 401)
+SHORT_SEEDS, LONG_SEEDS = range(1, 41), range(1, 201)
 # Joint moves are tried of so many agents, in so many cells.
 MOST_AGENTS, MOST_CELLS = 5, 8
 REPAIRED = re.compile(r"repaired rotations (\d+) cost (\d+) was (\d+)\n")

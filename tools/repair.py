@@ -90,7 +90,7 @@ def resolve_one(repair: Repair, ground: Ground, rotation: Rotation, until: float
     for number, is_resolved in enumerate(repair.attempts(rotation)):
         if is_resolved:
             return
-        if number == 0 and is_there_none(ground, repair.walks, agents):
+        if number == 0 and is_there_none(ground, repair.walks, agents, until):
             raise Refused(f"no plan without a rotation leads these agents to their ends: {' '.join(map(str, sorted(agents)))}")
         if time.monotonic() > until:
             raise Refused("no plan without a rotation was found in time")
