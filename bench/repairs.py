@@ -7,7 +7,6 @@ Plans come from a planner that lets agents push others away, step by step (prior
 backtracking), on corridors three cells wide, and on maps of which a tenth to a third is blocked.
 """
 import argparse
-import collections
 import dataclasses
 import pathlib
 import random
@@ -22,49 +21,33 @@ from typing import Iterator, Mapping, Optional, Sequence
 BENCH = pathlib.Path(__file__).resolve().parent
 sys.path[:0] = [str(BENCH), *(str(BENCH.parent / it) for it in ("tests", "tools"))]
 import generate  # noqa: E402
+from ground import Cell, Ground, Walk  # noqa: E402
+from optimal import map_of  # noqa: E402
 from plain_formats import plan_text  # noqa: E402
-from proofs import Cell, Walk  # noqa: E402
 
 MOST_STEPS = 400
 SAID = re.compile(r"repaired rotations (\d+) cost (\d+) was (\d+)")
 
 
-def beside(cells: set[Cell], cell: Cell) -> list[Cell]:
-    x, y = cell
-    return [it for it in ((x, y - 1), (x + 1, y), (x, y + 1), (x - 1, y)) if it in cells]
-
-
-def region(rows: Sequence[str]) -> set[Cell]:
-    """The cells of the greatest region of floor."""
-    left = {(x, y) for y, row in enumerate(rows) for x, cell in enumerate(row) if cell == "."}
+def region(ground: Ground) -> list[Cell]:
+    """The cells of the greatest region of floor, row by row."""
+    left = {(x, y) for y, row in enumerate(ground.rows) for x, it in enumerate(row) if it == "."}
     best: set[Cell] = set()
     while left:
-        found = set(distances(left, next(iter(left))))
+        found = set(ground.steps_to(next(iter(left))))
         left -= found
         best = max(best, found, key=len)
-    return best
-
-
-def distances(cells: set[Cell], goal: Cell) -> dict[Cell, int]:
-    far, queue = {goal: 0}, collections.deque([goal])
-    while queue:
-        cell = queue.popleft()
-        for to in beside(cells, cell):
-            if to not in far:
-                far[to] = far[cell] + 1
-                queue.append(to)
-    return far
+    return sorted(best)
 
 
 class Crowd:
     """Agents that all go on at once: the one that has been under way longest goes first, and whom it
     pushes away goes next."""
 
-    def __init__(self, cells: set[Cell], rng: random.Random, agents: int) -> None:
-        self.cells, self.rng = cells, rng
-        self.now = rng.sample(sorted(cells), agents)
-        self.goals = rng.sample(sorted(cells), agents)
-        self.far = [distances(cells, goal) for goal in self.goals]
+    def __init__(self, ground: Ground, rng: random.Random, agents: int) -> None:
+        self.ground, self.rng, cells = ground, rng, region(ground)
+        self.now, self.goals = rng.sample(cells, agents), rng.sample(cells, agents)
+        self.far = [ground.steps_to(goal) for goal in self.goals]
         self.urgency = [rng.random() for _ in self.now]
         self.next: list[Optional[Cell]] = []
         self.taken: set[Cell] = set()
@@ -93,7 +76,7 @@ class Crowd:
 
     def step(self, agent: int, pushed_from: Optional[Cell]) -> bool:
         cell = self.now[agent]
-        ways = [*beside(self.cells, cell), cell]
+        ways = list(self.ground.beside(cell))
         self.rng.shuffle(ways)
         for to in sorted(ways, key=lambda it: self.far[agent][it]):
             other = self.here.get(to, agent)
@@ -117,12 +100,14 @@ class Ended:
     ratio: float
 
 
-def rows_of(kind: str, side: int, seed: int) -> list[str]:
+def map_text(kind: str, side: int, seed: int) -> str:
     if kind == "corridors":
-        return generate.map_text(kind, side, side, seed).split("\n")[4:-1]
+        return generate.map_text(kind, side, side, seed)
     rng = random.Random(f"rows {seed}")
     share = rng.uniform(1 / 10, 1 / 3)
-    return ["".join("@" if rng.random() < share else "." for _ in range(side)) for _ in range(side)]
+    return map_of(
+        ["".join("@" if rng.random() < share else "." for _ in range(side)) for _ in range(side)]
+    )
 
 
 def plans_of(given: argparse.Namespace, kind: str, folder: pathlib.Path) -> Iterator[tuple[str, str]]:
@@ -130,13 +115,12 @@ def plans_of(given: argparse.Namespace, kind: str, folder: pathlib.Path) -> Iter
     seed, count = 0, 0
     while count < given.plans:
         seed += 1
-        rows = rows_of(kind, given.side, seed)
-        walks = Crowd(region(rows), random.Random(f"{kind} {seed}"), given.agents).walks()
+        text = map_text(kind, given.side, seed)
+        walks = Crowd(Ground(text), random.Random(f"{kind} {seed}"), given.agents).walks()
         if not walks:
             continue
         paths = [folder / f"{kind}{seed}.{it}" for it in ("map", "plan")]
-        head = ["type octile", f"height {given.side}", f"width {given.side}", "map"]
-        paths[0].write_text("\n".join([*head, *rows, ""]))
+        paths[0].write_text(text)
         paths[1].write_text(plan_text(walks, 7))
         words = [str(given.program), "check", *map(str, paths), "--no-rotation"]
         if b"Rotation" in subprocess.run(words, stdout=subprocess.PIPE).stdout:

@@ -10,6 +10,11 @@ Walk = list[Cell]
 JOINED = {(one, other) for group in (".GS", "W") for one in group for other in group}
 
 
+def at(walk: Walk, time: int) -> Cell:
+    """Where an agent is at a time: behind its walk it stays."""
+    return walk[min(time, len(walk) - 1)]
+
+
 class BadMap(Exception):
     """The map is none."""
 

@@ -24,7 +24,7 @@ from typing import Iterator, NamedTuple, Optional, Sequence
 
 sys.dont_write_bytecode = True
 sys.path.append(str(pathlib.Path(__file__).resolve().parent.parent / "examples" / "fleet"))
-from ground import BadMap, Cell, Ground, Walk, traced  # noqa: E402
+from ground import BadMap, Cell, Ground, Walk, at, traced  # noqa: E402
 from plan_formats import mapf_plan  # noqa: E402
 from plan_formats.walks import walk_of  # noqa: E402
 from planning import Reservations, search  # noqa: E402
@@ -101,10 +101,6 @@ class Conflict(NamedTuple):
         if self.to is None:
             return f"{'at' if is_disjoint else 'vertex'} {names} {self.cell[0]} {self.cell[1]}"
         return f"{'goes' if is_disjoint else 'swap'} {names} {self.cell[0]} {self.cell[1]} {self.to[0]} {self.to[1]}"
-
-
-def at(walk: Walk, when: int) -> Cell:
-    return walk[min(when, len(walk) - 1)]
 
 
 def conflicts_of(walks: Sequence[Walk]) -> Iterator[Conflict]:

@@ -4,9 +4,9 @@
 Usage: repair.py MAP PLAN -o PLAN [--seconds N] [--seed N] [--number N] [--program PATH]
 
 In a rotation some agents go round in one step, each into the cell that the next one leaves: robots
-that wait for each other never begin it. Agents of a rotation, one first, then two, then all of them
-with some that are near, are planned anew among the others, in several orders, and what costs least
-more is taken, until there is no rotation. The result is written once `mapf check --no-rotation` has
+that wait for each other never begin it. Agents of a rotation are planned anew among the others: one
+or two, whichever costs least more, or all of them with some that are near, in the first order in
+which all find a walk; until there is no rotation. The result is written once `mapf check --no-rotation` has
 accepted it for the same starts and ends, never else. Its number is `--number`, or made of the plan.
 
 Status 0: written. 1: the plan has a fault, told in the line of `mapf`; or no plan without a rotation

@@ -4,8 +4,8 @@ import itertools
 import random
 from typing import Iterator, NamedTuple, Optional, Sequence
 
-from ground import Cell, Ground, Walk, traced
-from repairing.timetable import Rotation, Timetable, at, cost_of, rotations_of
+from ground import Cell, Ground, Walk, at, traced
+from repairing.timetable import Rotation, Timetable, cost_of, rotations_of
 
 # A walk of one agent, of one of two, and of one of more planned anew may get so many steps longer, at first and at last.
 LONGER_ALONE, LONGER_OF_TWO, LONGER = 16, 16, (16, 32, 64, 128)

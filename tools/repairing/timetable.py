@@ -2,15 +2,10 @@
 import collections
 from typing import Iterator, Optional, Sequence
 
-from ground import Cell, Walk
+from ground import Cell, Walk, at
 
 # The step in which agents rotate, and those agents, each behind the one that it follows.
 Rotation = tuple[int, list[int]]
-
-
-def at(walk: Walk, time: int) -> Cell:
-    """Where an agent is at a time: behind its walk it stays."""
-    return walk[min(time, len(walk) - 1)]
 
 
 def cost_of(walk: Walk) -> int:
