@@ -2,6 +2,7 @@
 tell by what they heard."""
 from typing import Iterator, Sequence
 
+import free_ways
 from harness import Harness, Outcome
 from texts import BACK, BEHIND, LANE, plan
 
@@ -184,3 +185,4 @@ def outcomes(harness: Harness) -> Iterator[Outcome]:
     for before, told in (([], "00"), ([("hear 46020001000000070002000000000001000100000001", "heard 1 1")], "01000100000001")):
         turns = [*before, *(turn for digits, fault in REFUSED for turn in ((f"hear {digits}", f"refused {fault}"), ("tell", f"said 460200000000000700{told}")))]
         yield talk(harness, f"messages that are refused, {len(before)} heard", LONG_LANE, APART, 0, turns)
+    yield from free_ways.outcomes(harness)

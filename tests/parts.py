@@ -65,7 +65,7 @@ PARTS: dict[str, tuple[str, Callable[[Harness], Iterator[Outcome]]]] = {
     "limits": ("sizes up to the limits, with answers that are known by how they are made", limits.outcomes),
     "answers": ("whole commands on texts, files and tapes", answers.outcomes),
     "claims": ("tapes that have to be new, or kept, and the plans beside them", claims.outcomes),
-    "messages": ("messages with each byte changed, and what agents tell by what they heard", messages.outcomes),
+    "messages": ("messages with each byte changed, and what agents tell and how far they go by what they heard", messages.outcomes),
     "devices": ("files, inputs and outputs that fail", devices.outcomes),
     "faults": ("calls of the system that fail, one after another", faults.outcomes),
     "memory": ("calls of the libraries to which memory is refused", refusals.outcomes),

@@ -4,6 +4,7 @@ pub mod CountedLemmas
 pub mod CounterLemmas
 pub mod MergeLemmas
 pub mod OwnLemmas
+pub mod AheadLemmas
 pub mod SpellingLemmas
 pub mod ToldLemmas
 pub mod TakingLemmas

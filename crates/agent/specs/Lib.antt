@@ -24,6 +24,8 @@ pub mod States
 pub mod Owning
 -- an agent over a tape
 pub mod Agents
+-- how far ahead its way is free
+pub mod Ahead
 -- which tapes are opened, and why the others are not
 pub mod Opening
 -- the words in which the refusal of a tape is told

@@ -32,6 +32,10 @@ pub record State : Type 0 where
 abbrev pub finished_moves : State → ℕ
 finished_moves s = s.records / 2
 
+-- how many moves are begun: those of which the tape has a record
+abbrev pub begun_moves : State → ℕ
+begun_moves s = (s.records + 1) / 2
+
 abbrev pub is_on_the_way : State → Bool
 is_on_the_way s = s.records % 2 == 1
 

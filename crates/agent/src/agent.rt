@@ -3,13 +3,13 @@ ghost use Rattle.std.specs.Prelude.{◌≡◌, ◌+◌, ◌*◌, ◌<◌, ◌≤
 ghost use Rattle.model.specs.History.{record_length};
 ghost use Rattle.model.specs.Timetable.{Timetable, track_of};
 ghost use Rattle.depgraph.specs.AgentParts.{IsPartOf, IsOfGraph};
-ghost use Rattle.agent.specs.States.{message_refusal};
 ghost use Rattle.agent.specs.Code.Listing.{entries_of};
 
 use crate::counted_tape::CountedTape;
 use crate::counters::Counters;
 use crate::entries::Entries;
 use crate::finished::{Finished, encode};
+use crate::hearing::refusal_of;
 use crate::message::{Message, read_message};
 use crate::opening::read_records;
 use crate::record::due_record;
@@ -47,10 +47,12 @@ impl<'g, T: Tape> Agent<'g, T> {
     ghost use Rattle.model.specs.Rules.{path_cell};
     ghost use Rattle.model.specs.Messages.{own_message, whole_message, AreRising};
     ghost use Rattle.agent.specs.Agents.{AgentOn, state_of, Moves, Starts, Finishes, Hears, HearsOf, HearsFrom, IsHolding, Says, bytes_told, TellsAll};
+    ghost use Rattle.model.specs.Dependency.{need};
+    ghost use Rattle.agent.specs.Ahead.{LooksAhead};
     ghost use Rattle.agent.specs.Counters.{known_in};
     ghost use Rattle.agent.specs.Opening.{IsOpened, IsRefused, Restarts};
     ghost use Rattle.agent.specs.Owning.{IsOwn};
-    ghost use Rattle.agent.specs.States.{finished_moves, is_on_the_way, start_refusal, finish_refusal, waits_for};
+    ghost use Rattle.agent.specs.States.{finished_moves, begun_moves, is_on_the_way, start_refusal, finish_refusal, waits_for};
     ghost use Rattle.agent.specs.Tape.{IsKept, whole_records};
     ghost use Rattle.agent.specs.Code.Listing.{entries_of};
     ghost use Rattle.agent.specs.Code.Taking.{TakesTelling};
@@ -315,6 +317,34 @@ impl<'g, T: Tape> Agent<'g, T> {
         self.records() % 2 == 1
     }
 
+    /// How many of the moves behind those that it has begun, so many at the most, the agent would begin one after the other by what it knows now. Nothing is stored, and what is
+    /// free stays so: a drive may make these moves before they are asked for, as `fleet::laws::ahead_of_tapes` says.
+    pub fn ahead(&self, most: u32) -> u32
+        ensures looks { (tt : Timetable) → IsPartOf tt self.now.part → LooksAhead T.state tt self.now most result }
+        ensures within { IsOfGraph self.now.part }
+    {
+        if self.broken {
+            return 0;
+        }
+        let begun = self.begun();
+        let left = (self.moves() - begun).min(most);
+        'moves: for count in 0..left {
+            if self.waits(begun + count).is_some() {
+                return count;
+            }
+        }
+        left
+    }
+
+    /// How many moves are begun, by the whole records.
+    fn begun(&self) -> u32
+        ensures begun { result ≡ begun_moves (state_of T.state self.now) }
+        ensures within { IsOwn self.now.part (T.state self.now.tape) }
+    {
+        let records = self.records();
+        records / 2 + records % 2
+    }
+
     /// Whether a write has failed since the tape was opened.
     pub fn is_broken(&self) -> bool
         ensures { result ≡ self.now.broken }
@@ -354,7 +384,16 @@ impl<'g, T: Tape> Agent<'g, T> {
         if done == self.moves() {
             return Some(Refusal::AtEnd);
         }
-        match self.part.need(done) {
+        self.waits(done)
+    }
+
+    /// For whom a move waits, by what was heard.
+    #[inline(always)]
+    fn waits(&self, number: u32) -> Option<Refusal>
+        requires { number < length self.now.part.needs }
+        ensures { (tt : Timetable) (is : IsPartOf tt self.now.part) → result ≡ waits_for self.now.heard (need tt self.now.part.agent is.track number) }
+    {
+        match self.part.need(number) {
             Some((agent, count)) if self.counters.known(agent) < count => {
                 Some(Refusal::Waits { agent, count })
             }
@@ -447,26 +486,4 @@ fn own_moves(part: &Part<'_>) -> u32
     ensures within { IsOfGraph part.now }
 {
     part.moves(u32::from(part.agent())).unwrap()
-}
-
-/// Why a message of the plan is not heard, by its sender and its entries.
-fn refusal_of(part: &Part<'_>, from: u16, entries: Entries<'_>) -> Option<HearFault>
-    ensures { (tt : Timetable) → IsPartOf tt part.now → result ≡ message_refusal tt (record { sender = from; entries = entries_of entries.entry }) }
-{
-    if u32::from(from) >= part.agents() {
-        return Some(HearFault::NoSuchAgent);
-    }
-    let mut too_many = false;
-    'entries: for at in 0..entries.count() {
-        let entry = entries.entry(at);
-        let Some(moves) = part.moves(u32::from(entry.agent)) else {
-            return Some(HearFault::NoSuchAgent);
-        };
-        too_many = too_many || entry.done > moves;
-    }
-    if too_many {
-        Some(HearFault::TooMany)
-    } else {
-        None
-    }
 }

@@ -6,6 +6,7 @@ mod counted_tape;
 mod counters;
 mod entries;
 mod finished;
+mod hearing;
 pub mod laws;
 mod mem_tape;
 mod message;

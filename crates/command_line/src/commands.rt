@@ -390,6 +390,7 @@ Then each line of standard input is answered by one line:
   say        said HEX: the message for the other agents
   tell       said HEX: the same with all that it has heard of others too
   hear HEX   heard J N: agent J has finished N moves; or refused and why
+  may N      may K: the next K moves, of N at the most, are free
   held       the state of the agent, as at first
   any other  refused BadLine
 

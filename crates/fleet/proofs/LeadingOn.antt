@@ -6,14 +6,14 @@ use Rattle.std.proofs.lemmas.List.{append-nil}
 use Rattle.grid.specs.declared.cell.Cell.{Cell}
 use Rattle.model.specs.declared.version.Version.{Version}
 use Rattle.model.specs.Timetable.{Track, Timetable, track_of}
-use Rattle.agent.specs.States.{State, Answers, bytes_refusal, telling_refusal, Keeps, Refuses, IsTaken, IsHeard}
+use Rattle.agent.specs.States.{State, begun_moves, Answers, bytes_refusal, telling_refusal, Keeps, Refuses, IsTaken, IsHeard}
 use Rattle.agent.specs.Tellings.{Telling, BytesTell}
 use Rattle.agent.specs.declared.refusal.HearFault.{HearFault}
 use Rattle.agent.specs.declared.refusal.Refusal.{Refusal}
 use Rattle.std.specs.Prelude.{MatchOption}
-use Rattle.fleet.specs.Deeds.{Deed, opens, starts, finishes, says, tells, hears, holds, ends, ends_starting, ends_finishing, Does}
+use Rattle.fleet.specs.Deeds.{Deed, opens, starts, finishes, says, tells, hears, holds, looks, ends, ends_starting, ends_finishing, Does}
 use Rattle.fleet.specs.Fleets.{bytes_of, spoken}
-use Rattle.fleet.specs.OwnPlans.{Doings, log_of, begun_moves, IsLedOn, AreLedOn}
+use Rattle.fleet.specs.OwnPlans.{Doings, log_of, IsLedOn, AreLedOn}
 
 -- ---- tapes grow
 
@@ -49,6 +49,7 @@ records-grow table i track old new (says answer) does = grows-by old new does.1
 records-grow table i track old new (tells answer) does = grows-by old new does.1
 records-grow table i track old new (hears bytes answer) does = (let e = heard-same table old new bytes answer does in omega (arith, e))
 records-grow table i track old new (holds what count) does = grows-by old new does.2
+records-grow table i track old new (looks begun most count) does = grows-by old new does.2
 records-grow table i track old new ends does = grows-by old new does
 records-grow table i track old new ends_starting does = answers-grow _ old new _ _ does
 records-grow table i track old new ends_finishing does = answers-grow _ old new _ _ does

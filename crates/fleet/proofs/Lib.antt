@@ -9,3 +9,4 @@ pub mod SharedMoves
 pub mod OwnPlanLemmas
 pub mod LeadingOn
 pub mod BehindLemmas
+pub mod AheadLemmas

@@ -13,13 +13,13 @@ use Rattle.model.specs.Safety.{IsIn, IsBeginningOf}
 use Rattle.model.specs.Speech.{WasSaid}
 use Rattle.model.specs.Timetable.{Track, Timetable, path, track_of}
 use Rattle.agent.specs.Decoding.{any_fault}
-use Rattle.agent.specs.States.{State, held_by_tape, telling_refusal}
+use Rattle.agent.specs.States.{State, begun_moves, held_by_tape, telling_refusal}
 use Rattle.agent.specs.Tellings.{Telling, BytesTell}
 use Rattle.continuing.specs.Laws.Agreeing.{other-track}
-use Rattle.fleet.specs.Deeds.{Deed, opens, starts, finishes, says, tells, hears, holds, ends, ends_starting, ends_finishing, DoesAll}
+use Rattle.fleet.specs.Deeds.{Deed, opens, starts, finishes, says, tells, hears, holds, looks, ends, ends_starting, ends_finishing, DoesAll}
 use Rattle.fleet.specs.Fleets.{Log, deeds_of, fresh, bytes_of, spoken, IsHonest, IsFleet, with_state, IsTellable}
 use Rattle.fleet.specs.FleetSafety.{HoldsBy, IsMovingBy, walked_on, walked, IsFleetSafe}
-use Rattle.fleet.specs.OwnPlans.{DoneBy, Doings, logged, log_of, IsLedOn, IsFleetBy, begun_moves, end_of_moves, SharesMoves, MayBeLeftOut, LeavesOut, StandsAs}
+use Rattle.fleet.specs.OwnPlans.{DoneBy, Doings, logged, log_of, IsLedOn, IsFleetBy, end_of_moves, SharesMoves, MayBeLeftOut, LeavesOut, StandsAs}
 use Rattle.fleet.specs.Laws.Leading.{walked-more}
 use Rattle.fleet.specs.Laws.Telling.{none-refused-by}
 use Rattle.fleet.proofs.FleetLemmas.{own-deeds, other-deeds, state-own, state-other, goes-on, runs-as}
@@ -38,6 +38,7 @@ silent (tells (Ok bytes)) may = absurd may
 silent (tells (Err why)) may = refl
 silent (hears bytes answer) may = refl
 silent (holds what count) may = refl
+silent (looks begun most count) may = refl
 silent ends may = refl
 silent ends_starting may = refl
 silent ends_finishing may = refl
@@ -51,6 +52,7 @@ still (says answer) cells may = refl
 still (tells answer) cells may = refl
 still (hears bytes answer) cells may = refl
 still (holds what count) cells may = refl
+still (looks begun most count) cells may = refl
 still ends cells may = refl
 still ends_starting cells may = refl
 still ends_finishing cells may = refl
@@ -119,6 +121,7 @@ module _ (v : Version) (last : Timetable) (tellable : IsTellable last)
   heard-fine log states fleet (says answer) honest = tt
   heard-fine log states fleet (tells answer) honest = tt
   heard-fine log states fleet (holds what count) honest = tt
+  heard-fine log states fleet (looks begun most count) honest = tt
   heard-fine log states fleet ends honest = tt
   heard-fine log states fleet ends_starting honest = tt
   heard-fine log states fleet ends_finishing honest = tt

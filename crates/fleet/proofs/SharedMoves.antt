@@ -14,7 +14,7 @@ use Rattle.model.specs.Laws.Tracks.{moves_at-start, moves-leave, moves-rise, mov
 use Rattle.agent.specs.Counters.{known_in}
 use Rattle.agent.specs.declared.counters.Counter.{Counter}
 use Rattle.agent.specs.Decoding.{any_fault}
-use Rattle.agent.specs.States.{State, is_on_the_way, finished_moves, held_by_tape, waits_for, start_refusal, finish_refusal, next_cell, Stores, Answers, IsSaid, IsToldBy, Keeps, Refuses, bytes_refusal, names_nobody, tells_too_many, message_refusal, telling_refusal, IsTaken, IsHeard}
+use Rattle.agent.specs.States.{State, begun_moves, is_on_the_way, finished_moves, held_by_tape, waits_for, start_refusal, finish_refusal, next_cell, Stores, Answers, IsSaid, IsToldBy, Keeps, Refuses, bytes_refusal, names_nobody, tells_too_many, message_refusal, telling_refusal, IsTaken, IsHeard}
 use Rattle.agent.specs.Tellings.{Telling, BytesTell}
 use Rattle.agent.specs.declared.refusal.HearFault.{HearFault}
 use Rattle.agent.specs.declared.refusal.HearFault.TheVariants as fault
@@ -24,8 +24,8 @@ use Rattle.agent.specs.declared.refusal.TellFault.{TellFault}
 use Rattle.agent.specs.declared.refusal.TellFault.TheVariants as teller
 use Rattle.continuing.specs.Continuing.{AgreesUpTo}
 use Rattle.continuing.specs.Laws.Agreeing.{moves-along, same-move, along, need-same}
-use Rattle.fleet.specs.Deeds.{Deed, opens, starts, finishes, says, tells, hears, holds, ends, ends_starting, ends_finishing, Does}
-use Rattle.fleet.specs.OwnPlans.{begun_moves, end_of_moves, SharesMoves, MayBeLeftOut, StandsAs}
+use Rattle.fleet.specs.Deeds.{Deed, opens, starts, finishes, says, tells, hears, holds, looks, ends, ends_starting, ends_finishing, Does}
+use Rattle.fleet.specs.OwnPlans.{end_of_moves, SharesMoves, MayBeLeftOut, StandsAs}
 
 -- what the bytes that are heard have to be: the timetable has nothing against what they tell
 abbrev pub IsFine : Timetable → Deed → Type 0
@@ -356,6 +356,7 @@ module _ (last by : Timetable) (i : ℕ) (track other : Track) (there : track_of
     deed-by (hears bytes answer) new shares fine does = hears-by new bytes answer (sym shares.agrees.number) (sym shares.agrees.agents) fine does
     deed-by (holds what count) new shares fine does =
         inl (twin, (does.0 ∙ held-there new shares (ap (λ s. s.records) does.2), does.1 ∙ finished-there, refl), stays-as new does.2)
+    deed-by (looks begun most count) new shares fine does = inr (tt, stays-as new does.2)
     deed-by ends new shares fine does = inl (twin, refl, stays-as new does)
     deed-by ends_starting new shares fine does = elim (start-by new (Err StoreFailed) shares does) [
       | inl goes ↦ inl goes

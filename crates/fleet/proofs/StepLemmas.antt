@@ -32,7 +32,7 @@ use Rattle.agent.specs.declared.refusal.Refusal.TheVariants.{StoreFailed}
 use Rattle.agent.specs.declared.refusal.TellFault.{TellFault}
 use Rattle.agent.specs.declared.refusal.TellFault.TheVariants as teller
 use Rattle.agent.specs.Replies.{why_of, unless, answered, delivered, stood}
-use Rattle.fleet.specs.Deeds.{Deed, opens, starts, finishes, says, tells, hears, holds, ends, ends_starting, ends_finishing, Does}
+use Rattle.fleet.specs.Deeds.{Deed, opens, starts, finishes, says, tells, hears, holds, looks, ends, ends_starting, ends_finishing, Does}
 use Rattle.fleet.specs.Fleets.{IsTellable, bytes_of, IsHonest}
 use Rattle.fleet.specs.FleetSafety.{walked_on}
 use Rattle.fleet.specs.Members.{IsLeftBy}
@@ -350,6 +350,7 @@ module _ (v : Version) (table : Timetable) (i : ℕ) (track : Track) (there : tr
   deed-on tellable was_said fine one (tells answer) t honest does = tells-on t answer honest does.0 does.1
   deed-on tellable was_said fine one (hears bytes answer) t honest does = hear-on tellable was_said fine one t bytes honest.0 honest.1 answer does
   deed-on tellable was_said fine one (holds what count) t honest does = (h, refl, no-event t does.2)
+  deed-on tellable was_said fine one (looks begun most count) t honest does = (h, refl, no-event t does.2)
   deed-on tellable was_said fine one ends t honest does = (h, refl, no-event t does)
   deed-on tellable was_said fine one ends_starting t honest does = start-on t (Err StoreFailed) does
   deed-on tellable was_said fine one ends_finishing t honest does = finish-on t (Err StoreFailed) does

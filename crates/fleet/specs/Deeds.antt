@@ -7,7 +7,8 @@ use Rattle.agent.specs.declared.refusal.HearFault.{HearFault}
 use Rattle.agent.specs.declared.refusal.Refusal.{Refusal}
 use Rattle.agent.specs.declared.refusal.Refusal.TheVariants.{StoreFailed}
 use Rattle.agent.specs.declared.refusal.TellFault.{TellFault}
-use Rattle.agent.specs.States.{State, finished_moves, held_by_tape, start_refusal, finish_refusal, next_cell, Answers, IsSaid, IsToldBy, IsHeard}
+use Rattle.agent.specs.Ahead.{IsFreeAhead}
+use Rattle.agent.specs.States.{State, finished_moves, begun_moves, held_by_tape, start_refusal, finish_refusal, next_cell, Answers, IsSaid, IsToldBy, IsHeard}
 
 pub data Deed : Type 0 where
   -- a process opened the agent's tape, and found that the agent holds this and has finished so many moves
@@ -19,6 +20,8 @@ pub data Deed : Type 0 where
   tells : Result (List ℕ) TellFault → Deed
   hears : List ℕ → Result (ℕ × ℕ) HearFault → Deed
   holds : Held → ℕ → Deed
+  -- how far ahead its way is free, behind so many moves that it had begun: of so many moves at the most so many
+  looks : (begun most count : ℕ) → Deed
   -- the process ended, at any moment in which it wrote nothing
   ends : Deed
   -- or in the middle of the write of a start or of a finish, of which the record was stored or not
@@ -36,6 +39,7 @@ Does tt i track old (says answer) new = IsSaid tt i old answer × (new ≡ old)
 Does tt i track old (tells answer) new = IsToldBy tt i old answer × (new ≡ old)
 Does tt i track old (hears bytes answer) new = IsHeard tt old new bytes answer
 Does tt i track old (holds held count) new = (held ≡ held_by_tape track old) × (count ≡ finished_moves old) × (new ≡ old)
+Does tt i track old (looks begun most count) new = (begun ≡ begun_moves old) × IsFreeAhead tt i track old most count × (new ≡ old)
 Does tt i track old ends new = new ≡ old
 Does tt i track old ends_starting new = Answers (start_refusal tt i track old) old new (next_cell track old) (Err StoreFailed)
 Does tt i track old ends_finishing new = Answers (finish_refusal old) old new (next_cell track old) (Err StoreFailed)

@@ -14,5 +14,7 @@ pub mod Members
 pub mod Rounds
 -- what a fleet did whose processes run by plans of their own
 pub mod OwnPlans
+-- where drives may be that go ahead of their agents' tapes
+pub mod Ahead
 -- What follows from these definitions, each with its proof: proofs of other crates cite it, and nothing of it has to be believed.
 pub mod Laws

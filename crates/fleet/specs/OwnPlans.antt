@@ -1,14 +1,14 @@
 -- What a fleet did whose processes run by plans of their own, while the fleet goes over to a last one.
-use Rattle.std.specs.Prelude.{◌≡◌, ◌≢◌, ℕ, ◌+◌, ◌/◌, ◌≤◌, ◌⊎◌, zero, suc, true, List, [], ◌∷◌, ◌++◌, map, Some, Err}
+use Rattle.std.specs.Prelude.{◌≡◌, ◌≢◌, ℕ, ◌+◌, ◌≤◌, ◌⊎◌, zero, suc, true, List, [], ◌∷◌, ◌++◌, map, Some, Err}
 use Rattle.model.specs.declared.version.Version.{Version}
 use Rattle.model.specs.Plan.{Plan, IsTimetableOf}
 use Rattle.model.specs.Timetable.{Track, Timetable, moves, step_of, track_of}
 use Rattle.agent.specs.declared.refusal.HearFault.TheVariants as hear_fault
 use Rattle.agent.specs.declared.refusal.Refusal.TheVariants.{Broken, AtEnd, Waits, StoreFailed}
 use Rattle.agent.specs.declared.refusal.TellFault.TheVariants as tell_fault
-use Rattle.agent.specs.States.{State}
+use Rattle.agent.specs.States.{State, begun_moves}
 use Rattle.continuing.specs.Continuing.{AgreesUpTo}
-use Rattle.fleet.specs.Deeds.{Deed, starts, finishes, says, tells, hears, ends_starting, Does}
+use Rattle.fleet.specs.Deeds.{Deed, starts, finishes, says, tells, hears, looks, ends_starting, Does}
 use Rattle.fleet.specs.Fleets.{Logged, Log, fresh, spoken, IsHonest}
 
 -- a deed, whose it is, and the timetable by which its process ran
@@ -27,10 +27,6 @@ logged now = record { agent = now.agent; deed = now.deed }
 
 abbrev pub log_of : Doings → Log
 log_of doings = map logged doings
-
--- how many moves an agent has begun: those of which its tape has a record
-abbrev pub begun_moves : State → ℕ
-begun_moves s = (s.records + 1) / 2
 
 -- A deed led its agent on, and nothing changed of the others; the timetable of its process fits whose it is, its track, and how many moves it has begun then.
 -- Messages are of the fleet's version, and what is heard was said before.
@@ -79,7 +75,7 @@ pub record IsOfChain (plan : Plan) (plans : List Plan) (by : Timetable) (i : ℕ
 -- ---- what is left of it by the last plan
 
 -- Refusals that hang on the end of a plan, and a start whose write failed, with what the agent refuses until it is opened again. By another plan they may be none; they
--- moved nobody.
+-- moved nobody. How far the way is free hangs on the plan too.
 abbrev pub MayBeLeftOut : Deed → Type 0
 MayBeLeftOut (starts (Err AtEnd)) = Unit {0}
 MayBeLeftOut (starts (Err (Waits agent count))) = Unit {0}
@@ -90,6 +86,7 @@ MayBeLeftOut (says (Err refusal)) = Unit {0}
 MayBeLeftOut (tells (Err tell_fault.Broken)) = Unit {0}
 MayBeLeftOut (hears bytes (Err hear_fault.TooMany)) = Unit {0}
 MayBeLeftOut (hears bytes (Err hear_fault.Broken)) = Unit {0}
+MayBeLeftOut (looks begun most count) = Unit {0}
 MayBeLeftOut ends_starting = Unit {0}
 MayBeLeftOut _ = ⊥
 

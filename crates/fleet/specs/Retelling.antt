@@ -6,7 +6,7 @@ use Rattle.model.specs.declared.why.Why.TheVariants as why
 use Rattle.model.specs.History.{Answer, moving, arrived, said, armed, refused, History, is_store_failed}
 use Rattle.agent.specs.declared.refusal.TellFault.TheVariants.{Broken, OutOfMemory}
 use Rattle.agent.specs.Replies.{why_of, answered, delivered, stood}
-use Rattle.fleet.specs.Deeds.{Deed, opens, starts, finishes, says, tells, hears, holds, ends, ends_starting, ends_finishing}
+use Rattle.fleet.specs.Deeds.{Deed, opens, starts, finishes, says, tells, hears, holds, looks, ends, ends_starting, ends_finishing}
 use Rattle.fleet.specs.Fleets.{Log, spoken}
 
 -- the event and its answer were added to what happened before
@@ -25,8 +25,8 @@ abbrev pub AddsDelivery : List (List ℕ) → History → ℕ → List ℕ → O
 AddsDelivery messages before i bytes None new = new ≡ before
 AddsDelivery messages before i bytes (Some answer) new = (m : ℕ) × (slice_get messages m ≡ Some bytes) × AddsEvent before (Deliver i m) answer new
 
--- Which events an agent's deed adds to what happened before it, where these messages had been said. That a process ended, that somebody asked what the agent holds, and
--- that memory was refused, are none.
+-- Which events an agent's deed adds to what happened before it, where these messages had been said. That a process ended, that somebody asked what the agent holds or how far its way is free,
+-- and that memory was refused, are none.
 abbrev pub IsRetoldBy : List (List ℕ) → History → ℕ → Deed → History → Type 0
 IsRetoldBy messages before i (opens held count) new = AddsEvent before (Restart i) (stood held count) new
 IsRetoldBy messages before i (starts answer) new = AddsWrite before i (Start i) (answered moving answer) new
@@ -38,6 +38,7 @@ IsRetoldBy messages before i (tells (Err Broken)) new = AddsEvent before (Say i)
 IsRetoldBy messages before i (tells (Err OutOfMemory)) new = new ≡ before
 IsRetoldBy messages before i (hears bytes answer) new = AddsDelivery messages before i bytes (delivered answer) new
 IsRetoldBy messages before i (holds held count) new = new ≡ before
+IsRetoldBy messages before i (looks begun most count) new = new ≡ before
 IsRetoldBy messages before i ends new = new ≡ before
 IsRetoldBy messages before i ends_starting new = AddsWrite before i (Start i) (refused why.StoreFailed) new
 IsRetoldBy messages before i ends_finishing new = AddsWrite before i (Finish i) (refused why.StoreFailed) new

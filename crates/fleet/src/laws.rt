@@ -1,5 +1,6 @@
 //! What is promised of agents that each run by themselves: laws, which hold of every fleet and need no code.
 ghost use Rattle.std.specs.Prelude.{◌≡◌, ℕ, false, ◌+◌, ◌*◌, ◌<◌, ◌≤◌, ◌⊎◌, List, ◌∷◌, ◌++◌, length, Some, Result, slice_get, sum_by};
+ghost use Rattle.std.specs.List.{AllByRecursion};
 ghost use Rattle.grid.specs.declared.cell.Cell.{Cell};
 ghost use Rattle.grid.specs.Map.{Grid};
 ghost use Rattle.model.specs.declared.held.Held.{Held};
@@ -13,18 +14,20 @@ ghost use Rattle.model.specs.Timetable.{Track, Timetable, moves, track_of, IsCon
 ghost use Rattle.plan_text.specs.Limits.{IsPlan};
 ghost use Rattle.agent.specs.Agents.{AgentOn, state_of, Starts, Finishes, Says, TellsAll, Hears, IsHolding};
 ghost use Rattle.agent.specs.Opening.{IsOpened};
-ghost use Rattle.agent.specs.States.{State, finished_moves, held_by_tape};
+ghost use Rattle.agent.specs.Ahead.{LooksAhead};
+ghost use Rattle.agent.specs.States.{State, finished_moves, begun_moves, held_by_tape};
 ghost use Rattle.agent.specs.Tape.{whole_records};
 ghost use Rattle.agent.specs.Tellings.{Telling, BytesTell};
 ghost use Rattle.agent.specs.declared.refusal.HearFault.{HearFault};
 ghost use Rattle.agent.specs.declared.refusal.Refusal.{Refusal};
 ghost use Rattle.agent.specs.declared.refusal.TellFault.{TellFault};
 ghost use Rattle.continuing.specs.Continuing.{Continues, IsChain, last_plan};
-ghost use Rattle.fleet.specs.Deeds.{Deed, opens, starts, finishes, says, tells, hears, holds, Does};
+ghost use Rattle.fleet.specs.Deeds.{Deed, opens, starts, finishes, says, tells, hears, holds, looks, Does};
 ghost use Rattle.fleet.specs.Fleets.{Log, spoken, IsHonest, IsFleet, with_state, IsTellable};
+ghost use Rattle.fleet.specs.Ahead.{IsSafeAhead, LooksWithin};
 ghost use Rattle.fleet.specs.FleetSafety.{IsFleetSafe};
 ghost use Rattle.fleet.specs.Members.{IsLeftBy};
-ghost use Rattle.fleet.specs.OwnPlans.{Doings, log_of, begun_moves, AreLedOn, IsFleetBy, SharesMoves, IsOfChain, LeavesOut, StandsAs};
+ghost use Rattle.fleet.specs.OwnPlans.{Doings, log_of, AreLedOn, IsFleetBy, SharesMoves, IsOfChain, LeavesOut, StandsAs};
 ghost use Rattle.fleet.specs.Retelling.{Retells};
 ghost use Rattle.fleet.specs.Rounds.{IsRound, HasRounds, HaveArrived};
 
@@ -126,6 +129,21 @@ pub fn no_tape_is_behind()
     agent::laws::tellings();
 }
 
+/// Drives may go ahead of their agents' tapes: as far as a way was ever told to be free. No two are in one cell then, wherever each is between the last move that is finished by its
+/// tape and the furthest one that it was told of, whoever restarts meanwhile and forgets what it heard. So it is of a fleet that goes over to a last plan, where each way was
+/// told to be free by a plan that has everybody where the last one has them, up to the end of that way.
+pub fn ahead_of_tapes()
+    ensures fleet { (map : Grid) (plan : Plan) (tt : Timetable) (version : Version) (log : Log) (states : ℕ → State) → IsPlan plan → IsValid map plan → IsTimetableOf plan tt
+        → IsFleet version tt log states → IsSafeAhead tt log states }
+    ensures of_plans { (map : Grid) (plan : Plan) (last : Timetable) (version : Version) (doings : Doings) (states : ℕ → State) → IsPlan plan → IsValid map plan → IsTimetableOf plan last
+        → IsFleetBy (SharesMoves last) version doings states → AllByRecursion (LooksWithin last) doings → IsSafeAhead last (log_of doings) states }
+{
+    model::laws::timetables();
+    model::laws::met_needs_keep_apart();
+    model::laws::messages_of_runs();
+    agent::laws::tellings();
+}
+
 /// What each call of an agent answers is a deed that leads it from the state before to the state after, over any tape: so an agent whose answers are told has told its part of
 /// what its fleet did. A tape is opened by a process with as many records as the one before left on it.
 pub fn calls_are_deeds<T: Tape>()
@@ -145,6 +163,9 @@ pub fn calls_are_deeds<T: Tape>()
     ensures holds { (tt : Timetable) (a : AgentOn T) (what : Held) → IsHolding T.state tt a what
         → (track : Track) × (track_of tt a.part.agent ≡ Some track)
         × Does tt a.part.agent track (state_of T.state a) (holds what (finished_moves (state_of T.state a))) (state_of T.state a) }
+    ensures looks { (tt : Timetable) (a : AgentOn T) (most count : ℕ) → LooksAhead T.state tt a most count
+        → (track : Track) × (track_of tt a.part.agent ≡ Some track)
+        × Does tt a.part.agent track (state_of T.state a) (looks (begun_moves (state_of T.state a)) most count) (state_of T.state a) }
 {}
 
 /// A tape that was opened has no more than its plan's moves, and no deed by that plan goes past them. So what has to be seen to of a plan is only that the moves which a tape

@@ -1,19 +1,14 @@
 -- A visit that was begun has every earlier visit of its cell left.
-use Rattle.std.proofs.Common.{◌≡◌, ℕ, zero, suc, ◌+◌, ◌<◌, ◌≤◌, eqb, false, length, get_or, Some, None, inl, inr, arith, sym, ap, subst, ◌∙◌}
+use Rattle.std.proofs.Common.{◌≡◌, ℕ, zero, suc, ◌+◌, ◌<◌, ◌≤◌, eqb, false, get_or, Some, None, inl, inr, arith, sym, ap, subst, ◌∙◌}
 use Rattle.std.specs.Prelude.{Option}
 use Rattle.std.proofs.lemmas.Bool.{cases_Bool, cases_lt, cases_order, cond-false, eqb-true, eqb-false, false≢true}
 use Rattle.std.proofs.lemmas.Option.{same_Some}
 use Rattle.grid.specs.declared.cell.Cell.{Cell}
 use Rattle.model.specs.Timetable.{Track, Timetable, same_cell, cell_at, moves_before, path, step_of, track_of, Stands, IsConflictFree}
-use Rattle.model.specs.Dependency.{Need, Stand, need_by, need, IsMet, last_stand, moves_in}
-use Rattle.model.specs.Rules.{path_cell}
+use Rattle.model.specs.Dependency.{Need, Stand, need_by, IsMet, last_stand, moves_in}
+use Rattle.model.specs.Safety.{HaveNeedsMet, MayBeIn}
 use Rattle.model.specs.Laws.Tracks.{same_cell-same, same_cell-true, moves-leave, moves-rise, cell-visit, visit_time, step-of_move}
 use Rattle.model.specs.Laws.Needs.{stands-track, stands-from, IsLastBelow, last_stand-is}
-
--- how many moves each agent has begun and finished, where each begun move has its need met
-pub record IsKept (tt : Timetable) (begun finished : ℕ → ℕ) : Type 0 where
-  pub order : (i : ℕ) (track : Track) → track_of tt i ≡ Some track → finished i ≤ begun i
-  pub met : (i : ℕ) (track : Track) (k : ℕ) → track_of tt i ≡ Some track → k < begun i → IsMet finished (need tt i track k)
 
 -- what has to be shown: the visit of the agent i at the time t is left, where l is in the same cell at the time s, later, and has begun that visit
 abbrev IsLeft : Timetable → (begun finished : ℕ → ℕ) → ℕ → Type 0
@@ -22,7 +17,7 @@ IsLeft tt begun finished s =
     → cell_at ti t ≡ c → cell_at tl s ≡ c → moves_before tl s ≤ begun l → moves_before ti t < finished i
 
 -- by the agent that was last in the cell
-left_by_last : (tt : Timetable) (begun finished : ℕ → ℕ) → IsConflictFree tt → IsKept tt begun finished → (s : ℕ)
+left_by_last : (tt : Timetable) (begun finished : ℕ → ℕ) → IsConflictFree tt → HaveNeedsMet tt begun finished → (s : ℕ)
     → ((r : ℕ) → r < s + 1 → IsLeft tt begun finished r)
     → (l i t : ℕ) (c : Cell) (tl ti : Track) → track_of tt l ≡ Some tl → track_of tt i ≡ Some ti → (l ≡ i → ⊥) → t < s + 1
     → cell_at ti t ≡ c → cell_at tl (s + 1) ≡ c → moves_before tl s ≤ begun l
@@ -91,7 +86,7 @@ left_by_last tt begun finished free kept s earlier l i t c tl ti el ei apart les
                 eqb-false j l other (free j l (s + 1) c (subst (λ n. Stands tt j n c) e there) (stands-from tt l (s + 1) c tl el at_l))
           ]
 
-left_next : (tt : Timetable) (begun finished : ℕ → ℕ) → IsConflictFree tt → IsKept tt begun finished → (s : ℕ)
+left_next : (tt : Timetable) (begun finished : ℕ → ℕ) → IsConflictFree tt → HaveNeedsMet tt begun finished → (s : ℕ)
     → ((r : ℕ) → r < s + 1 → IsLeft tt begun finished r) → IsLeft tt begun finished (s + 1)
 left_next tt begun finished free kept s earlier l i t c tl ti el ei apart less at_i at_l most =
     let one : s + 1 ≡ suc s = omega arith in
@@ -119,7 +114,7 @@ left_next tt begun finished free kept s earlier l i t c tl ti el ei apart less a
           (last_stand tt c s) (last_stand-is tt c s) at_cell
     ]
 
-left_below : (tt : Timetable) (begun finished : ℕ → ℕ) → IsConflictFree tt → IsKept tt begun finished → (bound s : ℕ) → s < bound
+left_below : (tt : Timetable) (begun finished : ℕ → ℕ) → IsConflictFree tt → HaveNeedsMet tt begun finished → (bound s : ℕ) → s < bound
     → IsLeft tt begun finished s
 left_below tt begun finished free kept zero s below = λ l i t c tl ti el ei apart less. omega (arith, below)
 left_below tt begun finished free kept (suc bound) zero below = λ l i t c tl ti el ei apart less at_i at_l most. omega (arith, less)
@@ -128,25 +123,20 @@ left_below tt begun finished free kept (suc bound) (suc s) below =
     subst (IsLeft tt begun finished) one
     (left_next tt begun finished free kept s (λ r less. left_below tt begun finished free kept bound r (omega (arith, below, less))))
 
-left_all : (tt : Timetable) (begun finished : ℕ → ℕ) → IsConflictFree tt → IsKept tt begun finished → (s : ℕ) → IsLeft tt begun finished s
+left_all : (tt : Timetable) (begun finished : ℕ → ℕ) → IsConflictFree tt → HaveNeedsMet tt begun finished → (s : ℕ) → IsLeft tt begun finished s
 left_all tt begun finished free kept s = left_below tt begun finished free kept (suc s) s (omega arith)
 
 -- ---- two agents
 
--- the agent is in the cell by a visit that it has begun and not left
-abbrev pub IsInside : Timetable → (begun finished : ℕ → ℕ) → ℕ → Cell → Type 0
-IsInside tt begun finished i c =
-    (track : Track) × (n : ℕ) × (track_of tt i ≡ Some track) × (n < length (path track)) × (path_cell track n ≡ c) × (finished i ≤ n) × (n ≤ begun i)
-
-apart_by : (tt : Timetable) (begun finished : ℕ → ℕ) → IsConflictFree tt → IsKept tt begun finished → (l i s t : ℕ) (c : Cell) (tl ti : Track)
+apart_by : (tt : Timetable) (begun finished : ℕ → ℕ) → IsConflictFree tt → HaveNeedsMet tt begun finished → (l i s t : ℕ) (c : Cell) (tl ti : Track)
     → track_of tt l ≡ Some tl → track_of tt i ≡ Some ti → (l ≡ i → ⊥) → t < s → cell_at ti t ≡ c → cell_at tl s ≡ c
     → moves_before tl s ≤ begun l → finished i ≤ moves_before ti t → ⊥
 apart_by tt begun finished free kept l i s t c tl ti el ei apart less at_i at_l most least =
     let left = left_all tt begun finished free kept s l i t c tl ti el ei apart less at_i at_l most in
     omega (arith, left, least)
 
-pub inside-apart : (tt : Timetable) (begun finished : ℕ → ℕ) → IsConflictFree tt → IsKept tt begun finished → (i j : ℕ) (c : Cell)
-    → IsInside tt begun finished i c → IsInside tt begun finished j c → i ≡ j
+pub inside-apart : (tt : Timetable) (begun finished : ℕ → ℕ) → IsConflictFree tt → HaveNeedsMet tt begun finished → (i j : ℕ) (c : Cell)
+    → MayBeIn tt begun finished i c → MayBeIn tt begun finished j c → i ≡ j
 inside-apart tt begun finished free kept i j c p q =
     let ti = p.0 in
     let tj = q.0 in

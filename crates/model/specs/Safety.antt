@@ -1,11 +1,12 @@
 -- What a safe run is.
-use Rattle.std.specs.Prelude.{◌≡◌, ℕ, ◌+◌, ◌==◌, ◌&&◌, ◌⊎◌, if◌then◌else◌, List, [], ◌∷◌, ◌++◌, length, Some, MatchOption}
+use Rattle.std.specs.Prelude.{◌≡◌, ℕ, ◌+◌, ◌<◌, ◌≤◌, ◌==◌, ◌&&◌, ◌⊎◌, if◌then◌else◌, List, [], ◌∷◌, ◌++◌, length, Some, MatchOption}
 use Rattle.grid.specs.declared.cell.Cell.{Cell}
 use Rattle.model.specs.declared.event.Event.{Event}
 use Rattle.model.specs.declared.event.Event.TheVariants.{Start, Restart}
 use Rattle.model.specs.declared.held.Held.{Held}
 use Rattle.model.specs.declared.held.Held.TheVariants.{At, Between}
 use Rattle.model.specs.Timetable.{Track, Timetable, path, track_of}
+use Rattle.model.specs.Dependency.{need, IsMet}
 use Rattle.model.specs.History.{Answer, moving, between, History, done, is_moving}
 use Rattle.model.specs.Rules.{path_cell}
 
@@ -44,3 +45,15 @@ pub record IsSafe (tt : Timetable) (h : History) : Type 0 where
   pub apart : (i j : ℕ) (c : Cell) → Holds tt h i c → Holds tt h j c → i ≡ j
   pub no_exchange : (i j : ℕ) (u v : Cell) → IsBetween tt h i u v → IsBetween tt h j v u → i ≡ j
   pub walks : (i : ℕ) (track : Track) → track_of tt i ≡ Some track → IsBeginningOf (walk track h i) (path track)
+
+-- ---- by numbers of moves alone
+
+-- Each agent has begun what it has finished, and each move that it has begun has its need met by what is finished.
+pub record HaveNeedsMet (tt : Timetable) (begun finished : ℕ → ℕ) : Type 0 where
+  pub order : (i : ℕ) (track : Track) → track_of tt i ≡ Some track → finished i ≤ begun i
+  pub met : (i : ℕ) (track : Track) (k : ℕ) → track_of tt i ≡ Some track → k < begun i → IsMet finished (need tt i track k)
+
+-- the agent may be in the cell: it is one of its path, from that of the last move that it has finished to that of the last one that it has begun
+abbrev pub MayBeIn : Timetable → (begun finished : ℕ → ℕ) → ℕ → Cell → Type 0
+MayBeIn tt begun finished i c =
+    (track : Track) × (n : ℕ) × (track_of tt i ≡ Some track) × (n < length (path track)) × (path_cell track n ≡ c) × (finished i ≤ n) × (n ≤ begun i)

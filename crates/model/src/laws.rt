@@ -15,7 +15,7 @@ ghost use Rattle.model.specs.Messages.{Message, told_by, own_message, entries_fr
 ghost use Rattle.model.specs.History.{Answer, said, is_heard, History, armed_of, is_broken, kept_starts, done, is_moving, messages, known};
 ghost use Rattle.model.specs.Rules.{say_answer, IsRun};
 ghost use Rattle.model.specs.Speech.{WasSaid};
-ghost use Rattle.model.specs.Safety.{IsSafe};
+ghost use Rattle.model.specs.Safety.{IsSafe, HaveNeedsMet, MayBeIn};
 ghost use Rattle.model.specs.Completion.{history_after, AreAccepted, IsCompletion, IsBlocked};
 ghost use Rattle.model.specs.Ready.{IsReady, rest_events, ComesToRest, MovesOn, SpeaksUp, Learns};
 ghost use Rattle.model.specs.Costs.{cost, IsCost, AllEndAtRest, Task, FitsFirst, SolvesAt};
@@ -50,6 +50,13 @@ pub fn runs_of_events()
 /// In every run over a timetable without vertex conflicts, whatever the events are, each beginning is safe.
 pub fn every_run_is_safe()
     ensures { (version : Version) (tt : Timetable) (later earlier : History) → IsConflictFree tt → IsRun version tt (later ++ earlier) → IsSafe tt earlier }
+{}
+
+/// Safety by numbers of moves alone: where each begun move has its need met, no two agents may be in one cell, wherever each is between the last move that it has finished
+/// and the last one that it has begun, however many these are.
+pub fn met_needs_keep_apart()
+    ensures { (tt : Timetable) (begun finished : ℕ → ℕ) (i j : ℕ) (c : Cell) → IsConflictFree tt → HaveNeedsMet tt begun finished
+        → MayBeIn tt begun finished i c → MayBeIn tt begun finished j c → i ≡ j }
 {}
 
 /// What an agent has finished stays finished, and what it has begun stays begun; no other knows more of it than it has finished. In a run it has begun what it has

@@ -15,11 +15,11 @@ use Rattle.text_io.specs.Laws.Lines.{ended_push, AllByRecursion_push, lines_of-a
 use Rattle.text_io.specs.Laws.Putting.{Puts-same, Puts-trans}
 use Rattle.model.specs.Timetable.{Track, Timetable, track_of}
 use Rattle.agent.specs.Agents.{AgentOn, state_of}
-use Rattle.agent.specs.States.{State, finished_moves, held_by_tape}
+use Rattle.agent.specs.States.{State, finished_moves, begun_moves, held_by_tape}
 use Rattle.agent.specs.Tape.{TapeState}
 use Rattle.depgraph.specs.AgentParts.{IsPartOf}
-use Rattle.fleet.specs.Deeds.{Deed, starts, finishes, says, tells, hears, holds, Does, DoesAll}
-use Rattle.robot.specs.Requests.{Request, start, finish, say, tell, held, hear}
+use Rattle.fleet.specs.Deeds.{Deed, starts, finishes, says, tells, hears, holds, looks, Does, DoesAll}
+use Rattle.robot.specs.Requests.{Request, start, finish, say, tell, held, may, hear}
 use Rattle.robot.specs.Turns.{state_line, store_failed, deed_line, IsCallOf}
 use Rattle.robot.specs.Dialogue.{AreAnswersTo, IsHeedful, AreHeedful, IsStaleAnswer, EndStale, dialogue_lines, EndsInFailedStore, AreFirst, BreaksInLast, BlamesTape, Leads, Talks}
 use Rattle.robot.specs.Code.Answering.{IsSameAgent, Sends, Replies}
@@ -64,6 +64,7 @@ answers-by heeds table i track finish old new text heedful takes = (finishes tak
 answers-by heeds table i track say old new text heedful takes = (says takes.0, tt, takes.1, takes.2, tt)
 answers-by heeds table i track tell old new text heedful takes = (tells takes.0, tt, takes.1, takes.2, tt)
 answers-by heeds table i track held old new text heedful takes = (holds (held_by_tape track old) (finished_moves old), tt, takes.0, takes.1, tt)
+answers-by heeds table i track (may most) old new text heedful takes = (looks (begun_moves old) most takes.0, refl, takes.1, takes.2, tt)
 answers-by heeds table i track (hear bytes) old new text heedful takes = (hears bytes takes.0, refl, takes.1, takes.2, heedful)
 
 -- the turns of a dialogue, as what the agent did

@@ -21,6 +21,7 @@ pub turn_of_request
 turn_of_request heeds tt i track line request old new (the_answer.Reply r) asks does = inl (request, asks, does.0, does.1)
 turn_of_request heeds tt i track line request old new (the_answer.Said m) asks does = inl (request, asks, does.0, does.1)
 turn_of_request heeds tt i track line request old new (the_answer.Told m) asks does = inl (request, asks, does.0, does.1)
+turn_of_request heeds tt i track line request old new (the_answer.Free count) asks does = inl (request, asks, does.0, does.1)
 turn_of_request heeds tt i track line request old new the_answer.OutOfMemory asks does = inl (request, asks, does.0, does.1)
 turn_of_request heeds tt i track line request old new the_answer.BadLine asks does = inl (request, asks, does.0, does.1)
 turn_of_request heeds tt i track line request old new (the_answer.StaleTape w) asks does = (
@@ -43,6 +44,7 @@ pub turn_unless_stale
 turn_unless_stale heeds tt i track line old new (the_answer.Reply r) is turn = turn
 turn_unless_stale heeds tt i track line old new (the_answer.Said m) is turn = turn
 turn_unless_stale heeds tt i track line old new (the_answer.Told m) is turn = turn
+turn_unless_stale heeds tt i track line old new (the_answer.Free count) is turn = turn
 turn_unless_stale heeds tt i track line old new the_answer.OutOfMemory is turn = turn
 turn_unless_stale heeds tt i track line old new the_answer.BadLine is turn = turn
 turn_unless_stale heeds tt i track line old new (the_answer.StaleTape w) is turn = absurd (true≢false is)
@@ -53,6 +55,7 @@ pub stale_turn
 stale_turn heeds tt i track line old new (the_answer.Reply r) is turn = absurd (false≢true is)
 stale_turn heeds tt i track line old new (the_answer.Said m) is turn = absurd (false≢true is)
 stale_turn heeds tt i track line old new (the_answer.Told m) is turn = absurd (false≢true is)
+stale_turn heeds tt i track line old new (the_answer.Free count) is turn = absurd (false≢true is)
 stale_turn heeds tt i track line old new the_answer.OutOfMemory is turn = absurd (false≢true is)
 stale_turn heeds tt i track line old new the_answer.BadLine is turn = absurd (false≢true is)
 stale_turn heeds tt i track line old new (the_answer.StaleTape w) is turn = turn
@@ -73,6 +76,7 @@ pub store_failed_turn
 store_failed_turn heeds tt i track line old new (the_answer.Reply r) is turn = turn
 store_failed_turn heeds tt i track line old new (the_answer.Said m) is turn = turn
 store_failed_turn heeds tt i track line old new (the_answer.Told m) is turn = turn
+store_failed_turn heeds tt i track line old new (the_answer.Free count) is turn = turn
 store_failed_turn heeds tt i track line old new the_answer.OutOfMemory is turn = turn
 store_failed_turn heeds tt i track line old new the_answer.BadLine is turn = turn
 store_failed_turn heeds tt i track line old new (the_answer.StaleTape w) is turn = absurd (false≢true is)

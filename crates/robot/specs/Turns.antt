@@ -12,8 +12,8 @@ use Rattle.agent.specs.declared.refusal.TellFault.TheVariants.{Broken, OutOfMemo
 use Rattle.agent.specs.Replies.{answered, delivered, stood, why_of}
 use Rattle.agent.specs.States.{State, finished_moves, held_by_tape as held_in}
 use Rattle.event_text.specs.ReplyText.{reply_line}
-use Rattle.fleet.specs.Deeds.{Deed, opens, starts, finishes, says, tells, hears, holds}
-use Rattle.robot.specs.Requests.{Request, start, finish, say, tell, held, hear}
+use Rattle.fleet.specs.Deeds.{Deed, opens, starts, finishes, says, tells, hears, holds, looks}
+use Rattle.robot.specs.Requests.{Request, start, finish, say, tell, held, may, hear}
 
 -- ---- lines, without their LF
 
@@ -40,6 +40,10 @@ line_or_want None = codes "refused OutOfMemory"
 abbrev pub heard_line : Result (ℕ × ℕ) HearFault → List ℕ
 heard_line answer = line_or_want (delivered answer)
 
+-- how many moves are free ahead
+abbrev pub free_line : ℕ → List ℕ
+free_line count = codes "may" ++ spaced_numbers (count ∷ [])
+
 abbrev pub not_understood : List ℕ
 not_understood = codes "refused BadLine"
 
@@ -60,6 +64,7 @@ deed_line (says answer) = said_line answer
 deed_line (tells answer) = told_line answer
 deed_line (hears bytes answer) = heard_line answer
 deed_line (holds what count) = reply_line (stood what count)
+deed_line (looks begun most count) = free_line count
 deed_line _ = []
 
 -- the deed is the call that is asked for, with some answer
@@ -69,5 +74,6 @@ IsCallOf finish (finishes answer) = Unit {0}
 IsCallOf say (says answer) = Unit {0}
 IsCallOf tell (tells answer) = Unit {0}
 IsCallOf held (holds what count) = Unit {0}
+IsCallOf (may most) (looks begun given count) = given ≡ most
 IsCallOf (hear bytes) (hears given answer) = given ≡ bytes
 IsCallOf _ _ = ⊥

@@ -83,6 +83,7 @@ fn answer_request<T: Tape>(
         Request::Say => answer_say(agent),
         Request::Tell => answer_tell(agent),
         Request::Held => state_answer(agent),
+        Request::May(most) => LineAnswer::Free(agent.ahead(most)),
         Request::Hear(count) => answer_hear(agent, heeded, &room[..count]),
     }
 }

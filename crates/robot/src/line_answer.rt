@@ -2,7 +2,7 @@
 ghost use Rattle.std.specs.Prelude.{◌≡◌, ◌++◌, [], ◌∷◌, ◌↔◌, IsTrue, OnOk, OnErr, Ok};
 ghost use Rattle.text_io.specs.Text.{line_feed};
 ghost use Rattle.text_io.specs.Sink.{held_back, Puts, Breaks};
-ghost use Rattle.robot.specs.Turns.{said_line, stale_tape, store_failed};
+ghost use Rattle.robot.specs.Turns.{said_line, free_line, stale_tape, store_failed};
 ghost use Rattle.robot.specs.Code.Answering.{answer_line, says_stale, says_store_failed};
 
 use crate::stale::StaleWord;
@@ -19,6 +19,8 @@ pub(crate) enum LineAnswer {
     Said([u8; 12]),
     /// The message of version 2.
     Told(Vec<u8>),
+    /// How many moves are free ahead.
+    Free(u32),
     /// The tape is an older one, as a message shows.
     StaleTape(StaleWord),
     /// Memory is wanting for what was heard, or for what is to be told.
@@ -65,10 +67,20 @@ fn put_answer<W: Write>(sink: &mut Sink<'_, W>, answer: &LineAnswer) -> Result<(
         LineAnswer::Reply(reply) => put_reply(sink, reply),
         LineAnswer::Said(message) => put_said(sink, message),
         LineAnswer::Told(message) => put_said(sink, message),
+        LineAnswer::Free(count) => put_free(sink, *count),
         LineAnswer::StaleTape(word) => put_stale(sink, *word),
         LineAnswer::OutOfMemory => sink.put(b"refused OutOfMemory\n"),
         LineAnswer::BadLine => sink.put(b"refused BadLine\n"),
     }
+}
+
+/// Puts how many moves are free ahead.
+fn put_free<W: Write>(sink: &mut Sink<'_, W>, count: u32) -> Result<(), WriteFault>
+    ensures ok { OnOk result (Puts W.contents sink.old sink.new (free_line count ++ line_feed ∷ [])) }
+    ensures err { OnErr result (Breaks W.contents sink.old sink.new (free_line count ++ line_feed ∷ [])) }
+{
+    sink.put_numbers(b"may", b' ', &[u64::from(count)])?;
+    sink.put(b"\n")
 }
 
 /// Puts who says that the agent has finished how many moves.

@@ -4,6 +4,7 @@ ghost use Rattle.robot.specs.Requests.{longest_request, AsksFor, AsksNothing};
 ghost use Rattle.robot.specs.Code.Reading.{request_in, FitsIn};
 
 use hex::decode_to_slice;
+use text_io::small_numeral;
 
 /// A line that is understood has no more bytes before its LF.
 pub(crate) const LONGEST_LINE: usize = 131072;
@@ -17,6 +18,8 @@ pub(crate) enum Request {
     /// To say all that it knows.
     Tell,
     Held,
+    /// How far ahead its way is free, so many moves at the most.
+    May(u32),
     /// To hear a message of so many bytes, which stand at the front of a room.
     Hear(usize),
 }
@@ -42,6 +45,9 @@ pub(crate) fn read_request(line: &[u8], room: &mut [u8]) -> Option<Request>
     }
     if is_word(line, b"held") {
         return Some(Request::Held);
+    }
+    if let Some(digits) = line.strip_prefix(b"may ") {
+        return Some(Request::May(small_numeral(digits)?));
     }
     let digits = line.strip_prefix(b"hear ")?;
     let count = digits.len() / 2;

@@ -11,7 +11,7 @@ use Rattle.agent.specs.Agents.{AgentOn, state_of}
 use Rattle.agent.specs.States.{State}
 use Rattle.agent.specs.Tape.{TapeState, HasFailed}
 use Rattle.event_text.specs.ReplyText.{reply_line}
-use Rattle.robot.specs.Turns.{said_line, told_line, not_understood, state_line, store_failed, stale_tape}
+use Rattle.robot.specs.Turns.{said_line, told_line, not_understood, state_line, store_failed, stale_tape, free_line}
 use Rattle.robot.specs.Requests.{Request, hear}
 use Rattle.robot.specs.Stale.{IsStale}
 use Rattle.robot.specs.Dialogue.{IsStaleAnswer}
@@ -27,6 +27,7 @@ abbrev pub answer_line : LineAnswer → List ℕ
 answer_line (the_answer.Reply r) = reply_line (answer_of r)
 answer_line (the_answer.Said message) = said_line (Ok message)
 answer_line (the_answer.Told message) = told_line (Ok message.items)
+answer_line (the_answer.Free count) = free_line count
 answer_line (the_answer.StaleTape w) = stale_tape w.sender w.number
 answer_line the_answer.OutOfMemory = codes "refused OutOfMemory"
 answer_line the_answer.BadLine = not_understood

@@ -10,7 +10,7 @@ use Rattle.text_io.specs.Source.{source_reader}
 use Rattle.text_io.specs.Text.{IsLine, ended}
 use Rattle.robot.specs.Requests as requests
 use Rattle.robot.specs.declared.request.Request.{Request}
-use Rattle.robot.specs.declared.request.Request.TheVariants.{Start, Finish, Say, Tell, Held, Hear}
+use Rattle.robot.specs.declared.request.Request.TheVariants.{Start, Finish, Say, Tell, Held, May, Hear}
 use Rattle.robot.specs.declared.input_lines.NextLine.{NextLine}
 use Rattle.robot.specs.declared.input_lines.NextLine.TheVariants.{Line, LastLine, End, Failed}
 
@@ -21,6 +21,7 @@ request_in room Finish = requests.finish
 request_in room Say = requests.say
 request_in room Tell = requests.tell
 request_in room Held = requests.held
+request_in room (May most) = requests.may most
 request_in room (Hear count) = requests.hear (take count room)
 
 -- the message lies in the room

@@ -5,9 +5,9 @@ use Rattle.model.specs.Timetable.{Track, Timetable}
 use Rattle.agent.specs.declared.refusal.HearFault.{HearFault}
 use Rattle.agent.specs.declared.refusal.Refusal.{Refusal}
 use Rattle.agent.specs.declared.refusal.TellFault.{TellFault}
-use Rattle.agent.specs.States.{State, finished_moves, held_by_tape as held_in}
-use Rattle.fleet.specs.Deeds.{starts, finishes, says, tells, hears, holds, Does}
-use Rattle.robot.specs.Requests.{Request, start, finish, say, tell, held, hear, AsksFor, AsksNothing}
+use Rattle.agent.specs.States.{State, finished_moves, begun_moves, held_by_tape as held_in}
+use Rattle.fleet.specs.Deeds.{starts, finishes, says, tells, hears, holds, looks, Does}
+use Rattle.robot.specs.Requests.{Request, start, finish, say, tell, held, may, hear, AsksFor, AsksNothing}
 use Rattle.robot.specs.Stale.{IsHeeded}
 use Rattle.robot.specs.Turns.{deed_line, not_understood, store_failed}
 
@@ -19,6 +19,8 @@ TakesRequest tt i track say old new text = (answer : Result (List ℕ) Refusal) 
 TakesRequest tt i track tell old new text = (answer : Result (List ℕ) TellFault) × Does tt i track old (tells answer) new × (text ≡ deed_line (tells answer))
 TakesRequest tt i track held old new text =
     Does tt i track old (holds (held_in track old) (finished_moves old)) new × (text ≡ deed_line (holds (held_in track old) (finished_moves old)))
+TakesRequest tt i track (may most) old new text =
+    (count : ℕ) × Does tt i track old (looks (begun_moves old) most count) new × (text ≡ deed_line (looks (begun_moves old) most count))
 TakesRequest tt i track (hear bytes) old new text = (answer : Result (ℕ × ℕ) HearFault) × Does tt i track old (hears bytes answer) new × (text ≡ deed_line (hears bytes answer))
 
 -- what is asked lets the agent hear nothing that shows its tape to be an older one, where that is heeded

@@ -45,3 +45,6 @@ returns-clause-hears g c table old new track bytes answer hears = hears.state
 
 pub returns-clause-holds : goal.returns-clause-holds
 returns-clause-holds g c table a what holds = (holds.0, holds.1, (holds.2, refl, refl))
+
+pub returns-clause-looks : goal.returns-clause-looks
+returns-clause-looks g c table a most count looks = (looks.0, looks.1, (refl, looks.2, refl))

@@ -4,8 +4,9 @@ use Rattle.model.specs.Plan.{longest_of}
 use Rattle.model.specs.Timetable.{Track, Timetable, step_of, moves, track_of}
 use Rattle.continuing.specs.Continuing.{AgreesUpTo}
 use Rattle.continuing.specs.Laws.Agreeing.{along, other-track, same-move, agrees-sooner, agrees-on, agrees-back}
+use Rattle.agent.specs.States.{begun_moves}
 use Rattle.fleet.specs.Fleets.{fresh}
-use Rattle.fleet.specs.OwnPlans.{begun_moves, end_of_moves, SharesMoves}
+use Rattle.fleet.specs.OwnPlans.{end_of_moves, SharesMoves}
 use Rattle.fleet.proofs.LeadingOn.{led-as, led-within, led-on}
 use Rattle.fleet.proofs.laws.taking_back.Goals as goal
 

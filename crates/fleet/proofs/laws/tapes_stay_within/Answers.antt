@@ -9,7 +9,7 @@ use Rattle.agent.specs.States.{State, is_on_the_way, finished_moves, Answers}
 use Rattle.agent.specs.Tape.{whole_records}
 use Rattle.agent.specs.declared.refusal.Refusal.{Refusal}
 use Rattle.agent.specs.declared.refusal.Refusal.TheVariants.{Broken, AlreadyMoving, AtEnd, NotMoving}
-use Rattle.fleet.specs.Deeds.{Deed, opens, starts, finishes, says, tells, hears, holds, ends, ends_starting, ends_finishing, Does}
+use Rattle.fleet.specs.Deeds.{Deed, opens, starts, finishes, says, tells, hears, holds, looks, ends, ends_starting, ends_finishing, Does}
 use Rattle.fleet.proofs.LeadingOn.{heard-same}
 use Rattle.fleet.proofs.laws.tapes_stay_within.Goals as goal
 
@@ -53,6 +53,7 @@ module _ (table : Timetable) (i : ℕ) (track : Track) (old : State) (within : o
   stays (tells answer) new does = same-records new does.1
   stays (hears bytes answer) new does = (let e = heard-same table old new bytes answer does in omega (arith, e, within))
   stays (holds what count) new does = same-records new does.2
+  stays (looks begun most count) new does = same-records new does.2
   stays ends new does = same-records new does
   stays ends_starting new does =
       one-more _ old new _ _ (2 * moves track) within (room-to-start old.broken (is_on_the_way old) (finished_moves old == moves track) _ refl refl) does

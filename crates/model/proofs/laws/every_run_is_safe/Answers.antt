@@ -8,10 +8,10 @@ use Rattle.model.specs.declared.held.Held.TheVariants.{At, Between}
 use Rattle.model.specs.Timetable.{Track, Timetable, track_of, IsConflictFree}
 use Rattle.model.specs.History.{History, kept_starts, done, is_moving}
 use Rattle.model.specs.Rules.{path_cell, IsRun}
-use Rattle.model.specs.Safety.{held, IsIn, Holds}
+use Rattle.model.specs.Safety.{held, IsIn, Holds, HaveNeedsMet, MayBeIn}
 use Rattle.model.specs.Laws.Options.{some-found}
 use Rattle.model.specs.Laws.Tracks.{length-path}
-use Rattle.model.proofs.Visited.{IsKept, IsInside, inside-apart}
+use Rattle.model.proofs.Visited.{inside-apart}
 use Rattle.model.specs.Laws.Runs.{Progress, progress}
 use Rattle.model.proofs.WalkedLemmas.{walk-beginning}
 use Rattle.model.proofs.laws.every_run_is_safe.Goals as goal
@@ -20,7 +20,7 @@ earlier_run : (v : Version) (tab : Timetable) (later earlier : History) → IsRu
 earlier_run v tab [] earlier run = run
 earlier_run v tab (now ∷ later) earlier run = earlier_run v tab later earlier run.1
 
-kept : (v : Version) (tab : Timetable) (h : History) → IsRun v tab h → IsKept tab (kept_starts h) (done h)
+kept : (v : Version) (tab : Timetable) (h : History) → IsRun v tab h → HaveNeedsMet tab (kept_starts h) (done h)
 kept v tab h run = record {
   order = λ i track there. (progress v tab h i track there run).low;
   met = λ i track k there less. (progress v tab h i track there run).met k less;
@@ -28,14 +28,14 @@ kept v tab h run = record {
 
 -- what it holds are cells of its path that it has begun and not left
 held_inside : (tab : Timetable) (h : History) (i : ℕ) (track : Track) (c : Cell) → track_of tab i ≡ Some track → Progress tab h i track
-    → IsIn c (held track h i) → IsInside tab (kept_starts h) (done h) i c
+    → IsIn c (held track h i) → MayBeIn tab (kept_starts h) (done h) i c
 held_inside tab h i track c there went =
     let k = done h i in
     let low = went.low in
     let limit = went.limit in
     let count = length-path track.start track.later in
     cond_both (is_moving h i) (Between (path_cell track k) (path_cell track (k + 1))) (At (path_cell track k))
-    (λ x. IsIn c x → IsInside tab (kept_starts h) (done h) i c)
+    (λ x. IsIn c x → MayBeIn tab (kept_starts h) (done h) i c)
     (λ going inside.
     let begun = eqb-true (kept_starts h i) (k + 1) going in
     elim inside [
@@ -44,7 +44,7 @@ held_inside tab h i track c there went =
     ])
     (λ still inside. (track, k, there, omega (arith, low, limit, count), inside, omega arith, low))
 
-inside : (v : Version) (tab : Timetable) (h : History) → IsRun v tab h → (i : ℕ) (c : Cell) → Holds tab h i c → IsInside tab (kept_starts h) (done h) i c
+inside : (v : Version) (tab : Timetable) (h : History) → IsRun v tab h → (i : ℕ) (c : Cell) → Holds tab h i c → MayBeIn tab (kept_starts h) (done h) i c
 inside v tab h run i c holds =
     let known = some-found (track_of tab i) _ holds in
     held_inside tab h i known.0 c known.1 (progress v tab h i known.0 known.1 run) known.2

@@ -47,3 +47,8 @@ pub returns-in-Hear-clause-takes : goal.returns-in-Hear-clause-takes
 returns-in-Hear-clause-takes g c table is track there =
     let done = c.answer_hear.ensures.takes table is track in
     rw c.in-Hear.is done
+
+pub returns-in-May-clause-takes : goal.returns-in-May-clause-takes
+returns-in-May-clause-takes g c table is track there =
+    let looks = c.ahead.ensures.looks table is in
+    search rules

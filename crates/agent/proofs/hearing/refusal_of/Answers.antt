@@ -4,8 +4,8 @@ use Rattle.std.proofs.lemmas.Bool.Decides.{nat_tests}
 use Rattle.agent.specs.Code.Listing.{entries_of}
 use Rattle.agent.specs.States.{moves_of}
 use Rattle.agent.proofs.TakingLemmas.{told-agent, any-more, names-nobody}
-use Rattle.agent.proofs.agent.refusal_of.Goals as goal
-use Rattle.agent.proofs.agent.refusal_of.Goals.{then-too_many, else-too_many}
+use Rattle.agent.proofs.hearing.refusal_of.Goals as goal
+use Rattle.agent.proofs.hearing.refusal_of.Goals.{then-too_many, else-too_many}
 use Rattle.depgraph.specs.Laws.AgentParts.{moves-told}
 
 pub returns-in_default : goal.returns-in_default

@@ -4,7 +4,7 @@ use Rattle.std.specs.List.{list_any}
 use Rattle.model.specs.Timetable.{Timetable}
 use Rattle.agent.specs.Code.Listing.{entries_of}
 use Rattle.agent.specs.States.{moves_of}
-use Rattle.agent.proofs.agent.refusal_of.Given as goal
+use Rattle.agent.proofs.hearing.refusal_of.Given as goal
 use Rattle.depgraph.specs.AgentParts.{IsPartOf}
 
 -- all agents so far are of the plan, and whether one was told of with too many moves
