@@ -50,13 +50,12 @@ def make_keys(path: str, robots: int) -> None:
 
 def text_of(path: str) -> str:
     """What stands in the file, if nobody else may read that."""
-    file = os.open(path, os.O_RDONLY | os.O_NONBLOCK)
-    with open(file, "rb") as keys:
-        mode = os.fstat(file).st_mode
-        if not stat.S_ISREG(mode):
-            raise BadKeys(f"{path}: this is no file")
+    if os.path.exists(path) and not os.path.isfile(path):
+        raise BadKeys(f"{path}: this is no file")
+    with open(path, "rb") as keys:
+        mode = stat.S_IMODE(os.fstat(keys.fileno()).st_mode)
         if mode & 0o077:
-            raise BadKeys(f"{path}: others than its owner may use it (rights {stat.S_IMODE(mode):04o}): chmod 600, or make new keys if they did")
+            raise BadKeys(f"{path}: others than its owner may use it (rights {mode:04o}): chmod 600, or make new keys if they did")
         return keys.read().decode("latin-1")
 
 
