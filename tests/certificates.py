@@ -116,11 +116,10 @@ def of_robots(harness: Harness, python: str) -> list[Outcome]:
     """A robot that isn't let in, or doesn't know its broker, says so in a line."""
     tls, others, outcomes = made(harness), made(harness), []
     with broker_of(harness, tls) as port:
-        address = f"127.0.0.1:{port}"
-        link = ["--broker", address, "--patience", "1"]
+        link, out = ["--broker", f"127.0.0.1:{port}", "--patience", "1"], f"no broker at 127.0.0.1:{port} lets this robot in by TLS: "
         for name, files, told in (
-            ("another fleet's certificate", (tls / "ca.pem", others / "0.pem", others / "0.key"), f"the broker at {address} doesn't let this robot in: "),
-            ("a broker of another authority", (others / "ca.pem", tls / "0.pem", tls / "0.key"), f"no broker answers at {address}: "),
+            ("another fleet's certificate", (tls / "ca.pem", others / "0.pem", others / "0.key"), out),
+            ("a broker of another authority", (others / "ca.pem", tls / "0.pem", tls / "0.key"), out),
             ("another's key", (tls / "ca.pem", tls / "0.pem", tls / "1.key"), f"{tls}/0.pem, {tls}/1.key: "),
             ("no certificate", (tls / "ca.pem", tls / "7.pem", tls / "0.key"), f"{tls}/7.pem, {tls}/0.key: No such file or directory"),
             ("no authority", (tls / "no.pem", tls / "0.pem", tls / "0.key"), f"{tls}/no.pem: No such file or directory"),

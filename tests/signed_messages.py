@@ -1,12 +1,10 @@
-"""Messages that robots of examples/fleet sign: forged, replayed, cut, changed and unsigned ones, which no agent hears; counts, through kills; and the
-files of keys and counts, also damaged ones."""
+"""Messages that robots of examples/fleet sign: forged, replayed, cut, changed and unsigned ones, which no agent hears; robots that are killed while they
+sign, or can't; and whole fleets."""
 import collections
 import functools
 import json
-import os
 import pathlib
 import random
-import re
 import signal
 import socket
 import subprocess
@@ -16,19 +14,18 @@ import time
 from typing import Callable, Counter, Iterator, Sequence
 
 import certificates
+import key_files
 import robots
 from envelopes import TAG, Envelope, Fleet, Forger, opened, tag_of
-from harness import ROOT, Ended, Harness, Outcome, compared, ended_as, shown, side_by_side
+from harness import Ended, Harness, Outcome, compared, ended_as, shown, side_by_side
+from key_files import FLEET, KEYS, OTHER
 from processes import wait_until
 
-FLEET = ROOT / "examples" / "fleet"
 sys.path.append(str(FLEET))
-from count_file import Count  # noqa: E402
-from keys import BadKeys, read_keys  # noqa: E402
+from keys import read_keys  # noqa: E402
 from letters import Letter  # noqa: E402
 from signing import SignedLink, Signer, Verifier  # noqa: E402
 
-KEYS = FLEET / "keys.py"
 # So many wrong ones of each kind, and one right one behind so many of these.
 EACH, EVERY = 1000, 10
 # Robot 0, which makes one move, hears of two others.
@@ -175,7 +172,7 @@ class Signing:
         harness.run([sys.executable, str(KEYS), "count", "tape"], folder=self.folder)
         self.drive = Drive(self.folder / "drive", "0 0")
         self.other = socket.socket(socket.AF_INET, socket.SOCK_DGRAM)
-        self.other.bind(("127.0.0.1", robots.free_port()))
+        self.other.bind(("127.0.0.1", 0))
         self.other.settimeout(60)
         self.address = ("127.0.0.1", robots.free_port())
         own, peer = ("{}:{}".format(*it) for it in (self.address, self.other.getsockname()))
@@ -249,41 +246,7 @@ def of_an_unsigned_robot(harness: Harness) -> list[Outcome]:
     return [compared("a robot without keys", shown(signing.words), wrote, ("4601000000000007", 1, {"refused BadMagic": 1}))]
 
 
-# Counts
-
-# Takes numbers and tells them, until it is killed.
-TAKER = """
-import os, sys
-sys.path.insert(0, sys.argv[1])
-from count_file import Count
-count = Count(sys.argv[2])
-while True:
-    os.write(1, b"".join(b"%d\\n" % count.take() for _ in range(40)))
-"""
-
-
-def is_rising(numbers: Sequence[int]) -> bool:
-    return all(one < other for one, other in zip(numbers, numbers[1:]))
-
-
-def of_kills(harness: Harness) -> list[Outcome]:
-    """A hundred processes that take numbers, killed at random: no number is taken twice, and each is above those before."""
-    folder, rng = harness.folder(), random.Random("kills")
-    made = harness.run([sys.executable, str(KEYS), "count", "tape"], folder=folder)
-    numbers: list[int] = []
-    lives, takers = [], 100
-    for _ in range(takers):
-        with subprocess.Popen([sys.executable, "-c", TAKER, str(FLEET), "tape"], cwd=folder, stdout=subprocess.PIPE) as taker:
-            first = taker.stdout.readline()
-            time.sleep(rng.uniform(0, 0.02))
-            taker.kill()
-            # The last line may have been cut off.
-            lines = [first, *taker.stdout.read().splitlines(keepends=True)]
-        own = [int(line) for line in lines if line.endswith(b"\n")]
-        lives.append(len(own))
-        numbers += own
-    wrote = (made.status, is_rising(numbers), min(lives) > 0, max(lives) > 1000)
-    return [compared(f"{takers} kills of who takes numbers", f"count_file.py, {len(numbers)} numbers", wrote, (0, True, True, True))]
+# Robots that are killed, or can't sign
 
 
 def of_killed_robots(harness: Harness) -> list[Outcome]:
@@ -309,92 +272,6 @@ def of_killed_robots(harness: Harness) -> list[Outcome]:
     numbers = [it.count for it in envelopes]
     wrote = (all(right), len(set(numbers)) == len(numbers), len(numbers) >= kills, [line for line in said if "Traceback" in line])
     return [compared(f"{kills} kills of a robot", f"{shown(signing.words)}, {len(numbers)} messages", wrote, (True, True, True, []))]
-
-
-def of_counts(harness: Harness) -> list[Outcome]:
-    """A count is made once; one that is made anew goes on above it."""
-    folder = harness.folder()
-    make = [sys.executable, str(KEYS), "count", "tape"]
-    ended = [harness.run(make, folder=folder)]
-    path = folder / "tape.count"
-    before = path.read_bytes()
-    ended.append(harness.run(make, folder=folder))
-    is_same, is_one = path.read_bytes() == before, re.fullmatch(rb"mapf-count 1\n[1-9][0-9]*\n", before) is not None
-    count = Count(str(folder / "tape"))
-    used = [count.take() for _ in range(2500)]
-    again = Count(str(folder / "tape")).take()
-    os.unlink(path)
-    ended.append(harness.run(make, folder=folder))
-    anew = Count(str(folder / "tape")).take()
-    ended.append(harness.run([*make[:-1], "no/tape"], folder=folder))
-    there = b"keys: tape.count: it is there already, and was left as it is\n"
-    due = [Ended(0, b"", b""), Ended(1, b"", there), Ended(0, b"", b""), Ended(3, b"", b"keys: no/tape.count: No such file or directory\n")]
-    wrote = (ended, is_same, is_one, is_rising([int(before.split()[-1]) - 1, *used, again, anew]), sorted(it.name for it in folder.iterdir()))
-    return [compared("a count", "keys.py count, count_file.py", wrote, (due, True, True, True, ["tape.count"]))]
-
-
-# Files
-
-ONE, OTHER = "0 " + "1f" * 32, "1 " + "a0" * 32
-# Files of keys that are none for robot 0, each with what is told.
-BAD_KEYS = [
-    ("no text", "", "line 1: 'mapf-keys 1' was due"),
-    ("another version", f"mapf-keys 2\n{ONE}\n", "line 1: 'mapf-keys 1' was due"),
-    ("a line end of two bytes", f"mapf-keys 1\r\n{ONE}\r\n", "line 1: 'mapf-keys 1' was due"),
-    ("a header alone", "mapf-keys 1\n", "there is no key of robot 0"),
-    ("a header without end", "mapf-keys 1", "line 1: it has no end"),
-    ("a line without end", f"mapf-keys 1\n{ONE}\n{OTHER}", "line 3: it has no end"),
-    ("a key too short", f"mapf-keys 1\n{ONE[:-1]}\n", "line 2: a robot, a space and 64 digits in 0-9a-f were due"),
-    ("a key too long", f"mapf-keys 1\n{ONE}0\n", "line 2: a robot, a space and 64 digits in 0-9a-f were due"),
-    ("capital digits", f"mapf-keys 1\n{ONE.upper()}\n", "line 2: a robot, a space and 64 digits in 0-9a-f were due"),
-    ("two spaces", f"mapf-keys 1\n{ONE}\n{OTHER.replace(' ', '  ')}\n", "line 3: a robot, a space and 64 digits in 0-9a-f were due"),
-    ("a blank line", f"mapf-keys 1\n{ONE}\n\n{OTHER}\n", "line 3: a robot, a space and 64 digits in 0-9a-f were due"),
-    ("a number with a zero before", f"mapf-keys 1\n0{OTHER}\n", "line 2: a robot, a space and 64 digits in 0-9a-f were due"),
-    ("a robot twice", f"mapf-keys 1\n{ONE}\n0{OTHER[1:]}\n", "line 3: a robot above 0 and below 10000 was due"),
-    ("a robot too far", f"mapf-keys 1\n{ONE}\n10000{OTHER[1:]}\n", "line 3: a robot above 0 and below 10000 was due"),
-    ("a key twice", f"mapf-keys 1\n{ONE}\n1{ONE[1:]}\n", "two robots have the same key"),
-    ("keys of others", f"mapf-keys 1\n{OTHER}\n", "there is no key of robot 0"),
-    ("bytes that are no text", f"mapf-keys 1\n\xff{ONE}\n", "line 2: a robot, a space and 64 digits in 0-9a-f were due"),
-]
-
-
-def of_bad_keys(harness: Harness) -> list[Outcome]:
-    """One fault of each file, in one line; and the one right one is read."""
-    outcomes, folder = [], harness.folder()
-    path = folder / "keys"
-    for name, text, told in [("the right one", f"mapf-keys 1\n{ONE}\n{OTHER}\n", ""), *BAD_KEYS]:
-        path.write_bytes(text.encode("latin-1"))
-        path.chmod(0o600)
-        try:
-            found: object = read_keys(str(path), [0])
-        except BadKeys as fault:
-            found = str(fault)
-        outcomes.append(compared(f"keys: {name}", "keys.read_keys", found, f"{path}: {told}" if told else {0: b"\x1f" * 32, 1: b"\xa0" * 32}))
-    return outcomes
-
-
-def of_rights(harness: Harness) -> list[Outcome]:
-    """A robot takes no keys that others may use, whatever they may do with them, and makes none that they may."""
-    outcomes, folder = [], harness.folder()
-    for mode in range(0o1000):
-        path = folder / "keys"
-        path.write_text(f"mapf-keys 1\n{ONE}\n", encoding="ascii")
-        path.chmod(mode | 0o400)
-        try:
-            is_taken = bool(read_keys(str(path), [0]))
-        except BadKeys as fault:
-            is_taken = f"rights {mode | 0o400:04o}" not in str(fault)
-        path.unlink()
-        if is_taken != (mode & 0o077 == 0):
-            outcomes.append(compared(f"keys with the rights {mode:o}", "keys.read_keys", is_taken, not is_taken))
-    old = os.umask(0)
-    try:
-        ended = [harness.run([sys.executable, str(KEYS), "make", "new", "12"], folder=folder) for _ in range(2)]
-    finally:
-        os.umask(old)
-    made = (folder / "new").stat().st_mode & 0o7777, len(read_keys(str(folder / "new"), range(12)))
-    due = [Ended(0, b"", b""), Ended(1, b"", b"keys: new: it is there already, and was left as it is\n")]
-    return [*outcomes, compared("the rights of keys", "keys.py make", (ended, made), (due, (0o600, 12)))]
 
 
 def bad_robots() -> Iterator[tuple[str, Callable[[pathlib.Path], object], int, str]]:
@@ -482,15 +359,15 @@ def of_a_stranger(harness: Harness) -> list[Outcome]:
 
 
 def tests(harness: Harness) -> Iterator[Callable[[], list[Outcome]]]:
-    for test in (of_a_robot, of_kills, of_killed_robots, of_bad_robots, of_an_unsigned_robot, of_a_stranger):
+    for test in (of_a_robot, of_killed_robots, of_bad_robots, of_an_unsigned_robot, of_a_stranger):
         yield functools.partial(test, harness)
     killed = ["--moves", "0.15", "--kills", "5"]
     yield functools.partial(of_a_fleet, harness, "a fleet that signs, killed", killed)
     if harness.is_long:
         yield functools.partial(of_a_fleet, harness, "a fleet that signs and tells, multicast, killed", [*killed, "--link", "multicast", "--tell"])
-    for test in (of_known_tags, of_a_module, of_a_wrong_topic, of_counts, of_bad_keys, of_rights):
+    for test in (of_known_tags, of_a_module, of_a_wrong_topic):
         yield functools.partial(test, harness)
 
 
 def outcomes(harness: Harness) -> Iterator[Outcome]:
-    yield from side_by_side([*certificates.tests(harness), *tests(harness)])
+    yield from side_by_side([*certificates.tests(harness), *tests(harness), *key_files.tests(harness)])

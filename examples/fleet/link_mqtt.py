@@ -93,7 +93,7 @@ class MqttLink:
     """A client with a thread of its own, which comes back by itself when the broker was gone."""
 
     def __init__(self, broker: Address, run: int, agent: int, patience: float, tls: Optional[Tls]):
-        self.broker, self.run, self.own = broker, run, topic_of(run, str(agent))
+        self.broker, self.tls, self.run, self.own = broker, tls, run, topic_of(run, str(agent))
         self.unsent = 0
         self.waiting: Deque[Letter] = collections.deque()
         self.woken, self.waker = os.pipe()
@@ -110,7 +110,7 @@ class MqttLink:
         # Of a certificate that it refuses a broker tells only behind a connection.
         if tls and not self.is_let_in.wait(patience):
             self.close()
-            raise NoBroker(f"the broker at {broker[0]}:{broker[1]} doesn't let this robot in: {self.client.fault or 'its log may say why'}")
+            raise self._no_broker(self.client.fault or "its log may say why")
 
     def _reach(self, patience: float) -> None:
         last = time.monotonic() + patience
@@ -120,8 +120,12 @@ class MqttLink:
                 return
             except OSError as fault:
                 if time.monotonic() > last:
-                    raise NoBroker(f"no broker answers at {self.broker[0]}:{self.broker[1]}: {fault.strerror or fault}") from None
+                    raise self._no_broker(fault) from None
                 time.sleep(SOONEST)
+
+    def _no_broker(self, why: object) -> NoBroker:
+        where, told = "{}:{}".format(*self.broker), getattr(why, "strerror", None) or why
+        return NoBroker(f"no broker at {where} lets this robot in by TLS: {told}" if self.tls else f"no broker answers at {where}: {told}")
 
     def _subscribe(self, *told: Any) -> None:
         """After each connection, since the broker has forgotten who was there before."""
