@@ -51,12 +51,11 @@ class Clients:
     def __init__(self, python: str, port: int):
         self.python, self.port, self.running = python, port, []
 
-    def add(self, folder: pathlib.Path, name: str, client_id: str, topics: Sequence[str] = ()) -> "tuple[subprocess.Popen[str], str]":
-        """A new one, and whether it was let in."""
+    def add(self, folder: pathlib.Path, name: str, client_id: str, topics: Sequence[str] = ()) -> "subprocess.Popen[str]":
         words = [self.python, "-c", CLIENT, str(self.port), str(folder), name, client_id, *topics]
         process = subprocess.Popen(words, stdin=subprocess.PIPE, stdout=subprocess.PIPE, text=True, cwd="/")
         self.running.append(process)
-        return process, process.stdout.readline().strip()
+        return process
 
     def close(self) -> None:
         for process in self.running:
@@ -93,19 +92,19 @@ def of_clients(harness: Harness, python: str) -> list[Outcome]:
     """Who may speak: robots of the fleet, each on its own topic, and nobody in another's name."""
     tls, others = made(harness), made(harness)
     with broker_of(harness, tls) as port, contextlib.closing(Clients(python, port)) as clients:
-        listener, _ = clients.add(tls, "0", "mapf-7-0")
+        listener = clients.add(tls, "0", "mapf-7-0")
+        let_in = {"0": listener.stdout.readline().strip()}
         # A robot that says that it is another client, and speaks on its topic; and then on its own.
         topics = ["mapf/7/said/2", "mapf/7/said/0", "mapf/8/said/1/1", "mapf/7/said/", "other", "mapf/7/said/1"]
-        speaker, is_in = clients.add(tls, "1", "mapf-7-0", topics)
+        clients.add(tls, "1", "mapf-7-0", topics)
         heard = lines_until(listener, "mapf/7/said/1 by 1")
-        let_in = {"1": is_in}
         shutil.copy(tls / "ca.pem", others / "ca.pem")
-        for folder, name, what in STRANGERS:
-            let_in[what] = clients.add(others if folder else tls, name, "mapf-7-1")[1]
+        strangers = {what: clients.add(others if is_foreign else tls, name, "mapf-7-1") for is_foreign, name, what in STRANGERS}
+        let_in.update({what: stranger.stdout.readline().strip() for what, stranger in strangers.items()})
         clients.add(tls, "2", "mapf-7-2", ["mapf/7/said/1", "mapf/7/said/2"])
         heard += lines_until(listener, "mapf/7/said/2 by 2")
     ran = "mosquitto with examples/fleet/broker/mosquitto.conf and acl"
-    due = {"1": "in", **{what: "out" for _, _, what in STRANGERS}}
+    due = {"0": "in", **{what: "out" for _, _, what in STRANGERS}}
     return [
         compared("who is let in by a broker", ran, let_in, due),
         compared("what a broker lets its clients say", ran, heard, ["mapf/7/said/1 by 1", "mapf/7/said/2 by 2"]),

@@ -34,11 +34,11 @@ def is_rising(numbers: Sequence[int]) -> bool:
 
 
 def of_kills(harness: Harness) -> list[Outcome]:
-    """A hundred processes that take numbers, killed at random: no number is taken twice, and each is above those before."""
+    """Processes that take numbers, killed at random: no number is taken twice, and each is above those before."""
     folder, rng = harness.folder(), random.Random("kills")
     made = harness.run([sys.executable, str(KEYS), "count", "tape"], folder=folder)
     numbers: list[int] = []
-    lives, takers = [], 100
+    lives, takers = [], 300 if harness.is_long else 50
     for _ in range(takers):
         with subprocess.Popen([sys.executable, "-c", TAKER, str(FLEET), "tape"], cwd=folder, stdout=subprocess.PIPE) as taker:
             first = taker.stdout.readline()

@@ -251,7 +251,7 @@ def of_an_unsigned_robot(harness: Harness) -> list[Outcome]:
 
 def of_killed_robots(harness: Harness) -> list[Outcome]:
     """A robot that is killed and started again and again signs each message by a number above those before."""
-    keys, rng, kills = keys_of(4), random.Random("killed"), 100 if harness.is_long else 25
+    keys, rng, kills = keys_of(4), random.Random("killed"), 400 if harness.is_long else 100
     signing = Signing(harness, keys, ["--every", "0.01"])
     found: list[bytes] = []
     for _ in range(kills):
