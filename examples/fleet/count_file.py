@@ -44,13 +44,11 @@ def put(path: str, number: int, flags: int) -> None:
         os.close(file)
 
 
-def make_count(tape: str) -> str:
-    """Makes the count of a tape, and answers its path. One that is there is left as it is. It begins at the nanoseconds since 1970: so one that is made
-    anew is above what an earlier one has reached, if the clock is right, since nobody says so much."""
-    path = path_of(tape)
-    put(path, time.time_ns(), os.O_EXCL)
-    sync_folder(path)
-    return path
+def make_count(tape: str) -> None:
+    """Makes the count of a tape. One that is there is left as it is. It begins at the nanoseconds since 1970: so one that is made anew is above what an
+    earlier one has reached, if the clock is right, since nobody says so much."""
+    put(path_of(tape), time.time_ns(), os.O_EXCL)
+    sync_folder(path_of(tape))
 
 
 class Count:
