@@ -77,6 +77,20 @@ def of_counts(harness: Harness) -> list[Outcome]:
     return [compared("a count", "keys.py count, count_file.py", wrote, (due, True, True, 2500, True, ["tape.count"]))]
 
 
+# Runs a command that can't write a byte into a file.
+FULL = ["sh", "-c", 'ulimit -f 0; exec "$@"', "sh"]
+
+
+def of_full_disks(harness: Harness) -> list[Outcome]:
+    """What can't be written whole isn't there."""
+    outcomes, folder = [], harness.folder()
+    for words, name in ((["count", "tape"], "tape.count"), (["make", "keys", "3"], "keys")):
+        ended = harness.run([*FULL, sys.executable, str(KEYS), *words], folder=folder)
+        wrote = (ended, [it.name for it in folder.iterdir()])
+        outcomes.append(compared(f"keys.py {words[0]} on a full disk", "keys.py", wrote, (Ended(3, b"", f"keys: {name}: File too large\n".encode()), [])))
+    return outcomes
+
+
 # Takes all numbers of a block and one more, for which the file has to be raised: notes the calls of that, of which one may fail.
 STEPPER = """
 import os, sys
@@ -184,5 +198,5 @@ def of_rights(harness: Harness) -> list[Outcome]:
 
 
 def tests(harness: Harness) -> Iterator[Callable[[], list[Outcome]]]:
-    for test in (of_kills, of_counts, of_steps, of_bad_keys, of_rights):
+    for test in (of_kills, of_counts, of_steps, of_full_disks, of_bad_keys, of_rights):
         yield functools.partial(test, harness)

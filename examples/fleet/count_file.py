@@ -3,6 +3,7 @@
 The file has a number, and those below it may have been used. It is raised by many at once, and is on the disk, before the first of them is used: so
 whatever is killed, and whenever, no number is used twice.
 """
+import contextlib
 import os
 import re
 import time
@@ -47,8 +48,17 @@ def put(path: str, number: int, flags: int) -> None:
 def make_count(tape: str) -> None:
     """Makes the count of a tape. One that is there is left as it is. It begins at the nanoseconds since 1970: so one that is made anew is above what an
     earlier one has reached, if the clock is right, since nobody says so much."""
-    put(path_of(tape), time.time_ns(), os.O_EXCL)
-    sync_folder(path_of(tape))
+    path = path_of(tape)
+    try:
+        put(path, time.time_ns(), os.O_EXCL)
+        sync_folder(path)
+    except FileExistsError:
+        raise
+    except OSError:
+        # Half a count is none.
+        with contextlib.suppress(FileNotFoundError):
+            os.unlink(path)
+        raise
 
 
 class Count:

@@ -14,14 +14,8 @@ MAGIC = b"\x53\x01"
 HEAD = struct.Struct(">2sHIQ")
 TAG = 32
 # Why a message is dropped: each is the first of these that stands.
-NOT_SIGNED, OTHER_RUN, UNKNOWN_SENDER, BAD_TAG, NOT_ITS_SENDER, NOT_NEWER = (
-    "NotSigned",
-    "OtherRun",
-    "UnknownSender",
-    "BadTag",
-    "NotItsSender",
-    "NotNewer",
-)
+NOT_SIGNED, OTHER_RUN, UNKNOWN_SENDER = "NotSigned", "OtherRun", "UnknownSender"
+BAD_TAG, NOT_ITS_SENDER, NOT_NEWER = "BadTag", "NotItsSender", "NotNewer"
 
 
 def tag_of(key: bytes, text: bytes) -> bytes:
@@ -49,9 +43,9 @@ class Verifier:
 
     def opened(self, letter: Letter) -> Letter:
         """The message in what was signed, or why it is dropped."""
-        text = letter.message[:-TAG]
         if letter.fault:
             return letter
+        text, tag = letter.message[:-TAG], letter.message[-TAG:]
         if len(text) < HEAD.size or not text.startswith(MAGIC):
             return Letter(letter.message, NOT_SIGNED)
         _, sender, run, number = HEAD.unpack_from(text)
@@ -61,7 +55,7 @@ class Verifier:
         if sender not in self.keys:
             return Letter(message, UNKNOWN_SENDER)
         # Nothing that the text says is believed before.
-        if not hmac.compare_digest(tag_of(self.keys[sender], text), letter.message[-TAG:]):
+        if not hmac.compare_digest(tag_of(self.keys[sender], text), tag):
             return Letter(message, BAD_TAG)
         if sender_of(message) != sender:
             return Letter(message, NOT_ITS_SENDER)
