@@ -76,8 +76,11 @@ def of_known_tags(_: Harness) -> list[Outcome]:
         key = bytes.fromhex(digits)
         told = [Signer(key, envelope.sender, envelope.run, Counted(envelope.count)).signed(envelope.message).hex(), envelope.signed(key).hex()]
         outcomes.append(compared(f"what robot {envelope.sender} signs", "signing.py, and HMAC by hand", told, [due] * 2))
-        heard = Verifier({envelope.sender: key}, envelope.run).opened(Letter(bytes.fromhex(due)))
-        outcomes.append(compared(f"what robot {envelope.sender} has signed", "signing.py", heard, Letter(envelope.message)))
+        # Twice in one process, and once more in the next one, which doesn't know what was heard before.
+        one, other = (Verifier({envelope.sender: key}, envelope.run) for _ in range(2))
+        heard = [it.opened(Letter(bytes.fromhex(due))) for it in (one, one, other)]
+        right = Letter(envelope.message)
+        outcomes.append(compared(f"what robot {envelope.sender} has signed", "signing.py", heard, [right, Letter(envelope.message, "NotNewer"), right]))
     return outcomes
 
 
