@@ -8,7 +8,7 @@ import sys
 from typing import Callable, Iterator, Sequence
 
 import robots
-from harness import ROOT, Ended, Harness, Outcome, compared, ended_as, shown
+from harness import ROOT, Ended, Harness, Outcome, compared, shown
 
 FLEET = ROOT / "examples" / "fleet"
 MAKE = FLEET / "broker" / "certificates.sh"
