@@ -361,8 +361,43 @@ def of_a_stranger(harness: Harness) -> list[Outcome]:
         sender.join()
 
 
+# Says on the topic of each robot that it has arrived, until its input ends.
+LIAR = """
+import sys, threading, time
+import paho.mqtt.client as mqtt
+client = mqtt.Client(*([mqtt.CallbackAPIVersion.VERSION1] if hasattr(mqtt, "CallbackAPIVersion") else []))
+client.connect("127.0.0.1", int(sys.argv[1]))
+client.loop_start()
+is_over, number = threading.Event(), int(sys.argv[2])
+threading.Thread(target=lambda: (sys.stdin.read(), is_over.set()), daemon=True).start()
+while not is_over.wait(0.01):
+    for robot in range(3):
+        client.publish(f"mapf/{number}/said/{robot}", bytes.fromhex(f"4601{robot:04x}{number:08x}{1:08x}"), retain=True)
+    print("lies", flush=True)
+"""
+
+
+def of_a_liar(harness: Harness) -> list[Outcome]:
+    """The same on the topics of a broker that lets in anybody, and keeps the last lie."""
+    python, number = robots.with_paho(), 4712
+    if not python or not robots.mosquitto():
+        return [Outcome("a stranger who lies on the topics of a fleet that signs", lacks="mosquitto" if python else "python3-paho-mqtt")]
+    broker = robots.Broker(harness)
+    liar = subprocess.Popen([python, "-c", LIAR, str(broker.port), str(number)], stdin=subprocess.PIPE, stdout=subprocess.PIPE)
+    try:
+        liar.stdout.readline()
+        threading.Thread(target=liar.stdout.read, daemon=True).start()
+        words = ["--link", "mqtt", "--robots", "3", "--broker", broker.address, "--number", str(number), "--moves", "0.1", "--kills", "2"]
+        fleet = robots.Fleet(harness, [*words, "--keys", "fleet.keys"])
+        return fleet.judged("a stranger who lies on the topics of a fleet that signs", 3, drops=True, dropped=20)
+    finally:
+        liar.kill()
+        liar.wait()
+        broker.end()
+
+
 def tests(harness: Harness) -> Iterator[Callable[[], list[Outcome]]]:
-    for test in (of_a_robot, of_killed_robots, of_bad_robots, of_an_unsigned_robot, of_a_stranger):
+    for test in (of_a_robot, of_killed_robots, of_bad_robots, of_an_unsigned_robot, of_a_stranger, of_a_liar):
         yield functools.partial(test, harness)
     killed = ["--moves", "0.15", "--kills", "5"]
     yield functools.partial(of_a_fleet, harness, "a fleet that signs, killed", killed)
