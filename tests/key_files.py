@@ -1,6 +1,7 @@
 """The files of robots that sign, beside their tapes: counts, through kills, and keys, also damaged ones and such as others may read."""
 import functools
 import os
+import pathlib
 import random
 import re
 import subprocess
@@ -158,6 +159,11 @@ BAD_KEYS = [
 ]
 
 
+def robots_in(path: pathlib.Path) -> list[int]:
+    """Whose keys a file has, by its lines."""
+    return [int(line.split()[0]) for line in path.read_text(encoding="ascii").splitlines()[1:]]
+
+
 def of_bad_keys(harness: Harness) -> list[Outcome]:
     """One fault of each file, in one line; and the one right one is read."""
     outcomes, folder = [], harness.folder()
@@ -192,9 +198,9 @@ def of_rights(harness: Harness) -> list[Outcome]:
         ended = [harness.run([sys.executable, str(KEYS), "make", "new", "12"], folder=folder) for _ in range(2)]
     finally:
         os.umask(old)
-    made = (folder / "new").stat().st_mode & 0o7777, len(read_keys(str(folder / "new"), range(12)))
+    made = (folder / "new").stat().st_mode & 0o7777, robots_in(folder / "new")
     due = [Ended(0, b"", b""), Ended(1, b"", b"keys: new: it is there already, and was left as it is\n")]
-    return [*outcomes, compared("the rights of keys", "keys.py make", (ended, made), (due, (0o600, 12)))]
+    return [*outcomes, compared("the rights of keys", "keys.py make", (ended, made), (due, (0o600, [*range(12)])))]
 
 
 def tests(harness: Harness) -> Iterator[Callable[[], list[Outcome]]]:

@@ -22,7 +22,6 @@ from key_files import FLEET, KEYS, OTHER
 from processes import wait_until
 
 sys.path.append(str(FLEET))
-from keys import read_keys  # noqa: E402
 from letters import Letter  # noqa: E402
 from signing import SignedLink, Signer, Verifier  # noqa: E402
 
@@ -327,7 +326,7 @@ def of_a_fleet(harness: Harness, name: str, words: Sequence[str]) -> list[Outcom
     outcomes = fleet.judged(name, 3, **{robots.KILLS: 1})
     path = fleet.folder / "fleet.keys"
     before = path.read_bytes()
-    made = (path.stat().st_mode & 0o7777, sorted(read_keys(str(path), range(3))))
+    made = (path.stat().st_mode & 0o7777, key_files.robots_in(path))
     path.write_bytes(before.replace(b"\n1 ", b"\n3 "))
     ended = fleet.run()
     there = (ended.status, ended.err.decode().endswith("fleet.keys: line 4: a robot above 3 and below 10000 was due\n"), ended.err.count(b"\n"))
