@@ -15,10 +15,12 @@ MAKE = FLEET / "broker" / "certificates.sh"
 sys.path.append(str(FLEET))
 from broker import Broker  # noqa: E402
 
-# A client with a certificate, or with none, says whether it is let in, publishes words on topics, and tells all that it hears until its input ends.
+# A client with a certificate, or with none, says whether it is let in, publishes words on topics, and tells all that it hears until it is killed.
 CLIENT = """
-import sys, threading, time
+import os, sys, threading
 import paho.mqtt.client as mqtt
+# Nobody waits for ever for what isn't heard.
+threading.Timer(60, os._exit, (1,)).start()
 port, folder, name, client_id, *topics = sys.argv[1:]
 client = mqtt.Client(*([mqtt.CallbackAPIVersion.VERSION1] if hasattr(mqtt, "CallbackAPIVersion") else []), client_id=client_id)
 is_in, is_there = threading.Event(), threading.Event()
