@@ -21,7 +21,7 @@ import os, sys, threading
 import paho.mqtt.client as mqtt
 # Nobody waits for ever for what isn't heard.
 threading.Timer(60, os._exit, (1,)).start()
-port, folder, name, client_id, *topics = sys.argv[1:]
+port, patience, folder, name, client_id, *topics = sys.argv[1:]
 client = mqtt.Client(*([mqtt.CallbackAPIVersion.VERSION1] if hasattr(mqtt, "CallbackAPIVersion") else []), client_id=client_id)
 is_in, is_there = threading.Event(), threading.Event()
 client.on_connect = lambda client, data, flags, code: code == 0 and (client.subscribe("mapf/7/said/+"), is_in.set())
@@ -35,7 +35,7 @@ if name != "plain":
 try:
     client.connect("127.0.0.1", int(port))
     client.loop_start()
-    print("in" if is_in.wait(2) and is_there.wait(2) else "out", flush=True)
+    print("in" if is_in.wait(int(patience)) and is_there.wait(int(patience)) else "out", flush=True)
 except OSError:
     print("out", flush=True)
 for topic in topics:
@@ -53,8 +53,8 @@ class Clients:
     def __init__(self, python: str, port: int):
         self.python, self.port, self.running = python, port, []
 
-    def add(self, folder: pathlib.Path, name: str, client_id: str, topics: Sequence[str] = ()) -> "subprocess.Popen[str]":
-        words = [self.python, "-c", CLIENT, str(self.port), str(folder), name, client_id, *topics]
+    def add(self, folder: pathlib.Path, name: str, client_id: str, topics: Sequence[str] = (), patience: int = 30) -> "subprocess.Popen[str]":
+        words = [self.python, "-c", CLIENT, str(self.port), str(patience), str(folder), name, client_id, *topics]
         process = subprocess.Popen(words, stdin=subprocess.PIPE, stdout=subprocess.PIPE, text=True, cwd="/")
         self.running.append(process)
         return process
@@ -101,7 +101,7 @@ def of_clients(harness: Harness, python: str) -> list[Outcome]:
         clients.add(tls, "1", "mapf-7-0", topics)
         heard = lines_until(listener, "mapf/7/said/1 by 1")
         shutil.copy(tls / "ca.pem", others / "ca.pem")
-        strangers = {what: clients.add(others if is_foreign else tls, name, "mapf-7-1") for is_foreign, name, what in STRANGERS}
+        strangers = {what: clients.add(others if is_foreign else tls, name, "mapf-7-1", patience=2) for is_foreign, name, what in STRANGERS}
         let_in.update({what: stranger.stdout.readline().strip() for what, stranger in strangers.items()})
         clients.add(tls, "2", "mapf-7-2", ["mapf/7/said/1", "mapf/7/said/2"])
         heard += lines_until(listener, "mapf/7/said/2 by 2")
