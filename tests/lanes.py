@@ -11,7 +11,7 @@ from typing import Callable, Iterator, Sequence
 from harness import Outcome
 
 # What takes longest is begun first, so that nothing is left to wait for at the end.
-LONG = ("faults", "show", "convert", "devices", "robots", "fleet", "judge", "endings", "vectors")
+LONG = ("faults", "show", "convert", "devices", "robots", "signing", "fleet", "judge", "endings", "vectors")
 LANES = len(os.sched_getaffinity(0))
 
 

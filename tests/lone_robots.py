@@ -53,6 +53,10 @@ class Copied:
         subprocess.run(words, stdin=subprocess.DEVNULL, stdout=subprocess.DEVNULL, check=True)
         return tape
 
+    def make_with_keys(self, *words: str) -> None:
+        """What robots need that sign."""
+        subprocess.run([sys.executable, str(self.fleet / "keys.py"), *words], cwd=self.folder, check=True)
+
     def state_of(self, robot: int) -> bytes:
         """What the robot's tape says."""
         words = [self.program, "tape", str(MAP), str(PLAN), str(robot), f"{robot}.tape"]
@@ -85,12 +89,14 @@ def words_of_unit(settings: dict[str, str], robot: int, fleet: pathlib.Path) -> 
 
 
 def of_services(harness: Harness, ports: Callable[[], int]) -> list[Outcome]:
-    """Two robots of a copied folder, with the drive of ten lines: one as the unit starts it, the other with the program on the path."""
+    """Two robots of a copied folder, which sign, with the drive of ten lines: one as the unit starts it, the other with the program on the path."""
     copied, port = Copied(harness), ports()
+    copied.make_with_keys("make", "fleet.keys", "2")
     for robot, start in enumerate(STARTS):
         drive, other = copied.folder / f"drive{robot}", f"127.0.0.1:{port + 1 - robot}"
         copied.start([sys.executable, str(copied.fleet / "own_drive.py"), str(drive), *start.split()])
-        tape, link = str(copied.make_tape(robot)), f"--listen 127.0.0.1:{port + robot} --peers {other} --box {robot}.box"
+        tape, link = str(copied.make_tape(robot)), f"--listen 127.0.0.1:{port + robot} --peers {other} --box {robot}.box --keys fleet.keys"
+        copied.make_with_keys("count", tape)
         wait_until(drive.exists)
         settings = {"MAP": str(MAP), "PLAN": str(PLAN), "TAPE": tape, "DRIVE": str(drive), "PROGRAM": copied.program, "LINK": link}
         words = words_of_unit(settings, robot, copied.fleet)

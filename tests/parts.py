@@ -43,6 +43,7 @@ import rows_and_bounds
 import scenarios
 import shipping
 import showing
+import signed_messages
 import sources
 import tabling
 import vectors
@@ -86,6 +87,7 @@ PARTS: dict[str, tuple[str, Callable[[Harness], Iterator[Outcome]]]] = {
     "vectors": ("the answers of an independent implementation", vectors.outcomes),
     "fleet": ("robots as processes that are killed at random", fleet.outcomes),
     "robots": ("robots on a network, over UDP and MQTT, and their black boxes", robots.outcomes),
+    "signing": ("robots that sign: forged and changed messages, counts through kills, and certificates", signed_messages.outcomes),
 }
 # The parts that look at what the gate has built, and so come last where all is proved.
 NEED_PROOF = ("dist", "memory")

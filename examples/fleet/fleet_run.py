@@ -12,6 +12,7 @@ from typing import Callable, Optional, Sequence
 
 from broker import Broker
 from cables import Cables
+from count_file import make_count
 from harm import Harm
 from places import Place
 
@@ -49,8 +50,10 @@ class Settings:
     slips: float
     rates: dict[str, float]
     limit: float
-    # A folder for the robots' boxes, if these are wanted.
-    boxes: Optional[pathlib.Path]
+    # A folder for the robots' boxes, the keys by which they sign, and the folder of their certificates, where these are wanted.
+    boxes: Optional[pathlib.Path] = None
+    keys: Optional[pathlib.Path] = None
+    tls: Optional[pathlib.Path] = None
 
 
 def said_by(process: "subprocess.Popen[bytes]") -> str:
@@ -86,6 +89,8 @@ class Run:
             ended = subprocess.run([*self.agent_words(robot), "--tape", "new"], stdin=subprocess.DEVNULL, stdout=subprocess.DEVNULL, check=False)
             if ended.returncode:
                 raise Failed(f"the tape of robot {robot} isn't made (status {ended.returncode})")
+            if self.settings.keys:
+                make_count(str(self.tape(robot)))
 
     def plan_of(self, robot: int) -> pathlib.Path:
         """The plan by which a robot drives: all have one."""
@@ -109,8 +114,10 @@ class Run:
         words = [settings.python, HERE / "robot.py", settings.map, self.plan_of(robot), robot, self.tape(robot), "--drive", self.socket]
         words += ["--every", settings.every, "--program", settings.program, *(["--tell"] if settings.tells else [])]
         words += ["--box", settings.boxes / f"{robot}.box"] if settings.boxes else []
+        words += ["--keys", settings.keys] if settings.keys else []
         if settings.link == "mqtt":
             words += ["--broker", place.broker, "--patience", PATIENCE]
+            words += ["--tls", *(settings.tls / name for name in ("ca.pem", f"{robot}.pem", f"{robot}.key"))] if settings.tls else []
         elif settings.link == "multicast":
             words += ["--listen", place.address(robot), "--group", place.group]
         else:

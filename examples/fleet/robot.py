@@ -6,13 +6,14 @@ Usage: robot.py MAP PLAN ID TAPE --drive SOCKET --listen HOST:PORT (--peers HOST
 
 It knows its own agent, its own drive and a link on which it says what it has finished and hears what others say; it may be killed at any moment
 and started again. Its tape was made before, once, by `mapf agent MAP PLAN ID TAPE --tape new`. What arrives on the link is given to the agent alone:
-bytes that are no message of the plan are dropped, and the tenth of a kind is told, the hundredth and so on. Where another plan, one that goes on from
-the one before, is put in the place of PLAN (by a rename), it goes over to that between two questions. As a service of systemd it says that it lives.
+bytes that are no message of the plan are dropped, and the tenth of a kind is told, the hundredth and so on. With --keys it signs what it says, and
+drops what isn't signed. Where another plan, one that goes on from the one before, is put in the place of PLAN (by a rename), it goes over to that between
+two questions. As a service of systemd it says that it lives.
 
-Status 1: the map, the plan or the tape has a fault. 2: a bad command line. 3: a file, a socket or a program failed. It ends when it is asked to.
+Status 1: the map, the plan, the tape, the keys or the count has a fault. 2: a bad command line. 3: a file, a socket or a program failed. It ends when
+it is asked to.
 """
 import argparse
-import collections
 import contextlib
 import dataclasses
 import os
@@ -20,28 +21,27 @@ import random
 import selectors
 import sys
 import time
-from typing import Counter, Optional, Sequence, Union
+from typing import Optional, Sequence
 
 sys.dont_write_bytecode = True
 from addresses import address, addresses  # noqa: E402
 from agent import STALE_TAPE, STORE_FAILED, Agent, Ended, Lock, Stale, Unfit  # noqa: E402
 from black_box import note_of  # noqa: E402
+from count_file import BadCount  # noqa: E402
 from drive import Cell, NoDrive, Wire  # noqa: E402
+from keys import BadKeys  # noqa: E402
 from leaving import heed_signals  # noqa: E402
-from letters import Letter  # noqa: E402
-from link_mqtt import MqttLink, NoBroker, NoClient  # noqa: E402
-from link_udp import UdpLink  # noqa: E402
+from letters import Dropped, Letter, Link  # noqa: E402
+from link_mqtt import BadCertificate, NoBroker, NoClient, Tls  # noqa: E402
+from links import link_of  # noqa: E402
 from program import usual_program  # noqa: E402
 from service import Supervisor  # noqa: E402
 
-Link = Union[UdpLink, MqttLink]
-BAD_LINE, FAILED = 2, 3
+UNFIT, FAILED = 1, 3
 # A longer message has more digits than a line of the agent may have.
 LONGEST_MESSAGE = 65_533
 # Seconds after which the drive is told again where to go, and after which an agent that has ended is started again.
 AGAIN, PAUSE = 0.5, 0.05
-# So many messages that were dropped for one reason are told of first; then ten times as many, and so on.
-TOLD_FIRST = 10
 
 
 class Misplaced(Exception):
@@ -67,6 +67,8 @@ def read_words(words: Sequence[str]) -> argparse.Namespace:
     parser.add_argument("--group", type=address, metavar="HOST:PORT", help="the multicast group, instead of a list of peers")
     parser.add_argument("--broker", type=address, metavar="HOST:PORT", help="a link by MQTT: where the broker is")
     parser.add_argument("--patience", type=seconds, default=10.0, metavar="S", help="how long a broker may be away at first (%(default)g)")
+    parser.add_argument("--tls", nargs=3, metavar=("CA", "CERTIFICATE", "KEY"), help="speaks with the broker by TLS, with these three files")
+    parser.add_argument("--keys", metavar="FILE", help="the keys of the fleet: signs all that it says, and hears nothing else (none)")
     parser.add_argument("--tell", action="store_true", help="says all that it knows, and not only what it has finished")
     parser.add_argument("--every", type=seconds, default=0.2, metavar="S", help="says so again after so many seconds (%(default)g)")
     parser.add_argument("--box", default="", metavar="FILE", help="its black box; it ends where that can't be written (none)")
@@ -76,40 +78,14 @@ def read_words(words: Sequence[str]) -> argparse.Namespace:
         parser.error("either --listen or --broker is wanted")
     if given.listen and (given.peers is None) == (given.group is None):
         parser.error("--listen goes with either --peers or --group")
+    if given.tls and not given.broker:
+        parser.error("--tls goes with --broker")
+    given.tls = given.tls and Tls(*given.tls)
     return given
-
-
-def number_of(plan: str) -> int:
-    """The plan's number, which names the run. Whether the text is a plan is for the agent to say."""
-    with open(plan, encoding="ascii", errors="replace") as file:
-        words = [file.readline(), file.readline()][1].split()
-    return int(words[1]) if len(words) == 2 and words[1].isascii() and words[1].isdigit() else 0
-
-
-def link_of(given: argparse.Namespace) -> Link:
-    if given.broker:
-        return MqttLink(given.broker, number_of(given.plan), given.id, given.patience)
-    return UdpLink(given.listen, given.peers or [], given.group)
 
 
 def cell_of(words: Sequence[str]) -> Cell:
     return int(words[0]), int(words[1])
-
-
-class Dropped:
-    """Counts the messages that were dropped, by the reason, and tells of many. It may mean that two plans are driven on one network."""
-
-    def __init__(self, robot: int):
-        self.robot = robot
-        self.counts: Counter[str] = collections.Counter()
-        self.next = collections.defaultdict(lambda: TOLD_FIRST)
-
-    def take(self, why: str) -> None:
-        kind = " ".join(why.split()[:2])
-        self.counts[kind] += 1
-        if self.counts[kind] == self.next[kind]:
-            self.next[kind] *= 10
-            print(f"robot {self.robot}: {self.counts[kind]} messages were dropped: {kind}", file=sys.stderr, flush=True)
 
 
 class PlanFile:
@@ -271,7 +247,9 @@ def main(words: Sequence[str]) -> int:
         drive(given)
     except Unfit as fault:
         why, status = str(fault), fault.status
-    except (NoClient, NoBroker, NoDrive, Misplaced, Stale) as fault:
+    except (BadKeys, BadCount) as fault:
+        why, status = str(fault), UNFIT
+    except (NoClient, NoBroker, BadCertificate, NoDrive, Misplaced, Stale) as fault:
         why, status = str(fault), FAILED
     except OSError as fault:
         where = fault.filename or (given.listen and "{}:{}".format(*given.listen)) or given.tape

@@ -6,10 +6,11 @@ Usage: robots.py [--link udp|multicast|mqtt] [--tell] [--robots N] [--seed N] [-
 All run on this machine, over its loopback; network.sh gives each a network of its own. Each run has a plan with a number that is drawn for it, which all
 its robots get, so that nothing said in another run is heard. With --seconds a fleet that has arrived is started again, until so much time is over. A line of
 names and numbers is written for each run, and one of their sums. With --orders the robots carry out N orders in each run, without a stop: they get plan
-after plan, each of which goes on from the one before, and the log is held against the last one.
+after plan, each of which goes on from the one before, and the log is held against the last one. With --keys they sign all that they say, by keys that are made
+where there are none yet.
 
-Status 0: all have arrived, no two were in one cell, and `mapf run` answers the log as the robots were answered. 1: they weren't, or it doesn't.
-2: a bad command line. 3: something failed, is not here, or the time of a run was over.
+Status 0: all have arrived, no two were in one cell, and `mapf run` answers the log as the robots were answered. 1: they weren't, or it doesn't, or the
+keys have a fault. 2: a bad command line. 3: something failed, is not here, or the time of a run was over.
 """
 import argparse
 import collections
@@ -33,6 +34,7 @@ import cables as cable_kinds  # noqa: E402
 from addresses import Address, address  # noqa: E402
 from broker import Broker, NoBroker  # noqa: E402
 from fleet_run import Failed, Run, Settings, Wrong  # noqa: E402
+from keys import BadKeys, make_or_keep  # noqa: E402
 from ordered_run import OrderedRun  # noqa: E402
 from orders import NoPlan, Orders  # noqa: E402
 from leaving import heed_signals  # noqa: E402
@@ -78,6 +80,8 @@ def read_words(words: Sequence[str]) -> argparse.Namespace:
     parser.add_argument("--orders", type=int, metavar="N", help="how many orders are carried out in a run (the robots drive the plan)")
     parser.add_argument("--number", type=plan_number, metavar="N", help="the plan number of the first run; the others count on (each is drawn)")
     parser.add_argument("--broker", type=address, metavar="HOST:PORT", help="a broker that is there (one is started)")
+    parser.add_argument("--keys", type=pathlib.Path, metavar="FILE", help="the robots sign, with the keys in this file (they don't)")
+    parser.add_argument("--tls", type=pathlib.Path, metavar="FOLDER", help="the robots and the broker have certificates that broker/certificates.sh made")
     parser.add_argument("--port", type=int, default=0, metavar="N", help="the first of the ports on this machine (any that are free)")
     parser.add_argument("--keep", type=pathlib.Path, metavar="FOLDER", help="keeps the plan, the log and the replies of each run there")
     parser.add_argument("--boxes", type=pathlib.Path, metavar="FOLDER", help="keeps the plan and the black boxes of each run there")
@@ -91,6 +95,8 @@ def read_words(words: Sequence[str]) -> argparse.Namespace:
         parser.error("--robots: a number above 0 is wanted")
     if given.orders is not None and (given.orders < 1 or given.boxes):
         parser.error("--orders: a number above 0 is wanted, and no --boxes, since a box is of one plan")
+    if given.tls and given.link != "mqtt":
+        parser.error("--tls goes with --link mqtt")
     if given.cuts and not given.cables:
         parser.error("--cuts: there are no cables here, which network.sh makes")
     if given.port and not 1024 <= given.port < 65_000:
@@ -214,7 +220,9 @@ def drive(given: argparse.Namespace) -> int:
     has_own_broker = given.link == "mqtt" and not given.broker
     rates = {"kills": given.kills, "cuts": given.cuts, "stops": given.stops if has_own_broker else 0.0}
     own = (given.link, given.tell, given.every, given.moves, given.slips, rates, given.limit)
-    settings = Settings(given.program, python, given.map, len(courses), *own, boxes=None)
+    settings = Settings(given.program, python, given.map, len(courses), *own, keys=given.keys, tls=given.tls)
+    if given.keys:
+        make_or_keep(str(given.keys), len(courses))
     place: Place = Namespaces(given.namespaces) if given.namespaces else Loopback(len(courses), given.port)
     broker = None
     with tempfile.TemporaryDirectory(prefix="mapf-broker-") as folder:
@@ -223,7 +231,7 @@ def drive(given: argparse.Namespace) -> int:
                 place.broker = "{}:{}".format(*given.broker)
                 look_for_broker(given.broker)
             elif has_own_broker:
-                broker = Broker(place.broker, place.broker_words(), pathlib.Path(folder))
+                broker = Broker(place.broker, place.broker_words(), pathlib.Path(folder), given.tls)
             fleet = Fleet(given, settings, courses, place)
             fleet.drive(broker)
         finally:
@@ -236,7 +244,7 @@ def main(words: Sequence[str]) -> int:
     given = read_words(words)
     try:
         return drive(given)
-    except Wrong as fault:
+    except (Wrong, BadKeys) as fault:
         print(f"robots: {fault}", file=sys.stderr)
         return WRONG
     except (Failed, NoBroker, NoPlan, NoRoom, cable_kinds.Broken) as fault:
