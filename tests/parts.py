@@ -16,6 +16,7 @@ from typing import Callable, Iterator
 
 import answers
 import beginnings
+import calling_python
 import changing
 import claims
 import command_lines
@@ -78,6 +79,7 @@ PARTS: dict[str, tuple[str, Callable[[Harness], Iterator[Outcome]]]] = {
     "scenarios": ("whole scenarios and bounds of plans, beside plain searches", scenarios.outcomes),
     "proofs": ("proofs that plans are the best, beside a plain model and a search of all joint plans", proving.outcomes),
     "listing": ("all faults of plans, beside a list of all pairs", listing.outcomes),
+    "python": ("the Python package of tools/mapf, beside plain models", calling_python.outcomes),
     "convert": ("plans of other formats, converted and back", converting.outcomes),
     "judge": ("many plans, judged as one table", judging.outcomes),
     "repair": ("plans in which agents rotate, planned anew", repairing.outcomes),

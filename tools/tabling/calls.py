@@ -8,18 +8,17 @@ import sys
 import time
 from typing import ClassVar, Optional, Sequence
 
-from path_check import Program
+from mapf.program import BESIDE, Program, usual_program
 from product import SHIPPED
 from tabling import workers
 from tabling.jobs import BadJobs, Job
-from tabling.marks import Marker, says_a_version, version_of
+from tabling.marks import Marker, version_of
 from tabling.page import page
 from tabling.results import BadResults, Results
 from tabling.summary import summary
 from tabling.work import Work
 from whole_file import draft
 
-ROOT = pathlib.Path(__file__).resolve().parent.parent.parent
 REFUSED, BAD_LINE, NOT_WRITTEN = 1, 2, 3
 SECONDS = 600.0
 BAR = 30
@@ -67,9 +66,9 @@ def hold_options(parser: argparse.ArgumentParser, given: argparse.Namespace) -> 
 
 
 def program_of(named: Optional[pathlib.Path]) -> Program:
-    """The program that is named, else that of dist/ itself: its launcher would cost each job a third more."""
-    shipped = Program(SHIPPED)
-    return Program(named) if named else shipped if says_a_version(shipped) else Program(ROOT / "mapf")
+    """The program that is named, else the usual one: of a checkout that of dist/ itself, as its launcher would cost each job a third more."""
+    chosen, shipped = Program(named or usual_program()), Program(SHIPPED)
+    return shipped if not named and chosen.path == BESIDE and shipped.version() else chosen
 
 
 def show_bar(done: int, count: int, begun: float) -> None:
