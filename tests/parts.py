@@ -35,6 +35,7 @@ import launcher
 import limits
 import listing
 import messages
+import packaging
 import proving
 import refusals
 import repairing
@@ -85,6 +86,7 @@ PARTS: dict[str, tuple[str, Callable[[Harness], Iterator[Outcome]]]] = {
     "repair": ("plans in which agents rotate, planned anew", repairing.outcomes),
     "rows": ("many scenarios, certified as one table", tabling.outcomes),
     "show": ("plans and runs as pages in a browser, and as pictures", showing.outcomes),
+    "package": ("Debian's package: made twice, installed on an empty root, called and removed", packaging.outcomes),
     "vectors": ("the answers of an independent implementation", vectors.outcomes),
     "fleet": ("robots as processes that are killed at random", fleet.outcomes),
     "robots": ("robots on a network, over UDP and MQTT, and their black boxes", robots.outcomes),

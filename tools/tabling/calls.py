@@ -49,7 +49,7 @@ def add_options(parser: argparse.ArgumentParser) -> None:
     parser.add_argument("-o", "--output", type=pathlib.Path, metavar="RESULTS", help="where the results go")
     parser.add_argument("--seconds", type=positive, default=SECONDS, metavar="S", help="the time of one job (%(default)g)")
     usual = len(os.sched_getaffinity(0))
-    parser.add_argument("--jobs", "--processes", dest="processes", type=int, default=usual, metavar="N", help="how many jobs at once (%(default)s)")
+    parser.add_argument("--jobs", "--processes", dest="processes", type=int, default=usual, metavar="N", help="how many jobs at once (one a processor)")
     parser.add_argument("--shard", type=shard, default=(1, 1), metavar="K/N", help="takes every N-th job from the K-th on")
     parser.add_argument("--dask", metavar="ADDRESS", help="hands the jobs to the Dask cluster with this scheduler")
     parser.add_argument("--page", type=pathlib.Path, metavar="FILE.html", help="writes the results as a page too")

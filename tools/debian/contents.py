@@ -1,0 +1,113 @@
+"""What the package contains, and where: the program, its manual pages, the tools, the robots, and the documents."""
+import os
+import pathlib
+import re
+import subprocess
+import sys
+from typing import Iterator
+
+import product
+from commands import Help
+from debian import manuals, told
+from debian.tree import Tree, packed
+from mapf.faults import Failed
+
+# The tools that stand on the path, each by the name of its file.
+TOOLS = ("convert", "judge", "prove", "repair", "rows", "show")
+# What works on the sources of a checkout alone.
+OF_THE_CHECKOUT = frozenset(
+    (*("build.py", "commands.py", "contracts.py", "dist.py", "gate_times.py", "house.py", "package.py", "README.md"), *("debian", "measures"))
+)
+# Where things go. Below its own folder they lie as in the repository, so that all find one another.
+OWN, DOC = "usr/lib/mapf", "usr/share/doc/mapf"
+DOCUMENTS = ("CONVERTING.md", "FORMATS.md", "OPERATING.md", "PROMISES.md", "PROVING.md", "run.png")
+# Examples that are programs lie below its own folder too, and are named by a link.
+PROGRAMS = ("fleet", "vda5050")
+UNITS = "systemd"
+# Where OPERATING puts things without the package, and where they are with it.
+PLACES = (
+    ("/opt/mapf/fleet/", f"/{OWN}/examples/fleet/"),
+    ("/opt/mapf/mapf", "/usr/bin/mapf"),
+    ("docs/OPERATING.md", f"/{DOC}/docs/OPERATING.md"),
+)
+# Where Debian's checker would say something else than is meant.
+OVERRIDES = """\
+# The program has the bytes that were proved, whose sum made-from.txt names.
+mapf: unstripped-binary-or-object [usr/bin/mapf]
+"""
+SYSUSERS = """\
+# As whom robots run, by mapf-robot@.service.
+u mapf - "Robots of mapf" /var/lib/mapf
+"""
+# A tool by the name of its file, and a document, in the text of help.
+NAMED = re.compile(rf"\b({'|'.join(TOOLS)})\.py\b")
+DOCUMENT = re.compile(r"\bdocs/(?=[A-Z]+\.md)")
+
+
+def contents(root: pathlib.Path, version: str, day: str) -> Tree:
+    """All files of the package."""
+    tree = Tree()
+    tree.copy(root / product.SHIPPED.relative_to(product.ROOT), "usr/bin/mapf")
+    tree.copy(root / "completions" / "mapf.bash", "usr/share/bash-completion/completions/mapf")
+    put_tools(tree, root)
+    put_robots(tree, root)
+    put_documents(tree, root)
+    for manual in pages(root):
+        tree.put(f"usr/share/man/man1/{manual.name}.1.gz", packed(manuals.page(manual, version, day).encode("ascii")))
+    return tree
+
+
+def put_tools(tree: Tree, root: pathlib.Path) -> None:
+    tree.copy_folder(root / "tools", f"{OWN}/tools", OF_THE_CHECKOUT)
+    tree.put(f"{OWN}/mapf", "../../bin/mapf")
+    for name in TOOLS:
+        tree.put(f"usr/bin/mapf-{name}", f"../lib/mapf/tools/{name}.py")
+    tree.put("usr/lib/python3/dist-packages/mapf", "../../mapf/tools/mapf")
+
+
+def put_robots(tree: Tree, root: pathlib.Path) -> None:
+    """The programs among the examples, and the service of a robot, which names them where they are now."""
+    for name in PROGRAMS:
+        if (root / "examples" / name).is_dir():
+            tree.copy_folder(root / "examples" / name, f"{OWN}/examples/{name}", frozenset([UNITS]))
+            tree.put(f"{DOC}/examples/{name}", f"../../../../lib/mapf/examples/{name}")
+    for file in sorted((root / "examples" / "fleet" / UNITS).iterdir()):
+        text = file.read_text(encoding="utf-8")
+        for was, now in PLACES:
+            text = text.replace(was, now)
+        tree.put_text(f"{DOC}/examples/{file.name}" if file.suffix == ".conf" else f"usr/lib/systemd/system/{file.name}", text)
+    tree.put_text("usr/lib/sysusers.d/mapf.conf", SYSUSERS)
+
+
+def put_documents(tree: Tree, root: pathlib.Path) -> None:
+    """The documents lie as in the repository, so that they name one another."""
+    tree.copy(root / "README.md", f"{DOC}/README.md")
+    for name in DOCUMENTS:
+        tree.copy(root / "docs" / name, f"{DOC}/docs/{name}")
+    tree.copy_folder(root / "examples", f"{DOC}/examples", frozenset(PROGRAMS))
+    tree.copy(root / product.SHIPPED.relative_to(product.ROOT).parent / "made-from.txt", f"{DOC}/made-from.txt")
+    tree.put_text(f"{DOC}/copyright", told.licence(root))
+    tree.put_text("usr/share/lintian/overrides/mapf", OVERRIDES)
+
+
+def pages(root: pathlib.Path) -> Iterator[manuals.Manual]:
+    """The manual pages: of the program, of its commands and of the tools. Where a tool has the name of a command, its page shows both."""
+    asked = Help(root / product.SHIPPED.relative_to(product.ROOT))
+    yield manuals.of_command("mapf", asked.text())
+    names = [command.name for command in asked.commands().commands]
+    for name in names:
+        if name not in TOOLS:
+            yield manuals.of_command(f"mapf-{name}", asked.text(name))
+    for name in TOOLS:
+        manual = manuals.of_tool(f"mapf-{name}", help_of_tool(root, name))
+        yield manuals.with_command(manual, asked.text(name)) if name in names else manual
+
+
+def help_of_tool(root: pathlib.Path, name: str) -> str:
+    """What `--help` of a tool says, as wide as a terminal mostly is, with the names that things have in the package."""
+    words = [sys.executable, str(root / "tools" / f"{name}.py"), "--help"]
+    variables = {**os.environ, "COLUMNS": "80", "LC_ALL": "C.UTF-8", "PYTHON_COLORS": "0"}
+    ended = subprocess.run(words, env=variables, stdin=subprocess.DEVNULL, capture_output=True, text=True, encoding="utf-8", check=False)
+    if ended.returncode:
+        raise Failed(f"tools/{name}.py --help ended with status {ended.returncode}")
+    return DOCUMENT.sub(f"/{DOC}/docs/", NAMED.sub(r"mapf-\1", ended.stdout))
