@@ -73,7 +73,7 @@ def package(given: argparse.Namespace) -> pathlib.Path:
     version, time = releases[0].version, told.time_of(releases)
     tree = contents(product.ROOT, version, told.day_of(time))
     tree.put(f"{DOC}/changelog.gz", packed(told.changelog(releases, given.maintainer, time).encode()))
-    target = given.output / f"{told.NAME}_{version}_{told.ARCHITECTURE}.deb"
+    target: pathlib.Path = given.output / f"{told.NAME}_{version}_{told.ARCHITECTURE}.deb"
     with draft([built(tree, told.control(tree, version, given.maintainer), time)], target) as made:
         made.put()
     return target

@@ -12,8 +12,15 @@ from debian import manuals, told
 from debian.tree import Tree, packed
 from mapf.faults import Failed
 
-# The tools that stand on the path, each by the name of its file.
-TOOLS = ("convert", "judge", "prove", "repair", "rows", "show")
+# The tools that stand on the path, and their files.
+TOOLS = {
+    "mapf-convert": "convert.py",
+    "mapf-judge": "judge.py",
+    "mapf-prove": "prove.py",
+    "mapf-repair": "repair.py",
+    "mapf-rows": "rows.py",
+    "mapf-show": "show.py",
+}
 # What works on the sources of a checkout alone.
 OF_THE_CHECKOUT = frozenset(
     (*("build.py", "commands.py", "contracts.py", "dist.py", "gate_times.py", "house.py", "package.py", "README.md"), *("debian", "measures"))
@@ -39,8 +46,7 @@ SYSUSERS = """\
 # As whom robots run, by mapf-robot@.service.
 u mapf - "Robots of mapf" /var/lib/mapf
 """
-# A tool by the name of its file, and a document, in the text of help.
-NAMED = re.compile(rf"\b({'|'.join(TOOLS)})\.py\b")
+# A document, in the text of help.
 DOCUMENT = re.compile(r"\bdocs/(?=[A-Z]+\.md)")
 
 
@@ -60,8 +66,8 @@ def contents(root: pathlib.Path, version: str, day: str) -> Tree:
 def put_tools(tree: Tree, root: pathlib.Path) -> None:
     tree.copy_folder(root / "tools", f"{OWN}/tools", OF_THE_CHECKOUT)
     tree.put(f"{OWN}/mapf", "../../bin/mapf")
-    for name in TOOLS:
-        tree.put(f"usr/bin/mapf-{name}", f"../lib/mapf/tools/{name}.py")
+    for name, file in TOOLS.items():
+        tree.put(f"usr/bin/{name}", f"../lib/mapf/tools/{file}")
     tree.put("usr/lib/python3/dist-packages/mapf", "../../mapf/tools/mapf")
 
 
@@ -94,20 +100,23 @@ def pages(root: pathlib.Path) -> Iterator[manuals.Manual]:
     """The manual pages: of the program, of its commands and of the tools. Where a tool has the name of a command, its page shows both."""
     asked = Help(root / product.SHIPPED.relative_to(product.ROOT))
     yield manuals.of_command("mapf", asked.text())
-    names = [command.name for command in asked.commands().commands]
-    for name in names:
+    names = {f"mapf-{command.name}": command.name for command in asked.commands().commands}
+    for name, command in names.items():
         if name not in TOOLS:
-            yield manuals.of_command(f"mapf-{name}", asked.text(name))
-    for name in TOOLS:
-        manual = manuals.of_tool(f"mapf-{name}", help_of_tool(root, name))
-        yield manuals.with_command(manual, asked.text(name)) if name in names else manual
+            yield manuals.of_command(name, asked.text(command))
+    for name, file in TOOLS.items():
+        manual = manuals.of_tool(name, help_of_tool(root / "tools" / file))
+        yield manuals.with_command(manual, asked.text(names[name])) if name in names else manual
 
 
-def help_of_tool(root: pathlib.Path, name: str) -> str:
+def help_of_tool(tool: pathlib.Path) -> str:
     """What `--help` of a tool says, as wide as a terminal mostly is, with the names that things have in the package."""
-    words = [sys.executable, str(root / "tools" / f"{name}.py"), "--help"]
     variables = {**os.environ, "COLUMNS": "80", "LC_ALL": "C.UTF-8", "PYTHON_COLORS": "0"}
+    words = [sys.executable, str(tool), "--help"]
     ended = subprocess.run(words, env=variables, stdin=subprocess.DEVNULL, capture_output=True, text=True, encoding="utf-8", check=False)
     if ended.returncode:
-        raise Failed(f"tools/{name}.py --help ended with status {ended.returncode}")
-    return DOCUMENT.sub(f"/{DOC}/docs/", NAMED.sub(r"mapf-\1", ended.stdout))
+        raise Failed(f"{tool} --help ended with status {ended.returncode}")
+    text = DOCUMENT.sub(f"/{DOC}/docs/", ended.stdout)
+    for name, file in TOOLS.items():
+        text = re.sub(rf"\b{re.escape(file)}\b", name, text)
+    return text

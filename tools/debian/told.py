@@ -50,9 +50,8 @@ the Apache License 2.0, its text stands in /usr/share/common-licenses/Apache-2.0
 HEADING = re.compile(r"## \[([0-9.]+)\] - (.+)")
 DAY = re.compile(r"[0-9]{4}-[0-9]{2}-[0-9]{2}")
 UNRELEASED = "Unreleased"
-WIDTH = 80
 # Words stay whole, as `--no-rotation`.
-AS_AN_ITEM = {"subsequent_indent": "    ", "break_long_words": False, "break_on_hyphens": False}
+ITEM = textwrap.TextWrapper(80, initial_indent="  * ", subsequent_indent="    ", break_long_words=False, break_on_hyphens=False)
 
 
 @dataclasses.dataclass(frozen=True)
@@ -113,7 +112,7 @@ def items(lines: Sequence[str]) -> Iterator[str]:
         if text.startswith("### "):
             yield f"\n  [ {text[4:]} ]\n"
         else:
-            yield textwrap.fill(f"  * {text.removeprefix('- ')}", WIDTH, **AS_AN_ITEM) + "\n"
+            yield ITEM.fill(text.removeprefix("- ")) + "\n"
 
 
 def licence(root: pathlib.Path) -> str:
