@@ -46,6 +46,8 @@ FILES = (
     *("usr/share/doc/mapf/examples/corner.map", "usr/lib/mapf/examples/fleet/robot.py"),
     *(f"usr/share/doc/mapf/docs/{name}.md" for name in ("CONVERTING", "FORMATS", "OPERATING", "PROMISES", "PROVING")),
 )
+# By its name programs of Debian call Python.
+PYTHON = "/usr/bin/python3"
 # What dpkg is told, since the root is no system, and has no log.
 DPKG = ("--force-not-root", "--force-depends", "--force-bad-path", "--force-script-chrootless", "--path-include=/*")
 
@@ -70,7 +72,7 @@ def checkout(harness: Harness) -> pathlib.Path:
 def as_nobody(harness: Harness) -> Optional[list[str]]:
     """Python as another user, where this machine has one for everybody."""
     words = ["setpriv", f"--reuid={NOBODY}", f"--regid={NOBODY}", "--clear-groups"]
-    for python in (sys.executable, "/usr/bin/python3"):
+    for python in (sys.executable, PYTHON):
         # It starts itself again, as the tool does.
         again = "import json, subprocess, sys; sys.exit(subprocess.call([sys.executable, '-c', 'import argparse']))"
         if harness.run([*words, python, "-c", again]).status == 0:
@@ -181,14 +183,17 @@ def from_python(root: Root) -> Iterator[Outcome]:
     yield compared("what it wrote", script, root.at("usr/lib/mapf/tools/mapf/__pycache__").is_dir(), True)
 
 
-def robots(root: Root) -> Iterator[Outcome]:
-    """The robot as a service: where its unit and its settings say that things are, they are."""
+def programs(root: Root) -> Iterator[Outcome]:
+    """Where the unit of a robot and its settings say that things are, they are; and the robot and the tools start."""
     texts = [root.at(name).read_text() for name in ("usr/lib/systemd/system/mapf-robot@.service", "usr/share/doc/mapf/examples/robot.conf")]
     named = sorted({path for text in texts for path in re.findall(r"(?<![\w.])/(usr/(?:bin/mapf|lib/mapf|share/doc)[\w./-]*)", text)})
     yield compared("what the service names", "its unit and robot.conf", [it for it in named if not root.at(it.rstrip(".")).exists()], [])
     yield compared("how much it names", "its unit and robot.conf", (len(named) >= 3, "/opt/" in "".join(texts)), (True, False))
-    ended = root.harness.run([sys.executable, str(root.at("usr/lib/mapf/examples/fleet/robot.py")), "--help"])
-    yield compared("robot.py --help", "robot.py --help", (ended.status, ended.err), (0, b""))
+    for name in ("usr/lib/mapf/examples/fleet/robot.py", *(f"usr/bin/mapf-{name}" for name in TOOLS)):
+        # Where this machine has Debian's Python, the file says itself that it is for that.
+        python = [] if os.access(PYTHON, os.X_OK) else [sys.executable]
+        ended = root.harness.run([*python, str(root.at(name)), "--help"])
+        yield compared(f"/{name} --help", f"/{name} --help", (ended.status, ended.out[:6], ended.err), (0, b"usage:", b""))
 
 
 def manuals(root: Root) -> Iterator[Outcome]:
@@ -223,7 +228,7 @@ def on_a_root(harness: Harness, deb: pathlib.Path) -> list[Outcome]:
         return [Outcome("installed", f"dpkg ended with {root.installed}")]
     same = root.at("usr/bin/mapf").read_bytes() == (ROOT / SHIPPED).read_bytes()
     outcomes.append(compared("the program", "the bytes of usr/bin/mapf", same, True))
-    outcomes += [*shown(root), *from_python(root), *robots(root), *manuals(root)]
+    outcomes += [*shown(root), *from_python(root), *programs(root), *manuals(root)]
     removed = root.dpkg("-r", "mapf")
     left = [str(it.relative_to(root.folder)) for it in root.folder.rglob("*") if "var" not in it.relative_to(root.folder).parts[:1]]
     outcomes.append(compared("removed", "dpkg -r mapf", (removed.status, left), (0, [])))

@@ -69,9 +69,9 @@ def package(given: argparse.Namespace) -> pathlib.Path:
     if not shutil.which(BUILDER):
         raise Failed(f"there is no {BUILDER} here: Debian's package dpkg has it")
     hold_program()
-    releases = told.releases(product.ROOT)
+    releases = told.releases()
     version, time = releases[0].version, told.time_of(releases)
-    tree = contents(product.ROOT, version, told.day_of(time))
+    tree = contents(version, told.day_of(time))
     tree.put(f"{DOC}/changelog.gz", packed(told.changelog(releases, given.maintainer, time).encode()))
     target: pathlib.Path = given.output / f"{told.NAME}_{version}_{told.ARCHITECTURE}.deb"
     with draft([built(tree, told.control(tree, version, given.maintainer), time)], target) as made:

@@ -6,6 +6,7 @@ import subprocess
 import sys
 from typing import Iterator
 
+import dist
 import product
 from commands import Help
 from debian import manuals, told
@@ -28,6 +29,7 @@ OF_THE_CHECKOUT = frozenset(
 # Where things go. Below its own folder they lie as in the repository, so that all find one another.
 OWN, DOC = "usr/lib/mapf", "usr/share/doc/mapf"
 DOCUMENTS = ("CONVERTING.md", "FORMATS.md", "OPERATING.md", "PROMISES.md", "PROVING.md", "run.png")
+EXAMPLES = product.ROOT / "examples"
 # Examples that are programs lie below its own folder too, and are named by a link.
 PROGRAMS = ("fleet", "vda5050")
 UNITS = "systemd"
@@ -50,62 +52,69 @@ u mapf - "Robots of mapf" /var/lib/mapf
 DOCUMENT = re.compile(r"\bdocs/(?=[A-Z]+\.md)")
 
 
-def contents(root: pathlib.Path, version: str, day: str) -> Tree:
+def contents(version: str, day: str) -> Tree:
     """All files of the package."""
     tree = Tree()
-    tree.copy(root / product.SHIPPED.relative_to(product.ROOT), "usr/bin/mapf")
-    tree.copy(root / "completions" / "mapf.bash", "usr/share/bash-completion/completions/mapf")
-    put_tools(tree, root)
-    put_robots(tree, root)
-    put_documents(tree, root)
-    for manual in pages(root):
+    tree.copy(product.SHIPPED, "usr/bin/mapf")
+    tree.copy(product.ROOT / "completions" / "mapf.bash", "usr/share/bash-completion/completions/mapf")
+    put_tools(tree)
+    put_robots(tree)
+    put_documents(tree)
+    for manual in pages():
         tree.put(f"usr/share/man/man1/{manual.name}.1.gz", packed(manuals.page(manual, version, day).encode("ascii")))
     return tree
 
 
-def put_tools(tree: Tree, root: pathlib.Path) -> None:
-    tree.copy_folder(root / "tools", f"{OWN}/tools", OF_THE_CHECKOUT)
+def put_tools(tree: Tree) -> None:
+    tree.copy_folder(product.ROOT / "tools", f"{OWN}/tools", OF_THE_CHECKOUT)
     tree.put(f"{OWN}/mapf", "../../bin/mapf")
     for name, file in TOOLS.items():
         tree.put(f"usr/bin/{name}", f"../lib/mapf/tools/{file}")
     tree.put("usr/lib/python3/dist-packages/mapf", "../../mapf/tools/mapf")
 
 
-def put_robots(tree: Tree, root: pathlib.Path) -> None:
-    """The programs among the examples, and the service of a robot, which names them where they are now."""
+def put_robots(tree: Tree) -> None:
+    """The programs among the examples, and their services."""
     for name in PROGRAMS:
-        if (root / "examples" / name).is_dir():
-            tree.copy_folder(root / "examples" / name, f"{OWN}/examples/{name}", frozenset([UNITS]))
+        folder = EXAMPLES / name
+        if folder.is_dir():
+            tree.copy_folder(folder, f"{OWN}/examples/{name}", frozenset([UNITS]))
             tree.put(f"{DOC}/examples/{name}", f"../../../../lib/mapf/examples/{name}")
-    for file in sorted((root / "examples" / "fleet" / UNITS).iterdir()):
+        if (folder / UNITS).is_dir():
+            put_units(tree, folder / UNITS)
+    tree.put_text("usr/lib/sysusers.d/mapf.conf", SYSUSERS)
+
+
+def put_units(tree: Tree, folder: pathlib.Path) -> None:
+    """The units of services, and what they read, with the places where things are in the package."""
+    for file in sorted(folder.iterdir()):
         text = file.read_text(encoding="utf-8")
         for was, now in PLACES:
             text = text.replace(was, now)
         tree.put_text(f"{DOC}/examples/{file.name}" if file.suffix == ".conf" else f"usr/lib/systemd/system/{file.name}", text)
-    tree.put_text("usr/lib/sysusers.d/mapf.conf", SYSUSERS)
 
 
-def put_documents(tree: Tree, root: pathlib.Path) -> None:
+def put_documents(tree: Tree) -> None:
     """The documents lie as in the repository, so that they name one another."""
-    tree.copy(root / "README.md", f"{DOC}/README.md")
+    tree.copy(product.ROOT / "README.md", f"{DOC}/README.md")
     for name in DOCUMENTS:
-        tree.copy(root / "docs" / name, f"{DOC}/docs/{name}")
-    tree.copy_folder(root / "examples", f"{DOC}/examples", frozenset(PROGRAMS))
-    tree.copy(root / product.SHIPPED.relative_to(product.ROOT).parent / "made-from.txt", f"{DOC}/made-from.txt")
-    tree.put_text(f"{DOC}/copyright", told.licence(root))
+        tree.copy(product.ROOT / "docs" / name, f"{DOC}/docs/{name}")
+    tree.copy_folder(EXAMPLES, f"{DOC}/examples", frozenset(PROGRAMS))
+    tree.copy(dist.FACTS, f"{DOC}/made-from.txt")
+    tree.put_text(f"{DOC}/copyright", told.licence())
     tree.put_text("usr/share/lintian/overrides/mapf", OVERRIDES)
 
 
-def pages(root: pathlib.Path) -> Iterator[manuals.Manual]:
+def pages() -> Iterator[manuals.Manual]:
     """The manual pages: of the program, of its commands and of the tools. Where a tool has the name of a command, its page shows both."""
-    asked = Help(root / product.SHIPPED.relative_to(product.ROOT))
+    asked = Help(product.SHIPPED)
     yield manuals.of_command("mapf", asked.text())
     names = {f"mapf-{command.name}": command.name for command in asked.commands().commands}
     for name, command in names.items():
         if name not in TOOLS:
             yield manuals.of_command(name, asked.text(command))
     for name, file in TOOLS.items():
-        manual = manuals.of_tool(name, help_of_tool(root / "tools" / file))
+        manual = manuals.of_tool(name, help_of_tool(product.ROOT / "tools" / file))
         yield manuals.with_command(manual, asked.text(names[name])) if name in names else manual
 
 

@@ -3,7 +3,6 @@ import dataclasses
 import datetime
 import hashlib
 import os
-import pathlib
 import re
 import textwrap
 from typing import Iterator, Sequence
@@ -68,10 +67,10 @@ class Release:
         return f"{self.number}~unreleased" if self.day == UNRELEASED else self.number
 
 
-def releases(root: pathlib.Path) -> list[Release]:
+def releases() -> list[Release]:
     """The versions of CHANGELOG.md, the newest first."""
     found: list[tuple[str, str, list[str]]] = []
-    for line in (root / "CHANGELOG.md").read_text(encoding="utf-8").splitlines():
+    for line in (product.ROOT / "CHANGELOG.md").read_text(encoding="utf-8").splitlines():
         begun = HEADING.fullmatch(line)
         if begun:
             found.append((begun[1], begun[2], []))
@@ -115,10 +114,10 @@ def items(lines: Sequence[str]) -> Iterator[str]:
             yield ITEM.fill(text.removeprefix("- ")) + "\n"
 
 
-def licence(root: pathlib.Path) -> str:
+def licence() -> str:
     """The licences of the repository, if it states any, and those of the libraries whose code the program has."""
-    own = [path.read_text(encoding="utf-8") for path in sorted(root.glob("LICEN[CS]E*"))]
-    notices = (root / product.SHIPPED.relative_to(product.ROOT).parent.parent / "NOTICES").read_text(encoding="utf-8")
+    own = [path.read_text(encoding="utf-8") for path in sorted(product.ROOT.glob("LICEN[CS]E*"))]
+    notices = (product.SHIPPED.parent.parent / "NOTICES").read_text(encoding="utf-8")
     return "\n".join([*(own or [NO_LICENCE]), OF_LIBRARIES, notices])
 
 

@@ -92,6 +92,8 @@ class Agent:
 
     def ask(self, line: str) -> Reply:
         """The answer to a line of its dialogue. Behind `StoreFailed` and `StaleTape` the agent has ended."""
+        if "\n" in line:
+            raise ValueError("a line of the dialogue is one line")
         try:
             assert self.process.stdin
             self.process.stdin.write(f"{line}\n".encode("ascii"))
