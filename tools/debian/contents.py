@@ -24,7 +24,7 @@ TOOLS = {
 }
 # What works on the sources of a checkout alone.
 OF_THE_CHECKOUT = frozenset(
-    (*("build.py", "commands.py", "contracts.py", "dist.py", "gate_times.py", "house.py", "package.py", "README.md"), *("debian", "measures"))
+    (*("build.py", "commands.py", "contracts.py", "dist.py", "gate_times.py", "house.py", "package.py"), *("debian", "measures"))
 )
 # Where things go. Below its own folder they lie as in the repository, so that all find one another.
 OWN, DOC = "usr/lib/mapf", "usr/share/doc/mapf"
