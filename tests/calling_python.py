@@ -9,7 +9,7 @@ import sys
 from typing import Any, Callable, Iterator, Sequence
 
 from harness import ROOT, Harness, Outcome, compared, side_by_side
-from listing import all_faults, first_rotation, named, spoiled
+from listing import all_faults, first_rotation, named, rotations, spoiled
 from plan_chains import Plan, difference, extended, read, rested
 from random_runs import random_events, random_map, random_plan
 from run_model import Run, agents_of, courses_of
@@ -73,19 +73,6 @@ def verdicts(call: dict[str, Any], ground: Ground, of: Plan) -> Iterator[Test]:
     yield "bound", mapf.bound(**call, agents=True), bounds
 
 
-def rotations(of: Plan) -> Iterator[mapf.Rotation]:
-    """The steps in which agents go round, and who, from the least one on."""
-    for step in range(of.longest):
-        now, after = ([course.place(time) for course in of.courses] for time in (step, step + 1))
-        ahead = {agent: now.index(cell) for agent, cell in enumerate(after) if cell in now and cell != now[agent]}
-        for first in sorted(ahead):
-            circle = [first]
-            while ahead.get(circle[-1], first) not in circle:
-                circle.append(ahead[circle[-1]])
-            if ahead.get(circle[-1]) == first == min(circle):
-                yield mapf.Rotation(step, tuple(circle))
-
-
 def walks(call: dict[str, Any], of: Plan) -> Iterator[Test]:
     """Where the agents of a valid plan are, who waits for whom, and its beginning."""
     times = [tuple(course.place(time) for course in of.courses) for time in range(of.longest + 1)]
@@ -94,7 +81,8 @@ def walks(call: dict[str, Any], of: Plan) -> Iterator[Test]:
     yield "path, agent", mapf.path(**call, agent=0), tuple(alone)
     whole = ((agent, move, need) for agent, it in enumerate(agents_of(of.text())) for move, need in enumerate(it.needs) if need)
     needs = tuple(mapf.Need(agent, move, *need) for agent, move, need in whole)
-    yield "deps", mapf.deps(**call), mapf.Dependencies(len(of.courses), of.moves, needs, tuple(rotations(of)))
+    turning = tuple(mapf.Rotation(step, tuple(circle)) for step, circle in rotations(of))
+    yield "deps", mapf.deps(**call), mapf.Dependencies(len(of.courses), of.moves, needs, turning)
     x, y = of.courses[0].start
     courses = enumerate(courses_of(of.text()))
     visits = [mapf.Visit(agent, place, time) for agent, course in courses for place, (time, cell) in enumerate(course) if cell == (x, y)]
