@@ -76,7 +76,8 @@ class Harness:
         longest: int = LONGEST,
     ) -> Ended:
         """Runs a command. Where this call is interrupted, the command and all that it started end too."""
-        environment = {**os.environ, "TMPDIR": str(self.room), "PYTHONDONTWRITEBYTECODE": "1", **more}
+        # What the caller calls mapf is not what is tested.
+        environment = {**os.environ, "TMPDIR": str(self.room), "PYTHONDONTWRITEBYTECODE": "1", "MAPF": "", **more}
         pipes = {"stdin": subprocess.PIPE, "stdout": subprocess.PIPE, "stderr": subprocess.PIPE}
         try:
             process = subprocess.Popen(command, cwd=folder or self.room, env=environment, start_new_session=True, **pipes)

@@ -87,8 +87,8 @@ def spoiled(rng: random.Random, plan: Plan) -> Plan:
     return plan
 
 
-def first_rotation(plan: Plan) -> Optional[str]:
-    """The words of the first step in which agents go round, with the least of these first."""
+def rotations(plan: Plan) -> Iterator[tuple[int, list[int]]]:
+    """The steps in which agents go round, and these agents, the least of them first."""
     for step in range(plan.longest):
         now, after = ([course.place(time) for course in plan.courses] for time in (step, step + 1))
         follows = {i: now.index(cell) for i, cell in enumerate(after) if cell in now and cell != now[i]}
@@ -96,9 +96,14 @@ def first_rotation(plan: Plan) -> Optional[str]:
             circle = [first]
             while circle[-1] in follows and follows[circle[-1]] not in circle:
                 circle.append(follows[circle[-1]])
-            if follows.get(circle[-1]) == first:
-                return f"Rotation {step} {' '.join(str(agent) for agent in circle)}"
-    return None
+            if follows.get(circle[-1]) == first == min(circle):
+                yield step, circle
+
+
+def first_rotation(plan: Plan) -> Optional[str]:
+    """The words of the first of them."""
+    step, circle = next(rotations(plan), (0, []))
+    return f"Rotation {step} {' '.join(str(agent) for agent in circle)}" if circle else None
 
 
 def accepted(plan: Plan) -> Ended:

@@ -16,6 +16,7 @@ from typing import Callable, Iterator
 
 import answers
 import beginnings
+import calling_python
 import changing
 import claims
 import command_lines
@@ -34,6 +35,7 @@ import launcher
 import limits
 import listing
 import messages
+import packaging
 import proving
 import refusals
 import repairing
@@ -79,11 +81,13 @@ PARTS: dict[str, tuple[str, Callable[[Harness], Iterator[Outcome]]]] = {
     "scenarios": ("whole scenarios and bounds of plans, beside plain searches", scenarios.outcomes),
     "proofs": ("proofs that plans are the best, beside a plain model and a search of all joint plans", proving.outcomes),
     "listing": ("all faults of plans, beside a list of all pairs", listing.outcomes),
+    "python": ("the Python package of tools/mapf, beside plain models", calling_python.outcomes),
     "convert": ("plans of other formats, converted and back", converting.outcomes),
     "judge": ("many plans, judged as one table", judging.outcomes),
     "repair": ("plans in which agents rotate, planned anew", repairing.outcomes),
     "rows": ("many scenarios, certified as one table", tabling.outcomes),
     "show": ("plans and runs as pages in a browser, and as pictures", showing.outcomes),
+    "package": ("Debian's package: made twice, installed on an empty root, called and removed", packaging.outcomes),
     "vectors": ("the answers of an independent implementation", vectors.outcomes),
     "fleet": ("robots as processes that are killed at random", fleet.outcomes),
     "robots": ("robots on a network, over UDP and MQTT, and their black boxes", robots.outcomes),

@@ -15,13 +15,14 @@ import argparse
 import dataclasses
 import pathlib
 import re
-import subprocess
 import sys
 import textwrap
 from typing import Sequence
 
 sys.dont_write_bytecode = True
 import product  # noqa: E402
+from mapf import faults  # noqa: E402
+from mapf.program import Program  # noqa: E402
 from whole_file import draft  # noqa: E402
 
 BASH, README = "completions/mapf.bash", "README.md"
@@ -124,19 +125,18 @@ class Help:
     """The help of a program."""
 
     def __init__(self, program: pathlib.Path) -> None:
-        self.program = program
+        self.program = Program(program)
 
     def text(self, *words: str) -> str:
         """What `help` says behind these words."""
-        line = [str(self.program.absolute()), HELP, *words]
+        line = [HELP, *words]
         try:
-            ran = subprocess.run(line, stdin=subprocess.DEVNULL, capture_output=True, text=True)
-        except OSError as error:
-            raise Fault(f"{self.program} can't be started: {error.strerror}", FAILED) from None
-        if ran.returncode != 0:
-            told = f"`mapf {' '.join(line[1:])}` ended with status {ran.returncode}"
-            raise Fault(told, FAILED)
-        return ran.stdout
+            said = self.program.ask(line, b"".join)
+        except faults.Failed as failed:
+            raise Fault(str(failed), FAILED) from None
+        if said.status:
+            raise Fault(f"`mapf {' '.join(line)}` ended with status {said.status}", FAILED)
+        return said.answer.decode()
 
     def section(self, heading: str, *words: str) -> list[str]:
         """The lines under a heading of a text, none where there is no such heading."""

@@ -28,15 +28,17 @@ import sys
 from typing import Optional, Sequence
 
 sys.dont_write_bytecode = True
+import canonical  # noqa: E402
 import path_check  # noqa: E402
 from leaving import heed_signals  # noqa: E402
-from path_check import Failed, Program, Refused  # noqa: E402
+from mapf.faults import Failed  # noqa: E402
+from mapf.program import Program, usual_program  # noqa: E402
 from plan_formats import HEAD, Format, formats, guess, league_map, mapf_plan, page_of  # noqa: E402
 from plan_formats.texts import text_of  # noqa: E402
 from plan_formats.walks import MOST_NUMBER, Fault, Found, Given, Task, Walk, difference, moved, padded  # noqa: E402
+from refused import Refused  # noqa: E402
 from whole_file import Draft, draft  # noqa: E402
 
-ROOT = pathlib.Path(__file__).resolve().parent.parent
 REFUSED, BAD_LINE, FAILED = 1, 2, 3
 # In place of a number: one that nobody had before.
 NEW = "new"
@@ -99,7 +101,7 @@ def read_words(words: Sequence[str]) -> argparse.Namespace:
     parser.add_argument("--scen", metavar="SCEN", help="the scenario that the plan is to solve")
     parser.add_argument("--number", type=number, metavar="N", help=f"the plan's number, or {NEW}: one that is drawn, for a plan to drive (CRC-32 of its text with number 0)")
     parser.add_argument("--fill-waits", action="store_true", help="an agent waits at times that a schedule leaves out")
-    parser.add_argument("--program", type=pathlib.Path, default=ROOT / "mapf", metavar="PATH", help="the program mapf (that of this checkout)")
+    parser.add_argument("--program", type=pathlib.Path, default=usual_program(), metavar="PATH", help="the program mapf (that of this checkout)")
     page = "shows what is to be known of a format, and ends"
     parser.add_argument("--help-format", action=FormatHelp, metavar="FORMAT", help=page)
     given = parser.parse_args(words)
@@ -218,7 +220,7 @@ def to_map(given: argparse.Namespace, data: bytes) -> None:
         raise Fault(1, "the text is a map, a plan was due: with a map only -o and --program go")
     rows, counts = league_map.read(text_of(data))
     with draft(league_map.write(rows), given.output) as made:
-        if Program(given.program).text("map", str(made.path)) != made.path.read_bytes():
+        if canonical.text(Program(given.program), "map", str(made.path)) != made.path.read_bytes():
             raise Failed("the map that was written is read as another one; this is a fault of the converter")
         give(made, given.output)
     what = " and ".join(f"{count} {sign}" for sign, count in counts.items())
@@ -231,8 +233,8 @@ def convert(given: argparse.Namespace) -> None:
     if league_map.begins(data[:HEAD]):
         to_map(given, data)
         return
-    size = program.map_size(given.map) if given.map is not None else ()
-    tasks = program.tasks(given.scen) if given.scen is not None else None
+    size = canonical.map_size(program, given.map) if given.map is not None else ()
+    tasks = canonical.tasks(program, given.scen) if given.scen is not None else None
     context = Given(*size, has_map=bool(size), tasks=tasks, fills_waits=given.fill_waits)
     (from_plan if given.to else to_plan)(given, data, context)
 

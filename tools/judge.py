@@ -26,7 +26,7 @@ from judging.jobs import PlanJob, by_names, read_jobs  # noqa: E402
 from judging.uploads import is_upload, read_upload  # noqa: E402
 from judging.verdicts import Judging  # noqa: E402
 from leaving import heed_signals  # noqa: E402
-from path_check import Program  # noqa: E402
+from mapf.program import Program  # noqa: E402
 from plan_formats import formats  # noqa: E402
 from tabling.calls import Tool, add_options, hold_options  # noqa: E402
 

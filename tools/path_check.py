@@ -1,85 +1,17 @@
 """Holds a plan that was written against the cells that were read, by what the proved program says of the plan: `mapf path`."""
-import dataclasses
 import itertools
-import pathlib
-import re
-import subprocess
-import tempfile
 from array import array
-from typing import IO, Callable, Generic, Iterator, Optional, Sequence, TypeVar
+from typing import Iterator, Optional, Sequence
 
+from mapf.faults import Failed, read_words
+from mapf.plans import OF_AN_AGENT
+from mapf.program import FAULT, Program
 from plan_formats import mapf_plan
 from plan_formats.walks import NARROW, Cell, Task, Walk, corner_of, last_time, moved, size_of
 from whole_file import draft
 
 # How many numbers of the cells that are due are held at once.
 AT_ONCE = 500_000
-# What the program says of an agent alone. Then no cells are written.
-AN_AGENTS_FAULT = re.compile(rb"mapf: (Bad(?:Start|Move) [0-9 ]+)\n")
-DONE, FAULT = 0, 1
-Read = TypeVar("Read")
-
-
-class Failed(Exception):
-    """A file or a tool failed, this one too."""
-
-
-class Refused(Exception):
-    """A map or a scenario has a fault, or doesn't fit."""
-
-
-@dataclasses.dataclass(frozen=True)
-class Said(Generic[Read]):
-    """A call of the program: what was read of its answer, its status, and the first line that it told on standard error."""
-
-    answer: Read
-    status: int
-    told: str
-
-
-@dataclasses.dataclass(frozen=True)
-class Program:
-    """The program mapf."""
-
-    path: pathlib.Path
-
-    def start(self, words: Sequence[str], err: IO[bytes]) -> subprocess.Popen:
-        try:
-            return subprocess.Popen([str(self.path.absolute()), *words], stdin=subprocess.DEVNULL, stdout=subprocess.PIPE, stderr=err)
-        except OSError as error:
-            raise Failed(f"{self.path} can't be started: {error.strerror}") from None
-
-    def ask(self, words: Sequence[str], read: Callable[[IO[bytes]], Read]) -> Said[Read]:
-        """A call whose answer is read to its end."""
-        with tempfile.TemporaryFile() as err, self.start(words, err) as process:
-            answer = read(process.stdout)
-            status = process.wait()
-            return Said(answer, status, told_in(err))
-
-    def text(self, command: str, file: str) -> bytes:
-        """The text of a map or of a scenario in canonical form."""
-        said = self.ask([command, "--", file], lambda out: out.read())
-        if said.status == FAULT:
-            raise Refused(f"{file}: `mapf {command}` says {said.told or 'nothing'}")
-        if said.status:
-            raise Failed(f"{file}: `mapf {command}` ended with status {said.status}: {said.told or 'nothing'}")
-        return said.answer
-
-    def map_size(self, file: str) -> tuple[int, int]:
-        """The width and the height of a map."""
-        _, height, width = self.text("map", file).split(b"\n", 3)[:3]
-        return int(width.split()[1]), int(height.split()[1])
-
-    def tasks(self, file: str) -> list[Task]:
-        """The starts and goals of a scenario's rows."""
-        rows = [list(map(int, line.split(b"\t")[4:8])) for line in self.text("scen", file).split(b"\n")[1:-1]]
-        return [Task((row[0], row[1]), (row[2], row[3])) for row in rows]
-
-
-def told_in(err: IO[bytes]) -> str:
-    """The first line of standard error."""
-    err.seek(0)
-    return err.read(400).decode(errors="replace").partition("\n")[0].removeprefix("mapf: ")
 
 
 def due_lines(walks: Sequence[Walk]) -> Iterator[bytes]:
@@ -122,24 +54,12 @@ def other_length(plan_file: str, walks: Sequence[Walk]) -> Optional[str]:
 
 def said_of_the_path(program: Program, map_file: str, plan_file: str, walks: Sequence[Walk]) -> Optional[str]:
     """Compares each cell and time. Where the program has nothing to say, since a start or a step is bad on the map, the answer is that fault."""
-    with tempfile.TemporaryFile() as err, program.start(["path", "--", map_file, plan_file], err) as process:
-        try:
-            found = first_difference(process.stdout, walks)
-            # Whatever differs, the program comes to its end, and says why.
-            for _ in process.stdout:
-                pass
-        except BaseException:
-            process.kill()
-            raise
-        status = process.wait()
-        told = told_in(err)
-        err.seek(0)
-        fault = AN_AGENTS_FAULT.fullmatch(err.read(400))
-    if status == FAULT and fault:
-        return fault[1].decode()
-    if status:
-        raise Failed(f"`mapf path` ended with status {status}: {told or 'nothing'}")
-    found = found or other_length(plan_file, walks)
+    said = program.ask(["path", "--", map_file, plan_file], lambda lines: first_difference(lines, walks))
+    if said.status == FAULT and read_words(said.told).name in OF_AN_AGENT:
+        return said.words
+    if said.status:
+        raise Failed(f"`mapf path` ended with status {said.status}: {said.words or 'nothing'}")
+    found = said.answer or other_length(plan_file, walks)
     if found:
         raise Failed(f"the plan differs from what was read: {found}; nothing is written, and this is a fault of the converter")
     return None

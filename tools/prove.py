@@ -9,8 +9,9 @@ the tree of the proof: `mapf optimal MAP PLAN PROOF` reads it, and believes noth
 how such proofs are written.
 
 Where the time is over, the proof is of the best bound so far, and the plan is the best of some that let agent after agent choose: there may
-be none, and then none is written. Status 0: the plan is optimal; 1: the time was over before; 2: what was asked makes no sense, or no walk
-leads from a start to its goal.
+be none, and then none is written.
+
+Status 0: the plan is optimal. 1: the time was over before. 2: what was asked makes no sense, or no walk leads from a start to its goal.
 """
 import argparse
 import dataclasses
@@ -274,12 +275,12 @@ def read_tasks(text: str, count: int) -> list[tuple[Cell, Cell]]:
 
 def main(words: Sequence[str]) -> int:
     parser = argparse.ArgumentParser(description=__doc__, formatter_class=argparse.RawDescriptionHelpFormatter)
-    parser.add_argument("map", type=pathlib.Path)
-    parser.add_argument("scen", type=pathlib.Path)
-    parser.add_argument("agents", type=int)
-    parser.add_argument("-o", dest="out", nargs=2, type=pathlib.Path, metavar=("PLAN", "PROOF"), required=True)
-    parser.add_argument("--seconds", type=float, default=60.0)
-    parser.add_argument("--disjoint", action="store_true")
+    parser.add_argument("map", type=pathlib.Path, metavar="MAP", help="the map")
+    parser.add_argument("scen", type=pathlib.Path, metavar="SCEN", help="the scenario, each of whose rows is an agent's task")
+    parser.add_argument("agents", type=int, metavar="AGENTS", help="how many agents, from the first row on")
+    parser.add_argument("-o", dest="out", nargs=2, type=pathlib.Path, metavar=("PLAN", "PROOF"), required=True, help="where plan and proof go")
+    parser.add_argument("--seconds", type=float, default=60.0, metavar="N", help="how long it is searched (60)")
+    parser.add_argument("--disjoint", action="store_true", help="asks one agent to be somewhere, or not to be")
     given = parser.parse_args(words)
     try:
         ground = Ground(given.map.read_text(encoding="latin-1"))

@@ -23,16 +23,18 @@ from typing import Sequence
 sys.dont_write_bytecode = True
 from ground import Ground  # noqa: E402
 from leaving import heed_signals  # noqa: E402
+from mapf.faults import Failed  # noqa: E402
+from mapf.program import Program, usual_program  # noqa: E402
 from plan_formats import mapf_plan  # noqa: E402
 from plan_formats.walks import Given, Walk, walk_of  # noqa: E402
 from progress import Progress  # noqa: E402
+from refused import Refused  # noqa: E402
 from repairing.exhausting import is_there_none  # noqa: E402
 from repairing.searching import Repair  # noqa: E402
 from repairing.timetable import Rotation  # noqa: E402
-from showing.program import Failed, Program, Refused, copied  # noqa: E402
+from showing.program import answer, copied, refuse  # noqa: E402
 from whole_file import draft  # noqa: E402
 
-ROOT = pathlib.Path(__file__).resolve().parent.parent
 MOST_NUMBER = 4_294_967_295
 
 
@@ -50,7 +52,7 @@ def read_words(words: Sequence[str]) -> argparse.Namespace:
     parser.add_argument("--seconds", type=float, default=60.0, metavar="N", help="how long it is tried (60)")
     parser.add_argument("--seed", type=int, default=0, metavar="N", help="another one may find other walks (0)")
     parser.add_argument("--number", type=number, metavar="N", help="the number of the plan")
-    parser.add_argument("--program", type=pathlib.Path, default=ROOT / "mapf", metavar="PATH", help="the program mapf (that of this checkout)")
+    parser.add_argument("--program", type=pathlib.Path, default=usual_program(), metavar="PATH", help="the program mapf (that of this checkout)")
     return parser.parse_args(words)
 
 
@@ -67,11 +69,11 @@ def scenario_of(ground: Ground, walks: Sequence[Walk]) -> str:
 
 def hold_valid(program: Program, file: str, *words: str) -> None:
     """Raises where the program doesn't accept a plan."""
-    answer, talk = program.answer("check", *words)
+    written, talk = answer(program, "check", *words)
     if talk.told:
-        talk.refuse(file)
+        refuse(talk, file)
     if talk.status:
-        raise Refused(f"{file}: {answer.decode(errors='replace').strip()}")
+        raise Refused(f"{file}: {written.decode(errors='replace').strip()}")
 
 
 def resolve(repair: Repair, ground: Ground, until: float, progress: Progress) -> int:

@@ -23,7 +23,7 @@ sys.dont_write_bytecode = True
 from certifying.jobs import ScenarioJob, by_maps  # noqa: E402
 from certifying.verdicts import Certifying  # noqa: E402
 from leaving import heed_signals  # noqa: E402
-from path_check import Program  # noqa: E402
+from mapf.program import Program  # noqa: E402
 from tabling.calls import Tool, add_options, hold_options  # noqa: E402
 
 

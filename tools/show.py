@@ -28,18 +28,20 @@ from typing import Sequence
 
 sys.dont_write_bytecode = True
 from leaving import heed_signals  # noqa: E402
+from mapf.faults import Failed  # noqa: E402
+from mapf.program import Program, usual_program  # noqa: E402
 from plan_formats import formats  # noqa: E402
+from refused import Refused  # noqa: E402
 from showing import pictures  # noqa: E402
 from showing.browser import Browser, find  # noqa: E402
 from showing.page import Shown, page  # noqa: E402
 from showing.planners import Converter  # noqa: E402
-from showing.program import Failed, Program, Refused, copied  # noqa: E402
+from showing.program import copied  # noqa: E402
 from showing.runs import read_run  # noqa: E402
 from showing.sides import Side, read_side  # noqa: E402
 from showing.verdicts import Ground, read_ground, read_scenario  # noqa: E402
 from whole_file import draft  # noqa: E402
 
-ROOT = pathlib.Path(__file__).resolve().parent.parent
 BAD_LINE, FAILED = 2, 3
 
 
@@ -74,7 +76,7 @@ def read_words(words: Sequence[str]) -> argparse.Namespace:
     parser.add_argument("--dark", action="store_true", help="the picture is dark")
     parser.add_argument("--width", type=int, default=pictures.WIDTH, metavar="PIXELS", help=f"the most pixels that a picture is wide ({pictures.WIDTH})")
     parser.add_argument("--browser", metavar="PATH", help="the browser that draws pictures (a Chromium on the path)")
-    parser.add_argument("--program", type=pathlib.Path, default=ROOT / "mapf", metavar="PATH", help="the program mapf (that of this checkout)")
+    parser.add_argument("--program", type=pathlib.Path, default=usual_program(), metavar="PATH", help="the program mapf (that of this checkout)")
     given = parser.parse_args(words)
     given.is_picture = given.png is not None or given.gif is not None
     if given.is_picture and not given.output:

@@ -4,7 +4,10 @@ import dataclasses
 import pathlib
 from typing import Iterator, Sequence
 
-from path_check import Failed, Program, Refused
+import canonical
+from mapf.faults import Failed
+from mapf.program import Program
+from refused import Refused
 from tabling.jobs import NEVER_NAMED, BadJobs, Job
 from tabling.tables import FAILED, UNREADABLE
 
@@ -51,7 +54,7 @@ def job_of(program: Program, scenario: str, maps: pathlib.Path) -> ScenarioJob:
 
 def map_named(program: Program, scenario: str) -> str:
     """The one map that all rows name, by the canonical form of the scenario."""
-    rows = program.text("scen", scenario).split(b"\n")[1:-1]
+    rows = canonical.text(program, "scen", scenario).split(b"\n")[1:-1]
     names = list(dict.fromkeys(row.split(b"\t")[NAME].decode(errors="surrogateescape") for row in rows))
     if not names:
         raise Refused(f"{scenario}: there is no row, one that names the map was due")

@@ -2,11 +2,11 @@
 import dataclasses
 import pathlib
 import re
-from typing import IO
+from typing import Iterator
 
 from certifying.jobs import ScenarioJob
 from certifying.table import AGREE, DIFFER, TABLE
-from path_check import DONE, FAULT
+from mapf.program import DONE, FAULT
 from tabling.tables import Row
 from tabling.work import Work, unanswered
 
@@ -23,7 +23,7 @@ class Answer:
     last: bytes = b""
 
 
-def read_answer(out: IO[bytes]) -> Answer:
+def read_answer(out: Iterator[bytes]) -> Answer:
     answer = Answer()
     for line in out:
         if answer.last and not answer.bad and not GOOD.fullmatch(answer.last):
@@ -50,7 +50,7 @@ class Certifying(Work):
 
     tool = pathlib.Path(__file__).resolve().parent.parent / "rows.py"
     table = TABLE
-    readers = ("path_check.py", "certifying/jobs.py", "certifying/verdicts.py")
+    readers = ("canonical.py", "mapf/*.py", "certifying/jobs.py", "certifying/verdicts.py")
 
     @property
     def options(self) -> list[str]:

@@ -2,10 +2,10 @@
 import collections
 import dataclasses
 import re
-from typing import IO, Counter, Optional
+from typing import Counter, Iterator, Optional
 
 from judging.table import ACCEPTED, REJECTED
-from path_check import FAULT, Program, Said
+from mapf.program import FAULT, Program, Said
 from tabling.tables import Row
 from tabling.work import unanswered
 
@@ -62,7 +62,7 @@ class Answer:
     pairs: set[bytes] = dataclasses.field(default_factory=set)
 
 
-def read_answer(out: IO[bytes]) -> Answer:
+def read_answer(out: Iterator[bytes]) -> Answer:
     """The answer of the checker. Of a list of faults, which may be long, no more is kept than who collides."""
     answer = Answer()
     for line in out:

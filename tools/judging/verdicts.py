@@ -3,13 +3,15 @@ import dataclasses
 import pathlib
 from typing import Optional, Sequence
 
+import canonical
 from judging.checker import Checker, Verdict
 from judging.jobs import PlanJob
 from judging.table import ACCEPTED, COST_DIFFERS, REJECTED, TABLE, UNSOLVED
-from path_check import Refused, hold_on_open_map
+from path_check import hold_on_open_map
 from plan_formats import HEAD, Format, formats, guess, mapf_plan
 from plan_formats.texts import text_of
 from plan_formats.walks import Claim, Fault, Given, StartOffMaps, Unsolved, Walk
+from refused import Refused
 from tabling.tables import FAILED, UNREADABLE, Row
 from tabling.work import Work
 from whole_file import draft
@@ -40,7 +42,7 @@ class Judging(Work):
 
     tool = pathlib.Path(__file__).resolve().parent.parent / "judge.py"
     table = TABLE
-    readers = ("path_check.py", "plan_formats/*.py", "judging/verdicts.py", "judging/checker.py")
+    readers = ("canonical.py", "path_check.py", "mapf/*.py", "plan_formats/*.py", "judging/verdicts.py", "judging/checker.py")
 
     @property
     def options(self) -> list[str]:
@@ -94,8 +96,8 @@ class Judging(Work):
         if chosen.needs_tasks and not job.scenario:
             raise Fault(1, f"the format {chosen.name} leaves out where agents start, a job with a scenario was due")
         has_map = chosen.needs_map or chosen.needs_tasks
-        size = self.program.map_size(job.file(job.map)) if has_map else ()
-        tasks = self.program.tasks(job.file(job.scenario)) if chosen.needs_tasks else None
+        size = canonical.map_size(self.program, job.file(job.map)) if has_map else ()
+        tasks = canonical.tasks(self.program, job.file(job.scenario)) if chosen.needs_tasks else None
         return Given(*size, has_map=has_map, tasks=tasks, agents=int(job.agents) if job.agents else None, fills_waits=self.fills_waits)
 
     def checked_walks(self, job: PlanJob, walks: Sequence[Walk]) -> Verdict:

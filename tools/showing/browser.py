@@ -10,7 +10,7 @@ import subprocess
 import time
 from typing import Optional
 
-from showing.program import Failed
+from mapf.faults import Failed
 
 NAMES = ("chromium", "chromium-browser", "google-chrome", "google-chrome-stable", "chrome")
 WORDS = (

@@ -1,20 +1,21 @@
 """Where each agent is at each time: by `mapf path`, or, of a plan whose starts or steps are bad on the map, as its text gives it."""
 import dataclasses
 import pathlib
-import re
 from array import array
 from operator import add, sub
 from typing import Iterator, Sequence
 
-from showing.program import FAULT, Failed, Program, Refused
+from mapf.faults import Failed, read_words
+from mapf.plans import OF_AN_AGENT
+from mapf.program import FAULT, Program
+from refused import Refused
+from showing.program import refuse, talk
 
 Cell = tuple[int, int]
 STEPS = {"n": (0, -1), "e": (1, 0), "s": (0, 1), "w": (-1, 0), "-": (0, 0)}
 # By how much twice the column and the row rise together, as a byte, the act.
 ACT_OF = bytes(next((ord(act) for act, (x, y) in STEPS.items() if (2 * x + y) % 256 == byte), 0) for byte in range(256))
 NO_ACTS = b"="
-# What `mapf path` tells of a plan that can be read, but not be walked on the map.
-AN_AGENTS_FAULT = re.compile(r"mapf: (Bad(?:Start|Move) [0-9 ]+)")
 # The most times, of all agents together, that are read.
 MOST_TIMES = 64_000_000
 
@@ -65,11 +66,11 @@ def by_text(plan: bytes, told: str) -> Courses:
 
 def read_courses(program: Program, files: Sequence[str], plan: str) -> Courses:
     """The courses of a plan that the program can read."""
-    with program.talk("path", "--", *files) as talk:
-        courses = by_path(talk.lines, plan)
-    found = AN_AGENTS_FAULT.fullmatch(talk.told)
-    if found and talk.status == FAULT:
-        return by_text(pathlib.Path(files[1]).read_bytes(), found[1])
-    if talk.status:
-        talk.refuse(plan)
+    with talk(program, "path", "--", *files) as call:
+        courses = by_path(call.lines, plan)
+    words = read_words(call.told)
+    if call.status == FAULT and words.name in OF_AN_AGENT:
+        return by_text(pathlib.Path(files[1]).read_bytes(), str(words))
+    if call.status:
+        refuse(call, plan)
     return courses

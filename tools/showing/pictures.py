@@ -7,8 +7,9 @@ import dataclasses
 import io
 from typing import Iterable, Iterator, Sequence
 
+from mapf.faults import Failed
+from refused import Refused
 from showing.browser import Browser
-from showing.program import Failed, Refused
 
 try:
     from PIL import Image, ImageChops

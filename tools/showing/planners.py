@@ -6,7 +6,9 @@ import subprocess
 import sys
 from typing import Optional
 
-from showing.program import Program, Refused, copied
+from mapf.program import Program
+from refused import Refused
+from showing.program import copied
 
 CONVERTER = pathlib.Path(__file__).resolve().parent.parent / "convert.py"
 PLAN = b"mapf-plan "

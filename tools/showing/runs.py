@@ -3,7 +3,9 @@ import dataclasses
 import pathlib
 from typing import Sequence
 
-from showing.program import Program, Refused
+from mapf.program import Program
+from refused import Refused
+from showing.program import refuse, talk
 
 MOST_EVENTS = 1_000_000
 # A longer reply is shortened: a message may tell of ten thousand agents.
@@ -40,12 +42,12 @@ def read_run(program: Program, files: Sequence[str], events_name: str) -> Run:
         events = []
     if len(events) - 1 > MOST_EVENTS:
         raise Refused(f"{events_name}: there are {len(events) - 1} events, and at most {MOST_EVENTS} can be shown")
-    with program.talk("run", "--complete", "--", *files) as talk:
+    with talk(program, "run", "--complete", "--", *files) as call:
         # A line behind the replies is read before the lines of how the run ends, which may be many.
-        replies = [shortened(line) for _, line in zip(events[1:], talk.lines)]
-        ending = next(talk.lines, b"")
+        replies = [shortened(line) for _, line in zip(events[1:], call.lines)]
+        ending = next(call.lines, b"")
         # None of these events is refused, so each of them finishes a move.
-        left = sum(line.startswith(FINISH) for line in talk.lines)
-    if talk.told or not ending.startswith(ENDS):
-        talk.refuse(events_name)
+        left = sum(line.startswith(FINISH) for line in call.lines)
+    if call.told or not ending.startswith(ENDS):
+        refuse(call, events_name)
     return Run(events[0].decode(), events[1:], replies, ending.decode().rstrip("\n"), left)

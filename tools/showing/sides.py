@@ -3,8 +3,8 @@ import dataclasses
 import pathlib
 from typing import Optional, Sequence
 
+from mapf.program import Program
 from showing.courses import Courses, read_courses
-from showing.program import Program
 from showing.runs import Run
 from showing.verdicts import Fault, Ground, Scenario, Verdict, faults_of, is_of_the_scenario, read_verdict
 from showing.waits import Waits, no_waits, read_waits

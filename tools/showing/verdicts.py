@@ -1,11 +1,12 @@
 """What `mapf check` says of a plan, and a fault in words, with the cells in which it is seen."""
 import dataclasses
-import itertools
 import json
 from typing import Any, Optional, Sequence
 
+from mapf.program import Program
+from mapf.verdicts import listed_words
 from showing.courses import STEPS, Cell, Courses
-from showing.program import Program
+from showing.program import answer, refuse
 
 TERRAIN = {".": "land", "G": "land", "S": "swamp", "W": "water", "@": "out of bounds", "O": "out of bounds", "T": "trees"}
 # What the program says of a plan: whether it is accepted, and its numbers or its faults.
@@ -125,12 +126,6 @@ def fault_of(said: str, courses: Courses, ground: Ground) -> Fault:
     return swap(said, *numbers, courses)
 
 
-def said_of(fault: dict[str, Any]) -> str:
-    """A listed fault as a line has it: its kind and its numbers, in their order."""
-    kind, *numbers = (value if isinstance(value, list) else [value] for value in fault.values())
-    return " ".join(map(str, itertools.chain(kind, *numbers)))
-
-
 def is_of_the_scenario(verdict: Verdict) -> bool:
     """Whether a plan is valid, and doesn't solve its scenario."""
     return not verdict["accepted"] and verdict["faults"][0]["kind"] in OF_A_SCENARIO
@@ -138,7 +133,7 @@ def is_of_the_scenario(verdict: Verdict) -> bool:
 
 def faults_of(verdict: Verdict, courses: Courses, ground: Ground, scenario: Optional[Scenario]) -> list[Fault]:
     """The listed faults of a rejected plan, and the one for which its courses are those of its text."""
-    said = [said_of(fault) for fault in verdict.get("faults", [])]
+    said = [str(listed_words(fault)) for fault in verdict.get("faults", [])]
     if scenario and is_of_the_scenario(verdict):
         return [of_the_scenario(it, courses, ground, scenario) for it in said]
     if courses.told and courses.told not in said:
@@ -148,26 +143,26 @@ def faults_of(verdict: Verdict, courses: Courses, ground: Ground, scenario: Opti
 
 def read_verdict(program: Program, files: Sequence[str], plan: str, scenario: Optional[Scenario]) -> Verdict:
     scen = ["--scen", scenario.file] if scenario else []
-    text, talk = program.answer("check", "--json", "--all", *scen, "--", *files)
+    text, call = answer(program, "check", "--json", "--all", *scen, "--", *files)
     if not text:
-        talk.refuse(plan)
+        refuse(call, plan)
     return json.loads(text)
 
 
 def read_scenario(program: Program, file: str, name: str) -> Scenario:
     """The scenario of a file, which is a copy."""
-    text, talk = program.answer("scen", "--", file)
-    if talk.status:
-        talk.refuse(name)
+    text, call = answer(program, "scen", "--", file)
+    if call.status:
+        refuse(call, name)
     rows = [list(map(int, line.split(b"\t")[2:8])) for line in text.splitlines()[1:]]
     return Scenario(name.rpartition("/")[2], file, [Row((it[0], it[1]), (it[2], it[3]), (it[4], it[5])) for it in rows])
 
 
 def read_ground(program: Program, file: str, map_name: str) -> tuple[Ground, bytes]:
     """The map, and its text in canonical form."""
-    text, talk = program.answer("map", "--", file)
-    if talk.status:
-        talk.refuse(map_name)
+    text, call = answer(program, "map", "--", file)
+    if call.status:
+        refuse(call, map_name)
     _, height, width, _, rows = text.split(b"\n", 4)
     return Ground(int(width.split()[1]), int(height.split()[1]), rows.replace(b"\n", b"")), text
 

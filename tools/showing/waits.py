@@ -3,7 +3,8 @@ import dataclasses
 from array import array
 from typing import Sequence
 
-from showing.program import Program
+from mapf.program import Program
+from showing.program import refuse, talk
 
 # Of a move that waits for nobody. A plan has fewer agents.
 NOBODY = 65_535
@@ -29,8 +30,8 @@ def read_waits(program: Program, files: Sequence[str], acts: Sequence[bytes], pl
         firsts.append(count)
         count += len(course) - course.count(b"-")
     waits = Waits(array("H", [NOBODY]) * count, array("H", bytes(2 * count)), [])
-    with program.talk("deps", "--", *files) as talk:
-        for line in talk.lines:
+    with talk(program, "deps", "--", *files) as call:
+        for line in call.lines:
             word, *rest = line.split()
             if word == b"need":
                 agent, move, other, finished = map(int, rest)
@@ -39,6 +40,6 @@ def read_waits(program: Program, files: Sequence[str], acts: Sequence[bytes], pl
                 waits.more[place] = (finished - move) % 65536
             elif word == b"rotation":
                 waits.rotations.append(list(map(int, rest)))
-    if talk.status:
-        talk.refuse(plan)
+    if call.status:
+        refuse(call, plan)
     return waits

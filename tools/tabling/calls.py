@@ -8,18 +8,17 @@ import sys
 import time
 from typing import ClassVar, Optional, Sequence
 
-from path_check import Program
+from mapf.program import BESIDE, Program, usual_program
 from product import SHIPPED
 from tabling import workers
 from tabling.jobs import BadJobs, Job
-from tabling.marks import Marker, says_a_version, version_of
+from tabling.marks import Marker, version_of
 from tabling.page import page
 from tabling.results import BadResults, Results
 from tabling.summary import summary
 from tabling.work import Work
 from whole_file import draft
 
-ROOT = pathlib.Path(__file__).resolve().parent.parent.parent
 REFUSED, BAD_LINE, NOT_WRITTEN = 1, 2, 3
 SECONDS = 600.0
 BAR = 30
@@ -50,7 +49,7 @@ def add_options(parser: argparse.ArgumentParser) -> None:
     parser.add_argument("-o", "--output", type=pathlib.Path, metavar="RESULTS", help="where the results go")
     parser.add_argument("--seconds", type=positive, default=SECONDS, metavar="S", help="the time of one job (%(default)g)")
     usual = len(os.sched_getaffinity(0))
-    parser.add_argument("--jobs", "--processes", dest="processes", type=int, default=usual, metavar="N", help="how many jobs at once (%(default)s)")
+    parser.add_argument("--jobs", "--processes", dest="processes", type=int, default=usual, metavar="N", help="how many jobs at once (one a processor)")
     parser.add_argument("--shard", type=shard, default=(1, 1), metavar="K/N", help="takes every N-th job from the K-th on")
     parser.add_argument("--dask", metavar="ADDRESS", help="hands the jobs to the Dask cluster with this scheduler")
     parser.add_argument("--page", type=pathlib.Path, metavar="FILE.html", help="writes the results as a page too")
@@ -67,9 +66,9 @@ def hold_options(parser: argparse.ArgumentParser, given: argparse.Namespace) -> 
 
 
 def program_of(named: Optional[pathlib.Path]) -> Program:
-    """The program that is named, else that of dist/ itself: its launcher would cost each job a third more."""
-    shipped = Program(SHIPPED)
-    return Program(named) if named else shipped if says_a_version(shipped) else Program(ROOT / "mapf")
+    """The program that is named, else the usual one: of a checkout that of dist/ itself, as its launcher would cost each job a third more."""
+    chosen, shipped = Program(named or usual_program()), Program(SHIPPED)
+    return shipped if not named and chosen.path == BESIDE and shipped.version() else chosen
 
 
 def show_bar(done: int, count: int, begun: float) -> None:

@@ -3,22 +3,17 @@ import functools
 import hashlib
 import os
 import pathlib
-import re
 import stat
-import subprocess
 from typing import Sequence
 
-from path_check import Program
+from mapf.program import Program
 from tabling.jobs import Job
 from tabling.tables import JUDGE, Row, Table
 
 TOOLS = pathlib.Path(__file__).resolve().parent.parent
 # How much of a sum names a program.
 SHORT = 12
-# A program that hasn't said its version by then is asked no more.
-SECONDS = 10
 BLOCK = 1 << 20
-VERSION = re.compile(rb"mapf [\w.+-]+")
 
 
 def sha256_of(path: str) -> str:
@@ -36,28 +31,9 @@ def sha256_of(path: str) -> str:
     return total.hexdigest()
 
 
-@functools.lru_cache(maxsize=None)
-def version_said(path: pathlib.Path) -> str:
-    words = [str(path.absolute()), "--version"]
-    try:
-        # In a session of its own: whatever it does to its group, it does to itself.
-        ran = subprocess.run(
-            words, stdin=subprocess.DEVNULL, stdout=subprocess.PIPE, stderr=subprocess.DEVNULL, timeout=SECONDS, start_new_session=True, check=False
-        )
-    except (OSError, subprocess.TimeoutExpired):
-        return ""
-    said = VERSION.match(ran.stdout)
-    return said[0].decode() if said else ""
-
-
-def says_a_version(program: Program) -> bool:
-    """Whether the program starts here, and is mapf."""
-    return bool(version_said(program.path))
-
-
 def version_of(program: Program) -> str:
     """What the program says of itself, as `mapf 0.1.0`. Where it says nothing of the kind, its name."""
-    return version_said(program.path) or program.path.name
+    return program.version() or program.path.name
 
 
 def sum_of_readers(patterns: Sequence[str]) -> str:

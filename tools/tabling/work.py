@@ -6,7 +6,8 @@ import pathlib
 import time
 from typing import ClassVar
 
-from path_check import FAULT, Failed, Program, Said
+from mapf.faults import Failed
+from mapf.program import FAULT, Program, Said
 from tabling.jobs import Job
 from tabling.marks import Marker, judge_of
 from tabling.tables import FAILED, UNREADABLE, Row, Table
@@ -62,8 +63,8 @@ def failure(why: str) -> Row:
 
 def unanswered(command: str, said: Said) -> Row:
     """What there is to say where a call of the program gave no answer."""
-    if said.status == FAULT and said.told:
-        return {"verdict": UNREADABLE, "fault": said.told}
+    if said.status == FAULT and said.words:
+        return {"verdict": UNREADABLE, "fault": said.words}
     if said.status < 0:
         return failure(f"`mapf {command}` ended by signal {-said.status}")
-    return failure(said.told or f"`mapf {command}` ended with status {said.status}")
+    return failure(said.words or f"`mapf {command}` ended with status {said.status}")
