@@ -14,6 +14,8 @@ from frame import Frame, Point
 
 # The longest report, and how many are taken in one go.
 LONGEST, AT_ONCE = 200, 500
+# So far on its path a vehicle is looked for.
+FURTHEST = 8
 
 
 class Met(Exception):
@@ -55,10 +57,13 @@ class Judge:
             if other != agent:
                 raise Met(f"the vehicles {other} and {agent} are both in the cell {cell[0]} {cell[1]}")
         self.cells[agent] = cells
-        if at < len(path) - 1 and cells == {path[at + 1]}:
-            self.reached[agent] = at + 1
+        # One that has forgotten its order may leave out a way by which it would only have come back.
+        later = (it for it in range(at, min(at + FURTHEST, len(path))) if path[it] == path[at] and cells <= set(path[it : it + 2]))
+        place = next(later, None)
+        if place is not None:
+            self.reached[agent] = place + (cells == set(path[place + 1 : place + 2]))
         # One that is killed behind its report makes the step again.
-        elif not cells <= set(path[max(at - 1, 0) : at + 2]):
+        elif not cells <= set(path[max(at - 1, 0) : at]) | {path[at]}:
             raise Met(f"vehicle {agent} is in {sorted(cells)}, and its path goes on from {path[at]}")
 
     @property

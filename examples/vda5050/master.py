@@ -219,6 +219,12 @@ class Master:
             for post in self.bus.received():
                 self._take(post)
 
+    def leave(self) -> None:
+        """Waits until all agents have ended."""
+        for pilot in self.pilots.values():
+            pilot.teller.end()
+        self.bus.close()
+
     def _take(self, post: Post) -> None:
         identity, kind = kind_of(post.topic)
         if identity in self.agents:
@@ -250,7 +256,11 @@ def main(words: Sequence[str]) -> int:
     given = read_words(words)
     status = FAILED
     try:
-        Master(given, read_fleet(given.vehicles)).live()
+        master = Master(given, read_fleet(given.vehicles))
+        try:
+            master.live()
+        finally:
+            master.leave()
     except (NoPath, BadFleet, BadFrame) as fault:
         why, status = str(fault), UNFIT
     except (NoClient, NoBroker) as fault:

@@ -71,7 +71,7 @@ class Pilot:
         for error in state["errors"]:
             self.alarm(f"{error['errorType']}: {error.get('errorDescription', '')}")
         try:
-            self.place = self.route.locate(state, self.teller.done, self.ahead)
+            self.place = self.route.locate(state, self.teller.done, self.teller.farthest(self.ahead))
         except Astray as fault:
             self.alarm(str(fault))
 

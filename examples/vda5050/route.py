@@ -103,15 +103,16 @@ class Route:
 
     # Where a vehicle is
 
-    def locate(self, state: Message, done: int, ahead: int) -> Place:
-        """By the order of this run that it has; else by its position, on what is left of the path and no further than it may have been let go."""
+    def locate(self, state: Message, done: int, farthest: int) -> Place:
+        """By the order of this run that it has; else by its position, on what is left of the path and no further than it can have been let go."""
         point = point_of(state, self.map_id)
         found = NAME.fullmatch(state["orderId"])
         if found and (int(found[1]), int(found[2])) == (self.run, self.agent):
             return self._by_order(state, Order(state["orderId"], state["orderUpdateId"], int(found[3])), point, done)
         if state["nodeStates"]:
             raise Astray(f"it carries out an order of others, {state['orderId']!r}")
-        for index in range(done, min(done + 1 + ahead, self.last) + 1):
+        # Of two visits of one cell it is taken to be on the first: what is driven again then is held still.
+        for index in range(done, min(farthest, self.last) + 1):
             if self._fits(point, index):
                 return Place(index, index, point)
         raise Astray(f"it stands at {point.x:.2f} {point.y:.2f}, and its path goes on from {self.node_id(done)}")

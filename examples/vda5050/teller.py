@@ -94,6 +94,10 @@ class Teller:
             self.more = self._look_ahead(ahead)
         return self.done + 1 + self.more
 
+    def farthest(self, ahead: int) -> int:
+        """The cell of its path beyond which its vehicle can't have been let go before: not at all before the first move was begun."""
+        return self.done + self.is_between + ahead if self.done or self.is_between else 0
+
     def _look_ahead(self, ahead: int) -> int:
         """How many of the next moves would be allowed by what the agent knows. One of an older program doesn't understand the question."""
         answer = self.ask(f"may {ahead}") if ahead and self.knows_may else [""]
