@@ -5,7 +5,7 @@ from harness import ROOT, Harness
 
 PLAIN, BEHIND = str(ROOT / "examples" / "plain.map"), str(ROOT / "examples" / "behind.plan")
 PROGRAM = """#!{python}
-import os, subprocess, sys
+import os, signal, subprocess, sys
 program = {program!r}
 if sys.argv[1] != "agent":
     os.execv(program, [program, *sys.argv[1:]])
@@ -23,6 +23,8 @@ state = answer = process.stdout.readline().decode().rstrip("\\n")
 if not answer:
     sys.exit(process.wait())
 print(answer, flush=True)
+# Who asked may have been killed.
+signal.signal(signal.SIGPIPE, signal.SIG_DFL)
 for line in sys.stdin:
     asked = line.rstrip("\\n")
     answer = {answer}

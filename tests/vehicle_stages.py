@@ -4,7 +4,7 @@ import os
 import signal
 import subprocess
 import sys
-from typing import Any, Callable, Iterator, Optional, Sequence
+from typing import Any, Callable, Iterator, Sequence
 
 import vehicle_messages
 from harness import ROOT, Harness, Outcome, compared
@@ -15,7 +15,8 @@ VDA = ROOT / "examples" / "vda5050"
 CHECK = ROOT / "examples" / "fleet" / "check_boxes.py"
 ROW = b"type octile\nheight 1\nwidth 9\nmap\n.........\n"
 PLAN = b"mapf-plan 1\nnumber 5050\nagents 2\nagent 3 0 eeeee\nagent 0 0 eeeeeee\n"
-STARTS = ("3.5", "0.5")
+# Where the vehicles stand at first, in metres.
+STARTS = ("3.5 0.5", "0.5 0.5")
 # Nothing is sent in so many seconds, where nothing is to be sent.
 WHILE = 1.5
 
@@ -39,8 +40,9 @@ class Stage:
             how: dict[str, Any] = {"stdin": subprocess.PIPE, "stdout": said, "stderr": said, "env": {**os.environ, "PYTHONDONTWRITEBYTECODE": "1"}}
             self.running[name] = subprocess.Popen([self.python, str(VDA / program), *words], cwd=self.folder, **how)
 
-    def vehicle(self, agent: int, *more: str, x: Optional[str] = None) -> None:
-        words = ["--broker", self.broker.address, "--map-id", "row", "--every", "0.3", "--at", x or STARTS[agent], "0.5", "0", "--speed", "2", *more]
+    def vehicle(self, agent: int, *more: str, at: str = "") -> None:
+        where = ["--map-id", "row", "--at", *(at or STARTS[agent]).split(), "0"]
+        words = ["--broker", self.broker.address, *where, "--every", "0.3", "--speed", "2", *more]
         self.start(f"v{agent}", "vehicle.py", "maker", f"v{agent}", f"v{agent}", *words)
 
     def master(self, fleet: str = "fleet", *more: str) -> None:
@@ -131,7 +133,7 @@ def of_two_masters(stage: Stage) -> list[Outcome]:
 
 def of_a_vehicle_elsewhere(stage: Stage) -> list[Outcome]:
     """One that isn't where its agent is gets no order, until it is brought there; the one behind it waits."""
-    stage.vehicle(0, x="6.5")
+    stage.vehicle(0, at="6.5 0.5")
     stage.vehicle(1)
     stage.master()
     told = wait_until(lambda: "vehicle 0: it stands at 6.50 0.50, and its path goes on from 3-0" in stage.said("fleet"))
@@ -148,10 +150,9 @@ def of_a_vehicle_elsewhere(stage: Stage) -> list[Outcome]:
 def of_a_large_vehicle(stage: Stage) -> list[Outcome]:
     """Where cells are small, a vehicle that has reached a node isn't wholly in its cell."""
     (stage.folder / "row.yaml").write_text("resolution: 0.5\norigin: [0, 0, 0]\n", encoding="ascii")
-    stage.vehicle(0, x="1.75")
-    stage.running["v0"].poll()
+    stage.vehicle(0, at="1.75 0.25")
     stage.master("first", "--frame", "row.yaml", "--map-id", "row")
-    told = wait_until(lambda: "it is too large for its cells" in stage.said("first") or "it stands at" in stage.said("first"))
+    told = wait_until(lambda: "it is too large for its cells" in stage.said("first"))
     went = wait_until(lambda: stage.orders(0), WHILE)
     ran = f"a vehicle in small cells, of which the master said {stage.said('first')[-600:]!r}"
     return [compared("a vehicle in small cells", ran, (told, went), (True, False))]
