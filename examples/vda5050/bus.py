@@ -8,7 +8,7 @@ import beside  # noqa: F401
 from addresses import Address
 from link_mqtt import KEEPALIVE, NoBroker, new_client
 
-# Seconds between two tries to reach the broker, and the longest wait for it to be reached at first.
+# Seconds between two tries to reach the broker, and the longest time for a leave.
 SOON = 0.3
 
 
@@ -50,7 +50,7 @@ class Bus:
 
     def _begin(self, *_: Any) -> None:
         """The broker has forgotten who was there before."""
-        if self.client.is_connected():
+        if self.is_connected:
             self.connections += 1
             for topic in self.topics:
                 self.client.subscribe(topic, qos=1)
@@ -65,7 +65,7 @@ class Bus:
 
     def publish(self, post: Post, retain: bool = False, qos: int = 0) -> None:
         """While the broker is away nothing is sent, and nothing later."""
-        if self.client.is_connected():
+        if self.is_connected:
             self.client.publish(post.topic, post.payload, qos=qos, retain=retain)
 
     def received(self) -> list[Post]:

@@ -70,5 +70,13 @@ class Judge:
     def have_arrived(self) -> bool:
         return all(at == len(path) - 1 for at, path in zip(self.reached, self.paths))
 
+    def drop(self) -> None:
+        """Drops what is still said, for which those who say it wait, when all is over."""
+        while True:
+            try:
+                self.queue.recv(LONGEST)
+            except BlockingIOError:
+                return
+
     def end(self) -> None:
         self.queue.close()

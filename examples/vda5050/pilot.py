@@ -1,11 +1,10 @@
 """Leads one vehicle along its agent's path: what it has done is stored first, and then it is let go as far as the agent allows."""
-import dataclasses
 import math
 from typing import Callable, Optional
 
 from contact import AGAIN, Contact
 from frame import Frame
-from route import Astray, Order, Place, Route
+from route import Astray, Place, Route
 from standard import CANCEL_ORDER, START_PAUSE, STOP_PAUSE, Message
 from teller import Teller
 
@@ -96,11 +95,8 @@ class Pilot:
         if bar:
             self.alarm(bar)
             return
-        order = self._next(place.order) if place.order else self.route.new_order(place)
+        order = place.order.following() if place.order else self.route.new_order(place)
         self.contact.give(self.route.message(order, place, end, self.horizon), now)
-
-    def _next(self, order: Order) -> Order:
-        return dataclasses.replace(order, update=order.update + 1)
 
     def _act(self, state: Message, now: float) -> None:
         """What the operator wants is asked for until the state says that it is so."""

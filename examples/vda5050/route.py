@@ -31,6 +31,10 @@ class Order:
     # Of the agent's path the cell that is its first node.
     first: int
 
+    def following(self) -> "Order":
+        """Its next update."""
+        return dataclasses.replace(self, update=self.update + 1)
+
 
 @dataclasses.dataclass(frozen=True)
 class Place:

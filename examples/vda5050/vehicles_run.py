@@ -196,9 +196,7 @@ class Run:
                 process.terminate()
         last = time.monotonic() + GRACE
         while any(it.poll() is None for it in self.processes.values()) and time.monotonic() < last:
-            # A vehicle waits until its last report is taken.
-            with contextlib.suppress(Exception):
-                self.judge.look()
+            self.judge.drop()
             time.sleep(LOOK)
         for process in self.processes.values():
             end_or_kill(process)
@@ -213,7 +211,8 @@ class Run:
         words = [sys.executable, str(beside.FLEET / "check_boxes.py"), *self.files, *boxes, "--events", str(events), "--program", self.given.program]
         checked = subprocess.run(words, stdin=subprocess.DEVNULL, capture_output=True, text=True, check=False)
         if checked.returncode:
-            raise Wrong(f"check_boxes.py has status {checked.returncode}: {(checked.stdout + checked.stderr)[-TOLD:].strip()}")
+            told = f"check_boxes.py has status {checked.returncode}: {(checked.stdout + checked.stderr)[-TOLD:].strip()}"
+            raise (Wrong if checked.returncode == 1 else Failed)(told)
         words = [self.given.program, "run", *self.files, str(events), "--complete"]
         ended = subprocess.run(words, stdin=subprocess.DEVNULL, capture_output=True, text=True, check=False)
         last = ended.stdout.splitlines()[-1:]
