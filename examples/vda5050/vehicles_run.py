@@ -194,6 +194,10 @@ class Run:
         for process in self.processes.values():
             if process.poll() is None:
                 process.terminate()
+        # One that was started just when this call was asked to end isn't known.
+        known = {it.pid for it in (*self.processes.values(), self.broker.process) if it}
+        for pid in set(children_of(os.getpid())) - known:
+            os.kill(pid, signal.SIGKILL)
         last = time.monotonic() + GRACE
         while any(it.poll() is None for it in self.processes.values()) and time.monotonic() < last:
             self.judge.drop()
