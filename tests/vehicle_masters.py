@@ -150,6 +150,7 @@ def of_places(_: Harness) -> Iterator[Outcome]:
         ("its order, ahead of the tape", {**state_of(NAME, 1, ("1-0", 6), 1.5), **nodes(8, released=8)}, 1, 2, "3 to 4 ordered"),
         ("its order, behind the tape", {**state_of(NAME, 1, ("1-0", 2), 1.5), **nodes(4, released=4)}, 2, 4, "astray"),
         ("its order, which was cancelled", state_of(NAME, 1, ("1-0", 2), 1.5), 1, 4, "1 to 1"),
+        ("its order, of which it has the name alone", state_of(NAME, 0, ("", 0), 2.5), 1, 4, "2 to 2"),
         ("its order from a later cell", {**state_of("7-3-2-0123abcd", 0, ("1-0", 2), 1.5), **nodes(4, released=4)}, 3, 4, "3 to 4 ordered"),
         ("its order, by another name of the node", {**state_of(NAME, 1, ("2-0", 2), 1.5), **nodes(4, released=4)}, 1, 4, "astray"),
         ("its order, from the way to the second cell", {**state_of(NAME, 0, ("0-0_1-0", 0), 0.8), **nodes(2, released=2)}, 0, 4, "0 to 1 ordered"),

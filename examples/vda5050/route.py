@@ -112,9 +112,17 @@ class Route:
         point = point_of(state, self.map_id)
         found = NAME.fullmatch(state["orderId"])
         if found and (int(found[1]), int(found[2])) == (self.run, self.agent):
-            return self._by_order(state, Order(state["orderId"], state["orderUpdateId"], int(found[3])), point, done)
-        if state["nodeStates"]:
+            try:
+                return self._by_order(state, Order(state["orderId"], state["orderUpdateId"], int(found[3])), point, done)
+            except Astray:
+                # One that has forgotten all but its order's name is looked for too.
+                if state["nodeStates"]:
+                    raise
+        elif state["nodeStates"]:
             raise Astray(f"it carries out an order of others, {state['orderId']!r}")
+        return self._by_position(point, done, farthest)
+
+    def _by_position(self, point: Point, done: int, farthest: int) -> Place:
         # Of two visits of one cell it is taken to be on the first: what is driven again then is held still.
         for index in range(done, min(farthest, self.last) + 1):
             if self._fits(point, index):

@@ -86,8 +86,8 @@ def longer_plan(given: argparse.Namespace, folder: pathlib.Path, number: int, st
 
 def drive(given: argparse.Namespace, folder: pathlib.Path) -> int:
     vehicles, python = write_plan(given, folder), with_paho()
-    # A port each for the vehicles, the master and the recorder, and one for the broker.
-    place = Loopback(vehicles + 2)
+    # Each vehicle and the master have an address by which they reach the broker.
+    place = Loopback(vehicles + 1)
     broker = Broker(place.broker, [], folder)
     try:
         run = Run(given, vehicles, place, broker, folder)
