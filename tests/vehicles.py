@@ -8,6 +8,7 @@ import subprocess
 import sys
 from typing import Callable, Iterator, Optional, Sequence
 
+import vehicle_links
 import vehicle_masters
 import vehicle_messages
 import vehicle_rules
@@ -210,7 +211,7 @@ def lacking(python: Optional[str]) -> str:
 
 
 def outcomes(harness: Harness) -> Iterator[Outcome]:
-    for rules in (*vehicle_rules.TESTS, *vehicle_masters.TESTS):
+    for rules in (*vehicle_rules.TESTS, *vehicle_masters.TESTS, vehicle_links.of_links):
         yield from rules(harness)
     python = with_paho()
     if not python or lacking(python):
