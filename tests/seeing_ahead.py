@@ -14,6 +14,8 @@ sys.path.append({fleet!r})
 from foresight import Foresight, moves_of, needs_of
 from history import state_after
 
+# Who asks may be killed.
+signal.signal(signal.SIGPIPE, signal.SIG_DFL)
 files, agent = sys.argv[2:4], int(sys.argv[4])
 deps = subprocess.run([program, "deps", *files], stdin=subprocess.DEVNULL, stdout=subprocess.PIPE, text=True).stdout.splitlines()
 foresight = Foresight(needs_of(deps), moves_of(open(files[1]).read()))
@@ -23,8 +25,6 @@ state = answer = process.stdout.readline().decode().rstrip("\\n")
 if not answer:
     sys.exit(process.wait())
 print(answer, flush=True)
-# Who asked may have been killed.
-signal.signal(signal.SIGPIPE, signal.SIG_DFL)
 for line in sys.stdin:
     asked = line.rstrip("\\n")
     answer = {answer}
