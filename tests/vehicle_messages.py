@@ -16,12 +16,20 @@ Cell = tuple[int, int]
 Middle = Callable[[Cell], tuple[float, float]]
 # Times in messages are cut to milliseconds.
 CUT = 0.001
-# So many nodes that aren't released are shown at most.
-HORIZON = 4
+# So many nodes that aren't released are shown at most, and so many are released behind the end of a move that is begun.
+HORIZON, AHEAD = 4, 3
+# How far a vehicle may be from a node or a way, as a part of a cell's side.
+OFF = 0.1
+
+
+# The kind of what a recorder notes when it is connected: some messages before are missing, as they may be up to so many seconds behind.
+CONNECTED, SOON = "connected", 0.5
 
 
 @dataclasses.dataclass(frozen=True)
 class Record:
+    """A message, of the vehicle's whose topic it came on. The time is that of its head."""
+
     vehicle: str
     kind: str
     at: float
@@ -33,12 +41,24 @@ def records_of(path: pathlib.Path) -> list[Record]:
     # The last line may not be whole yet.
     for line in path.read_text(encoding="utf-8").split("\n")[:-1]:
         fields = json.loads(line)
+        if not fields["topic"]:
+            found.append(Record("", CONNECTED, fields["wall"], {}))
+            continue
         words, message = fields["topic"].split("/"), json.loads(fields["payload"])
         if words[:2] != ["uagv", "v2"] or words[3] != message.get("serialNumber") or words[2] != message.get("manufacturer"):
             raise ValueError(f"{fields['topic']} has {fields['payload'][:200]}")
         at = datetime.datetime.fromisoformat(message["timestamp"].replace("Z", "+00:00")).timestamp()
         found.append(Record(words[3], words[4], at, message))
     return found
+
+
+def messages_of(records: Sequence[Record]) -> list[Record]:
+    return [it for it in records if it.kind != CONNECTED]
+
+
+def gaps_of(records: Sequence[Record]) -> list[tuple[float, float]]:
+    """When messages may be missing."""
+    return [(one.at, other.at + SOON) for one, other in zip(records, records[1:]) if other.kind == CONNECTED]
 
 
 # Schemas
@@ -66,7 +86,7 @@ def validators() -> Optional[dict[str, Callable[[Any], Iterator[Any]]]]:
 
 def against_schemas(records: Sequence[Record], faults_of: dict[str, Callable[[Any], Iterator[Any]]]) -> list[str]:
     found = []
-    for record in records:
+    for record in messages_of(records):
         found += [f"{record.kind} of {record.vehicle}: {fault.message[:200]}" for fault in faults_of[record.kind](record.message)]
     return found
 
@@ -121,6 +141,8 @@ class Chain:
         self.ends: set[int] = set()
         self.ends_before: set[int] = set()
         self.seen: set[str] = set()
+        # Whether orders may be missing here.
+        self.may_jump = False
 
     def faults(self, record: Record) -> Iterator[str]:
         order, nodes = record.message, record.message["nodes"]
@@ -158,45 +180,56 @@ class Chain:
             if (node["nodeId"], at["x"], at["y"]) == (name, *middles[0]):
                 continue
             (x, y), (u, v) = middles
-            is_between = min(x, u) <= at["x"] <= max(x, u) and min(y, v) <= at["y"] <= max(y, v)
+            is_between = min(x, u) - OFF <= at["x"] <= max(x, u) + OFF and min(y, v) - OFF <= at["y"] <= max(y, v) + OFF
             if place or node["sequenceId"] or not is_between:
                 yield f"the node {node['nodeId']}, in place of {name}"
 
     def _faults_of_chain(self, order: dict[str, Any], begin: int) -> Iterator[str]:
         name, update = order["orderId"], order["orderUpdateId"]
+        jumps, self.may_jump = self.may_jump, False
         if name != self.name:
-            if name in self.seen or update or order["nodes"][0]["sequenceId"]:
+            if name in self.seen or (not jumps and (update or order["nodes"][0]["sequenceId"])):
                 yield "it begins anew, and has a name or a number that was there before"
             self.seen.add(name)
             self.name, self.update, self.ends, self.ends_before = name, update, set(), set()
             return
-        if update == self.update + 1:
+        if jumps or update not in (self.update, self.update + 1):
+            if not jumps or update < self.update:
+                yield f"update {update} behind {self.update}"
+            self.update, self.ends, self.ends_before = update, set(), set()
+        elif update > self.update:
             self.update, self.ends, self.ends_before = update, set(), self.ends
-        elif update != self.update:
-            yield f"update {update} behind {self.update}"
         if self.ends_before and begin not in self.ends_before:
             yield f"it goes on from {begin}, and the base before ended at {sorted(self.ends_before)}"
 
 
 def against_rules(records: Sequence[Record], paths: Sequence[Sequence[Cell]], middle: Middle, boxes: pathlib.Path) -> list[str]:
     """What is wrong with the orders of a master whose vehicles have the names v0, v1, and so on; and moves that were finished too soon."""
-    found = []
+    found, gaps = [], gaps_of(records)
     for agent, path in enumerate(paths):
-        own = [it for it in records if it.vehicle == f"v{agent}"]
+        own = [it for it in records if it.vehicle in (f"v{agent}", "")]
         allowed = allowed_by(boxes / f"{agent}.box")
         chain = Chain(path, middle, allowed)
         for record in own:
+            chain.may_jump |= record.kind == CONNECTED
             if record.kind == "order":
                 found += [f"{fault}: {json.dumps(record.message)[:600]}" for fault in chain.faults(record)]
-        reached = [(it.at, reached_by(it.message)) for it in own if it.kind == "state" and it.message["orderId"]]
+        states = [it for it in own if it.kind == "state"]
         for at, done in allowed.finishes:
-            if not any(time <= at + CUT and index > done for time, index in reached):
+            if any(begin <= at <= end for begin, end in gaps):
+                continue
+            behind = [middle(cell) for cell in path[done + 1 : done + 2 + AHEAD]]
+            if not any(it.at <= at + CUT and has_reached(it.message, done, behind) for it in states):
                 found.append(f"vehicle {agent} has finished move {done}, and no state says so")
     return found
 
 
-def reached_by(state: dict[str, Any]) -> int:
-    return int(state["orderId"].split("-")[2]) + state["lastNodeSequenceId"] // 2
+def has_reached(state: dict[str, Any], done: int, behind: Sequence[tuple[float, float]]) -> bool:
+    """Whether a vehicle is further than by so many moves: by its order, or by its position at one of these places, which come next."""
+    if state["orderId"]:
+        return int(state["orderId"].split("-")[2]) + state["lastNodeSequenceId"] // 2 > done
+    where = state["agvPosition"]
+    return any(abs(where["x"] - x) < 1 and abs(where["y"] - y) < 1 for x, y in behind)
 
 
 def paths_of(text: str) -> list[list[Cell]]:

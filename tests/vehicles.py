@@ -24,7 +24,7 @@ WAREHOUSE = str(FLEET / "warehouse.map")
 # The rows of that map.
 HEIGHT = 7
 # The longest time of a run, in seconds.
-LIMIT = 90
+LIMIT = 300
 LONG_LIMIT = 600
 LONG = range(1, 5)
 
@@ -74,7 +74,7 @@ def of_schemas(name: str, records: Sequence[vehicle_messages.Record]) -> list[Ou
     name = f"{name}: messages by the schemas"
     if validators is None:
         return [Outcome(name, lacks="python3-jsonschema")]
-    kinds = {it.kind for it in records}
+    kinds = {it.kind for it in vehicle_messages.messages_of(records)}
     found = vehicle_messages.against_schemas(records, validators)
     return [compared(name, f"looked at {len(records)} messages", (found[:3], kinds), ([], set(vehicle_messages.KINDS)))]
 
@@ -127,7 +127,7 @@ KILLS = "vehicle_kills_or_agent_kills_or_master_kills"
 
 def of_kills(harness: Harness, program: str) -> list[Outcome]:
     """Vehicles, agents and the master are killed, connections break and processes stand still."""
-    words = ["--vehicles", "4", "--speed", "1.2", "--kills", "1", "--cuts", "0.4", "--seed", "2"]
+    words = ["--vehicles", "4", "--speed", "1.2", "--kills", "0.7", "--cuts", "0.3", "--seed", "2"]
     return Fleet(harness, program, words).judged("four vehicles, killed", 4, vehicle_messages.middle_of(HEIGHT), **{KILLS: 2, "restarts": 5})
 
 
