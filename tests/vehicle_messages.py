@@ -47,7 +47,7 @@ def records_of(path: pathlib.Path) -> list[Record]:
         words, message = fields["topic"].split("/"), json.loads(fields["payload"])
         if words[:2] != ["uagv", "v2"] or words[3] != message.get("serialNumber") or words[2] != message.get("manufacturer"):
             raise ValueError(f"{fields['topic']} has {fields['payload'][:200]}")
-        at = datetime.datetime.fromisoformat(message["timestamp"].replace("Z", "+00:00")).timestamp()
+        at = datetime.datetime.strptime(message["timestamp"].replace("Z", "+0000"), "%Y-%m-%dT%H:%M:%S.%f%z").timestamp()
         found.append(Record(words[3], words[4], at, message))
     return found
 
