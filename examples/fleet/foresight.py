@@ -3,7 +3,7 @@ import collections
 import re
 from typing import Counter, Mapping, Optional, Sequence
 
-ASKED = re.compile(r"may (0|[1-9]\d{0,4})", re.ASCII)
+ASKED = re.compile(r"may (0|[1-9]\d{0,8})", re.ASCII)
 # An agent and one of its moves, and the agent for which that waits, with how many moves this one has to have finished.
 Needs = Mapping[tuple[int, int], tuple[int, int]]
 

@@ -26,6 +26,7 @@ from addresses import address  # noqa: E402
 from agent import Lock  # noqa: E402
 from black_box import note_of  # noqa: E402
 from bus import Bus, Post  # noqa: E402
+from check_boxes import number  # noqa: E402
 from contact import Contact  # noqa: E402
 from frame import BadFrame, read_frame  # noqa: E402
 from leaving import heed_signals  # noqa: E402
@@ -50,12 +51,6 @@ class BadFleet(Exception):
     """The list of vehicles has a fault."""
 
 
-def count(word: str) -> int:
-    if not word.isascii() or not word.isdigit() or len(word) > 4:
-        raise argparse.ArgumentTypeError(f"a number is wanted, and '{word[:40]}' is none")
-    return int(word)
-
-
 def read_words(words: Sequence[str]) -> argparse.Namespace:
     parser = argparse.ArgumentParser(prog="master.py", description=__doc__, formatter_class=argparse.RawDescriptionHelpFormatter)
     parser.add_argument("map", metavar="MAP")
@@ -65,8 +60,8 @@ def read_words(words: Sequence[str]) -> argparse.Namespace:
     parser.add_argument("--broker", type=address, required=True, metavar="HOST:PORT")
     parser.add_argument("--frame", metavar="MAP.YAML", help="resolution and origin, as ROS has them (a metre, and 0 0 0)")
     parser.add_argument("--map-id", metavar="NAME", help="the map's name in orders (that of MAP's file)")
-    parser.add_argument("--ahead", type=count, default=3, metavar="N", help="releases so many moves behind the one that is begun (%(default)s)")
-    parser.add_argument("--horizon", type=count, default=4, metavar="N", help="shows so many more (%(default)s)")
+    parser.add_argument("--ahead", type=number, default=3, metavar="N", help="releases so many moves behind the one that is begun (%(default)s)")
+    parser.add_argument("--horizon", type=number, default=4, metavar="N", help="shows so many more (%(default)s)")
     parser.add_argument("--every", type=seconds, default=1.0, metavar="S", help="tells other masters again after so many seconds (%(default)g)")
     parser.add_argument("--patience", type=seconds, default=10.0, metavar="S", help="how long a broker may be away at first (%(default)g)")
     parser.add_argument("--program", default=usual_program(), metavar="PATH", help="the program mapf (%(default)s)")
@@ -78,10 +73,10 @@ def read_fleet(path: str) -> dict[int, Identity]:
     fleet: dict[int, Identity] = {}
     with open(path, encoding="utf-8", errors="replace") as file:
         lines = file.read().splitlines()
-    for number, line in enumerate(lines, 1):
+    for place, line in enumerate(lines, 1):
         words = line.split()
         if len(words) != 3 or not (words[0].isascii() and words[0].isdigit()) or set("+#/") & set(line):
-            raise BadFleet(f"{path}: line {number} isn't AGENT MANUFACTURER SERIAL")
+            raise BadFleet(f"{path}: line {place} isn't AGENT MANUFACTURER SERIAL")
         fleet[int(words[0])] = Identity(words[1], words[2])
     if not lines or len(set(fleet.values())) < len(lines):
         raise BadFleet(f"{path}: each agent and each vehicle stands there once, and one at least")
