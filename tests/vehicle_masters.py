@@ -150,6 +150,7 @@ def of_places(_: Harness) -> Iterator[Outcome]:
         ("its order, ahead of the tape", {**state_of(NAME, 1, ("1-0", 6), 1.5), **nodes(8, released=8)}, 1, 2, "3 to 4 ordered"),
         ("its order, behind the tape", {**state_of(NAME, 1, ("1-0", 2), 1.5), **nodes(4, released=4)}, 2, 4, "astray"),
         ("its order, which was cancelled", state_of(NAME, 1, ("1-0", 2), 1.5), 1, 4, "1 to 1"),
+        ("its order, nearly at the next node", {**state_of(NAME, 0, ("0-0", 0), 1.41), **nodes(2, released=2)}, 0, 4, "0 to 1 ordered"),
         ("its order, of which it has the name alone", state_of(NAME, 0, ("", 0), 2.5), 1, 4, "2 to 2"),
         ("its order from a later cell", {**state_of("7-3-2-0123abcd", 0, ("1-0", 2), 1.5), **nodes(4, released=4)}, 3, 4, "3 to 4 ordered"),
         ("its order, by another name of the node", {**state_of(NAME, 1, ("2-0", 2), 1.5), **nodes(4, released=4)}, 1, 4, "astray"),
@@ -161,4 +162,16 @@ def of_places(_: Harness) -> Iterator[Outcome]:
         yield compared(name, "Route.locate", located(state, done, farthest), due)
 
 
-TESTS: list[Callable[[Harness], Iterator[Outcome]]] = [of_sending, of_places]
+def of_first_nodes(_: Harness) -> Iterator[Outcome]:
+    """An order begins so near to its vehicle that this is on the node."""
+    route = Route(CELLS, Frame(1.0, Point(0.0, 0.0), 0.0, 2), "map", 7, 3)
+    near, off, away = ("0-0", 0.5, 1.5), ("0-0", 0.59, 1.59), ("0-0_1-0", 0.8, 1.5)
+    for point, due in (((0.5, 1.5), near), ((0.55, 1.5), near), ((0.59, 1.59), off), ((0.8, 1.5), away)):
+        place = Place(0, 0, Point(*point))
+        message = route.message(route.new_order(place), place, 2, 1)
+        node = message["nodes"][0]
+        told = (node["nodeId"], node["nodePosition"]["x"], node["nodePosition"]["y"])
+        yield compared(f"an order for one at {point}", "Route.message", (told, message["edges"][0]["startNodeId"]), (due, due[0]))
+
+
+TESTS: list[Callable[[Harness], Iterator[Outcome]]] = [of_sending, of_places, of_first_nodes]

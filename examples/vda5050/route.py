@@ -1,5 +1,6 @@
 """An agent's path as nodes and edges of orders, and where on it a vehicle is by what it says."""
 import dataclasses
+import math
 import re
 import secrets
 import subprocess
@@ -12,6 +13,8 @@ from standard import Message
 
 # The plan's number, the agent, the cell of its path that is the order's first node, and what no other order has.
 NAME = re.compile(r"(\d{1,10})-(\d{1,5})-(\d{1,5})-[0-9a-f]{8}", re.ASCII)
+# So near a node, as a part of how near it counts as reached, its vehicle surely finds itself there.
+SURELY = 0.9
 
 
 class Astray(Exception):
@@ -88,10 +91,11 @@ class Route:
         begin, after = place.end if place.order else place.index, min(end + horizon, self.last)
         nodes = [self._node(order, index, index <= end) for index in range(begin, after + 1)]
         edges = [self._edge(order, index, index < end) for index in range(begin, after)]
-        if not place.order and len(self.frame.cells(place.point)) > 1:
-            # It stands on the way to the next cell: that is a node of its own, since an order begins where the vehicle is.
-            nodes[0]["nodeId"] = edges[0]["startNodeId"] = self.edge_id(begin)
+        if not place.order and math.dist(self.frame.middle(self.cells[begin]), place.point) > self.frame.deviation * SURELY:
+            # An order begins where the vehicle is. On the way to the next cell that is a node of its own.
             nodes[0]["nodePosition"].update(x=place.point.x, y=place.point.y)
+            if len(self.frame.cells(place.point)) > 1:
+                nodes[0]["nodeId"] = edges[0]["startNodeId"] = self.edge_id(begin)
         return {"orderId": order.name, "orderUpdateId": order.update, "nodes": nodes, "edges": edges}
 
     def _node(self, order: Order, index: int, is_released: bool) -> Message:
@@ -135,7 +139,8 @@ class Route:
         end = max([index, *released])
         if not done <= index <= end <= self.last or not self._is_named(state["lastNodeId"], index, index == order.first):
             raise Astray(f"its last node is {state['lastNodeId']!r}, the cell {index} of its path, and its agent has finished {done} moves")
-        if not self._fits(point, index):
+        # It may be in the next cell already, and not so near its middle that it says so.
+        if not self.frame.cells(point) <= set(self.cells[index : index + 2]):
             raise Astray(f"it stands at {point.x:.2f} {point.y:.2f}, and its last node is {state['lastNodeId']!r}")
         return Place(index, end, point, order if state["nodeStates"] else None)
 
