@@ -49,6 +49,7 @@ import signed_messages
 import sources
 import tabling
 import vectors
+import vehicles
 from harness import ROOT, SHIPPED, Harness, Outcome, Report
 from lanes import Lanes
 
@@ -92,6 +93,7 @@ PARTS: dict[str, tuple[str, Callable[[Harness], Iterator[Outcome]]]] = {
     "fleet": ("robots as processes that are killed at random", fleet.outcomes),
     "robots": ("robots on a network, over UDP and MQTT, and their black boxes", robots.outcomes),
     "signing": ("robots that sign: forged and changed messages, counts through kills, and certificates", signed_messages.outcomes),
+    "vehicles": ("vehicles by VDA 5050, and the master control that has them drive", vehicles.outcomes),
 }
 # The parts that look at what the gate has built, and so come last where all is proved.
 NEED_PROOF = ("dist", "memory")

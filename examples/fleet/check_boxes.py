@@ -24,7 +24,8 @@ sys.dont_write_bytecode = True
 from agent import STORE_FAILED  # noqa: E402
 from black_box import digest  # noqa: E402
 from dialogues import OPENED, BadBox, Box, Moment, Process, Turn, read_boxes  # noqa: E402
-from history import DELIVER, SAY, SAYS, History, Step, find_unanswered, history_of, state_after  # noqa: E402
+from foresight import Foresight, moves_of, needs_of  # noqa: E402
+from history import DELIVER, HEARD, MAY, SAY, SAYS, History, Step, find_unanswered, history_of, state_after  # noqa: E402
 from leaving import heed_signals  # noqa: E402
 from program import usual_program  # noqa: E402
 
@@ -33,6 +34,8 @@ DIFFER, UNFIT, FAILED = 1, 2, 3
 LAST = 20
 # How much of a line is shown in an account.
 SHOWN = 60
+# What a program answers to a question that it doesn't know.
+BAD_LINE = "refused BadLine"
 
 
 class Failed(Exception):
@@ -95,6 +98,14 @@ class Rules:
         told = self._lines(["agent", *self.files, str(agent), str(self.folder / "tape"), "--tape", "new"], text) if lines else [""]
         return dict(zip(lines, told[1:]))
 
+    def foresight(self, steps: Sequence[Step]) -> Optional[Foresight]:
+        """None where nobody was asked `may`, or the program doesn't know that question."""
+        asked = next((it.turn for it in steps if it.event == MAY), None)
+        if not asked or not self.alike(asked.agent, [asked.asked])[asked.asked].startswith(MAY):
+            return None
+        with open(self.files[1], encoding="ascii") as plan:
+            return Foresight(needs_of(self._lines(["deps", *self.files])), moves_of(plan.read()))
+
 
 @dataclasses.dataclass(frozen=True)
 class Judged:
@@ -109,16 +120,29 @@ class Judged:
         return bool(self.step.fault) or self.step.answer not in (None, self.rules)
 
 
+def learn(foresight: Foresight, step: Step, reply: str) -> None:
+    """What an agent knows behind an event that it was answered so."""
+    if step.turn.asked == OPENED:
+        foresight.restart(step.turn.agent)
+    elif reply.startswith(HEARD):
+        foresight.hear(step.turn.agent, bytes.fromhex(step.digits))
+
+
 def judged(rules: Rules, history: History) -> Iterator[Judged]:
     replies = iter(rules.replies(history.events))
     strange = [it.turn for it in history.steps if not it.event and not it.fault]
     alike = rules.alike(strange[0].agent if strange else 0, list(dict.fromkeys(it.asked for it in strange)))
+    foresight = rules.foresight(history.steps)
     states: dict[int, str] = collections.defaultdict(str)
     for step in history.steps:
         agent = step.turn.agent
         if step.is_event:
             given = next(replies)
             states[agent] = state_after(states[agent], given)
+            if foresight:
+                learn(foresight, step, given)
+        elif step.event == MAY:
+            given = foresight.answer(agent, states[agent], step.turn.asked) or "" if foresight else BAD_LINE
         else:
             given = states[agent] if step.event else alike.get(step.turn.asked, "")
         yield Judged(step, given, states[agent])

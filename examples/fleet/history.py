@@ -13,9 +13,10 @@ from typing import Callable, Collection, Iterator, NamedTuple, Optional, Sequenc
 
 from agent import STORE_FAILED
 from dialogues import OPENED, Box, Process, Turn
+from foresight import ASKED
 from journal import NONE, WHOLE
 
-HELD = "held"
+HELD, MAY = "held", "may"
 NO_MEMORY = "refused OutOfMemory"
 HEAR, SAID, HEARD = "hear ", "said ", "heard "
 SAYS = ("say", "tell")
@@ -46,7 +47,8 @@ def records_of(state: str) -> int:
 
 @dataclasses.dataclass
 class Step:
-    """An entry of the list: an event of a run; `held`, which asks what an agent holds; or none, where any agent answers the line alike."""
+    """An entry of the list: an event of a run; `held` and `may`, which ask what an agent holds and what it may do next; or none, where any agent
+    answers the line alike."""
 
     turn: Turn
     event: str
@@ -59,7 +61,7 @@ class Step:
 
     @property
     def is_event(self) -> bool:
-        return self.event not in ("", HELD)
+        return self.event not in ("", HELD, MAY)
 
 
 def digits_of(turn: Turn) -> str:
@@ -88,6 +90,8 @@ def spoken(turn: Turn, said: Collection[str]) -> list[Step]:
         return [Step(turn, f"{SAY}{turn.agent}", f"{SAID}{digits}" if turn.unanswered else turn.answer, digits)]
     if turn.asked == HELD:
         return [Step(turn, HELD, turn.answer)]
+    if ASKED.fullmatch(turn.asked):
+        return [Step(turn, MAY, turn.answer)]
     if digits in said:
         return [Step(turn, f"{DELIVER}{turn.agent}", turn.answer, digits)]
     is_heard = digits and (turn.answer or "").startswith(HEARD)

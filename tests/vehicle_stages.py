@@ -1,0 +1,171 @@
+"""Master controls of examples/vda5050 with few vehicles on a row of cells: an operator's commands, several masters, and vehicles that may not drive."""
+import functools
+import os
+import signal
+import subprocess
+import sys
+from typing import Any, Callable, Iterator, Sequence
+
+import vehicle_messages
+from harness import ROOT, Harness, Outcome, compared
+from processes import wait_until
+from robots import Broker
+
+VDA = ROOT / "examples" / "vda5050"
+CHECK = ROOT / "examples" / "fleet" / "check_boxes.py"
+ROW = b"type octile\nheight 1\nwidth 9\nmap\n.........\n"
+PLAN = b"mapf-plan 1\nnumber 5050\nagents 2\nagent 3 0 eeeee\nagent 0 0 eeeeeee\n"
+# Where the vehicles stand at first, in metres.
+STARTS = ("3.5 0.5", "0.5 0.5")
+# Nothing is sent in so many seconds, where nothing is to be sent.
+WHILE = 1.5
+
+
+class Stage:
+    """A broker, a recorder, and the vehicles and masters that a test starts."""
+
+    def __init__(self, harness: Harness, python: str, program: str):
+        self.harness, self.python, self.program = harness, python, program
+        self.broker = Broker(harness)
+        fleet = b"0 maker v0\n1 maker v1\n"
+        self.folder = harness.folder({"row.map": ROW, "run.plan": PLAN, "fleet": fleet, "first": fleet[:11], "second": fleet[11:]})
+        self.running: dict[str, "subprocess.Popen[bytes]"] = {}
+        for agent in "01":
+            harness.mapf(["agent", "row.map", "run.plan", agent, f"{agent}.tape", "--tape", "new"], folder=self.folder)
+        self.start("recorder", "recorder.py", self.broker.address, "messages")
+        wait_until((self.folder / "messages").exists)
+
+    def start(self, name: str, program: str, *words: str) -> None:
+        with open(self.folder / f"said by {name}", "ab") as said:
+            how: dict[str, Any] = {"stdin": subprocess.PIPE, "stdout": said, "stderr": said, "env": {**os.environ, "PYTHONDONTWRITEBYTECODE": "1"}}
+            self.running[name] = subprocess.Popen([self.python, str(VDA / program), *words], cwd=self.folder, **how)
+
+    def vehicle(self, agent: int, *more: str, at: str = "") -> None:
+        where = ["--map-id", "row", "--at", *(at or STARTS[agent]).split(), "0"]
+        words = ["--broker", self.broker.address, *where, "--every", "0.3", "--speed", "2", *more]
+        self.start(f"v{agent}", "vehicle.py", "maker", f"v{agent}", f"v{agent}", *words)
+
+    def master(self, fleet: str = "fleet", *more: str) -> None:
+        words = ["row.map", "run.plan", fleet, ".", "--broker", self.broker.address, "--program", self.program, *more]
+        self.start(fleet, "master.py", *words)
+
+    def command(self, line: str, fleet: str = "fleet") -> bool:
+        """Gives the master a line, and waits for its answer."""
+        before = len(self.said(fleet))
+        stdin = self.running[fleet].stdin
+        stdin.write(f"{line}\n".encode())
+        stdin.flush()
+        return wait_until(lambda: self.said(fleet)[before:].partition(" ")[0] in ("done", "unknown;", "vehicle"))
+
+    def said(self, name: str) -> str:
+        return (self.folder / f"said by {name}").read_text(encoding="utf-8", errors="replace")
+
+    def records(self) -> list[vehicle_messages.Record]:
+        return vehicle_messages.records_of(self.folder / "messages")
+
+    def orders(self, agent: int) -> list[dict[str, Any]]:
+        return [it.message for it in self.records() if it.kind == "order" and it.vehicle == f"v{agent}"]
+
+    def states(self) -> list[dict[str, Any]]:
+        """The last state of each vehicle."""
+        last = {it.vehicle: it.message for it in self.records() if it.kind == "state"}
+        return [last[name] for name in sorted(last)]
+
+    def have_arrived(self, *fleets: str) -> bool:
+        return wait_until(lambda: all("arrived" in self.said(fleet) for fleet in fleets), 30)
+
+    def end(self) -> None:
+        for process in self.running.values():
+            process.terminate()
+        for process in self.running.values():
+            process.communicate()
+        self.broker.end()
+
+    def judged(self, name: str) -> list[Outcome]:
+        """Messages and boxes of all that was done on this stage."""
+        text = self.harness.mapf(["path", "row.map", "run.plan"], folder=self.folder).out.decode()
+        paths = vehicle_messages.paths_of(text)
+        wrong = vehicle_messages.against_rules(self.records(), paths, vehicle_messages.middle_of(1), self.folder)
+        boxes = [f"{agent}.box" for agent in "01" if (self.folder / f"{agent}.box").exists()]
+        words = [sys.executable, str(CHECK), "row.map", "run.plan", *boxes, "--program", self.program]
+        ended = self.harness.run(words, folder=self.folder)
+        ran = f"{name}, of which the masters said {self.said('fleet')[-500:] if 'fleet' in self.running else ''!r}"
+        return [compared(f"{name}: its orders", ran, wrong[:3], []), compared(f"{name}: its boxes", f"{words} told {ended!r}", ended.status, 0)]
+
+
+def of_commands(stage: Stage) -> list[Outcome]:
+    """All are paused and go on; one is cancelled, and gets another order when it is resumed."""
+    for agent in (0, 1):
+        stage.vehicle(agent, "--speed", "1")
+    stage.master()
+    found: list[object] = [wait_until(lambda: all(it["driving"] for it in stage.states()) and len(stage.states()) == 2)]
+    found.append(stage.command("pause"))
+    found.append(wait_until(lambda: all(it["paused"] and not it["driving"] for it in stage.states())))
+    found.append(stage.command("resume"))
+    found.append(wait_until(lambda: not stage.states()[0]["paused"] and stage.states()[0]["driving"]))
+    found.append(stage.command("cancel 0"))
+    found.append(wait_until(lambda: not stage.states()[0]["nodeStates"] and not stage.states()[0]["driving"]))
+    before = len(stage.orders(0))
+    found.append(wait_until(lambda: len(stage.orders(0)) > before, WHILE))
+    found.append(stage.command("show 0") and "vehicle 0 online at" in stage.said("fleet"))
+    found.append(stage.command("resume 0"))
+    found.append(stage.have_arrived("fleet"))
+    stage.command("dance")
+    found.append("unknown; commands are pause" in stage.said("fleet"))
+    names = [it["orderId"] for it in stage.orders(0)]
+    found.append(len(set(names)) > 1)
+    due = [True] * 7 + [False] + [True] * 5
+    ran = f"pause, resume, cancel 0, resume 0; it said {stage.said('fleet')[-600:]!r}"
+    return [compared("commands to a master", ran, found, due), *stage.judged("commands to a master")]
+
+
+def of_two_masters(stage: Stage) -> list[Outcome]:
+    """Each has one vehicle, and hears by the broker what the other's agent says. The one whose vehicle waits is started first."""
+    for agent in (0, 1):
+        stage.vehicle(agent)
+    stage.master("second")
+    wait_until(lambda: stage.orders(1))
+    stage.master("first")
+    found = stage.have_arrived("first", "second")
+    ran = f"two masters, which said {stage.said('first')[-400:]!r} {stage.said('second')[-400:]!r}"
+    return [compared("two masters", ran, found, True), *stage.judged("two masters")]
+
+
+def of_a_vehicle_elsewhere(stage: Stage) -> list[Outcome]:
+    """One that isn't where its agent is gets no order, until it is brought there; the one behind it waits."""
+    stage.vehicle(0, at="6.5 0.5")
+    stage.vehicle(1)
+    stage.master()
+    told = wait_until(lambda: "vehicle 0: it stands at 6.50 0.50, and its path goes on from 3-0" in stage.said("fleet"))
+    went = wait_until(lambda: stage.orders(0), WHILE)
+    stage.running["v0"].send_signal(signal.SIGKILL)
+    stage.running["v0"].wait()
+    (stage.folder / "v0").unlink()
+    stage.vehicle(0)
+    found = (told, went, stage.have_arrived("fleet"))
+    ran = f"a vehicle elsewhere, of which the master said {stage.said('fleet')[-600:]!r}"
+    return [compared("a vehicle that is elsewhere", ran, found, (True, False, True)), *stage.judged("a vehicle elsewhere")]
+
+
+def of_a_large_vehicle(stage: Stage) -> list[Outcome]:
+    """Where cells are small, a vehicle that has reached a node isn't wholly in its cell."""
+    (stage.folder / "row.yaml").write_text("resolution: 0.5\norigin: [0, 0, 0]\n", encoding="ascii")
+    stage.vehicle(0, at="1.75 0.25")
+    stage.master("first", "--frame", "row.yaml", "--map-id", "row")
+    told = wait_until(lambda: "it is too large for its cells" in stage.said("first"))
+    went = wait_until(lambda: stage.orders(0), WHILE)
+    ran = f"a vehicle in small cells, of which the master said {stage.said('first')[-600:]!r}"
+    return [compared("a vehicle in small cells", ran, (told, went), (True, False))]
+
+
+def of_a_stage(harness: Harness, test: Callable[[Stage], list[Outcome]], python: str, program: str) -> list[Outcome]:
+    stage = Stage(harness, python, program)
+    try:
+        return test(stage)
+    finally:
+        stage.end()
+
+
+def tests(harness: Harness, python: str, program: str) -> Iterator[Callable[[], Sequence[Outcome]]]:
+    for test in (of_commands, of_two_masters, of_a_vehicle_elsewhere, of_a_large_vehicle):
+        yield functools.partial(of_a_stage, harness, test, python, program)
