@@ -65,19 +65,10 @@ class Modelled:
         return answer
 
     def start(self) -> str:
-        agent = self.agent
-        if agent.is_moving:
-            return "refused AlreadyMoving"
-        if agent.done == len(agent.needs):
-            return "refused AtEnd"
-        need = agent.needs[agent.done]
-        if need and agent.heard.get(need[0], 0) < need[1]:
-            return f"refused Waits {need[0]} {need[1]}"
-        return agent.stored("moving {} {}".format(*agent.path[agent.done + 1]))
+        return self.agent.start()
 
     def finish(self) -> str:
-        agent = self.agent
-        return agent.stored("arrived {} {}".format(*agent.path[agent.done + 1])) if agent.is_moving else "refused NotMoving"
+        return self.agent.finish()
 
     def say(self) -> str:
         return f"said 4601{self.number:04x}{self.plan.number:08x}{self.agent.done:08x}"

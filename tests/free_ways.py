@@ -17,31 +17,9 @@ BAD = ("may", "may ", "may 01", "may -1", "may +1", "may 1 ", "may  1", "may 1 2
 def free_moves(agent: Agent, most: int) -> int:
     """How many of the moves behind the ones that are begun wait for nobody, one after another, by what the agent has heard."""
     begun, count = (agent.records + 1) // 2, 0
-    while count < most and begun + count < len(agent.needs):
-        need = agent.needs[begun + count]
-        if need and agent.heard.get(need[0], 0) < need[1]:
-            break
+    while count < most and begun + count < len(agent.needs) and not agent.waits_for(begun + count):
         count += 1
     return count
-
-
-def answer_to_start(agent: Agent) -> str:
-    if agent.is_moving:
-        return "refused AlreadyMoving"
-    if agent.done == len(agent.needs):
-        return "refused AtEnd"
-    need = agent.needs[agent.done]
-    if need and agent.heard.get(need[0], 0) < need[1]:
-        return f"refused Waits {need[0]} {need[1]}"
-    agent.records += 1
-    return "moving {} {}".format(*agent.path[agent.done + 1])
-
-
-def answer_to_finish(agent: Agent) -> str:
-    if not agent.is_moving:
-        return "refused NotMoving"
-    agent.records += 1
-    return "arrived {} {}".format(*agent.path[agent.done])
 
 
 def turns_of(rng: random.Random, agents: list[Agent], own: int) -> Iterator[tuple[str, str]]:
@@ -54,9 +32,9 @@ def turns_of(rng: random.Random, agents: list[Agent], own: int) -> Iterator[tupl
             agent.heard[other] = max(done, agent.heard.get(other, 0))
             yield f"hear 4601{other:04x}00000007{done:08x}", f"heard {other} {agent.heard[other]}"
         elif rng.random() < 0.5:
-            yield "start", answer_to_start(agent)
+            yield "start", agent.start()
         else:
-            yield "finish", answer_to_finish(agent)
+            yield "finish", agent.finish()
         most = rng.choice(MOSTS)
         yield f"may {most}", f"may {free_moves(agent, most)}"
 

@@ -59,6 +59,28 @@ class Agent:
         self.tear, self.is_broken = None, True
         return "refused StoreFailed"
 
+    def waits_for(self, move: int) -> Optional[tuple[int, int]]:
+        """Whom a move waits for, and how many moves that one has to finish, by what was heard."""
+        need = self.needs[move]
+        return need if need and self.heard.get(need[0], 0) < need[1] else None
+
+    def start(self) -> str:
+        if self.is_broken or self.is_moving:
+            return "refused Broken" if self.is_broken else "refused AlreadyMoving"
+        if self.done == len(self.needs):
+            return "refused AtEnd"
+        need = self.waits_for(self.done)
+        if need:
+            return f"refused Waits {need[0]} {need[1]}"
+        x, y = self.path[self.done + 1]
+        return self.stored(f"moving {x} {y}")
+
+    def finish(self) -> str:
+        if self.is_broken or not self.is_moving:
+            return "refused Broken" if self.is_broken else "refused NotMoving"
+        x, y = self.path[self.done + 1]
+        return self.stored(f"arrived {x} {y}")
+
 
 def courses_of(plan: str) -> list[list[tuple[int, Cell]]]:
     """The cells of each agent of a plan, each with the time at which it comes in."""
@@ -105,23 +127,10 @@ class Run:
         return getattr(self, word)(int(agent), *map(int, more))
 
     def start(self, number: int) -> str:
-        agent = self.agents[number]
-        if agent.is_broken or agent.is_moving:
-            return "refused Broken" if agent.is_broken else "refused AlreadyMoving"
-        if agent.done == len(agent.needs):
-            return "refused AtEnd"
-        need = agent.needs[agent.done]
-        if need and agent.heard.get(need[0], 0) < need[1]:
-            return f"refused Waits {need[0]} {need[1]}"
-        x, y = agent.path[agent.done + 1]
-        return agent.stored(f"moving {x} {y}")
+        return self.agents[number].start()
 
     def finish(self, number: int) -> str:
-        agent = self.agents[number]
-        if agent.is_broken or not agent.is_moving:
-            return "refused Broken" if agent.is_broken else "refused NotMoving"
-        x, y = agent.path[agent.done + 1]
-        return agent.stored(f"arrived {x} {y}")
+        return self.agents[number].finish()
 
     def say(self, number: int) -> str:
         agent = self.agents[number]
