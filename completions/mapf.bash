@@ -4,15 +4,16 @@
 _mapf() {
     local word=${COMP_WORDS[COMP_CWORD]} before=${COMP_WORDS[COMP_CWORD - 1]}
     local command='' offers='' at
-    local commands='map scen row rows check bound deps path cut continues optimal run agent tape help'
+    local commands='map scen row rows check bound deps path cut continues optimal run agent tape status handover anew help'
     local faults='AgentCount AlreadyMoving AtEnd BadAct BadAgent BadEntry BadEvent BadHeader
-        BadLength BadLine BadMagic BadMove BadNode BadNumber BadStart BadTable BadTear BadTerrain
-        BadVersion BadWalk Broken Damaged Departs FieldCount GoalDiffers LeafTooLow LineTooLong
-        LongRow MissingRows NoHeader NoRoom NoSuchAgent NoSuchMessage NoSuchRow NoTape NoVersion
-        NotMoving NotTight OffMap OpenFailed OtherCount OtherNumber OtherPlan OutOfGrid OutOfMemory
-        OutOfRange PlanDamaged ReadFailed Rotation ShortRow SizeDiffers StaleTape StartDiffers
-        StoreFailed Swap TapeEmptied TapeExists TapeFailed TapeInUse TextAfter TooFewRows TooLarge
-        TooLong TooMany Unfinished Vertex Waits WriteFailed WrongAgent WrongPlan'
+        BadLength BadLine BadMagic BadMove BadNode BadNumber BadStart BadTable BadTape BadTear
+        BadTerrain BadVersion BadWalk Broken Damaged Departs FieldCount GoalDiffers LeafTooLow
+        LineTooLong LongRow MissingRows NoHeader NoRoom NoSuchAgent NoSuchMessage NoSuchRow NoTape
+        NoVersion NotMoving NotOneRun NotTight OffMap OpenFailed OtherCount OtherNumber OtherPlan
+        OutOfGrid OutOfMemory OutOfRange PlanDamaged ReadFailed Rotation SameNumber ShortRow
+        SizeDiffers StaleTape StartDiffers StoreFailed Swap TapeEmptied TapeExists TapeFailed
+        TapeInUse TextAfter TooFewRows TooLarge TooLong TooMany Unfinished Vertex Waits WriteFailed
+        WrongAgent WrongPlan'
     COMPREPLY=()
     # bash takes the = of --name=VALUE for a word of its own.
     if [[ $word == = ]]; then
@@ -26,7 +27,7 @@ _mapf() {
         [[ -z $command && ${COMP_WORDS[at]} != -* ]] && command=${COMP_WORDS[at]}
     done
     case $command:$before in
-        rows:--from | rows:--to | check:--scen | check:--agents | check:--all | deps:--cell | path:--agent) return 0 ;;
+        rows:--from | rows:--to | check:--scen | check:--agents | check:--all | deps:--cell | path:--agent | anew:--without) return 0 ;;
         agent:--tape) mapfile -t COMPREPLY < <(compgen -W 'new kept' -- "$word"); return ;;
     esac
     case $command in
@@ -45,6 +46,9 @@ _mapf() {
         run) offers='--complete --explain -h --help' ;;
         agent) offers='--tape --explain -h --help' ;;
         tape) offers='--explain -h --help' ;;
+        status) offers='--json --explain -h --help' ;;
+        handover) offers='--explain -h --help' ;;
+        anew) offers='--without --explain -h --help' ;;
         help) offers="$commands faults $faults" ;;
     esac
     # Where a file is due, options are offered to those alone who begin one.

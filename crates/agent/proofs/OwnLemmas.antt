@@ -181,13 +181,6 @@ record-more seen may_write writes p tape after own less wrote =
     count-stored p (seen tape) (seen after) own true
     (writes tape after (record_length * whole_records (seen tape)) _ true (may-write (seen tape) (length p.needs) own.size less) refl wrote) refl
 
--- ---- cells of a path
-
-pub cell-there : (track : Track) (cells : List Cell) (k : ℕ) → cells ≡ path track → k ≤ moves track → slice_get cells k ≡ Some (path_cell track k)
-cell-there track cells k is most =
-    let count = length-path track.start track.later in
-    ap (λ l. slice_get l k) is ∙ slice_get-get_or (path track) k track.start (omega (arith, count, most))
-
 -- ---- a start that is not refused
 
 -- an agent that is not at its end has room for a record

@@ -81,7 +81,7 @@ impl<'g, T: Tape> Agent<'g, T> {
         ensures refused { IfErr result (λ e. (tt : Timetable) → IsPartOf tt part.entry → IsRefused T.state T.may_read tt part.entry.agent tape e.1 e.0) }
         ensures kept { IfErr result (λ e. IsKept (T.state tape) (T.state e.1)) }
     {
-        let moves = own_moves(&part);
+        let moves = part.own_moves();
         if tape.room() < 2 * RECORD_LENGTH * moves {
             return Err((OpenFault::NoRoom, tape));
         }
@@ -428,7 +428,7 @@ impl<'g, T: Tape> Agent<'g, T> {
     fn moves(&self) -> u32
         ensures { result ≡ length self.now.part.needs }
     {
-        own_moves(&self.part)
+        self.part.own_moves()
     }
 
     /// A cell of the path.
@@ -478,12 +478,4 @@ impl<'g> Agent<'g, CountedTape> {
         self.forget();
         self.tape.arm(None);
     }
-}
-
-/// How many moves the agent of a part makes.
-fn own_moves(part: &Part<'_>) -> u32
-    ensures moves { result ≡ length part.now.needs }
-    ensures within { IsOfGraph part.now }
-{
-    part.moves(u32::from(part.agent())).unwrap()
 }

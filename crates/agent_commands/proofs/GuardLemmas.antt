@@ -1,5 +1,5 @@
 -- A tape that is guarded is opened, refused and talked over as one that isn't.
-use Rattle.std.proofs.Common.{◌≡◌, ℕ, zero, suc, Bool, List, Option, Result, Ok, Err, ap}
+use Rattle.std.proofs.Common.{ℕ, zero, suc, Bool, List, Option, Result, Ok, Err, ap}
 use Rattle.text_io.specs.declared.counted.Counted.{Counted}
 use Rattle.model.specs.Timetable.{Timetable}
 use Rattle.agent.specs.declared.refusal.OpenFault.{OpenFault}

@@ -6,8 +6,6 @@ mod ReportLemmas
 mod GuardLemmas
 -- the plan beside a tape
 mod PlanLemmas
--- and a copy of it
-mod CopyLemmas
 -- and whether two are one
 mod SameLemmas
 -- and the terms on which it is compared

@@ -1,5 +1,5 @@
 -- The file beside a tape: what it has, and what comes of comparing it.
-use Rattle.std.proofs.Common.{◌≡◌, ◌≢◌, ◌∙◌, ℕ, ◌<◌, Bool, true, false, List, [], ◌∷◌, ◌++◌, length, drop, take, Some, None, inl, inr, refl, sym, ap, subst, append_assoc, append-nil, arith}
+use Rattle.std.proofs.Common.{◌≡◌, ◌≢◌, ◌∙◌, ℕ, ◌<◌, Bool, true, false, List, [], ◌++◌, length, drop, take, Some, None, inl, inr, refl, sym, ap, subst, append_assoc, append-nil, arith}
 use Rattle.std.specs.Prelude.{Option, IfSome, Err, ◌⊎◌}
 use Rattle.std.proofs.Math.Seq.{take-append_seam}
 use Rattle.std.proofs.lemmas.List.{length-append}
@@ -12,7 +12,7 @@ use Rattle.plan_text.specs.declared.plan_text_fault.PlanTextFault.{PlanTextFault
 use Rattle.plan_text.specs.declared.plan_text_fault.PlanTextFault.TheVariants.{BadHeader, BadNumber, TooMany, BadAgent, BadAct, Unfinished, TextAfter, ReadFailed, OutOfMemory}
 use Rattle.plan_text.specs.PlanText.{PlanText}
 use Rattle.plan_text.specs.PlanTextFault.{PlanTextFaultAt, plan_outcome}
-use Rattle.agent_commands.specs.KeptPlan.{HasMark, HasNoPlan, IsAkin, IsKeptIn, KeptText, mark_line}
+use Rattle.agent_commands.specs.KeptPlan.{HasMark, IsKeptIn, KeptText, mark_line}
 use Rattle.agent_commands.specs.Code.Plans.{IsNoTaskFor, IsNotLetBy, IsNotRead, ReadsMark, blame_of}
 use Rattle.agent_commands.specs.declared.agent_fault.AgentFault.{AgentFault}
 use Rattle.agent_commands.specs.declared.agent_fault.AgentFault.TheVariants.{Planned, OpenFailed, TapeExists, NoTape, PlanDamaged, TapeEmptied, OtherPlan, File, Tape, Dialogue}

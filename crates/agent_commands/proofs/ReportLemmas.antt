@@ -20,7 +20,7 @@ use Rattle.event_text.specs.ReplyText.{reply_line}
 use Rattle.robot.specs.FileTape.{file_fault_of}
 use Rattle.robot.specs.declared.file_tape.FileTapeFault.{FileTapeFault}
 use Rattle.robot.specs.declared.file_tape.FileTapeFault.TheVariants as file_fault
-use Rattle.agent_commands.specs.TapeCommand.{IsNotShown, IsShown, records_line, tape_of_bytes}
+use Rattle.agent_commands.specs.TapeCommand.{IsNotShown, IsOpenedOn, IsShown, records_line, tape_of_bytes}
 use Rattle.agent_commands.specs.Code.Reports.{IsImageOf, IsNoImage, IsReported, IsReportOf, outcome_of, standing_of}
 use Rattle.agent_commands.specs.declared.agent_fault.AgentFault.{AgentFault}
 use Rattle.agent_commands.specs.declared.agent_fault.AgentFault.TheVariants.{File, Tape}
@@ -77,23 +77,23 @@ is_shown remaining table i n old new image a r is of opened report =
     let stands : standing_of r ≡ reply_line (stood (held_by_tape t.0 s) (finished_moves s))
     = ap₂ (λ h d. reply_line (stood h d)) (report.holds.2 ∙ ap (λ track. held_by_tape track s) same) report.is_done in
     let torn : r.torn ≡ length of.bytes - record_length * s.records = report.torn ∙ ap (λ (m : ℕ). m - record_length * s.records) of.count in
-    record {
-      track = t.0;
+    let opened_on : IsOpenedOn remaining table i old new of.bytes t.0 s = record {
       is_track = t.1;
-      bytes = of.bytes;
       whole = of.whole;
       image = image.tape;
       is_image = of.is_tape ∙ ap (λ (m : ℕ). tape_of_bytes (20 * m) of.bytes) t.2;
       agent = a;
       opened = opened;
-      is_text = ap₂ (λ x y. (x ++ line_feed ∷ []) ++ (y ++ line_feed ∷ [])) stands (ap₂ records_line report.records torn)
-          ∙ ap (λ l. (reply_line (stood (held_by_tape t.0 s) (finished_moves s)) ++ line_feed ∷ []) ++ l)
-          (sym (append-nil (records_line s.records (length of.bytes - record_length * s.records) ++ line_feed ∷ [])));
-    }
+      is_state = refl;
+    } in
+    let is_text = ap₂ (λ x y. (x ++ line_feed ∷ []) ++ (y ++ line_feed ∷ [])) stands (ap₂ records_line report.records torn)
+    ∙ ap (λ l. (reply_line (stood (held_by_tape t.0 s) (finished_moves s)) ++ line_feed ∷ []) ++ l)
+    (sym (append-nil (records_line s.records (length of.bytes - record_length * s.records) ++ line_feed ∷ []))) in
+    ((of.bytes, t.0, s, opened_on, is_text), (of.bytes, t.0, s, opened_on, report.records))
 
 -- what was found, as its text
 pub as_text : {T : Type 0} (remaining : T → Option (List ℕ)) (table : Timetable) (i : ℕ) (old new : Counted T) (r : Result TapeReport AgentFault)
     → MatchResult r (IsReported remaining table i old new) (IsNotShown remaining table i old new)
     → MatchResult (outcome_of r) (IsShown remaining table i old new) (IsNotShown remaining table i old new)
-as_text remaining table i old new (Ok report) shown = shown
+as_text remaining table i old new (Ok report) shown = shown.0
 as_text remaining table i old new (Err fault) not = not

@@ -1,7 +1,6 @@
 -- What `mapf agent` does and answers.
 use Rattle.std.specs.Prelude.{◌≡◌, ◌≢◌, ℕ, ◌+◌, ◌*◌, ◌<◌, ◌≤◌, ◌⊎◌, Bool, true, false, List, length, Option, None, Some, IfSome, Result, Ok, Err, MatchResult}
 use Rattle.text_io.specs.declared.counted.Counted.{Counted}
-use Rattle.grid.specs.Map.{Grid}
 use Rattle.model.specs.History.{record_length}
 use Rattle.model.specs.Plan.{Plan}
 use Rattle.model.specs.Timetable.{Track, Timetable, moves, track_of}
@@ -16,10 +15,9 @@ use Rattle.robot.specs.declared.talk_fault.TalkFault.TheVariants.{StoreFailed, S
 use Rattle.robot.specs.FileTape.{IsImage, IsFileRead, file_state}
 use Rattle.robot.specs.declared.file_tape.FileTape.{FileTape}
 use Rattle.robot.specs.declared.file_tape.FileTapeFault.TheVariants.{TooLong}
-use Rattle.plan_text.specs.PlanTextFault.{ReadsMapAndPlan}
-use Rattle.plan.specs.Checking.{Checked, IsCheckOf}
-use Rattle.planned.specs.Planned.{ReadsTimetable}
+use Rattle.planned.specs.Planned.{ReadsAtHand}
 use Rattle.planned.specs.declared.planned_fault.PlannedFault.{PlannedFault}
+use Rattle.planned.specs.declared.reading.PlanAtHand.{PlanAtHand}
 use Rattle.tape_claim.specs.declared.TapeClaim.{TapeClaim}
 use Rattle.tape_claim.specs.declared.TapeClaim.TheVariants.{Any, New, Kept}
 use Rattle.text_commands.specs.declared.status.Status.TheVariants.{Done, Failure}
@@ -28,25 +26,6 @@ use Rattle.agent_commands.specs.FaultWords.{agent_fault_words}
 use Rattle.agent_commands.specs.KeptPlan.{HasMark, HasNoPlan, IsAkin, IsKeptIn, IsOtherPlan}
 use Rattle.agent_commands.specs.declared.agent_fault.AgentFault.{AgentFault}
 use Rattle.agent_commands.specs.declared.agent_fault.AgentFault.TheVariants.{Planned, OpenFailed, TapeExists, NoTape, PlanDamaged, TapeEmptied, OtherPlan, File, Tape, Dialogue}
-
--- the plan at hand, which was found valid, and its timetable
-pub record PlanAtHand : Type 0 where
-  pub plan : Plan
-  pub timetable : Timetable
-
--- the map and then the plan were read, and this is the plan's check on the map
-abbrev pub IsAtHand
-    : {M P : Type 0} → (M → Option (List ℕ)) → (P → Option (List ℕ)) → Counted M → Counted M → Counted P → Counted P → Plan → Checked → Type 0
-IsAtHand map_left plan_left old_map new_map old_plan new_plan p c =
-    (m : Grid) × ReadsMapAndPlan map_left plan_left old_map new_map old_plan new_plan m p × IsCheckOf m p c
-
--- The map and the plan were read and the plan was checked: it is valid, and at hand, or it has a fault, as where its timetable alone is read.
-abbrev pub ReadsPlanAtHand
-    : {M P : Type 0} → (M → Option (List ℕ)) → (P → Option (List ℕ)) → Counted M → Counted M → Counted P → Counted P
-    → Result PlanAtHand PlannedFault → Type 0
-ReadsPlanAtHand map_left plan_left old_map new_map old_plan new_plan (Ok it) =
-    (c : Checked) × IsAtHand map_left plan_left old_map new_map old_plan new_plan it.plan c × (it.timetable ≡ c.timetable)
-ReadsPlanAtHand map_left plan_left old_map new_map old_plan new_plan (Err fault) = ReadsTimetable map_left plan_left old_map new_map old_plan new_plan (Err fault)
 
 -- how long a tape file of an agent may be: two records a move
 abbrev pub room_of : Track → ℕ
@@ -153,9 +132,9 @@ pub record Serves
     (input_left : I → Option (List ℕ)) (contents : W → Option (List ℕ)) (claim : TapeClaim) (i : ℕ) (old_map new_map : Counted M) (old_plan new_plan : Counted P)
     (old_in new_in : Counted I) (old_out new_out : Counted W) (result : Result Unit AgentFault) : Type 0 where
   pub read : Result PlanAtHand PlannedFault
-  pub reads : ReadsPlanAtHand map_left plan_left old_map new_map old_plan new_plan read
+  pub reads : ReadsAtHand map_left plan_left old_map new_map old_plan new_plan read
   pub ends : MatchResult read
-      (λ it. Converses remaining input_left contents claim it.plan it.timetable i old_in new_in old_out new_out result)
+      (λ it. Converses remaining input_left contents claim it.plan it.dependencies i old_in new_in old_out new_out result)
       (λ fault. (result ≡ Err (Planned fault)) × (new_in ≡ old_in) × (new_out ≡ old_out))
 
 -- How the command ends by what it came to: where the tape failed or was an older one, the last answer said it.

@@ -43,17 +43,25 @@ pub record IsReadWhole {T : Type 0} (remaining : T → Option (List ℕ)) (old n
   pub is_end : IsAtEnd (remaining (counted_inner new))
   pub failures : failures_of new ≡ failures_of old
 
--- The file was read whole, and an agent is opened on its bytes, as it would be to go on: the text says where it is.
-pub record IsShown {T : Type 0} (remaining : T → Option (List ℕ)) (tt : Timetable) (i : ℕ) (old new : Counted T) (text : List ℕ) : Type 0 where
-  pub track : Track
+-- The file was read whole, and an agent is opened on its bytes, as it would be to go on, in this state.
+pub record IsOpenedOn {T : Type 0} (remaining : T → Option (List ℕ)) (tt : Timetable) (i : ℕ) (old new : Counted T) (bytes : List ℕ) (track : Track) (s : State) : Type 0 where
   pub is_track : track_of tt i ≡ Some track
-  pub bytes : List ℕ
   pub whole : IsReadWhole remaining old new bytes
   pub image : MemTape
   pub is_image : mem_state image ≡ tape_of_bytes (room_of track) bytes
   pub agent : AgentOn MemTape
   pub opened : IsOpened mem_state mem_reads tt i image agent
-  pub is_text : text ≡ tape_text track (state_of mem_state agent) bytes
+  pub is_state : s ≡ state_of mem_state agent
+
+-- the text says where it is
+abbrev pub IsShown : {T : Type 0} → (T → Option (List ℕ)) → Timetable → ℕ → Counted T → Counted T → List ℕ → Type 0
+IsShown remaining tt i old new text =
+    (bytes : List ℕ) × (track : Track) × (s : State) × IsOpenedOn remaining tt i old new bytes track s × (text ≡ tape_text track s bytes)
+
+-- it has so many records
+abbrev pub HasRecords : {T : Type 0} → (T → Option (List ℕ)) → Timetable → ℕ → Counted T → Counted T → ℕ → Type 0
+HasRecords remaining tt i old new records =
+    (bytes : List ℕ) × (track : Track) × (s : State) × IsOpenedOn remaining tt i old new bytes track s × (records ≡ s.records)
 
 -- the file was read whole, and no agent is opened on its bytes
 pub record IsRefusedImage {T : Type 0} (remaining : T → Option (List ℕ)) (tt : Timetable) (i : ℕ) (old new : Counted T) (Refused : MemTape → MemTape → Type 0) : Type 0 where

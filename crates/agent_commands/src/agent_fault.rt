@@ -15,7 +15,7 @@ use thiserror::Error;
 
 /// Why an agent does not answer its input to the end.
 #[derive(Clone, Copy, Debug, PartialEq, Eq, Error)]
-pub(crate) enum AgentFault {
+pub enum AgentFault {
     /// The map or the plan could not be read, or the plan is not valid.
     Planned(PlannedFault),
     /// The tape file could not be opened or made, or is no file like others.
@@ -40,7 +40,7 @@ pub(crate) enum AgentFault {
 
 impl AgentFault {
     /// The words in which it is told.
-    pub(crate) fn words(self) -> FaultWords
+    pub fn words(self) -> FaultWords
         ensures { words_of result ≡ agent_fault_words self }
     {
         match self {

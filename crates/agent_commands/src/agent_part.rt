@@ -1,15 +1,11 @@
 //! What one agent needs of a plan.
-ghost use Rattle.std.specs.Prelude.{◌≡◌, ◌≤◌, IfOk};
-ghost use Rattle.model.specs.Timetable.{Timetable, moves};
-ghost use Rattle.depgraph.specs.AgentParts.{IsPartOf};
-ghost use Rattle.agent_commands.specs.Code.Plans.{ReadsPartAndTerms, ReadsTerms};
+ghost use Rattle.std.specs.Prelude.{IfOk};
+ghost use Rattle.agent_commands.specs.Code.Plans.{IsOnTerms, ReadsPartAndTerms};
 ghost use Rattle.agent_commands.specs.Code.Reading.{IsPartFor, ReadsPart};
 
 use crate::terms::Terms;
-use depgraph::{Dependencies, OwnPart, Part};
-use grid::read_map;
-use plan::{CheckedPlan, PlanFault, check, read_plan};
-use planned::{PlannedFault, read_dependencies};
+use depgraph::{Dependencies, OwnPart};
+use planned::{PlanAtHand, PlannedFault, read_at_hand, read_dependencies};
 use std::alloc::Global;
 use std::io::Read;
 use tape_claim::TapeClaim;
@@ -50,7 +46,7 @@ pub(crate) struct PartAndTerms {
     pub(crate) terms: Terms,
 }
 
-/// The same, with what is claimed of the agent's tape: where that is anything, the plan is kept too.
+/// The same, with what is claimed of the agent's tape, and the plan where one is kept beside it; only then the plan, which is large, is copied.
 pub(crate) fn read_part_and_terms<M: Read, P: Read>(
     alloc: Global,
     map: &mut Counted<M>,
@@ -60,46 +56,23 @@ pub(crate) fn read_part_and_terms<M: Read, P: Read>(
 ) -> Result<Option<PartAndTerms>, PlannedFault>
     ensures { ReadsPartAndTerms M.remaining P.remaining id claim map.old map.new plan.old plan.new result }
 {
-    let CheckedTerms { checked, terms } = read_terms(alloc, map, plan, claim)?;
-    let dependencies = Dependencies::build(alloc, &checked)?;
-    match own_part(alloc, &dependencies, id)? {
-        Some(own) => Ok(Some(PartAndTerms { own, terms })),
-        None => Ok(None),
+    if let TapeClaim::Any = claim {
+        return Ok(on_terms(read_part(alloc, map, plan, id)?, Terms::Any));
     }
+    let PlanAtHand {
+        plan,
+        dependencies,
+        ..
+    } = read_at_hand(alloc, map, plan)?;
+    let own = own_part(alloc, &dependencies, id)?;
+    Ok(on_terms(own, Terms::new(claim, plan)))
 }
 
-/// A checked plan, and the terms that have a copy of it.
-#[derive(Debug, Drop)]
-struct CheckedTerms {
-    checked: CheckedPlan,
-    terms: Terms,
-}
-
-/// Reads a map and then a plan, and checks the plan.
-fn read_terms<M: Read, P: Read>(
-    alloc: Global,
-    map: &mut Counted<M>,
-    plan: &mut Counted<P>,
-    claim: TapeClaim,
-) -> Result<CheckedTerms, PlannedFault>
-    ensures { ReadsTerms M.remaining P.remaining claim map.old map.new plan.old plan.new result }
+fn on_terms(own: Option<OwnPart>, terms: Terms) -> Option<PartAndTerms>
+    ensures { IsOnTerms own terms result }
 {
-    let map = read_map(alloc, map)?;
-    let plan = read_plan(alloc, plan)?;
-    // Before the check, which takes the plan.
-    let Ok(terms) = Terms::new(alloc, claim, &plan) else {
-        return Err(PlannedFault::Plan(PlanFault::OutOfMemory));
-    };
-    match check(alloc, &map, plan) {
-        Ok(checked) => Ok(CheckedTerms { checked, terms }),
-        Err(rejected) => Err(PlannedFault::Plan(rejected.fault)),
+    match own {
+        Some(own) => Some(PartAndTerms { own, terms }),
+        None => None,
     }
-}
-
-/// How many moves the agent of a part makes.
-pub(crate) fn moves_of(part: &Part<'_>) -> u32
-    ensures moves { (tt : Timetable) (is : IsPartOf tt part.now) → result ≡ moves is.track }
-    ensures few { result ≤ 65535 }
-{
-    part.moves(u32::from(part.agent())).unwrap()
 }

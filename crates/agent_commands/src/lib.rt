@@ -14,5 +14,7 @@ mod tape_report;
 mod terms;
 
 pub use agent_command::{Seat, agent_cmd};
+pub use agent_fault::AgentFault;
 pub use plan_file::{name_beside, plan_beside};
 pub use tape_command::tape_cmd;
+pub use tape_report::read_records;

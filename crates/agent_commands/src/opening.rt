@@ -12,7 +12,6 @@ ghost use Rattle.agent_commands.specs.Code.Parts.{IsNotTaken, IsTakenTape, ungua
 ghost use Rattle.agent_commands.specs.Code.Plans.{IsTermsFor, claim_of};
 
 use crate::agent_fault::AgentFault;
-use crate::agent_part::moves_of;
 use crate::kept_plan::{PlanTask, keep_plan, look_beside_kept, look_beside_new};
 use crate::plan_file::name_beside;
 use crate::tape_files::{HeldFile, keep_name, open_file};
@@ -73,7 +72,7 @@ where
         (λ it. IsTapeOf R.File.remaining tt part.now.agent it.tape.tape × IsClaimed R.File.remaining (claim_of terms.now) p it.tape.tape)
         (IsNoTape R.File.remaining (claim_of terms.now) p tt part.now.agent) }
 {
-    let moves = moves_of(part);
+    let moves = part.own_moves();
     let HeldFile { file, id } = open_file(rt, path, terms.claim())?;
     let opened = FileTape::open(rt.alloc(), file, 2 * RECORD_LENGTH * moves)?;
     let TakenTape { tape, task } = take_tape(rt, path, opened, terms)?;

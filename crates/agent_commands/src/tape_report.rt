@@ -8,11 +8,10 @@ ghost use Rattle.text_io.specs.Writing.{WritesText};
 ghost use Rattle.model.specs.Timetable.{Timetable};
 ghost use Rattle.depgraph.specs.AgentParts.{IsPartOf};
 ghost use Rattle.agent.specs.MemTape.{mem_state};
-ghost use Rattle.agent_commands.specs.TapeCommand.{IsNotShown, records_line};
+ghost use Rattle.agent_commands.specs.TapeCommand.{HasRecords, IsNotShown, records_line};
 ghost use Rattle.agent_commands.specs.Code.Reports.{IsReported, IsImageOf, IsNoImage, IsReportOf, standing_of, report_text};
 
 use crate::agent_fault::AgentFault;
-use crate::agent_part::moves_of;
 use agent::replies::reply_to_restart;
 use agent::{Agent, Held, MemTape, RECORD_LENGTH, RECORD_SIZE, Tape};
 use depgraph::Part;
@@ -48,15 +47,29 @@ pub(crate) fn read_report<T: Read>(
     part: Part<'_>,
     file: &mut Counted<T>,
 ) -> Result<TapeReport, AgentFault>
-    ensures { (tt : Timetable) → IsPartOf tt part.entry
+    ensures within { IfOk result (λ report. report.records ≤ 2 * length part.entry.needs) }
+    ensures reports { (tt : Timetable) → IsPartOf tt part.entry
         → MatchResult result (IsReported T.remaining tt part.entry.agent file.old file.new) (IsNotShown T.remaining tt part.entry.agent file.old file.new) }
 {
-    let image = read_image(alloc, file, 2 * RECORD_LENGTH * moves_of(&part))?;
+    let image = read_image(alloc, file, 2 * RECORD_LENGTH * part.own_moves())?;
     let TapeImage { tape, len } = image;
     match Agent::open_part(alloc, part, tape) {
         Ok(agent) => Ok(report_of(&agent, len)),
         Err((fault, _)) => Err(AgentFault::Tape(fault)),
     }
+}
+
+/// How many whole records the file of a tape has, on which the agent of a part is opened, or why none is.
+pub fn read_records<T: Read>(
+    alloc: Global,
+    part: Part<'_>,
+    file: &mut Counted<T>,
+) -> Result<u32, AgentFault>
+    ensures within { IfOk result (λ records. records ≤ 2 * length part.entry.needs) }
+    ensures has { (tt : Timetable) → IsPartOf tt part.entry
+        → MatchResult result (HasRecords T.remaining tt part.entry.agent file.old file.new) (IsNotShown T.remaining tt part.entry.agent file.old file.new) }
+{
+    Ok(read_report(alloc, part, file)?.records)
 }
 
 /// Reads a file as a tape with room for so many bytes.
@@ -105,7 +118,8 @@ pub(crate) fn read_up_to<T: Read>(
 
 /// Where the agent is, and what its tape's file of so many bytes has.
 fn report_of(agent: &Agent<'_, MemTape>, len: u32) -> TapeReport
-    ensures { (tt : Timetable) → IsPartOf tt agent.now.part → IsReportOf tt agent.now len result }
+    ensures within { result.records ≤ 2 * length agent.now.part.needs }
+    ensures reports { (tt : Timetable) → IsPartOf tt agent.now.part → IsReportOf tt agent.now len result }
 {
     let records = agent.tape().len() / RECORD_LENGTH;
     TapeReport {

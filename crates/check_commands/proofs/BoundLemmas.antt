@@ -12,7 +12,7 @@ use Rattle.text_commands.specs.Pieces.{pieces_of, pieces_text}
 use Rattle.check_commands.specs.BoundCommand.{agent_bound_json, costs_and_bounds, sums_json}
 use Rattle.check_commands.specs.Code.Bounds.{object_text, objects_left}
 use Rattle.check_commands.specs.VerdictText.{bounded_line}
-use Rattle.check_commands.proofs.ToldLemmas.{Says}
+use Rattle.text_commands.specs.Laws.Pieces.{SaysPiece}
 
 pub greatest_more : (bounds : List ℕ) (bound : ℕ) → greatest_bound (bounds ++ bound ∷ []) ≡ max bound (greatest_bound bounds)
 greatest_more [] bound = refl
@@ -64,23 +64,23 @@ none_left true = refl
 -- ---- the pieces
 
 pub sums-parts : (cost_of cost_bound most most_bound : ℕ) (end : List ℕ) (a b d e : Piece)
-    → Says a (codes "{\"cost\":") cost_of → Says b (codes ",\"cost_bound\":") cost_bound
-    → Says d (codes ",\"makespan\":") most → Says e (codes ",\"makespan_bound\":") most_bound
+    → SaysPiece a (codes "{\"cost\":") cost_of → SaysPiece b (codes ",\"cost_bound\":") cost_bound
+    → SaysPiece d (codes ",\"makespan\":") most → SaysPiece e (codes ",\"makespan_bound\":") most_bound
     → pieces_text (pieces_of (a ∷ b ∷ d ∷ e ∷ [])) ++ end ≡ sums_json cost_of cost_bound most most_bound ++ end
 sums-parts cost_of cost_bound most most_bound end a b d e f g h i = rw (f.0, f.1, g.0, g.1, h.0, h.1, i.0, i.1) refl
 
 pub bounded-json-parts : (agents cost_of most cost_bound most_bound : ℕ) (a b d e f : Piece)
-    → Says a (codes "{\"accepted\":true,\"agents\":") agents → Says b (codes ",\"cost\":") cost_of → Says d (codes ",\"makespan\":") most
-    → Says e (codes ",\"cost_bound\":") cost_bound → Says f (codes ",\"makespan_bound\":") most_bound
+    → SaysPiece a (codes "{\"accepted\":true,\"agents\":") agents → SaysPiece b (codes ",\"cost\":") cost_of → SaysPiece d (codes ",\"makespan\":") most
+    → SaysPiece e (codes ",\"cost_bound\":") cost_bound → SaysPiece f (codes ",\"makespan_bound\":") most_bound
     → pieces_text (pieces_of (a ∷ b ∷ d ∷ e ∷ f ∷ [])) ++ codes "}\n" ≡ bounded_line true agents cost_of most cost_bound most_bound
 bounded-json-parts agents cost_of most cost_bound most_bound a b d e f g h i j k = rw (g.0, g.1, h.0, h.1, i.0, i.1, j.0, j.1, k.0, k.1) refl
 
 pub bounded-parts : (agents cost_of most cost_bound most_bound : ℕ) (a b d e f : Piece)
-    → Says a (codes "accepted agents ") agents → Says b (codes " cost ") cost_of → Says d (codes " of ") cost_bound
-    → Says e (codes " makespan ") most → Says f (codes " of ") most_bound
+    → SaysPiece a (codes "accepted agents ") agents → SaysPiece b (codes " cost ") cost_of → SaysPiece d (codes " of ") cost_bound
+    → SaysPiece e (codes " makespan ") most → SaysPiece f (codes " of ") most_bound
     → pieces_text (pieces_of (a ∷ b ∷ d ∷ e ∷ f ∷ [])) ++ codes "\n" ≡ bounded_line false agents cost_of most cost_bound most_bound
 bounded-parts agents cost_of most cost_bound most_bound a b d e f g h i j k = rw (g.0, g.1, h.0, h.1, i.0, i.1, j.0, j.1, k.0, k.1) refl
 
-pub object-pieces : (pair : ℕ × ℕ) (a b : Piece) → Says a (codes "{\"cost\":") pair.0 → Says b (codes ",\"bound\":") pair.1
+pub object-pieces : (pair : ℕ × ℕ) (a b : Piece) → SaysPiece a (codes "{\"cost\":") pair.0 → SaysPiece b (codes ",\"bound\":") pair.1
     → pieces_text (pieces_of (a ∷ b ∷ [])) ++ codes "}" ≡ agent_bound_json pair
 object-pieces pair a b f g = rw (f.0, f.1, g.0, g.1) refl

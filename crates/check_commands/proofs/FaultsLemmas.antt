@@ -10,7 +10,7 @@ use Rattle.text_io.specs.Text.{spaced_numbers}
 use Rattle.check_commands.specs.Code.Listing.{end_text, head_text, items_text, other_text, told_text}
 use Rattle.check_commands.specs.FaultsText.{Told, comma, faults_text, of_plan}
 use Rattle.check_commands.specs.VerdictText.{rejected_line, turn_text}
-use Rattle.check_commands.proofs.ToldLemmas.{Says}
+use Rattle.text_commands.specs.Laws.Pieces.{SaysPiece}
 
 pub text-parts : (json : Bool) (told : List Told) (agents : ℕ) (more : Bool)
     → head_text json ++ (items_text json told ++ (end_text json (length told) agents more ++ [])) ≡ faults_text json told agents more
@@ -31,13 +31,13 @@ pub other-parts : (json : Bool) (told : Told) → (if json then comma ∷ [] els
 other-parts false told = refl
 other-parts true told = refl
 
-pub json-end-parts : (agents : ℕ) (more : Bool) (piece : Piece) (end : List ℕ) → Says piece (codes "],\"agents\":") agents
+pub json-end-parts : (agents : ℕ) (more : Bool) (piece : Piece) (end : List ℕ) → SaysPiece piece (codes "],\"agents\":") agents
     → end ≡ (if more then codes ",\"more\":true}\n" else codes ",\"more\":false}\n") → (listed : ℕ)
     → pieces_text (pieces_of (piece ∷ [])) ++ end ≡ end_text true listed agents more
 json-end-parts agents more piece end is same listed = rw (is.0, is.1, same) refl
 
-pub line-end-parts : (listed agents : ℕ) (more : Bool) (first second : Piece) (end : List ℕ) → Says first (codes "faults ") listed
-    → Says second (codes " agents ") agents → end ≡ (if more then codes " more\n" else codes "\n")
+pub line-end-parts : (listed agents : ℕ) (more : Bool) (first second : Piece) (end : List ℕ) → SaysPiece first (codes "faults ") listed
+    → SaysPiece second (codes " agents ") agents → end ≡ (if more then codes " more\n" else codes "\n")
     → pieces_text (pieces_of (first ∷ second ∷ [])) ++ end ≡ end_text false listed agents more
 line-end-parts listed agents more first second end is also same = rw (is.0, is.1, also.0, also.1, same) refl
 

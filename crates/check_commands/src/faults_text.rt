@@ -3,16 +3,17 @@ ghost use Rattle.std.specs.Prelude.{◌≡◌, [], ◌∷◌, codes, if◌then�
 ghost use Rattle.text_io.specs.Counted.{counted_inner, failures_of};
 ghost use Rattle.text_io.specs.Sink.{held_back, Puts, Breaks};
 ghost use Rattle.text_io.specs.Writing.{WritesText};
-ghost use Rattle.check_commands.specs.Code.Listing.{end_text, head_text, items_text, other_text, others_text, told_against, turn_of};
+ghost use Rattle.depgraph.specs.Rotations.{turn_of};
+ghost use Rattle.check_commands.specs.Code.Listing.{end_text, head_text, items_text, other_text, others_text, told_against};
 ghost use Rattle.check_commands.specs.VerdictText.{rejected_line, turn_text};
 ghost use Rattle.check_commands.specs.FaultsText.{comma, faults_text, of_plan};
 
-use crate::told::{Against, put_ended, put_told, put_turn};
+use crate::told::{Against, put_told, put_turn};
 use all_faults::Faults;
 use depgraph::Rotation;
 use plan::PlanFault;
 use std::io::Write;
-use text_commands::Piece;
+use text_commands::{Piece, put_ended};
 use text_io::{Counted, Sink, WriteFault};
 
 /// How many faults were listed, how many different agents are named in them, and whether there are more.

@@ -2,14 +2,14 @@
 ghost use Rattle.std.specs.Prelude.{◌≡◌, ◌++◌, ◌∷◌, OnOk, OnErr};
 ghost use Rattle.text_io.specs.Sink.{Puts, Breaks};
 ghost use Rattle.text_io.specs.Text.{separated, spaced_numbers};
-ghost use Rattle.check_commands.specs.Code.Listing.{told_against, told_text, turn_of};
+ghost use Rattle.depgraph.specs.Rotations.{turn_of};
+ghost use Rattle.check_commands.specs.Code.Listing.{told_against, told_text};
 ghost use Rattle.check_commands.specs.FaultsText.{fit_fault_json, listed_numbers, of_turn, plan_fault_json, told_json, line_of_told};
-ghost use Rattle.text_commands.specs.Pieces.{pieces_of, pieces_text};
 
 use depgraph::Rotation;
 use plan::{FitFault, PlanFault};
 use std::io::Write;
-use text_commands::{Piece, put_fault_line, put_pieces};
+use text_commands::{Piece, put_ended, put_fault_line, put_pieces};
 use text_io::{Sink, WriteFault};
 
 /// What a plan has against it.
@@ -88,19 +88,6 @@ fn put_json<W: Write>(sink: &mut Sink<'_, W>, told: Against<'_>) -> Result<(), W
         Against::Fit(fault) => put_fit_fault(sink, fault),
         Against::Turn(rotation) => put_turn_json(sink, rotation),
     }
-}
-
-/// Puts pieces, and what ends them.
-pub(crate) fn put_ended<W: Write>(
-    sink: &mut Sink<'_, W>,
-    pieces: &[Piece],
-    end: &[u8],
-) -> Result<(), WriteFault>
-    ensures ok { OnOk result (Puts W.contents sink.old sink.new (pieces_text (pieces_of pieces.now) ++ end.now)) }
-    ensures err { OnErr result (Breaks W.contents sink.old sink.new (pieces_text (pieces_of pieces.now) ++ end.now)) }
-{
-    put_pieces(sink, pieces)?;
-    sink.put(end)
 }
 
 fn put_plan_fault<W: Write>(sink: &mut Sink<'_, W>, fault: PlanFault) -> Result<(), WriteFault>

@@ -12,6 +12,8 @@ use Rattle.clap.specs.declared.error.kind.ErrorKind.TheVariants as kind
 use Rattle.tape_claim.specs.declared.TapeClaim.{TapeClaim}
 use Rattle.tape_claim.specs.declared.TapeClaim.TheVariants.{Any, New, Kept}
 use Rattle.command_line.specs.declared.command_line.Asked.{Asked}
+use Rattle.command_line.specs.declared.lines.FleetQuery.{FleetQuery}
+use Rattle.command_line.specs.declared.lines.FleetQuery.TheVariants as fleet_query
 use Rattle.command_line.specs.declared.lines.Line.{Line}
 use Rattle.command_line.specs.declared.lines.Line.TheVariants as line
 use Rattle.command_line.specs.declared.lines.PlanQuery.{PlanQuery}
@@ -136,6 +138,27 @@ commands =
       cells = [];
       flags = explain_flag ∷ [];
     }
+    ∷ record {
+      name = codes "status";
+      required = codes "map" ∷ codes "plan" ∷ codes "tapes" ∷ [];
+      options = [];
+      cells = [];
+      flags = codes "json" ∷ explain_flag ∷ [];
+    }
+    ∷ record {
+      name = codes "handover";
+      required = codes "map" ∷ codes "plan" ∷ codes "tapes" ∷ [];
+      options = [];
+      cells = [];
+      flags = explain_flag ∷ [];
+    }
+    ∷ record {
+      name = codes "anew";
+      required = codes "map" ∷ codes "plan" ∷ codes "tapes" ∷ codes "number" ∷ [];
+      options = codes "without" ∷ [];
+      cells = [];
+      flags = explain_flag ∷ [];
+    }
     ∷ []
 
 -- one required word
@@ -227,9 +250,9 @@ MakesClaim option rows claim = (word : Text) × (first_of option rows ≡ Some w
 abbrev pub GivesClaim : Text → List Row → Type 0
 GivesClaim option rows = (word : Text) → first_of option rows ≡ Some word → (claim : TapeClaim) × SaysClaim claim word
 
--- The values that the command with this name wants, if it wants some, are such: the number of a row, or a time, is spelled, and is below 2^32, that of an
--- agent, with its tape too, below 2^16, and those of a cell, of one agent, of how many there are, of rows, or of how many faults, which is not 0, where
--- one is given; and what is claimed of a tape is said.
+-- The values that the command with this name wants, if it wants some, are such: the number of a row, of a new plan, or a time, is spelled, and is below 2^32,
+-- that of an agent, with its tape too, below 2^16, and those of a cell, of one agent, also one that is left out, of how many there are, of rows, or of how
+-- many faults, which is not 0, where one is given; and what is claimed of a tape is said.
 abbrev pub HasValues : Text → List Row → Type 0
 HasValues name rows =
     (name ≡ codes "row" → GivesNumberBelow (2 ^ 32) (codes "row") rows) × (name ≡ codes "agent" → GivesNumberBelow (2 ^ 16) (codes "id") rows)
@@ -237,7 +260,8 @@ HasValues name rows =
     × (name ≡ codes "agent" → GivesClaim (codes "tape") rows) × (name ≡ codes "tape" → GivesNumberBelow (2 ^ 16) (codes "id") rows)
     × (name ≡ codes "check" → GivesNumbers (2 ^ 16) (codes "agents") rows) × (name ≡ codes "cut" → GivesNumberBelow (2 ^ 32) (codes "time") rows)
     × (name ≡ codes "check" → GivesNumbersFrom 1 (codes "all") rows) × (name ≡ codes "rows" → GivesNumbersFrom 0 (codes "from") rows)
-    × (name ≡ codes "rows" → GivesNumbersFrom 0 (codes "to") rows)
+    × (name ≡ codes "rows" → GivesNumbersFrom 0 (codes "to") rows) × (name ≡ codes "anew" → GivesNumberBelow (2 ^ 32) (codes "number") rows)
+    × (name ≡ codes "anew" → GivesNumbers (2 ^ 16) (codes "without") rows)
 
 -- `--all` alone stands for `--all=1000`
 abbrev pub spelled_word : Text → Text
@@ -273,6 +297,13 @@ IsPlanQuery name rows (query.Path agent) = (name ≡ codes "path") × MayGiveNum
 IsPlanQuery name rows (query.Bound agents json) =
     (name ≡ codes "bound") × (agents ≡ true ↔ IsFlagGiven (codes "agents") rows) × (json ≡ true ↔ IsFlagGiven (codes "json") rows)
 IsPlanQuery name rows (query.Cut time) = (name ≡ codes "cut") × GivesNumber (codes "time") rows time
+
+-- and this of its agents' tapes
+abbrev pub IsFleetQuery : Text → List Row → FleetQuery → Type 0
+IsFleetQuery name rows (fleet_query.Status json) = (name ≡ codes "status") × (json ≡ true ↔ IsFlagGiven (codes "json") rows)
+IsFleetQuery name rows fleet_query.Handover = name ≡ codes "handover"
+IsFleetQuery name rows (fleet_query.Anew number without) =
+    (name ≡ codes "anew") × GivesNumber (codes "number") rows number × MayGiveNumber (codes "without") rows without
 
 -- the line is the command with this name, and its words have the values that the rows give
 abbrev pub IsCommand : Text → List Row → Line → Type 0
@@ -315,6 +346,9 @@ IsCommand name rows (line.Tape map_file plan_file id tape_file) =
     (name ≡ codes "tape") × (first_of (codes "map") rows ≡ Some (string_bytes map_file))
     × (first_of (codes "plan") rows ≡ Some (string_bytes plan_file)) × GivesNumber (codes "id") rows id
     × (first_of (codes "file") rows ≡ Some (string_bytes tape_file))
+IsCommand name rows (line.Fleet l) =
+    (first_of (codes "map") rows ≡ Some (string_bytes l.map)) × (first_of (codes "plan") rows ≡ Some (string_bytes l.plan))
+    × (first_of (codes "tapes") rows ≡ Some (string_bytes l.tapes)) × IsFleetQuery name rows l.query
 
 -- the command with this name is asked for, and an explanation of its fault too, or not
 abbrev pub IsAskedBy : Text → List Row → Asked → Type 0

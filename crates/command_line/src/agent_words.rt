@@ -1,11 +1,11 @@
-//! The commands for one agent: how their words are read.
+//! The commands for one agent, and for all: how their words are read.
 ghost use Rattle.std.specs.Prelude.{◌≡◌, codes, IfOk, IfErr};
 ghost use Rattle.clap.specs.Words.{found_of, rows_of};
 ghost use Rattle.command_line.specs.Words.{HasValues, IsCommand};
 ghost use Rattle.command_line.specs.Code.Parts.{HasWords, IsRefusal};
 
-use crate::lines::Line;
-use crate::words::{agent_id, tape_claim, word};
+use crate::lines::{FleetLine, FleetQuery, Line};
+use crate::words::{agent_id, has_flag, long_number, optional_number, tape_claim, word};
 use crate::{LineFault, help};
 use clap::ArgMatches;
 use std::alloc::Global;
@@ -39,4 +39,52 @@ pub(crate) fn read_tape(alloc: Global, given: &ArgMatches<'_>) -> Result<Line, L
         id: agent_id(alloc, given, &help::TAPE_ID)?,
         tape: word(alloc, given, "file")?,
     })
+}
+
+/// Reads `status` by the words that it was given.
+pub(crate) fn read_status(alloc: Global, given: &ArgMatches<'_>) -> Result<Line, LineFault>
+    ensures ok { IfOk result (IsCommand (codes "status") (rows_of (found_of given.now))) }
+    ensures err { IfErr result (λ e. HasWords (codes "status") (rows_of (found_of given.now)) → e ≡ LineFault.OutOfMemory) }
+    ensures refusal { IfErr result IsRefusal }
+{
+    Ok(Line::Fleet(FleetLine {
+        map: word(alloc, given, "map")?,
+        plan: word(alloc, given, "plan")?,
+        tapes: word(alloc, given, "tapes")?,
+        query: FleetQuery::Status {
+            json: has_flag(given, "json"),
+        },
+    }))
+}
+
+/// Reads `handover` by the words that it was given.
+pub(crate) fn read_handover(alloc: Global, given: &ArgMatches<'_>) -> Result<Line, LineFault>
+    ensures ok { IfOk result (IsCommand (codes "handover") (rows_of (found_of given.now))) }
+    ensures err { IfErr result (λ e. HasWords (codes "handover") (rows_of (found_of given.now)) → e ≡ LineFault.OutOfMemory) }
+    ensures refusal { IfErr result IsRefusal }
+{
+    Ok(Line::Fleet(FleetLine {
+        map: word(alloc, given, "map")?,
+        plan: word(alloc, given, "plan")?,
+        tapes: word(alloc, given, "tapes")?,
+        query: FleetQuery::Handover,
+    }))
+}
+
+/// Reads `anew` by the words that it was given.
+pub(crate) fn read_anew(alloc: Global, given: &ArgMatches<'_>) -> Result<Line, LineFault>
+    ensures ok { IfOk result (IsCommand (codes "anew") (rows_of (found_of given.now))) }
+    ensures err { IfErr result (λ e. HasWords (codes "anew") (rows_of (found_of given.now)) → HasValues (codes "anew") (rows_of (found_of given.now))
+        → e ≡ LineFault.OutOfMemory) }
+    ensures refusal { IfErr result IsRefusal }
+{
+    Ok(Line::Fleet(FleetLine {
+        map: word(alloc, given, "map")?,
+        plan: word(alloc, given, "plan")?,
+        tapes: word(alloc, given, "tapes")?,
+        query: FleetQuery::Anew {
+            number: long_number(alloc, given, "number", &help::NEW_NUMBER)?,
+            without: optional_number(alloc, given, "without", help::NO_LEFT_OUT)?,
+        },
+    }))
 }

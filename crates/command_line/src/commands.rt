@@ -1,4 +1,4 @@
-//! The commands, and what help says of each.
+//! The commands over texts and plans, and what help says of each.
 ghost use Rattle.std.specs.Prelude.{◌≡◌, drop, map, take};
 ghost use Rattle.command_line.specs.Words.{commands};
 ghost use Rattle.command_line.specs.Code.Parts.{shape_of_text, shapes_of};
@@ -19,13 +19,6 @@ pub(crate) fn plan_commands() -> &'static [CommandText<'static>]
     ensures { map shape_of_text result.now ≡ shapes_of (take 7 (drop 4 commands)) }
 {
     PLAN_COMMANDS
-}
-
-/// The commands of runs and agents.
-pub(crate) fn run_commands() -> &'static [CommandText<'static>]
-    ensures { map shape_of_text result.now ≡ shapes_of (drop 11 commands) }
-{
-    RUN_COMMANDS
 }
 
 const TEXT_COMMANDS: &[CommandText<'static>] = &[
@@ -340,118 +333,6 @@ Example:
             Required("plan", "The file of the plan"),
             Required("proof", "The file of the proof"),
             Flag("json", "Writes the answer as JSON"),
-            EXPLAIN,
-        ],
-    },
-];
-
-const RUN_COMMANDS: &[CommandText<'static>] = &[
-    CommandText {
-        name: "run",
-        about: "Checks a plan on a map, and answers the events of a run of it",
-        after_help: "\
-Standard output is one line for each event, as `moving 2 0`, `arrived 2 0` or
-`refused Waits 0 1`. A refusal is a reply like any other.
-With --complete these lines follow:
-  complete N   with N events, a line each, that bring each agent to the end of
-               its path
-  blocked N    no events do: rotation N, counted from 0 as `mapf deps` lists
-               them, has an unfinished move
-
-Status:
-  0  every event has its reply
-  1  a text or the plan has a fault: one line on standard error, behind the
-     replies to the events before it; or the answer is `blocked`
-  2  a bad command line
-  3  a file can't be opened (--explain says which, and why), a device failed, or
-     memory was refused
-
-Example:
-  mapf run examples/plain.map examples/behind.plan examples/behind.events",
-        words: &[
-            Required("map", "The file of the map"),
-            Required("plan", "The file of the plan"),
-            Required("events", "The file of the events"),
-            Flag("complete", "Writes how the run ends too"),
-            EXPLAIN,
-        ],
-    },
-    CommandText {
-        name: "agent",
-        about: "Checks a plan on a map, and answers for one of its agents",
-        after_help: "\
-The tape keeps how far the agent has come. No other process may hold it. The
-first line of standard output is the state of the agent:
-  at X Y done N            it stands in this cell, with N moves finished
-  between X Y U V done N   it is moving from the one cell to the other
-Then each line of standard input is answered by one line:
-  start      moving X Y, or refused and why
-  finish     arrived X Y, or refused and why
-  say        said HEX: the message for the other agents
-  tell       said HEX: the same with all that it has heard of others too
-  hear HEX   heard J N: agent J has finished N moves; or refused and why
-  may N      may K: the next K moves, of N at the most, are free
-  held       the state of the agent, as at first
-  any other  refused BadLine
-
-Start a robot once with --tape new, and from then on with --tape kept: then a
-tape that was lost is no new one. The plan is kept beside the tape, in a file
-of its name with .plan behind it.
-  --tape new    refuses a file that has a record
-  --tape kept   refuses a file that is not there, that was emptied, or that is
-                of another plan, of which none goes on from the other
-
-Status:
-  0  the input ended
-  1  a text or the plan has a fault, there is no such agent, or the tape is
-     refused: one line on standard error
-  2  a bad command line
-  3  a file can't be opened (--explain says which, and why), a device failed,
-     another process holds the tape, memory was refused, or the answer was
-     `refused StoreFailed`: start the agent again
-
-Example:
-  mapf agent examples/plain.map examples/behind.plan 0 robot0.tape",
-        words: &[
-            Required("map", "The file of the map"),
-            Required("plan", "The file of the plan"),
-            Required("id", "The number of the agent, counted from 0"),
-            Required(
-                "file",
-                "The file of the agent's tape, made where there is none",
-            ),
-            Named("tape", "What the tape has to be: new or kept"),
-            EXPLAIN,
-        ],
-    },
-    CommandText {
-        name: "tape",
-        about: "Checks a plan on a map, and says what the tape of an agent keeps",
-        after_help: "\
-Standard output is two lines. The first is the state of the agent:
-  at X Y done N            it stands in this cell, with N moves finished
-  between X Y U V done N   it is moving from the one cell to the other
-The second is of the file:
-  records R torn T         R whole records, and T bytes behind them that count
-                           as nothing
-Nothing is written to the tape, and it may be read beside the agent that holds
-it.
-
-Status:
-  0  the lines are written
-  1  a text or the plan has a fault, there is no such agent, there is no such
-     tape, or it is refused: one line on standard error
-  2  a bad command line
-  3  a file can't be opened (--explain says which, and why), a device failed, or
-     memory was refused
-
-Example:
-  mapf tape examples/plain.map examples/behind.plan 0 robot0.tape",
-        words: &[
-            Required("map", "The file of the map"),
-            Required("plan", "The file of the plan"),
-            Required("id", "The number of the agent, counted from 0"),
-            Required("file", "The file of the agent's tape"),
             EXPLAIN,
         ],
     },

@@ -78,11 +78,24 @@ pub(crate) const TAPE_ID: NumberText = NumberText {
     usage: "mapf tape [OPTIONS] <map> <plan> <id> <file>",
 };
 
+pub(crate) const NEW_NUMBER: NumberText = NumberText {
+    wanted: NUMBER_WANTED,
+    usage: "mapf anew [OPTIONS] <map> <plan> <tapes> <number>",
+};
+
 /// What is said of a word that is no number of an agent.
 pub(crate) const NO_AGENT_NUMBER: &str =
     "error: invalid value for '--agent <agent>': the number of an agent, from 0 to 65535, is wanted, in digits alone
 
 Usage: mapf path [OPTIONS] <map> <plan>
+
+For more information, try '--help'.
+";
+
+pub(crate) const NO_LEFT_OUT: &str =
+    "error: invalid value for '--without <without>': the number of an agent, from 0 to 65535, is wanted, in digits alone
+
+Usage: mapf anew [OPTIONS] <map> <plan> <tapes> <number>
 
 For more information, try '--help'.
 ";

@@ -9,9 +9,10 @@ mod lines;
 mod plan_words;
 mod reading;
 mod refusal;
+mod run_commands;
 mod spelling;
 mod words;
 
 pub use command_line::{Asked, LineFault};
-pub use lines::{CheckLine, Line, OptimalLine, PlanQuery, RowsLine};
+pub use lines::{CheckLine, FleetLine, FleetQuery, Line, OptimalLine, PlanQuery, RowsLine};
 pub use words::line;

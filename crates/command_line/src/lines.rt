@@ -59,6 +59,8 @@ pub enum Line {
         id: u16,
         tape: String,
     },
+    /// Answers a query on a plan by the tapes of all its agents.
+    Fleet(FleetLine),
 }
 
 /// The rows from one up to before another; `straight` asks for the least numbers of straight steps, and `progress` for how far that has come.
@@ -106,4 +108,24 @@ pub enum PlanQuery {
     Bound { agents: bool, json: bool },
     /// The plan without what its agents do from a time on.
     Cut { time: u32 },
+}
+
+/// The name of the files of the tapes has `%` for the number of the agent.
+#[derive(Debug, Drop, PartialEq, Eq)]
+pub struct FleetLine {
+    pub map: String,
+    pub plan: String,
+    pub tapes: String,
+    pub query: FleetQuery,
+}
+
+/// What is asked of a plan by the tapes of all its agents.
+#[derive(Clone, Copy, Debug, PartialEq, Eq)]
+pub enum FleetQuery {
+    /// Where the agents are, and who keeps whom; `json` asks for each line as JSON.
+    Status { json: bool },
+    /// The plan as far as all is made that is begun.
+    Handover,
+    /// A plan of its own, with this number, of what isn't begun, perhaps without an agent.
+    Anew { number: u32, without: Option<u16> },
 }

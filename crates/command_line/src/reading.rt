@@ -4,7 +4,7 @@ ghost use Rattle.clap.specs.Words.{found_of, rows_of};
 ghost use Rattle.command_line.specs.Words.{HasValues, IsCommand};
 ghost use Rattle.command_line.specs.Code.Parts.{HasWords, IsRefusal};
 
-use crate::agent_words::{read_agent, read_tape};
+use crate::agent_words::{read_agent, read_anew, read_handover, read_status, read_tape};
 use crate::lines::{CheckLine, Line, RowsLine};
 use crate::plan_words::{read_bound, read_continues, read_cut, read_deps, read_optimal, read_path};
 use crate::words::{
@@ -44,6 +44,9 @@ pub(crate) fn read_command(
         "run" => read_run(alloc, given),
         "agent" => read_agent(alloc, given),
         "tape" => read_tape(alloc, given),
+        "status" => read_status(alloc, given),
+        "handover" => read_handover(alloc, given),
+        "anew" => read_anew(alloc, given),
         _ => Err(no_command(alloc)),
     }
 }

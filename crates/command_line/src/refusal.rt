@@ -1,6 +1,7 @@
 //! What is said of words that `clap` refuses: mostly its own text.
-use crate::commands::{plan_commands, run_commands, text_commands};
+use crate::commands::{plan_commands, text_commands};
 use crate::help::{self, CommandText};
+use crate::run_commands::run_commands;
 use crate::words::program;
 use clap::error::{Error as ClapError, ErrorKind};
 use std::alloc::{AllocError, Global};
@@ -138,7 +139,7 @@ fn unknown_argument(
 fn takes_number(words: &[String]) -> bool {
     matches!(
         command_name(words),
-        "row" | "rows" | "check" | "deps" | "path" | "cut" | "agent" | "tape"
+        "row" | "rows" | "check" | "deps" | "path" | "cut" | "agent" | "tape" | "anew"
     )
 }
 

@@ -10,10 +10,11 @@ ghost use Rattle.command_line.specs.Words.{program_app, AsksToExplain, IsFlagGiv
 ghost use Rattle.command_line.specs.Code.Parts.{HasWords, IsRefusal, rule_of_word, shape_of_text};
 
 use crate::command_line::refused;
-use crate::commands::{plan_commands, run_commands, text_commands};
+use crate::commands::{plan_commands, text_commands};
 use crate::help::{self, CommandText, NumberText, Word};
 use crate::reading::read_command;
 use crate::refusal::shown;
+use crate::run_commands::run_commands;
 use crate::spelling::spelled_out;
 use crate::{Asked, LineFault};
 use clap::{Arg, ArgAction, ArgMatches, Command};

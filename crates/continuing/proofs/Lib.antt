@@ -3,4 +3,6 @@ pub mod CourseLemmas
 pub mod ApartLemmas
 pub mod ElsewhereLemmas
 pub mod CutLemmas
+pub mod TrackedLemmas
 pub mod AddingLemmas
+pub mod CopyLemmas

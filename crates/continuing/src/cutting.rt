@@ -3,6 +3,7 @@ ghost use Rattle.std.specs.Prelude.{◌≡◌, IfOk, IfErr, take};
 ghost use Rattle.plan_text.specs.declared.plan.PushFault.TheVariants.{OutOfMemory};
 ghost use Rattle.continuing.specs.Continuing.{cut_at};
 
+use crate::departing::longest;
 use model::Act;
 use plan_text::{Plan, PushFault};
 use std::alloc::Global;
@@ -18,6 +19,15 @@ pub fn cut(alloc: Global, plan: &Plan, time: u32) -> Result<Plan, PushFault>
         kept.push(course.start(), acts)?;
     }
     Ok(kept)
+}
+
+/// A copy of the plan: what is left of it where it is cut at its end.
+pub fn copy(alloc: Global, plan: &Plan) -> Result<Plan, PushFault>
+    ensures plan { IfOk result (λ copy. copy ≡ plan.now) }
+    ensures fault { IfErr result (λ fault. fault ≡ OutOfMemory) }
+{
+    let end = longest(plan.courses());
+    cut(alloc, plan, end as u32)
 }
 
 /// The first acts, so many, or all where there are no more.

@@ -19,10 +19,11 @@ pub fn one_answer()
     ensures one { (old new : Plan) (f g : ContinueFault) → IsContinueFault old new f → IsContinueFault old new g → f ≡ g }
 {}
 
-/// A plan goes on from what is left of it where it is cut at a time, and nobody acts later than that by what is left.
+/// A plan goes on from what is left of it where it is cut at a time, and nobody acts later than that by what is left. Up to the time all agents are where the plan has them.
 pub fn cuts()
     ensures continues { (plan : Plan) (time : ℕ) → Continues (cut_at time plan) plan }
     ensures ends { (plan : Plan) (time : ℕ) → longest_of (cut_at time plan).courses ≤ time }
+    ensures agrees { (plan : Plan) (time : ℕ) (kept whole : Timetable) → IsTimetableOf (cut_at time plan) kept → IsTimetableOf plan whole → AgreesUpTo time kept whole }
 {}
 
 /// By a plan that goes on from another, every move of that one has the same number and the same step, leads through the same cells, and waits for the same. A

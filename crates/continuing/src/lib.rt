@@ -9,5 +9,5 @@ pub mod laws;
 
 pub use adding::added_moves;
 pub use continue_fault::ContinueFault;
-pub use cutting::cut;
+pub use cutting::{copy, cut};
 pub use departing::{continues, longest};

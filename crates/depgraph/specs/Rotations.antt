@@ -9,9 +9,12 @@ pub record Turn : Type 0 where
   pub step : ℕ
   pub agents : List ℕ
 
--- a list of rotations as such turns
+-- a rotation of the code, as a turn
+abbrev pub turn_of : Rotation → Turn
+turn_of r = record { step = r.step; agents = r.agents.items }
+
 abbrev pub turns_of : List Rotation → List Turn
-turns_of rotations = map (λ r. record { step = r.step; agents = r.agents.items }) rotations
+turns_of rotations = map turn_of rotations
 
 -- a rotation comes before another: by step, and then by least agent
 abbrev pub TurnsBefore : Turn → Turn → Type 0

@@ -1,6 +1,7 @@
 //! What one agent needs of a graph, lent by the graph or kept without it.
-ghost use Rattle.std.specs.Prelude.{◌≡◌, ◌<◌, ◌^◌, length, slice_get, IfOk};
-ghost use Rattle.depgraph.specs.AgentParts.{IsOfGraph};
+ghost use Rattle.std.specs.Prelude.{◌≡◌, ◌<◌, ◌≤◌, ◌^◌, length, slice_get, IfOk};
+ghost use Rattle.model.specs.Timetable.{Timetable, moves};
+ghost use Rattle.depgraph.specs.AgentParts.{IsOfGraph, IsPartOf};
 ghost use Rattle.depgraph.specs.Routes.{asked_by};
 ghost use Rattle.depgraph.specs.Code.Numbers.{cells_by, AreKnown};
 ghost use Rattle.depgraph.specs.Code.Shares.{part_by, entries_among, HasShare};
@@ -108,6 +109,16 @@ impl<'g> Part<'g> {
         } else {
             None
         }
+    }
+
+    /// How many moves the agent itself makes.
+    pub fn own_moves(&self) -> u32
+        ensures moves { (tt : Timetable) (is : IsPartOf tt self.now) → result ≡ moves is.track }
+        ensures needs { result ≡ length self.now.needs }
+        ensures few { result ≤ 65535 }
+        ensures within { IsOfGraph self.now }
+    {
+        self.moves(u32::from(self.agent)).unwrap()
     }
 
     /// The n-th cell of the agent's path; `None` past its end.

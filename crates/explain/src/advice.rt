@@ -31,11 +31,26 @@ const OF_ANOTHER_PLAN: &str =
 const CHANGED_ON_THE_WAY: &str =
     "Nothing was heard. Drop it: its bytes were changed on the way, or are another program's.\n";
 
-static ADVICE: [Advice; 27] = [
+static ADVICE: [Advice; 30] = [
     Advice {
         of: "a command",
         name: "OpenFailed",
         text: "With `--explain` the command says which file it is, and what the system says of it.\n",
+    },
+    Advice {
+        of: "a command",
+        name: "BadTape",
+        text: "A robot whose tape is lost may stand anywhere: leave it out (`--without`) when it is off the floor.\n",
+    },
+    Advice {
+        of: "a command",
+        name: "SameNumber",
+        text: "Draw a number: what the robots still say of the old plan is false of the new one.\n",
+    },
+    Advice {
+        of: "a command",
+        name: "NotOneRun",
+        text: "Some tape is an older copy, or of another run with this number. Look where the robots stand, and plan from there.\n",
     },
     Advice {
         of: TAPE,

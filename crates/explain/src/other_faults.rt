@@ -121,7 +121,7 @@ pub(crate) fn command_entries() -> &'static [Entry] {
     &COMMANDS
 }
 
-static COMMANDS: [Entry; 10] = [
+static COMMANDS: [Entry; 13] = [
     Entry {
         name: "NoSuchRow",
         numbers: "",
@@ -135,6 +135,27 @@ static COMMANDS: [Entry; 10] = [
         sentence: "The plan has no agent with this number. Agents count from 0.",
         example: "type octile\nheight 1\nwidth 3\nmap\n...\nmapf-plan 1\nnumber 7\nagents 2\nagent 1 0 e\nagent 0 0 e\nmapf-events 1\nstart 2\n",
         answer: "refused NoSuchAgent",
+    },
+    Entry {
+        name: "BadTape",
+        numbers: "agent",
+        sentence: "The tape of this agent has a fault: which one, `mapf status` says.",
+        example: "",
+        answer: "",
+    },
+    Entry {
+        name: "SameNumber",
+        numbers: "",
+        sentence: "The new plan was to have the number of the old one, and would be taken for it.",
+        example: "",
+        answer: "",
+    },
+    Entry {
+        name: "NotOneRun",
+        numbers: "",
+        sentence: "By their tapes two agents would meet, or stand in one cell, so these tapes aren't of one run of the plan.",
+        example: "",
+        answer: "",
     },
     Entry {
         name: "OutOfRange",

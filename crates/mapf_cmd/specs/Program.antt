@@ -9,6 +9,8 @@ use Rattle.clap.specs.Words.{Text}
 use Rattle.command_line.specs.declared.command_line.Asked.{Asked}
 use Rattle.command_line.specs.declared.lines.CheckLine.{CheckLine}
 use Rattle.command_line.specs.declared.lines.RowsLine.{RowsLine}
+use Rattle.command_line.specs.declared.lines.FleetQuery.{FleetQuery}
+use Rattle.command_line.specs.declared.lines.FleetQuery.TheVariants as fleet_query
 use Rattle.command_line.specs.declared.lines.Line.{Line}
 use Rattle.command_line.specs.declared.lines.Line.TheVariants as line
 use Rattle.command_line.specs.declared.lines.PlanQuery.{PlanQuery}
@@ -37,6 +39,9 @@ use Rattle.proof_commands.specs.OptimalCommand.{AnswersOptimal}
 use Rattle.run_commands.specs.RunCommand.{AnswersRun}
 use Rattle.agent_commands.specs.AgentCommand.{AnswersAgent}
 use Rattle.agent_commands.specs.TapeCommand.{AnswersTape, EndsWithoutTape}
+use Rattle.fleet_commands.specs.AnewCommand.{AnswersAnew}
+use Rattle.fleet_commands.specs.HandoverCommand.{AnswersHandover}
+use Rattle.fleet_commands.specs.StatusCommand.{AnswersStatus}
 use Rattle.explain.specs.Explaining.{AddsMore}
 
 -- ---- files, each as it was opened and as it was left: which file was opened for which word no clause can say
@@ -90,6 +95,17 @@ AnswersQuery map_left plan_left contents (query.Bound agents json) a b c d old n
     AnswersBound map_left plan_left contents agents json a b c d old new end
 AnswersQuery map_left plan_left contents (query.Cut time) a b c d old new end = AnswersCut map_left plan_left contents time a b c d old new end
 
+-- and what was asked of its agents' tapes, by what was read of these too
+abbrev pub AnswersFleet
+    : {M P F W : Type 0} → (M → Option (List ℕ)) → (P → Option (List ℕ)) → (F → Option (List ℕ)) → (W → Option (List ℕ)) → FleetQuery
+    → Counted M → Counted M → Counted P → Counted P → Counted W → Counted W → End → Type 0
+AnswersFleet map_left plan_left file_left contents (fleet_query.Status json) a b c d old new end =
+    AnswersStatus map_left plan_left file_left contents json a b c d old new end
+AnswersFleet map_left plan_left file_left contents fleet_query.Handover a b c d old new end =
+    AnswersHandover map_left plan_left file_left contents a b c d old new end
+AnswersFleet map_left plan_left file_left contents (fleet_query.Anew number without) a b c d old new end =
+    AnswersAnew map_left plan_left file_left contents without number a b c d old new end
+
 -- The command ended by what it read of its files. Only an agent reads the input, and a command whose one file is it.
 abbrev pub PerformsOn
     : {F I W : Type 0} → (F → Option (List ℕ)) → (I → Option (List ℕ)) → (W → Option (List ℕ)) → Line
@@ -119,6 +135,8 @@ PerformsOn remaining input_left contents (line.Agent map_file plan_file id tape_
 PerformsOn remaining input_left contents (line.Tape map_file plan_file id tape_file) old_in new_in old new end =
     (OnThreeFiles (λ a b c d e f. AnswersTape remaining remaining remaining contents id a b c d e f old new end) ⊎ (EndsWithoutTape end × (new ≡ old)))
     × (new_in ≡ old_in)
+PerformsOn remaining input_left contents (line.Fleet l) old_in new_in old new end =
+    OnTwoFiles (λ a b c d. AnswersFleet remaining remaining remaining contents l.query a b c d old new end) × (new_in ≡ old_in)
 
 -- Where the error output is a terminal, or that is asked for, `rows` says there how far it has come. No other command writes there before it ends.
 abbrev pub ShowsOn : {E : Type 0} → (E → Option (List ℕ)) → (is_watched : Bool) → Line → Counted E → Counted E → Type 0

@@ -11,8 +11,12 @@ pub use agent_commands::{Seat, agent_cmd, tape_cmd};
 pub use check_commands::{
     BoundForm, CheckTerms, Verdict, bound_cmd, check_cmd, check_fit_cmd, verdict_json,
 };
-pub use command_line::{Asked, CheckLine, Line, LineFault, OptimalLine, PlanQuery, RowsLine, line};
+pub use command_line::{
+    Asked, CheckLine, FleetLine, FleetQuery, Line, LineFault, OptimalLine, PlanQuery, RowsLine,
+    line,
+};
 pub use explain::Style;
+pub use fleet_commands::{NewPlan, anew_cmd, handover_cmd, status_cmd};
 pub use plan_commands::{continues_cmd, cut_cmd, deps_cell_cmd, deps_cmd, path_cmd};
 pub use program::{Screen, run};
 pub use proof_commands::optimal_cmd;

@@ -10,12 +10,13 @@ ghost use Rattle.proof_commands.specs.OptimalCommand.{AnswersOptimal};
 ghost use Rattle.run_commands.specs.RunCommand.{AnswersRun};
 ghost use Rattle.agent_commands.specs.AgentCommand.{AnswersAgent};
 ghost use Rattle.agent_commands.specs.TapeCommand.{AnswersTape, EndsWithoutTape};
-ghost use Rattle.mapf_cmd.specs.Program.{AnswersQuery, CheckOn, OnFileOrInput, OnTwoFiles, OnThreeFiles, PerformsOn, ShowsOn, rows_asked, terms_of};
+ghost use Rattle.mapf_cmd.specs.Program.{AnswersFleet, AnswersQuery, CheckOn, OnFileOrInput, OnTwoFiles, OnThreeFiles, PerformsOn, ShowsOn, rows_asked, terms_of};
 
 use agent_commands::{Seat, agent_command, tape_command};
 use check_commands::{BoundForm, CheckTerms, bound_command, check_command};
-use command_line::{CheckLine, Line, OptimalLine, PlanQuery, RowsLine};
+use command_line::{CheckLine, FleetLine, FleetQuery, Line, OptimalLine, PlanQuery, RowsLine};
 use explain::{FileKind, NamedFile};
+use fleet_commands::{NewPlan, anew_command, handover_command, status_command};
 use plan_commands::continues_command;
 use proof_commands::optimal_command;
 use run_commands::run_command;
@@ -77,6 +78,7 @@ where
             id,
             tape,
         } => tape_on_files(rt, [map, plan, tape], *id, out),
+        Line::Fleet(fleet) => fleet_on_files(rt, fleet, out),
     }
 }
 
@@ -324,6 +326,35 @@ fn tape_on_files<R: Files + AllocGlobal, W: Write>(
     }
 }
 
+/// The tapes are opened once the plan is read.
+fn fleet_on_files<R: Files + AllocGlobal, W: Write>(
+    rt: &R,
+    line: &FleetLine,
+    out: &mut Counted<W>,
+) -> io::Result<Ending>
+    ensures { MatchResult result (λ ending. OnTwoFiles (λ a b c d. AnswersFleet R.File.remaining R.File.remaining R.File.remaining W.contents line.now.query a b c d out.old out.new (end_of ending)))
+        (λ _. out.new ≡ out.old) }
+{
+    let mut map = Counted::new(fs::open(rt, &line.map)?);
+    let mut plan = Counted::new(fs::open(rt, &line.plan)?);
+    let tapes = &line.tapes;
+    match line.query {
+        FleetQuery::Status { json } => {
+            let ending = status_command::perform(rt, &mut map, &mut plan, tapes, json, out);
+            Ok(ending)
+        }
+        FleetQuery::Handover => {
+            let ending = handover_command::perform(rt, &mut map, &mut plan, tapes, out);
+            Ok(ending)
+        }
+        FleetQuery::Anew { number, without } => {
+            let new = NewPlan { number, without };
+            let ending = anew_command::perform(rt, &mut map, &mut plan, tapes, new, out);
+            Ok(ending)
+        }
+    }
+}
+
 /// Opens a file to be read, if there is one.
 fn open_if_there<R: Files>(rt: &R, path: &str) -> io::Result<Option<R::File>> {
     match fs::open(rt, path) {
@@ -333,7 +364,7 @@ fn open_if_there<R: Files>(rt: &R, path: &str) -> io::Result<Option<R::File>> {
     }
 }
 
-/// The files that a command names, up to three, in the order in which it opens them.
+/// The files that a command names, up to three, in the order in which it opens them. Those of a fleet that have tapes are as many as its plan has agents.
 pub(crate) fn files_of(
     line: &Line,
 ) -> (NamedFile<'_>, Option<NamedFile<'_>>, Option<NamedFile<'_>>) {
@@ -389,6 +420,9 @@ pub(crate) fn files_of(
             Some(file_of(Plan, plan)),
             Some(file_of(Tape, tape)),
         ),
+        Line::Fleet(FleetLine { map, plan, .. }) => {
+            (file_of(Map, map), Some(file_of(Plan, plan)), None)
+        }
     }
 }
 

@@ -2,8 +2,8 @@
 use crate::endings::{End, Ended};
 use crate::texts::{
     ACCEPTED, ACCEPTED_JSON, AGREES, ANSWERED, ASKED, BOUNDED, BOUNDS, COMPLETED, CONTINUED, CUT,
-    EVENTS, LISTED, NEEDS, PATH, PATHS, PROOF, PROVED, REJECTED, REPLIES, ROWS, STRAIGHT, SWAP,
-    VISITS,
+    EVENTS, HANDED_OVER, LEFT, LISTED, NEEDS, NO_RECORD, PATH, PATHS, PROOF, PROVED, REJECTED,
+    REPLIES, ROWS, STATUS_JSON, STRAIGHT, SWAP, VISITS,
 };
 use fakes::{
     BEHIND, CORNER, CORNER_WRITTEN, DiskFiles, FakeDisk, Keeper, LANE, ROW, ROW_WRITTEN, TASKS,
@@ -15,7 +15,7 @@ use std::test::Fail;
 use text_io::Counted;
 
 /// Command lines with their status and what they write.
-static LINES: [(&str, u8, &str); 25] = [
+static LINES: [(&str, u8, &str); 28] = [
     ("map C", 0, CORNER_WRITTEN),
     ("scen S", 0, ROW_WRITTEN),
     ("row C S 0", 0, AGREES),
@@ -37,6 +37,9 @@ static LINES: [(&str, u8, &str); 25] = [
     ("optimal M P Z", 0, PROVED),
     ("run M P E", 0, REPLIES),
     ("run M P E --complete", 0, COMPLETED),
+    ("status M P L --json", 0, STATUS_JSON),
+    ("handover M P L", 0, HANDED_OVER),
+    ("anew M P L 8 --without 1", 0, LEFT),
     ("agent M P 0 T", 0, ANSWERED),
     ("agent M P 0 N --tape new", 0, ANSWERED),
     ("agent M P 0 K --tape kept", 0, ANSWERED),
@@ -48,7 +51,7 @@ static LINES: [(&str, u8, &str); 25] = [
 ];
 
 /// The files that they read.
-static TEXTS: [(&str, &str); 8] = [
+static TEXTS: [(&str, &str); 9] = [
     ("C", CORNER),
     ("S", ROW),
     ("M", LANE),
@@ -57,6 +60,7 @@ static TEXTS: [(&str, &str); 8] = [
     ("F", TASKS),
     ("E", EVENTS),
     ("Z", PROOF),
+    ("L", NO_RECORD),
 ];
 
 /// The tapes, of which the last was kept, and what is beside them.

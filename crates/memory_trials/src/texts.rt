@@ -22,6 +22,19 @@ pub const ANSWERED: &str =
 /// What is kept of the first agent by a tape without a record.
 pub const KEPT: &str = "at 1 0 done 0\nrecords 0 torn 0\n";
 
+/// A tape, for an agent that has not begun.
+pub const NO_RECORD: &str = "";
+
+/// What is said of the plan BEHIND where both tapes are so.
+pub const STATUS_JSON: &str =
+    "{\"agent\":0,\"at\":[1,0],\"done\":0,\"of\":1,\"state\":\"ready\"}\n{\"agent\":1,\"at\":[0,0],\"done\":0,\"of\":1,\"state\":\"waits\",\"for\":0,\"until\":1}\n{\"root\":0,\"keeps\":1}\n";
+
+/// The plan BEHIND as far as it is begun then.
+pub const HANDED_OVER: &str = "mapf-plan 1\nnumber 7\nagents 2\nagent 1 0 =\nagent 0 0 =\n";
+
+/// What is left of it without agent 1.
+pub const LEFT: &str = "mapf-plan 1\nnumber 8\nagents 1\nagent 1 0 e-\n";
+
 pub const AGREES: &str = "shortest 2 0 listed 2.00000000 agrees\n";
 
 pub const ACCEPTED: &str = "accepted agents 2 cost 2 makespan 1\n";

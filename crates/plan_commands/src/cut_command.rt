@@ -63,8 +63,6 @@ fn read_cut<M: Read, P: Read>(
     let Ok(kept) = cut(alloc, &plan, time) else {
         return Err(PlannedFault::OutOfMemory);
     };
-    match check(alloc, &map, plan) {
-        Ok(_) => Ok(kept),
-        Err(rejected) => Err(PlannedFault::Plan(rejected.fault)),
-    }
+    check(alloc, &map, plan)?;
+    Ok(kept)
 }

@@ -9,6 +9,7 @@ use Rattle.plan_text.specs.PlanTextFault.{ReadsPlan, ReadsMapAndPlan}
 use Rattle.plan.specs.Checking.{Checked, IsCheckOf, IsRefusedFor}
 use Rattle.planned.specs.declared.planned_fault.PlannedFault.{PlannedFault}
 use Rattle.planned.specs.declared.planned_fault.PlannedFault.TheVariants as planned_fault
+use Rattle.planned.specs.declared.reading.PlanAtHand.{PlanAtHand}
 
 -- The map was read, and then the plan, and then the plan was checked on the map: it is valid, and this is its check, or it is refused for
 -- its least fault, or for want of memory. A text that could not be read is answered, and what comes after it isn't touched.
@@ -35,3 +36,18 @@ ReadsTimetable map_left plan_left old_map new_map old_plan new_plan (Err planned
     (c : Checked) × ReadsChecked map_left plan_left old_map new_map old_plan new_plan (Ok c)
 ReadsTimetable map_left plan_left old_map new_map old_plan new_plan (Err fault) =
     ReadsChecked map_left plan_left old_map new_map old_plan new_plan (Err fault)
+
+-- The map was read, and then the plan, which is valid, and has this timetable.
+abbrev pub IsAtHand
+    : {M P : Type 0} → (M → Option (List ℕ)) → (P → Option (List ℕ)) → Counted M → Counted M → Counted P → Counted P → PlanAtHand → Type 0
+IsAtHand map_left plan_left old_map new_map old_plan new_plan it =
+    ReadsMapAndPlan map_left plan_left old_map new_map old_plan new_plan it.map it.plan
+    × ((c : Checked) × IsCheckOf it.map it.plan c × (it.dependencies ≡ c.timetable))
+
+-- These are at hand, or there is a fault, as where the timetable alone is read.
+abbrev pub ReadsAtHand
+    : {M P : Type 0} → (M → Option (List ℕ)) → (P → Option (List ℕ)) → Counted M → Counted M → Counted P → Counted P
+    → Result PlanAtHand PlannedFault → Type 0
+ReadsAtHand map_left plan_left old_map new_map old_plan new_plan (Ok it) = IsAtHand map_left plan_left old_map new_map old_plan new_plan it
+ReadsAtHand map_left plan_left old_map new_map old_plan new_plan (Err fault) =
+    ReadsTimetable map_left plan_left old_map new_map old_plan new_plan (Err fault)

@@ -5,4 +5,4 @@ mod planned_fault;
 mod reading;
 
 pub use planned_fault::PlannedFault;
-pub use reading::{read_checked, read_dependencies, read_graph};
+pub use reading::{PlanAtHand, read_at_hand, read_checked, read_dependencies, read_graph};

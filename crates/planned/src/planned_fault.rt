@@ -5,7 +5,7 @@ ghost use Rattle.planned.specs.FaultWords.{planned_fault_words};
 ghost use Rattle.planned.specs.declared.planned_fault.PlannedFault.TheVariants as planned_fault;
 
 use grid::MapFault;
-use plan::{PlanFault, PlanTextFault};
+use plan::{PlanFault, PlanTextFault, Rejected};
 use std::fmt;
 use text_io::{Failure, FaultWords, OutOfMemory};
 use thiserror::Error;
@@ -58,6 +58,14 @@ impl From<PlanTextFault> for PlannedFault {
 
     fn from(e: PlanTextFault) -> PlannedFault {
         PlannedFault::PlanText(e)
+    }
+}
+
+impl From<Rejected> for PlannedFault {
+    ghost from_gives = { λ e f. f ≡ planned_fault.Plan e.fault };
+
+    fn from(e: Rejected) -> PlannedFault {
+        PlannedFault::Plan(e.fault)
     }
 }
 

@@ -1,10 +1,11 @@
 //! Reading a map and a plan, and checking the plan on the map.
-ghost use Rattle.planned.specs.Planned.{ReadsChecked, ReadsTimetable};
+ghost use Rattle.planned.specs.Planned.{ReadsAtHand, ReadsChecked, ReadsTimetable};
 
 use crate::PlannedFault;
+use continuing::copy;
 use depgraph::{Dependencies, Graph};
-use grid::read_map;
-use plan::{CheckedPlan, check, read_plan};
+use grid::{Map, read_map};
+use plan::{CheckedPlan, Plan, PlanFault, check, read_plan};
 use std::alloc::Global;
 use std::io::Read;
 use text_io::Counted;
@@ -19,10 +20,7 @@ pub fn read_checked<M: Read, P: Read>(
 {
     let map = read_map(alloc, map)?;
     let plan = read_plan(alloc, plan)?;
-    match check(alloc, &map, plan) {
-        Ok(checked) => Ok(checked),
-        Err(rejected) => Err(PlannedFault::Plan(rejected.fault)),
-    }
+    Ok(check(alloc, &map, plan)?)
 }
 
 /// The same, and tells which of the plan's moves wait for which.
@@ -47,4 +45,34 @@ pub fn read_graph<M: Read, P: Read>(
 {
     let plan = read_checked(alloc, map, plan)?;
     Ok(Graph::build(alloc, &plan)?)
+}
+
+/// A plan as it was read, which is valid on its map, and what its moves wait for.
+#[derive(Debug, Drop)]
+pub struct PlanAtHand {
+    pub map: Map,
+    pub plan: Plan,
+    pub dependencies: Dependencies,
+}
+
+/// Reads as `read_dependencies` does, and keeps the map and the plan.
+pub fn read_at_hand<M: Read, P: Read>(
+    alloc: Global,
+    map: &mut Counted<M>,
+    plan: &mut Counted<P>,
+) -> Result<PlanAtHand, PlannedFault>
+    ensures { ReadsAtHand M.remaining P.remaining map.old map.new plan.old plan.new result }
+{
+    let map = read_map(alloc, map)?;
+    let plan = read_plan(alloc, plan)?;
+    // Before the check, which takes the plan.
+    let Ok(whole) = copy(alloc, &plan) else {
+        return Err(PlannedFault::Plan(PlanFault::OutOfMemory));
+    };
+    let checked = check(alloc, &map, plan)?;
+    Ok(PlanAtHand {
+        map,
+        plan: whole,
+        dependencies: Dependencies::build(alloc, &checked)?,
+    })
 }

@@ -78,10 +78,8 @@ pub(crate) fn read_on_map<M: Read, P: Read>(
 {
     let map = read_map(alloc, map)?;
     let plan = read_plan(alloc, plan)?;
-    match check(alloc, &map, plan) {
-        Ok(plan) => Ok(PlanOnMap { map, plan }),
-        Err(rejected) => Err(PlannedFault::Plan(rejected.fault)),
-    }
+    let plan = check(alloc, &map, plan)?;
+    Ok(PlanOnMap { map, plan })
 }
 
 /// Reads the proof, and answers by it.

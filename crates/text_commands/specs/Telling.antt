@@ -6,9 +6,13 @@ use Rattle.text_io.specs.Counted.{counted_inner, failures_of}
 use Rattle.text_io.specs.Text.{line_feed}
 use Rattle.text_io.specs.Writing.{WritesText}
 
+-- the words of a fault between two texts
+abbrev pub enclosed_words : List ℕ → Words → List ℕ → List ℕ
+enclosed_words head words end = head ++ words_text words ++ end
+
 -- the line of a fault with these words, behind what stands at its head
 abbrev pub headed_line : List ℕ → Words → List ℕ
-headed_line head words = head ++ words_text words ++ line_feed ∷ []
+headed_line head words = enclosed_words head words (line_feed ∷ [])
 
 -- as `mapf: ShortRow 6`
 abbrev pub fault_line : Words → List ℕ

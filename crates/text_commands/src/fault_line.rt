@@ -5,7 +5,7 @@ ghost use Rattle.text_io.specs.Counted.{counted_inner, failures_of};
 ghost use Rattle.text_io.specs.FaultWords.{words_of};
 ghost use Rattle.text_io.specs.Sink.{held_back, Puts, Breaks};
 ghost use Rattle.text_io.specs.Writing.{WritesText};
-ghost use Rattle.text_commands.specs.Telling.{Tells, fault_line, headed_line};
+ghost use Rattle.text_commands.specs.Telling.{Tells, enclosed_words, fault_line, headed_line};
 
 use std::io::Write;
 use text_io::{Counted, FaultWords, Sink, WriteFault};
@@ -45,10 +45,23 @@ pub fn put_fault_line<W: Write>(
     ensures ok { OnOk result (Puts W.contents sink.old sink.new (headed_line head.now (words_of words))) }
     ensures err { OnErr result (Breaks W.contents sink.old sink.new (headed_line head.now (words_of words))) }
 {
+    put_fault_words(sink, head, words, b"\n")
+}
+
+/// Puts the words of a fault between two texts.
+pub fn put_fault_words<W: Write>(
+    sink: &mut Sink<'_, W>,
+    head: &[u8],
+    words: FaultWords,
+    end: &[u8],
+) -> Result<(), WriteFault>
+    ensures ok { OnOk result (Puts W.contents sink.old sink.new (enclosed_words head.now (words_of words) end.now)) }
+    ensures err { OnErr result (Breaks W.contents sink.old sink.new (enclosed_words head.now (words_of words) end.now)) }
+{
     sink.put(head)?;
     sink.put(words.name().as_bytes())?;
     put_numbers(sink, words.numbers())?;
-    sink.put(b"\n")
+    sink.put(end)
 }
 
 /// Puts each number behind a space.

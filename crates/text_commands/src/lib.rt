@@ -20,9 +20,9 @@ mod tally;
 mod writing;
 
 pub use ending::{Ending, conclude, finish};
-pub use fault_line::put_fault_line;
+pub use fault_line::{put_fault_line, put_fault_words};
 pub use map_command::map_cmd;
-pub use pieces::{Piece, put_pieces};
+pub use pieces::{Piece, put_ended, put_pieces};
 pub use row_command::row_cmd;
 pub use rows_command::{RowsAsked, rows_cmd};
 pub use scen_command::scen_cmd;

@@ -33,6 +33,19 @@ pub fn put_pieces<W: Write>(sink: &mut Sink<'_, W>, pieces: &[Piece]) -> Result<
     Ok(())
 }
 
+/// Puts pieces, and what ends them.
+pub fn put_ended<W: Write>(
+    sink: &mut Sink<'_, W>,
+    pieces: &[Piece],
+    end: &[u8],
+) -> Result<(), WriteFault>
+    ensures ok { OnOk result (Puts W.contents sink.old sink.new (pieces_text (pieces_of pieces.now) ++ end.now)) }
+    ensures err { OnErr result (Breaks W.contents sink.old sink.new (pieces_text (pieces_of pieces.now) ++ end.now)) }
+{
+    put_pieces(sink, pieces)?;
+    sink.put(end)
+}
+
 fn put_piece<W: Write>(sink: &mut Sink<'_, W>, piece: &Piece) -> Result<(), WriteFault>
     ensures ok { OnOk result (Puts W.contents sink.old sink.new (piece.now.word.now ++ decimal piece.now.number)) }
     ensures err { OnErr result (Breaks W.contents sink.old sink.new (piece.now.word.now ++ decimal piece.now.number)) }

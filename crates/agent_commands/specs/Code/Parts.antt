@@ -1,5 +1,5 @@
 -- What the parts of the opening of a tape file owe each other.
-use Rattle.std.specs.Prelude.{◌≡◌, ◌≢◌, ◌<◌, ◌≤◌, ℕ, List, true, length, Option, IfOk, IfErr, Result}
+use Rattle.std.specs.Prelude.{◌≡◌, ◌≤◌, ℕ, List, true, length, Option}
 use Rattle.model.specs.History.{record_length}
 use Rattle.model.specs.Plan.{Plan}
 use Rattle.agent.specs.Agents.{AgentOn}

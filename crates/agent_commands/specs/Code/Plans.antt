@@ -1,28 +1,26 @@
 -- What the parts owe each other that keep a plan beside a tape.
-use Rattle.std.specs.Prelude.{◌≡◌, ◌≢◌, ℕ, Bool, true, false, List, Option, None, Some, IfSome, Result, Ok, Err}
+use Rattle.std.specs.Prelude.{◌≡◌, ◌≢◌, ℕ, Bool, true, false, List, Option, None, Some, IfSome, MatchOption, Result, Ok, Err}
 use Rattle.std.specs.Io.KnownBytes.{Consumes}
 use Rattle.text_io.specs.declared.counted.Counted.{Counted}
 use Rattle.text_io.specs.Text.{BeginsWith}
 use Rattle.model.specs.Plan.{Plan}
-use Rattle.model.specs.Timetable.{Timetable, track_of}
-use Rattle.depgraph.specs.AgentParts.{IsPartOf}
-use Rattle.plan.specs.Checking.{Checked}
+use Rattle.model.specs.Timetable.{track_of}
+use Rattle.depgraph.specs.AgentParts.{AgentPart, IsPartOf}
 use Rattle.plan_text.specs.declared.plan_text_fault.PlanTextFault.{PlanTextFault}
 use Rattle.plan_text.specs.declared.plan_text_fault.PlanTextFault.TheVariants as text_fault
-use Rattle.planned.specs.Planned.{ReadsChecked}
+use Rattle.planned.specs.Planned.{ReadsAtHand}
 use Rattle.planned.specs.declared.planned_fault.PlannedFault.{PlannedFault}
+use Rattle.planned.specs.declared.reading.PlanAtHand.{PlanAtHand}
 use Rattle.robot.specs.declared.file_tape.FileTapeFault.TheVariants.{TapeFailed, OutOfMemory}
 use Rattle.tape_claim.specs.declared.TapeClaim.{TapeClaim}
 use Rattle.tape_claim.specs.declared.TapeClaim.TheVariants as claim
-use Rattle.agent_commands.specs.AgentCommand.{IsAtHand, PlanAtHand, ReadsPlanAtHand}
 use Rattle.agent_commands.specs.Code.Parts.{IsLost}
 use Rattle.agent_commands.specs.KeptPlan.{HasMark, HasNoPlan, IsAkin, IsKeptIn, IsOtherPlan, mark_line}
 use Rattle.agent_commands.specs.declared.agent_fault.AgentFault.{AgentFault}
 use Rattle.agent_commands.specs.declared.agent_fault.AgentFault.TheVariants.{OpenFailed, NoTape, File, PlanDamaged, TapeEmptied, OtherPlan}
-use Rattle.agent_commands.specs.declared.agent_part.CheckedTerms.{CheckedTerms}
 use Rattle.agent_commands.specs.declared.agent_part.PartAndTerms.{PartAndTerms}
 use Rattle.agent_commands.specs.declared.kept_plan.PlanTask.{PlanTask}
-use Rattle.agent_commands.specs.declared.kept_plan.PlanTask.TheVariants.{Nothing, Sync, Mark, Write}
+use Rattle.agent_commands.specs.declared.kept_plan.PlanTask.TheVariants.{Nothing, Sync, Write}
 use Rattle.agent_commands.specs.declared.plan_file.KeptPlan.{KeptPlan}
 use Rattle.agent_commands.specs.declared.terms.Terms.{Terms}
 use Rattle.agent_commands.specs.declared.terms.Terms.TheVariants as terms
@@ -65,26 +63,22 @@ IsTermsFor claim.Any p t = t ≡ terms.Any
 IsTermsFor claim.New p t = t ≡ terms.New p
 IsTermsFor claim.Kept p t = t ≡ terms.Kept p
 
--- the plan was checked, and a copy of it is at hand where a claim asks for that
-abbrev pub ReadsTerms
-    : {M P : Type 0} → (M → Option (List ℕ)) → (P → Option (List ℕ)) → TapeClaim → Counted M → Counted M → Counted P → Counted P
-    → Result CheckedTerms PlannedFault → Type 0
-ReadsTerms map_left plan_left claim old_map new_map old_plan new_plan (Ok it) =
-    (p : Plan) × IsAtHand map_left plan_left old_map new_map old_plan new_plan p it.checked × IsTermsFor claim p it.terms
-ReadsTerms map_left plan_left claim old_map new_map old_plan new_plan (Err fault) = ReadsChecked map_left plan_left old_map new_map old_plan new_plan (Err fault)
+-- an agent's part, if there is one, with terms
+abbrev pub IsOnTerms : Option AgentPart → Terms → Option PartAndTerms → Type 0
+IsOnTerms own t result = MatchOption result (own ≡ None) (λ it. (own ≡ Some it.own) × (it.terms ≡ t))
 
 -- there is no such agent, or this is what it needs, and on which terms
 abbrev pub IsPartOnTerms : TapeClaim → PlanAtHand → ℕ → Option PartAndTerms → Type 0
-IsPartOnTerms claim it i None = track_of it.timetable i ≡ None
-IsPartOnTerms claim it i (Some part) = IsPartOf it.timetable part.own × (part.own.agent ≡ i) × IsTermsFor claim it.plan part.terms
+IsPartOnTerms claim it i None = track_of it.dependencies i ≡ None
+IsPartOnTerms claim it i (Some part) = IsPartOf it.dependencies part.own × (part.own.agent ≡ i) × IsTermsFor claim it.plan part.terms
 
 abbrev pub ReadsPartAndTerms
     : {M P : Type 0} → (M → Option (List ℕ)) → (P → Option (List ℕ)) → ℕ → TapeClaim → Counted M → Counted M → Counted P → Counted P
     → Result (Option PartAndTerms) PlannedFault → Type 0
 ReadsPartAndTerms map_left plan_left i claim old_map new_map old_plan new_plan (Ok part) =
-    (it : PlanAtHand) × ReadsPlanAtHand map_left plan_left old_map new_map old_plan new_plan (Ok it) × IsPartOnTerms claim it i part
+    (it : PlanAtHand) × ReadsAtHand map_left plan_left old_map new_map old_plan new_plan (Ok it) × IsPartOnTerms claim it i part
 ReadsPartAndTerms map_left plan_left i claim old_map new_map old_plan new_plan (Err fault) =
-    ReadsPlanAtHand map_left plan_left old_map new_map old_plan new_plan (Err fault)
+    ReadsAtHand map_left plan_left old_map new_map old_plan new_plan (Err fault)
 
 -- ---- comparing
 

@@ -15,7 +15,7 @@ use Rattle.agent.specs.Tape.{whole_records}
 use Rattle.event_text.specs.ReplyText.{reply_line}
 use Rattle.robot.specs.declared.file_tape.FileTapeFault.{FileTapeFault}
 use Rattle.robot.specs.declared.file_tape.FileTapeFault.TheVariants.{TooLong, TapeFailed, OutOfMemory}
-use Rattle.agent_commands.specs.TapeCommand.{IsReadWhole, IsShown, records_line, tape_of_bytes}
+use Rattle.agent_commands.specs.TapeCommand.{HasRecords, IsReadWhole, IsShown, records_line, tape_of_bytes}
 use Rattle.agent_commands.specs.declared.agent_fault.AgentFault.{AgentFault}
 use Rattle.agent_commands.specs.declared.tape_report.TapeImage.{TapeImage}
 use Rattle.agent_commands.specs.declared.tape_report.TapeReport.{TapeReport}
@@ -33,9 +33,9 @@ abbrev pub outcome_of : Result TapeReport AgentFault → Result (List ℕ) Agent
 outcome_of (Ok r) = Ok (report_text r)
 outcome_of (Err fault) = Err fault
 
--- the report has the text that is shown
+-- the report has the text that is shown, and the records that there are
 abbrev pub IsReported : {T : Type 0} → (T → Option (List ℕ)) → Timetable → ℕ → Counted T → Counted T → TapeReport → Type 0
-IsReported remaining tt i old new r = IsShown remaining tt i old new (report_text r)
+IsReported remaining tt i old new r = IsShown remaining tt i old new (report_text r) × HasRecords remaining tt i old new r.records
 
 -- the report of an agent of a timetable, the file of whose tape has so many bytes
 pub record IsReportOf (tt : Timetable) (a : AgentOn MemTape) (count : ℕ) (r : TapeReport) : Type 0 where

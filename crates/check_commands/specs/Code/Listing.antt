@@ -1,16 +1,11 @@
 -- What is put of faults, one after another.
 use Rattle.std.specs.Prelude.{ℕ, Bool, true, false, if◌then◌else◌, List, [], ◌∷◌, ◌++◌, codes}
 use Rattle.std.specs.List.{flat_map}
-use Rattle.depgraph.specs.Rotations.{Turn}
-use Rattle.model.specs.declared.visit.Rotation.{Rotation}
+use Rattle.depgraph.specs.Rotations.{turn_of}
 use Rattle.check_commands.specs.FaultsText.{Told, comma, of_fit, of_plan, of_turn, told_json, line_of_told}
 use Rattle.text_commands.specs.Pieces.{pieces_text}
 use Rattle.check_commands.specs.declared.told.Against.{Against}
 use Rattle.check_commands.specs.declared.told.Against.TheVariants as against
-
--- a rotation of the code, as a turn
-abbrev pub turn_of : Rotation → Turn
-turn_of r = record { step = r.step; agents = r.agents.items }
 
 -- what the code has against a plan
 abbrev pub told_against : Against → Told

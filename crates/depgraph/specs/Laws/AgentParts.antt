@@ -4,9 +4,10 @@ use Rattle.std.specs.Prelude.{Option, option_map, slice_get}
 use Rattle.std.specs.List.{AllByRecursion}
 use Rattle.std.proofs.lemmas.Bool.{cases_Bool, cond-true, cond-false}
 use Rattle.std.proofs.lemmas.List.{length-map}
-use Rattle.std.proofs.lemmas.Option.{none-some, same_Some, slice_get-map}
+use Rattle.std.proofs.lemmas.Option.{none-some, same_Some, slice_get-map, slice_get-get_or}
 use Rattle.grid.specs.declared.cell.Cell.{Cell}
-use Rattle.model.specs.Timetable.{Track, Timetable, same_cell, moves_after, moves, track_of}
+use Rattle.model.specs.Rules.{path_cell}
+use Rattle.model.specs.Timetable.{Track, Timetable, same_cell, moves_after, moves, path, track_of}
 use Rattle.model.specs.Laws.Tracks.{length-path}
 use Rattle.depgraph.specs.AgentParts.{AgentPart, IsPartOf, IsOfGraph}
 use Rattle.depgraph.specs.Graphs.{IsGraphed}
@@ -55,6 +56,12 @@ module _ (tt : Timetable) (p : AgentPart) (is : IsPartOf tt p) where
 
   pub count-cells : length p.cells ≡ moves is.track + 1
   count-cells = ap length is.cells ∙ length-path is.track.start is.track.later
+
+-- the cells of a path
+pub cell-there : (track : Track) (cells : List Cell) (k : ℕ) → cells ≡ path track → k ≤ moves track → slice_get cells k ≡ Some (path_cell track k)
+cell-there track cells k is most =
+    let count = length-path track.start track.later in
+    ap (λ l. slice_get l k) is ∙ slice_get-get_or (path track) k track.start (omega (arith, count, most))
 
 -- ---- a part of a graph
 

@@ -10,15 +10,15 @@ use Rattle.agent_commands.proofs.opening.open_tape.Goals as goal
 pub returns-in_err-opened : goal.returns-in_err-opened
 returns-in_err-opened g c p on table is =
     let q = err_from_is_err_and c.from_residual-in_err-opened.result c.from_residual-in_err-opened.ensures.1 in
-    let moves_of = ap Some (c.moves_of-moves.ensures.moves table is) ∙ sym (ap (option_map moves) is.is_track) in
-    rw (q.1, q.2) (no_tape g.R.File.Read.remaining (claim_of c.args.terms.now) p table c.args.part.now.agent c.moves_of-moves.result c.in_ok-file.field-0.file
-    c.in_err-opened.field-0.0 moves_of (λ same. c.in_err-opened.ensures.too_long (ap Err same)))
+    let own_moves = ap Some (c.own_moves-moves.ensures.moves table is) ∙ sym (ap (option_map moves) is.is_track) in
+    rw (q.1, q.2) (no_tape g.R.File.Read.remaining (claim_of c.args.terms.now) p table c.args.part.now.agent c.own_moves-moves.result c.in_ok-file.field-0.file
+    c.in_err-opened.field-0.0 own_moves (λ same. c.in_err-opened.ensures.too_long (ap Err same)))
 
 pub returns-in_err-tape : goal.returns-in_err-tape
 returns-in_err-tape g c p on table is =
     let q = err_from_is_err_and c.from_residual-in_err-tape.result c.from_residual-in_err-tape.ensures.1 in
-    let moves_of = ap Some (c.moves_of-moves.ensures.moves table is) ∙ sym (ap (option_map moves) is.is_track) in
-    let of = of_file g.R.File.Read.remaining table c.args.part.now.agent c.moves_of-moves.result c.in_ok-file.field-0.file c.in_ok-opened.opened moves_of c.in_ok-opened.ensures.image in
+    let own_moves = ap Some (c.own_moves-moves.ensures.moves table is) ∙ sym (ap (option_map moves) is.is_track) in
+    let of = of_file g.R.File.Read.remaining table c.args.part.now.agent c.own_moves-moves.result c.in_ok-file.field-0.file c.in_ok-opened.opened own_moves c.in_ok-opened.ensures.image in
     rw (q.1, q.2) (take_ends g.R.File.Read.remaining (claim_of c.args.terms.now) p table c.args.part.now.agent c.in_ok-opened.opened (Err c.in_err-tape.field-0.0) of
     (c.in_err-tape.ensures p on))
 
@@ -30,7 +30,7 @@ returns-in_err-unmarked g c p on table is =
 pub returns : goal.returns
 returns g c p on table is =
     let i = c.args.part.now.agent in
-    let moves_of = ap Some (c.moves_of-moves.ensures.moves table is) ∙ sym (ap (option_map moves) is.is_track) in
-    let of = of_file g.R.File.Read.remaining table i c.moves_of-moves.result c.in_ok-file.field-0.file c.in_ok-opened.opened moves_of c.in_ok-opened.ensures.image in
+    let own_moves = ap Some (c.own_moves-moves.ensures.moves table is) ∙ sym (ap (option_map moves) is.is_track) in
+    let of = of_file g.R.File.Read.remaining table i c.own_moves-moves.result c.in_ok-file.field-0.file c.in_ok-opened.opened own_moves c.in_ok-opened.ensures.image in
     let taken = take_ends g.R.File.Read.remaining (claim_of c.args.terms.now) p table i c.in_ok-opened.opened (Ok c.in_ok-tape.field-0) of (c.in_ok-tape.ensures p on) in
     subst (λ t. IsTapeOf g.R.File.Read.remaining table i t × IsClaimed g.R.File.Read.remaining (claim_of c.args.terms.now) p t) (sym c.new.ensures) taken

@@ -1,5 +1,5 @@
 -- The first line was read, and then the plan.
-use Rattle.std.proofs.Common.{subst, sym, ap}
+use Rattle.std.proofs.Common.{subst, sym}
 use Rattle.text_io.specs.Counted.{counted_inner}
 use Rattle.agent_commands.specs.Code.Plans.{IsNotRead, ReadsMark}
 use Rattle.agent_commands.proofs.PlanLemmas.{is_kept, no_line, no_plan}

@@ -2,7 +2,7 @@
 use Rattle.std.proofs.Common.{[], ◌∷◌, ◌++◌, refl}
 use Rattle.text_io.specs.Text.{spaced_numbers}
 use Rattle.text_io.specs.Laws.Putting.{Leaves-all, Leaves-less, Puts-last, Breaks-last}
-use Rattle.check_commands.specs.Code.Listing.{turn_of}
+use Rattle.depgraph.specs.Rotations.{turn_of}
 use Rattle.check_commands.proofs.FaultsLemmas.{turn-line-parts}
 use Rattle.check_commands.proofs.faults_text.put_turn_line.Goals as goal
 

@@ -1,6 +1,6 @@
 use Rattle.std.proofs.Common.{rules}
 use Rattle.text_io.specs.Laws.Putting.{same_writer, sink_written}
-use Rattle.check_commands.specs.Code.Listing.{turn_of}
+use Rattle.depgraph.specs.Rotations.{turn_of}
 use Rattle.check_commands.specs.VerdictText.{rejected_line, turn_text}
 use Rattle.check_commands.proofs.faults_text.write_turn.Goals as goal
 

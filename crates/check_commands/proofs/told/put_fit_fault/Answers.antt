@@ -1,7 +1,8 @@
 -- Each fault by its piece.
 use Rattle.std.proofs.Common.{ap, sym}
 use Rattle.check_commands.specs.FaultsText.{fit_fault_json}
-use Rattle.check_commands.proofs.ToldLemmas.{breaks_as, goal_differs-parts, puts_as, says, size_differs-parts, start_differs-parts}
+use Rattle.text_commands.specs.Laws.Pieces.{breaks_as, puts_as, says}
+use Rattle.check_commands.proofs.ToldLemmas.{goal_differs-parts, size_differs-parts, start_differs-parts}
 use Rattle.check_commands.proofs.told.put_fit_fault.Goals as goal
 
 pub returns-in-TooFewRows-clause-ok : goal.returns-in-TooFewRows-clause-ok

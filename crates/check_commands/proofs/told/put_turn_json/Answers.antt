@@ -3,9 +3,10 @@ use Rattle.std.proofs.Common.{◌++◌, ap, refl}
 use Rattle.std.specs.Prelude.{codes}
 use Rattle.std.proofs.lemmas.Result.{err_from_is_err_and}
 use Rattle.text_io.specs.Laws.Putting.{Leaves-all, Leaves-less, Leaves-broken, Puts-last, Breaks-last}
-use Rattle.check_commands.specs.Code.Listing.{turn_of}
+use Rattle.depgraph.specs.Rotations.{turn_of}
 use Rattle.check_commands.specs.FaultsText.{listed_numbers}
-use Rattle.check_commands.proofs.ToldLemmas.{head-pieces, object-parts, object_head, says}
+use Rattle.text_commands.specs.Laws.Pieces.{says}
+use Rattle.check_commands.proofs.ToldLemmas.{head-pieces, object-parts, object_head}
 use Rattle.check_commands.proofs.told.put_turn_json.Goals as goal
 
 pub returns-in_err-put_ended-clause-err : goal.returns-in_err-put_ended-clause-err

@@ -2,7 +2,7 @@
 use Rattle.std.proofs.Common.{◌≡◌, ◌∙◌, ◌∷◌, [], ap, codes, false, inl, is_ok, length, refl}
 use Rattle.text_commands.specs.Ending.{rejected}
 use Rattle.text_io.specs.FaultWords.{text_fault}
-use Rattle.check_commands.specs.Code.Listing.{turn_of}
+use Rattle.depgraph.specs.Rotations.{turn_of}
 use Rattle.check_commands.specs.FaultsText.{faults_text, of_turn}
 use Rattle.check_commands.specs.FaultWords.{turn_words}
 use Rattle.check_commands.specs.VerdictText.{rejected_line, turn_text}

@@ -3,7 +3,8 @@ use Rattle.std.proofs.Common.{◌≡◌, ℕ, zero, suc, ◌≤◌, List, [], �
 use Rattle.std.specs.Prelude.{MatchOption, map, take, slice_get}
 use Rattle.model.specs.declared.act.Act.{Act}
 use Rattle.model.specs.Plan.{Position, position_of, moved, Course, position_after, position_at, longest_of}
-use Rattle.continuing.specs.Continuing.{cut_course}
+use Rattle.continuing.specs.Continuing.{cut_course, cut_at}
+use Rattle.continuing.proofs.TrackedLemmas.{agrees-by}
 use Rattle.continuing.proofs.laws.cuts.Goals as goal
 
 place-same : (time : ℕ) (p : Position) (acts : List Act) (t : ℕ) → t ≤ time → position_after p (take time acts) t ≡ position_after p acts t
@@ -46,3 +47,7 @@ returns-clause-continues c = λ plan time. record {
 
 pub returns-clause-ends : goal.returns-clause-ends
 returns-clause-ends c = λ plan time. ends time plan.courses
+
+pub returns-clause-agrees : goal.returns-clause-agrees
+returns-clause-agrees c = λ plan time before after is whole.
+    agrees-by time (cut_at time plan) plan before after refl (sym (count-same time plan.courses)) (λ i t place most at. at-same time plan.courses i t place most at) is whole

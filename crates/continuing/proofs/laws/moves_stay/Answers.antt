@@ -12,59 +12,11 @@ use Rattle.model.specs.Laws.Tracks.{step-of_move, moving_step}
 use Rattle.continuing.specs.Continuing.{Continues, AgreesUpTo}
 use Rattle.continuing.specs.Laws.Agreeing.{moves-along, same-move, along, other-track, need-same}
 use Rattle.continuing.proofs.CourseLemmas.{longest-most}
+use Rattle.continuing.proofs.TrackedLemmas.{tracks-count, course-of_track, track-of_course, agrees-by}
 use Rattle.continuing.proofs.laws.moves_stay.Goals as goal
 
--- ---- the tracks of courses
-
-tracks-count : (courses : List Course) (tracks : List Track) → AreTracksOf courses tracks → length tracks ≡ length courses
-tracks-count [] tracks h = ap length h
-tracks-count (course ∷ courses) tracks h = ap length h.2 ∙ ap suc (tracks-count courses h.1 h.4)
-
-record HasTrack (courses : List Course) (track : Track) (i : ℕ) : Type 0 where
-  course : Course
-  there : slice_get courses i ≡ Some course
-  is : IsTrackOf course track
-
-course-of_track : (courses : List Course) (tracks : List Track) → AreTracksOf courses tracks → (i : ℕ) (track : Track) → slice_get tracks i ≡ Some track
-    → HasTrack courses track i
-course-of_track [] tracks h i track there = absurd (none-some track (subst (λ l. slice_get l i ≡ Some track) h there))
-course-of_track (course ∷ courses) tracks h i track there =
-    by_place (course-of_track courses h.1 h.4) i (subst (λ l. slice_get l i ≡ Some track) h.2 there) where
-      by_place : ((i : ℕ) (track : Track) → slice_get h.1 i ≡ Some track → HasTrack courses track i)
-          → (i : ℕ) → slice_get (h.0 ∷ h.1) i ≡ Some track → HasTrack (course ∷ courses) track i
-      by_place others zero e = record { course = course; there = refl; is = subst (IsTrackOf course) (same_Some h.0 track e) h.3 }
-      by_place others (suc i) e =
-          let rest = others i track e in
-          record { course = rest.course; there = rest.there; is = rest.is }
-
-track-of_course : (courses : List Course) (tracks : List Track) → AreTracksOf courses tracks → (i : ℕ) (course : Course) → slice_get courses i ≡ Some course
-    → (track : Track) × (slice_get tracks i ≡ Some track) × IsTrackOf course track
-track-of_course [] tracks h i course there = absurd (none-some course there)
-track-of_course (first ∷ courses) tracks h i course there =
-    let found = by_place (track-of_course courses h.1 h.4) i there in
-    (found.0, ap (λ l. slice_get l i) h.2 ∙ found.1, found.2) where
-      by_place : ((i : ℕ) (course : Course) → slice_get courses i ≡ Some course → (track : Track) × (slice_get h.1 i ≡ Some track) × IsTrackOf course track)
-          → (i : ℕ) → slice_get (first ∷ courses) i ≡ Some course → (track : Track) × (slice_get (h.0 ∷ h.1) i ≡ Some track) × IsTrackOf course track
-      by_place others zero e = (h.0, refl, subst (λ k. IsTrackOf k h.0) (same_Some first course e) h.3)
-      by_place others (suc i) e = others i course e
-
-agrees : (old new : Plan) (before after : Timetable) → Continues old new → IsTimetableOf old before → IsTimetableOf new after
-    → AgreesUpTo (longest_of old.courses) before after
-agrees old new before after h is will = record {
-  number = will.number ∙ h.number ∙ sym is.number;
-  agents = tracks-count new.courses after.tracks will.tracks ∙ h.agents ∙ sym (tracks-count old.courses before.tracks is.tracks);
-  same = λ i t c most stands.
-      (let found = stands-track before i t c stands in
-      let course = course-of_track old.courses before.tracks is.tracks i found.0 found.1 in
-      let place : position_at course.course t ≡ position_of c = sym (course.is.places t) ∙ ap position_of found.2 in
-      let now = some-found (slice_get new.courses i) (λ k. position_at k t ≡ position_of c)
-      (h.same i t (position_of c) most (subst (λ o. MatchOption o ⊥ (λ k. position_at k t ≡ position_of c)) (sym course.there) place)) in
-      let track = track-of_course new.courses after.tracks will.tracks i now.0 now.1 in
-      stands-from after i t c track.0 track.1 (same_place (cell_at track.0 t) c (track.2.places t ∙ now.2)));
-}
-
 pub returns-clause-agrees : goal.returns-clause-agrees
-returns-clause-agrees c = agrees
+returns-clause-agrees c = λ old new before after h is will. agrees-by (longest_of old.courses) old new before after h.number h.agents h.same is will
 
 continues : (old new : Plan) (before after : Timetable) → AgreesUpTo (longest_of old.courses) before after → IsTimetableOf old before → IsTimetableOf new after
     → Continues old new

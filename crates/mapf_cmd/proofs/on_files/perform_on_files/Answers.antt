@@ -48,6 +48,13 @@ returns-in-Tape g c =
     (λ _. (c.args.input.now ≡ c.args.input.now) × (done.new.out ≡ c.args.out.now) × (c.args.err.now ≡ c.args.err.now)) in
     subst Ends (sym c.in-Tape.is) (MatchResult-weaker done.result done.ensures (λ _ on. ((on, refl), refl)) (λ _ kept. (refl, kept, refl)))
 
+pub returns-in-Fleet : goal.returns-in-Fleet
+returns-in-Fleet g c =
+    let done = c.fleet_on_files in
+    let Ends : Line → Type 0 = λ line. MatchResult done.result (λ ending. PerformsOn g.R.File.Read.remaining g.I.Read.remaining g.W.Write.contents line c.args.input.now c.args.input.now c.args.out.now done.new.out (end_of ending) × ShowsOn g.E.Write.contents c.args.is_watched line c.args.err.now c.args.err.now)
+    (λ _. (c.args.input.now ≡ c.args.input.now) × (done.new.out ≡ c.args.out.now) × (c.args.err.now ≡ c.args.err.now)) in
+    subst Ends (sym c.in-Fleet.is) (MatchResult-weaker done.result done.ensures (λ _ on. ((on, refl), refl)) (λ _ kept. (refl, kept, refl)))
+
 pub returns-in-Agent : goal.returns-in-Agent
 returns-in-Agent g c =
     let done = c.agent_on_files in

@@ -1,5 +1,5 @@
 -- A file that could not be opened is told, and nothing was shown.
-use Rattle.std.proofs.Common.{◌≡◌, ◌∙◌, ◌||◌, ℕ, Bool, List, Option, inr, ap, refl, subst, sym}
+use Rattle.std.proofs.Common.{◌∙◌, ◌||◌, ℕ, Bool, List, Option, inr, ap, refl, subst, sym}
 use Rattle.text_io.specs.declared.counted.Counted.{Counted}
 use Rattle.command_line.specs.declared.lines.Line.{Line}
 use Rattle.command_line.specs.declared.lines.Line.TheVariants as line
@@ -20,6 +20,7 @@ shows_none told is_watched (line.Continues a b c) now = refl
 shows_none told is_watched (line.Run a b c d) now = refl
 shows_none told is_watched (line.Agent a b c d e) now = refl
 shows_none told is_watched (line.Tape a b c d) now = refl
+shows_none told is_watched (line.Fleet l) now = refl
 
 pub returns-in-Err-clause-performs : goal.returns-in-Err-clause-performs
 returns-in-Err-clause-performs g c = inr (c.gave_up.ensures ∙ ap gave_up c.words.ensures, c.in-Err.ensures.0, c.in-Err.ensures.1)

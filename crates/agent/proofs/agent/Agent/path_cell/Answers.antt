@@ -2,7 +2,7 @@ use Rattle.std.proofs.Common.{◌≤◌, length, sym, ap, subst, ◌∙◌, refl
 use Rattle.std.specs.Option.{IsSome}
 use Rattle.std.specs.Prelude.{slice_get}
 use Rattle.std.proofs.lemmas.Option.{same_Some}
-use Rattle.agent.proofs.OwnLemmas.{cell-there}
+use Rattle.depgraph.specs.Laws.AgentParts.{cell-there}
 use Rattle.agent.proofs.agent.Agent.path_cell.Goals as goal
 
 pub unwrap-requires : goal.unwrap-requires

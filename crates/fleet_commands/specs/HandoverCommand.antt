@@ -1,0 +1,63 @@
+-- What `mapf handover` does and answers.
+use Rattle.std.specs.Prelude.{◌≡◌, ℕ, ◌<◌, ◌&&◌, not, Bool, true, false, ⊤, List, length, Option, None, Result, Ok, Err}
+use Rattle.text_io.specs.declared.counted.Counted.{Counted}
+use Rattle.model.specs.Plan.{Plan}
+use Rattle.continuing.specs.Continuing.{cut_at}
+use Rattle.plan_text.specs.PlanText.{canonical_plan_text}
+use Rattle.planned.specs.Planned.{IsAtHand, ReadsTimetable}
+use Rattle.planned.specs.declared.reading.PlanAtHand.{PlanAtHand}
+use Rattle.text_commands.specs.declared.status.Status.TheVariants.{Done}
+use Rattle.text_commands.specs.Ending.{End, answered_with, gave_up}
+use Rattle.text_commands.specs.Rewriting.{EndsWriting}
+use Rattle.fleet_commands.specs.FoundTapes.{Found, AreFoundIn, is_known}
+use Rattle.fleet_commands.specs.CutTimes.{IsCutTime}
+use Rattle.fleet_commands.specs.LeftPlan.{is_left_out}
+use Rattle.fleet_commands.specs.FaultWords.{handover_fault_words}
+use Rattle.fleet_commands.specs.declared.handover_fault.HandoverFault.{HandoverFault}
+use Rattle.fleet_commands.specs.declared.handover_fault.HandoverFault.TheVariants.{Planned, BadTape, OutOfMemory}
+
+-- ---- what is known
+
+-- no agent is opened on the tape of this one, which isn't left out
+abbrev pub is_unknown : Option ℕ → List Found → ℕ → Bool
+is_unknown without found i = not (is_left_out without i) && not (is_known found i)
+
+abbrev pub AreAllKnown : Option ℕ → List Found → Type 0
+AreAllKnown without found = (i : ℕ) → i < length found → is_unknown without found i ≡ false
+
+pub record IsFirstUnknown (without : Option ℕ) (found : List Found) (i : ℕ) : Type 0 where
+  pub there : i < length found
+  pub unknown : is_unknown without found i ≡ true
+  pub first : (before : ℕ) → before < i → is_unknown without found before ≡ false
+
+-- ---- what comes of it
+
+-- The tapes were read, and this is the plan cut at the time by which all is made that was begun; or no agent is opened on a tape, or memory was refused.
+abbrev pub IsHandedOver : {F : Type 0} → (F → Option (List ℕ)) → PlanAtHand → Result Plan HandoverFault → Type 0
+IsHandedOver file_left it (Ok kept) =
+    (found : List Found) × (time : ℕ) × AreFoundIn file_left it.dependencies found × AreAllKnown None found × IsCutTime it.dependencies found time × (kept ≡ cut_at time it.plan)
+IsHandedOver file_left it (Err (BadTape i)) = (found : List Found) × AreFoundIn file_left it.dependencies found × IsFirstUnknown None found i
+IsHandedOver file_left it (Err OutOfMemory) = ⊤
+IsHandedOver file_left it (Err _) = ⊥
+
+-- The texts were read and the plan was checked, and then this came of it; or there is no such plan.
+abbrev pub ReadsThen
+    : {M P : Type 0} → (M → Option (List ℕ)) → (P → Option (List ℕ)) → Counted M → Counted M → Counted P → Counted P
+    → (PlanAtHand → Result Plan HandoverFault → Type 0) → Result Plan HandoverFault → Type 0
+ReadsThen map_left plan_left old_map new_map old_plan new_plan Comes (Err (Planned fault)) =
+    ReadsTimetable map_left plan_left old_map new_map old_plan new_plan (Err fault)
+ReadsThen map_left plan_left old_map new_map old_plan new_plan Comes answer =
+    (it : PlanAtHand) × IsAtHand map_left plan_left old_map new_map old_plan new_plan it × Comes it answer
+
+-- What the output got and how the command ended: the canonical text of the plan, or a beginning of it where the output failed; nothing where
+-- there is none.
+abbrev pub EndsByPlan : {W : Type 0} → (W → Option (List ℕ)) → Counted W → Counted W → End → Result Plan HandoverFault → Type 0
+EndsByPlan contents old new end (Ok p) = EndsWriting contents old new (answered_with Done) end (canonical_plan_text p)
+EndsByPlan contents old new end (Err fault) = (end ≡ gave_up (handover_fault_words fault)) × (new ≡ old)
+
+pub record AnswersHandover
+    {M P F W : Type 0} (map_left : M → Option (List ℕ)) (plan_left : P → Option (List ℕ)) (file_left : F → Option (List ℕ)) (contents : W → Option (List ℕ))
+    (old_map new_map : Counted M) (old_plan new_plan : Counted P) (old_out new_out : Counted W) (end : End) : Type 0 where
+  pub answer : Result Plan HandoverFault
+  pub reads : ReadsThen map_left plan_left old_map new_map old_plan new_plan (IsHandedOver file_left) answer
+  pub ends : EndsByPlan contents old_out new_out end answer

@@ -1,0 +1,25 @@
+-- What has to be believed, in the order in which to read it: each promise of the crate is made in these words, and in those of
+-- `planned`, `agent_commands` and `text_commands`.
+
+-- what the tapes of all agents were found to have
+pub mod FoundTapes
+-- what keeps each agent by that, and who keeps whom
+pub mod Standing
+-- what is made of numbers in turn
+pub mod Turns
+-- what is written of it
+pub mod StatusText
+-- what `mapf status` does and answers
+pub mod StatusCommand
+-- at which time a plan may be cut by that
+pub mod CutTimes
+-- what is left of a plan
+pub mod LeftPlan
+-- why it isn't handed over, in words
+pub mod FaultWords
+-- what `mapf handover` does and answers
+pub mod HandoverCommand
+-- what `mapf anew` does and answers
+pub mod AnewCommand
+-- What contracts of private functions say.
+pub mod Code

@@ -1,0 +1,58 @@
+//! Tapes each of which has to be right.
+ghost use Rattle.std.specs.Prelude.{◌≡◌, ◌≤◌, length, IfErr, IfOk, MatchOption};
+ghost use Rattle.fleet_commands.specs.FoundTapes.{AreFoundIn, AreWithinMoves};
+ghost use Rattle.fleet_commands.specs.HandoverCommand.{AreAllKnown, IsFirstUnknown, is_unknown};
+ghost use Rattle.fleet_commands.specs.LeftPlan.{is_left_out};
+ghost use Rattle.fleet_commands.specs.Code.Reading.{IsNotKnownBy};
+
+use crate::found_tapes::{is_known, read_tapes};
+use crate::handover_fault::HandoverFault;
+use agent_commands::AgentFault;
+use depgraph::Dependencies;
+use std::rt::Files;
+
+/// Reads the tapes of all agents, each of which has to be right, but for that of an agent that is left out.
+pub(crate) fn read_known<R: Files + AllocGlobal>(
+    rt: &R,
+    dependencies: &Dependencies,
+    tapes: &str,
+    without: Option<u16>,
+) -> Result<Vec<Result<u32, AgentFault>>, HandoverFault>
+    ensures known { IfOk result (λ found. AreFoundIn R.File.remaining dependencies.now found.items × AreAllKnown without found.items) }
+    ensures fault { IfErr result (IsNotKnownBy R.File.remaining dependencies.now without) }
+    ensures within { IfOk result (λ found. AreWithinMoves dependencies.now found.items) }
+{
+    let found = read_tapes(rt, dependencies, tapes)?;
+    // There are few enough for their numbers.
+    let _agents = dependencies.agents();
+    match first_unknown(&found, without) {
+        Some(agent) => Err(HandoverFault::BadTape(agent)),
+        None => Ok(found),
+    }
+}
+
+/// The first agent that is not opened on its tape, but for one that is left out.
+fn first_unknown(found: &[Result<u32, AgentFault>], without: Option<u16>) -> Option<u16>
+    requires { length found.now ≤ 65535 }
+    ensures { MatchOption result (AreAllKnown without found.now) (IsFirstUnknown without found.now) }
+{
+    for agent in 0..found.len() {
+        if is_unknown(found, without, agent as u16) {
+            return Some(agent as u16);
+        }
+    }
+    None
+}
+
+fn is_unknown(found: &[Result<u32, AgentFault>], without: Option<u16>, agent: u16) -> bool
+    ensures { result ≡ is_unknown without found.now agent }
+{
+    !is_left_out(without, agent) && !is_known(found, agent)
+}
+
+/// Whether an agent is left out.
+pub(crate) fn is_left_out(without: Option<u16>, agent: u16) -> bool
+    ensures { result ≡ is_left_out without agent }
+{
+    without == Some(agent)
+}
