@@ -18,6 +18,7 @@ import sys
 import tempfile
 import threading
 import time
+from typing import IO, Any, Callable, Iterable
 
 sys.dont_write_bytecode = True
 import product  # noqa: E402
@@ -48,14 +49,14 @@ class Interrupted(Exception):
     """A signal asked this call to end."""
 
 
-def wait_until(is_done) -> None:
+def wait_until(is_done: Callable[[], bool]) -> None:
     while not is_done():
         if asked:
             raise Interrupted
         time.sleep(0.05)
 
 
-def lock(file) -> None:
+def lock(file: IO[Any]) -> None:
     """Waits until no other call builds. The lock is held until the file is closed."""
 
     def is_ours() -> bool:
@@ -91,7 +92,7 @@ def gate(folder: pathlib.Path, count: int) -> bool:
     """Runs the kit's gate, tells each crate that is proved, and answers whether it passed. The gate ends where this call does."""
     began, written = time.monotonic(), []
 
-    def follow(lines) -> None:
+    def follow(lines: Iterable[str]) -> None:
         for line in lines:
             written.append(line)
             if PROVED.match(line):

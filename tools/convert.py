@@ -30,6 +30,7 @@ from typing import Optional, Sequence
 sys.dont_write_bytecode = True
 import canonical  # noqa: E402
 import path_check  # noqa: E402
+from given import number_in  # noqa: E402
 from leaving import heed_signals  # noqa: E402
 from mapf.faults import Failed  # noqa: E402
 from mapf.program import Program, usual_program  # noqa: E402
@@ -63,9 +64,10 @@ def say(text: str) -> None:
 def number(word: str) -> int:
     if word == NEW:
         return secrets.randbelow(MOST_NUMBER + 1)
-    if not word.isascii() or not word.isdigit() or int(word[:20]) > MOST_NUMBER:
+    found = number_in(word, MOST_NUMBER)
+    if found is None:
         raise argparse.ArgumentTypeError(f"a number from 0 to {MOST_NUMBER} or '{NEW}' is wanted, and '{word[:40]}' is neither")
-    return int(word)
+    return found
 
 
 class FormatHelp(argparse.Action):

@@ -10,6 +10,7 @@ The check needs no kit, but for the last part; where there is none, or another o
 import argparse
 import hashlib
 import os
+import pathlib
 import re
 import shutil
 import sys
@@ -30,7 +31,7 @@ class Fault(Exception):
     """Why dist/ does not hold."""
 
 
-def sum_of(path) -> str:
+def sum_of(path: pathlib.Path) -> str:
     return hashlib.sha256(path.read_bytes()).hexdigest()
 
 
@@ -56,7 +57,7 @@ def hold_version(kit: str) -> None:
         raise Fault(f"{VERSION.relative_to(product.ROOT)} says that {found[1] if found else 'no kit'} proved the program, and it was {kit}")
 
 
-def put(path, content: bytes, mode: int) -> None:
+def put(path: pathlib.Path, content: bytes, mode: int) -> None:
     """Writes a file so that it is there as a whole or as it was before, also for a program that runs."""
     path.parent.mkdir(parents=True, exist_ok=True)
     with tempfile.NamedTemporaryFile(dir=path.parent, delete=False) as new:

@@ -42,11 +42,11 @@ MEASURES: dict[str, tuple[str, int]] = {
     "stale-names": ("names of the code in docs/ that stand nowhere else", 0),
     "lost-calls": ("names in the table of promises that nothing there has", 0),
     "stale-promises": ("rows of that table that house.py --write-promises would change", 0),
-    "longest-promise": ("lines of definitions that a promise reaches, at the most", 3698),
-    "all-promises": ("lines of definitions that each promise reaches, summed up", 31320),
+    "longest-promise": ("lines of definitions that a promise reaches, at the most", 3980),
+    "all-promises": ("lines of definitions that each promise reaches, summed up", 35046),
     "long-functions": (f"functions of the product with more than {MOST_LINES_OF_FUNCTION} lines", 1),
     "long-files": (f"files with more than {MOST_LINES_OF_FILE} lines", 5),
-    "many-parameters": (f"functions with more than {MOST_PARAMETERS} parameters", 29),
+    "many-parameters": (f"functions with more than {MOST_PARAMETERS} parameters", 34),
 }
 
 

@@ -21,12 +21,13 @@ import time
 from typing import Sequence
 
 sys.dont_write_bytecode = True
+from given import number_up_to  # noqa: E402
 from ground import Ground  # noqa: E402
 from leaving import heed_signals  # noqa: E402
 from mapf.faults import Failed  # noqa: E402
 from mapf.program import Program, usual_program  # noqa: E402
 from plan_formats import mapf_plan  # noqa: E402
-from plan_formats.walks import Given, Walk, walk_of  # noqa: E402
+from plan_formats.walks import MOST_NUMBER, Given, Walk, walk_of  # noqa: E402
 from progress import Progress  # noqa: E402
 from refused import Refused  # noqa: E402
 from repairing.exhausting import is_there_none  # noqa: E402
@@ -35,13 +36,9 @@ from repairing.timetable import Rotation  # noqa: E402
 from showing.program import answer, copied, refuse  # noqa: E402
 from whole_file import draft  # noqa: E402
 
-MOST_NUMBER = 4_294_967_295
-
 
 def number(word: str) -> int:
-    if not word.isascii() or not word.isdigit() or int(word) > MOST_NUMBER:
-        raise argparse.ArgumentTypeError(f"{word!r} is no number up to {MOST_NUMBER}")
-    return int(word)
+    return number_up_to(word, MOST_NUMBER)
 
 
 def read_words(words: Sequence[str]) -> argparse.Namespace:

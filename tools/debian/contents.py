@@ -16,11 +16,13 @@ from mapf.faults import Failed
 # The tools that stand on the path, and their files.
 TOOLS = {
     "mapf-convert": "convert.py",
+    "mapf-handover": "handover.py",
     "mapf-judge": "judge.py",
     "mapf-prove": "prove.py",
     "mapf-repair": "repair.py",
     "mapf-rows": "rows.py",
     "mapf-show": "show.py",
+    "mapf-watch": "watch.py",
 }
 # What works on the sources of a checkout alone.
 OF_THE_CHECKOUT = frozenset(

@@ -32,8 +32,8 @@ Description: verified tools for multi-agent path finding
  to meet its contract.
  .
  Beside it are tools that convert plans of other planners, judge many of them,
- show them as pages, and mend those that robots can't drive; the same calls
- from Python; and the control program of a robot, also as a service.
+ show them as pages, mend those that robots can't drive, and watch fleets; the
+ same calls from Python; and the control program of a robot, also as a service.
 """
 # What Python wrote beside the modules where root called them is no file of the package.
 PRERM = """\

@@ -141,7 +141,7 @@ class Drawing {
   /** Up to which time of its path an agent has come. */
   stepOf(agent) {
     const { world } = this, { courses } = world;
-    return world.isRun ? courses.stepOf(agent, world.finished(agent)) : Math.min(Math.floor(world.time), courses.lengths[agent]);
+    return world.isDriven ? courses.stepOf(agent, world.finished(agent)) : Math.min(Math.floor(world.time), courses.lengths[agent]);
   }
 
   drawBands() {
@@ -208,10 +208,10 @@ class Drawing {
     }
   }
 
-  /** What only a run has: waits and restarts. */
+  /** What only a run and a fleet have: waits and restarts. */
   drawRun() {
     const { context, world, radius, colours } = this, { moment } = world;
-    if (!world.isRun) return;
+    if (!world.isDriven) return;
     for (let agent = 0; agent < moment.count; agent += 1) {
       if (moment.waitsFor[agent] >= 0) drawWait(context, this.place(agent), this.place(moment.waitsFor[agent]), radius, colours);
       if (moment.fresh[agent] > 0) drawRestart(context, ...this.place(agent), radius, moment.fresh[agent], colours);

@@ -15,14 +15,19 @@ class Side {
   constructor(facts, sections, ground, canvas) {
     const courses = new Courses(facts, sections), rotations = rotationsOf(sections.rotations);
     this.facts = facts;
-    this.world = facts.run
-      ? new RunWorld(courses, rotations, new Log(linesOf(sections.events), linesOf(sections.replies), courses.count), facts.run)
-      : new PlanWorld(courses, rotations);
+    this.world = worldOf(facts, sections, courses, rotations);
     this.faults = new Faults(facts.faults);
     this.drawing = new Drawing(ground, this.world, this.faults);
     this.canvas = canvas;
     this.context = canvas.getContext("2d", { alpha: false });
   }
+}
+
+/** A fleet that is driven now, a run, or the plan by itself. */
+function worldOf(facts, sections, courses, rotations) {
+  if (facts.live) return new LiveWorld(courses, rotations, facts.live);
+  if (!facts.run) return new PlanWorld(courses, rotations);
+  return new RunWorld(courses, rotations, new Log(linesOf(sections.events), linesOf(sections.replies), courses.count), facts.run);
 }
 
 /** The plan of the page, and perhaps another one beside it. */
@@ -64,6 +69,7 @@ class Show {
     this.setTheme("auto");
     for (const name of ["first", "back", "play", "on", "last", "slider", "speed"]) document.getElementById(name).disabled = !this.end;
     for (const name of ["sooner", "later"]) document.getElementById(name).disabled = !this.world.marks.length;
+    for (const name of ["buttons", "line", "pace"]) document.getElementById(name).hidden = this.world.isLive;
     this.controls = new Controls(this);
     new ResizeObserver(() => this.resize()).observe(this.canvas);
     matchMedia("(prefers-color-scheme: dark)").addEventListener("change", () => this.setTheme(this.theme));
@@ -142,7 +148,7 @@ class Show {
   toRotation() {
     const { rotations, time } = this;
     const next = rotations.find((it) => it.step > time) || rotations[0];
-    if (next && !this.world.isRun) this.seek(next.step);
+    if (next && !this.world.isDriven) this.seek(next.step);
   }
 
   /** To the next time that has a fault, or to the first one. */
@@ -328,7 +334,7 @@ class Show {
     const marks = [
       ...world.marks.map((time) => [time, world.log.isFailure(time - 1) ? this.colours.fault : this.colours.accent]),
       ...(world.isRun ? [] : this.faults.map((it) => [it.time, this.colours.fault])),
-      ...(world.isRun ? [] : this.rotations.map((it) => [it.step, this.colours.ring])),
+      ...(world.isDriven ? [] : this.rotations.map((it) => [it.step, this.colours.ring])),
     ];
     strip.hidden = !marks.length;
     const width = strip.clientWidth, dots = window.devicePixelRatio || 1;
@@ -365,7 +371,9 @@ async function start() {
   const sections = await unpack(facts.sizes);
   window.page = new Show(facts, sections);
   window.page.showFault();
-  window.page.obeyAddress();
+  const renewal = facts.live && new Renewal(window.page);
+  // What was chosen since the address was given stays.
+  if (!renewal?.isTakenUp) window.page.obeyAddress();
   window.addEventListener("hashchange", () => window.page.obeyAddress());
   window.page.draw();
 }

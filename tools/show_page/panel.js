@@ -12,12 +12,13 @@ class Panel {
     this.act = act;
     this.element = (name) => document.getElementById(name);
     for (const [place, side] of sides.entries()) {
-      this.element(place ? "other" : "verdict").className = `verdict ${side.faults.all.length ? "bad" : "good"}`;
+      this.element(place ? "other" : "verdict").className = `verdict ${side.faults.all.length || side.world.isAlarmed ? "bad" : "good"}`;
       this.showSource(side);
       this.showFaults(side);
       this.showTurns(side);
     }
     if (this.world.isRun) this.showRun();
+    if (this.world.isLive) this.showFleet();
   }
 
   /** The name of a plan as a heading, where there are two. */
@@ -62,11 +63,16 @@ class Panel {
       + "Agents that wait for one another can't begin that: no run of this plan comes to its end."));
     for (const it of rotations.slice(0, MOST_TURNS)) {
       const line = made("p", "", `Step ${shownNumber(it.step)}: agents ${listed(it.agents)} `);
-      if (!this.world.isRun) line.append(button("Show", () => this.act.seek(it.step), "to this rotation"));
+      if (!this.world.isDriven) line.append(button("Show", () => this.act.seek(it.step), "to this rotation"));
       section.append(line);
     }
     const more = rotations.length - MOST_TURNS;
     if (more > 0) section.append(made("p", "faint", `and ${shownNumber(more)} more: the key r goes to the next one`));
+  }
+
+  showFleet() {
+    this.element("fleet").hidden = false;
+    this.element("told").replaceChildren(...toldInLines(this.world.live.told, (agent) => this.toAgent(agent)));
   }
 
   showRun() {
@@ -169,8 +175,11 @@ class Panel {
   aboutIn(side, agent) {
     const name = this.nameOf(side), head = name ? [made("p", "faint", name)] : [];
     if (agent >= side.world.courses.count) return [...head, made("p", "", "has no such agent")];
-    const choose = (other) => button(`agent ${other}`, () => this.act.choose(other), "chooses this agent");
-    const lines = side.world.about(agent, choose).map((it) => made("li", "", it));
+    const lines = side.world.about(agent, (other) => this.toAgent(other)).map((it) => made("li", "", it));
     return [...head, made("ul", "", ...lines)];
+  }
+
+  toAgent(agent) {
+    return button(`agent ${agent}`, () => this.act.choose(agent), "chooses this agent");
   }
 }

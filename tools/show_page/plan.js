@@ -32,7 +32,7 @@ class PlanWorld {
   constructor(courses, rotations) {
     this.courses = courses;
     this.end = courses.end;
-    this.isRun = false;
+    this.isRun = this.isDriven = this.isLive = false;
     this.rotations = rotations;
     this.moment = new Moment(courses.count);
     this.marks = [];

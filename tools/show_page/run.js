@@ -11,7 +11,8 @@ class RunWorld {
     this.courses = courses;
     this.log = log;
     this.end = log.kind.length;
-    this.isRun = true;
+    this.isRun = this.isDriven = true;
+    this.isLive = false;
     this.rotations = rotations;
     const [word, number] = facts.ending.split(" ");
     this.blocking = word === "blocked" ? [rotations[Number(number)]] : [];

@@ -52,15 +52,17 @@ function movingSign(context, colours) {
 /** The signs of a page: a drawing and its meaning, of what there can be on it. */
 function signsOf(sides, terrain) {
   const has = (...codes) => codes.some((code) => terrain.includes(code)), worlds = sides.map((it) => it.world);
-  const { isRun } = worlds[0], saysWaits = isRun || worlds.some((it) => it.courses.needs.length > 0);
+  const { isRun, isLive, isDriven } = worlds[0], saysWaits = isRun || worlds.some((it) => it.courses.needs.length > 0);
   const hasFaults = sides.some((it) => it.faults.all.length > 0);
   return [
     [true, agentSign(0), "an agent"],
     [true, goalSign, "where its path ends"],
-    [isRun, movingSign, "moving: it holds both cells"],
+    [isDriven, movingSign, "moving: it holds both cells"],
     [isRun, agentSign(WAITS), "waiting: a start was refused"],
+    [isLive, agentSign(WAITS), "waiting for another agent"],
     [saysWaits, waitSign, "from who waits to whom it waits for"],
     [isRun, agentSign(BROKEN), "broken: a write failed"],
+    [isLive, agentSign(BROKEN), "no tape that can be taken: nobody knows where it is"],
     [isRun, restartSign, "restarted a short while ago"],
     [isRun, letterSign(false), "a message on its way"],
     [isRun, letterSign(true), "a message that nobody hears"],

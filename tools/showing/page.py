@@ -1,6 +1,7 @@
 """Puts the page together: one text with its style, its script and all that it shows."""
 import base64
 import dataclasses
+import functools
 import html
 import itertools
 import json
@@ -10,12 +11,13 @@ import zlib
 from array import array
 from typing import Iterator, Optional, Sequence
 
+from showing.live import Live
 from showing.sides import Side
 from showing.verdicts import Ground, in_words
 
 PARTS = pathlib.Path(__file__).resolve().parent.parent / "show_page"
 # The scripts in their order. They share one scope.
-SCRIPTS = ("data", "words", "plan", "log", "run", "ground", "view", "marks", "signs", "drawing", "panel", "controls", "picture", "main")
+SCRIPTS = ("data", "words", "plan", "log", "run", "live", "ground", "view", "marks", "signs", "drawing", "panel", "controls", "picture", "main")
 
 # How the parts of a second plan are called.
 BESIDE = "beside "
@@ -28,7 +30,8 @@ class Shown:
     names: dict[str, str]
     ground: Ground
     side: Side
-    beside: Optional[Side]
+    beside: Optional[Side] = None
+    live: Optional[Live] = None
 
     @property
     def end(self) -> int:
@@ -67,7 +70,8 @@ def little(numbers: array) -> bytes:
 def facts(shown: Shown, parts: Sequence[tuple[str, bytes]]) -> dict[str, object]:
     """What there is little of, and how long each of the other parts is."""
     own = {"names": shown.names, "width": shown.ground.width, "height": shown.ground.height, "sizes": {name: len(part) for name, part in parts}}
-    return {**own, **facts_of(shown.side, shown), "beside": shown.beside and facts_of(shown.beside, shown)}
+    live = shown.live and dataclasses.asdict(shown.live)
+    return {**own, **facts_of(shown.side, shown), "beside": shown.beside and facts_of(shown.beside, shown), "live": live}
 
 
 def facts_of(side: Side, shown: Shown) -> dict[str, object]:
@@ -87,13 +91,17 @@ def facts_of(side: Side, shown: Shown) -> dict[str, object]:
 
 
 def words_of(side: Side, shown: Shown) -> str:
-    """The verdict, with the plan's name where there are two."""
+    """The verdict, with the plan's name where there are two; or how the fleet is."""
+    if shown.live:
+        return shown.live.words
     words = in_words(side.verdict, side.faults, shown.names.get("scen", ""))
     return f"{side.name}: {words}" if shown.beside else words
 
 
-def packed(parts: Sequence[tuple[str, bytes]]) -> str:
-    """All parts, each filled up to a whole number of four bytes, compressed, as text."""
+@functools.lru_cache(maxsize=1)
+def packed(parts: tuple[tuple[str, bytes], ...]) -> str:
+    """All parts, each filled up to a whole number of four bytes, compressed, as text. Those of a
+    fleet that is watched stay the same from page to page."""
     whole = b"".join(part + bytes(-len(part) % 4) for _, part in parts)
     press = zlib.compressobj(9, zlib.DEFLATED, -zlib.MAX_WBITS)
     return base64.b64encode(press.compress(whole) + press.flush()).decode()
@@ -110,7 +118,7 @@ def read_part(name: str) -> str:
 
 def page(shown: Shown) -> Iterator[str]:
     """The text of the page, in ASCII alone."""
-    parts = list(sections(shown))
+    parts = tuple(sections(shown))
     title = " \u00b7 ".join(shown.names.values())
     fields = {
         "title": html.escape(title),
