@@ -43,9 +43,7 @@ class BlackBox:
     """The box of a robot, which goes on behind what the robot before it has left."""
 
     def __init__(self, path: str, agent: int, files: Sequence[str]):
-        self.path, self.agent, self.process = path, agent, 0
-        # A robot is given the same two files from its start on.
-        self.about: Mapping[str, str] = {"boot": boot(), "map": digest(files[0]), "plan": digest(files[1])}
+        self.path, self.agent, self.files, self.process = path, agent, files, 0
         self.file = os.open(path, os.O_RDWR | os.O_APPEND | os.O_CREAT, 0o666)
         size = os.fstat(self.file).st_size
         if size and os.pread(self.file, 1, size - 1) != b"\n":
@@ -55,10 +53,14 @@ class BlackBox:
     def note(self, what: str, value: object) -> None:
         """Of a start the value is the process."""
         if what == "started":
-            self.process, value = int(str(value)), self.about
+            self.process, value = int(str(value)), self._about()
         times = {"wall": round(time.time(), 6), "clock": round(time.monotonic(), 6)}
         line = {**times, "agent": self.agent, "process": self.process, what: value}
         self._write(f"{json.dumps(line)}\n".encode("ascii"))
+
+    def _about(self) -> Mapping[str, str]:
+        """Another plan may have come into the place of the one before."""
+        return {"boot": boot(), "map": digest(self.files[0]), "plan": digest(self.files[1])}
 
     def _write(self, line: bytes) -> None:
         """A box without a line would be untrue: who can't write it doesn't go on."""

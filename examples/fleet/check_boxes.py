@@ -1,11 +1,12 @@
 #!/usr/bin/env python3
 """Checks what the black boxes of a fleet have: whether all that its agents answered is what the event rules give, by `mapf run`.
 
-Usage: check_boxes.py MAP PLAN BOX.. [--agent N [--last N]] [--events FILE] [--program PATH]
+Usage: check_boxes.py MAP PLAN BOX.. [--earlier PLAN..] [--agent N [--last N]] [--events FILE] [--program PATH]
 
 A BOX is what `robot.py --box` wrote; MAP and PLAN are the files by which the fleet was driven, with tapes that were new. All that was asked
 and answered becomes one list of events, which `mapf run` answers, and these answers have to be the agents' own. With --agent stands before
-that what one agent was asked last, what it answered, and what it held then by the rules.
+that what one agent was asked last, what it answered, and what it held then by the rules. Where plans went on from one another, PLAN is the
+last one, and the others stand behind --earlier. By these an agent may refuse what it may do by the last one: such answers are left out.
 
 Status 0: they agree, in one line. 1: they don't; the first difference is shown whole. 2: a bad command line; or boxes that can't be read,
 don't go together, or don't fit the map and the plan. 3: another file or the program failed.
@@ -25,13 +26,14 @@ from agent import STORE_FAILED  # noqa: E402
 from black_box import digest  # noqa: E402
 from dialogues import OPENED, BadBox, Box, Moment, Process, Turn, read_boxes  # noqa: E402
 from foresight import Foresight, moves_of, needs_of  # noqa: E402
-from history import DELIVER, HEARD, MAY, SAY, SAYS, History, Step, find_unanswered, history_of, state_after  # noqa: E402
+from given import number_in  # noqa: E402
+from history import DELIVER, HEARD, LEFT_OUT, MAY, SAY, SAYS, History, Step, find_unanswered, history_of, state_after  # noqa: E402
 from leaving import heed_signals  # noqa: E402
 from program import usual_program  # noqa: E402
 
 DIFFER, UNFIT, FAILED = 1, 2, 3
-# How many calls of an agent are shown.
-LAST = 20
+# How many calls of an agent are shown, and the most that may be asked for.
+LAST, MOST = 20, 999_999_999
 # How much of a line is shown in an account.
 SHOWN = 60
 # What a program answers to a question that it doesn't know.
@@ -43,9 +45,10 @@ class Failed(Exception):
 
 
 def number(word: str) -> int:
-    if not word.isascii() or not word.isdigit() or len(word) > 9:
+    found = number_in(word, MOST)
+    if found is None:
         raise argparse.ArgumentTypeError(f"a number is wanted, and '{word[:40]}' is none")
-    return int(word)
+    return found
 
 
 def read_words(words: Sequence[str]) -> argparse.Namespace:
@@ -53,6 +56,7 @@ def read_words(words: Sequence[str]) -> argparse.Namespace:
     parser.add_argument("map", metavar="MAP")
     parser.add_argument("plan", metavar="PLAN")
     parser.add_argument("boxes", nargs="+", metavar="BOX", help="the box of a robot; whose box isn't given is taken to have said nothing")
+    parser.add_argument("--earlier", nargs="+", default=[], metavar="PLAN", help="plans by which the fleet was driven before")
     parser.add_argument("--agent", type=number, metavar="N", help="shows what this agent was asked last")
     parser.add_argument("--last", type=number, default=LAST, metavar="N", help="how many calls of it are shown (%(default)s)")
     parser.add_argument("--events", type=pathlib.Path, metavar="FILE", help="writes the list there, as a text of events for `mapf run`")
@@ -143,20 +147,24 @@ def judged(rules: Rules, history: History) -> Iterator[Judged]:
                 learn(foresight, step, given)
         elif step.event == MAY:
             given = foresight.answer(agent, states[agent], step.turn.asked) or "" if foresight else BAD_LINE
+        elif step.event == LEFT_OUT:
+            given = step.answer or ""
         else:
             given = states[agent] if step.event else alike.get(step.turn.asked, "")
         yield Judged(step, given, states[agent])
 
 
 def hold_boxes(given: argparse.Namespace, boxes: Sequence[Box], agents: int) -> None:
-    """They have to be of this map, this plan and one version."""
-    due = {"map": digest(given.map), "plan": digest(given.plan)}
+    """They have to be of this map and these plans, of which not all processes have the last one."""
+    due = {"map": [digest(given.map)], "plan": [*map(digest, [given.plan, *given.earlier])]}
     for box in boxes:
         if box.agent >= agents:
             raise BadBox(f"{box.path}: it is of agent {box.agent}, and {given.plan} has {agents} agents")
-        for name, value in due.items():
-            if any(about.get(name, value) != value for about in box.about):
-                raise BadBox(f"{box.path}: its agent was given another {name} than {getattr(given, name)}")
+        for process in box.processes:
+            for name, values in due.items():
+                if process.about.get(name, values[0]) not in values:
+                    raise BadBox(f"{box.path}: its agent was given another {name} than {getattr(given, name)}")
+            process.is_earlier = process.about.get("plan", due["plan"][0]) != due["plan"][0]
 
 
 def version_of(boxes: Sequence[Box]) -> int:
@@ -211,6 +219,8 @@ def summary(boxes: Sequence[Box], agents: int, history: History) -> str:
         "heard": sum(it.event.startswith(DELIVER) for it in history.steps),
         "strangers' lines": sum(not it.event for it in history.steps),
     }
+    left_out = sum(it.event == LEFT_OUT for it in history.steps)
+    counts.update({"left out": left_out} if left_out else {})
     who = f"{agents} agents" if len(boxes) == agents else f"{len(boxes)} of {agents} agents"
     told = ", ".join([who, *(f"{count:,} {name}" for name, count in counts.items())])
     return f"agreed: {told}" + (f"; clocks are off by {history.most_early:.3f} seconds or more" if history.most_early > 0 else "")

@@ -40,10 +40,14 @@ class Turn:
 @dataclasses.dataclass
 class Process:
     number: int
+    # What was said of its start: the machine's boot, and digests of the files.
+    about: dict[str, object]
     turns: list[Turn]
     # How it ended, and when, if its robot has lived to say so.
     status: Optional[int] = None
     over: Optional[Moment] = None
+    # Whether its plan is one before the last.
+    is_earlier: bool = False
 
     @property
     def first(self) -> Optional[str]:
@@ -56,8 +60,6 @@ class Box:
     path: str
     agent: int
     processes: list[Process]
-    # What was said of each start: the machine's boot, and digests of the files.
-    about: list[dict[str, object]]
 
     @property
     def opened(self) -> list[Process]:
@@ -119,12 +121,11 @@ class Reader:
             self.add(line)
 
     def add(self, line: Line) -> None:
-        self.box = self.box or Box(self.path, line.agent, [], [])
+        self.box = self.box or Box(self.path, line.agent, [])
         if line.agent != self.box.agent:
             raise self.fault(line.number, f"is of agent {line.agent}, and those before of agent {self.box.agent}")
         if line.word == "started":
-            self.box.processes.append(Process(line.process, [Turn(line.agent, OPENED, line.at, line.number)]))
-            self.box.about.append(line.value)
+            self.box.processes.append(Process(line.process, line.value, [Turn(line.agent, OPENED, line.at, line.number)]))
             return
         process = self.box.processes[-1] if self.box.processes else None
         if not process or process.number != line.process or process.over:

@@ -1,8 +1,8 @@
 #!/usr/bin/env python3
 """Drives a fleet: one process `mapf agent` for each agent of a plan.
 
-Usage: fleet.py [--agents N] [--seed N] [--loss RATE] [--kills RATE] [--tell] [--quiet] [--boxes FOLDER] [--program PATH]
-       [--plan FILE --map FILE] [--orders [N]]
+Usage: fleet.py [--agents N] [--seed N] [--loss RATE] [--kills RATE] [--tell] [--quiet] [--program PATH] [--plan FILE --map FILE]
+       [--orders [N] | --take I | --boxes FOLDER]
 
 Each robot asks its own process when it may go on, and says to the others what it has finished, or with `--tell` all that it knows of
 anyone. The link between them loses messages, repeats them and lets them overtake one another; drives take their time; and at any moment
@@ -13,6 +13,9 @@ The same seed gives the same run, but for what a kill interrupts.
 With `--orders` the robots begin where the plan begins, and carry out N orders, or as many as there is time for until this is interrupted. Each order sends a
 robot to some cell. They are given out in plans, each of which goes on from the one before; the robots take them one by one while they drive, and who hasn't
 got the last one yet drives by an older one.
+
+With `--take I` robot I is lifted off the floor at some moment, and its process is gone. The others go on for a while, as far as they may without it, and
+are stopped: each comes to the end of the move that it has begun. Then they begin anew, by a plan of what is left, with its own number and new tapes.
 
 Status 0: all have arrived, and each tape, opened once more, says so. 1: two robots held a common cell, the plan can't be driven to its end, or a
 process doesn't start. 2: a bad command line. 3: a file is not there.
@@ -25,201 +28,60 @@ import secrets
 import subprocess
 import sys
 import tempfile
-import time
+from typing import Optional, Sequence, Union
 
 sys.dont_write_bytecode = True
 from black_box import note_of  # noqa: E402
+from carried_off import CarriedOff, NoNewPlan, Unanswered, plan_of_others  # noqa: E402
+from given import number_in, number_up_to  # noqa: E402
+from lossy_link import Link  # noqa: E402
 from orders import NoPlan, Orders  # noqa: E402
+from planning import Cell  # noqa: E402
 from program import usual_program  # noqa: E402
+from simulated_robot import FAILED, Robot, Unfit, cell_of  # noqa: E402
 
 HERE = pathlib.Path(__file__).resolve().parent
 STEP_OF = {"n": (0, -1), "s": (0, 1), "e": (1, 0), "w": (-1, 0), "-": (0, 0)}
 NAMES = "0123456789abcdefghijklmnopqrstuvwxyz"
 # How many numbers a plan may have.
 NUMBERS = 1 << 32
-LONGEST_DRIVE = 4
-LONGEST_DELAY = 8
+# The greatest number of an agent, and of orders.
+MOST = 65_535
 SAY_EACH = 5
 # In so many moments a robot takes a newer plan that is there.
 TAKES = 0.05
-# The status of a process that failed, and may be started again, and the seconds until then.
-FAILED = 3
-PAUSE = 0.5
+# A robot is carried off after so many moments at the most, and the others are stopped so many later.
+LATEST_TAKE, LONGEST_WITHOUT = 120, 60
+# What stands in a robot's place.
+Seat = Union[Robot, CarriedOff]
 
 
-def read_courses(plan):
+def read_courses(plan: pathlib.Path) -> tuple[str, list[str]]:
     """The first line of a plan, and each agent's line."""
     lines = plan.read_text(encoding="ascii", errors="replace").splitlines()
     return lines[0] if lines else "", lines[3:]
 
 
-def plan_text(head, courses):
+def plan_text(head: str, courses: Sequence[str]) -> str:
     """A plan with these lines of agents, and a number that is drawn for this run alone."""
     return "\n".join([head, f"number {secrets.randbelow(NUMBERS)}", f"agents {len(courses)}", *courses, ""])
 
 
-def goal_of(line):
+def goal_of(line: str) -> Cell:
     """The cell in which an agent's course ends."""
     _, x, y, acts = line.split()
     steps = [STEP_OF[act] for act in acts if act in STEP_OF]
     return int(x) + sum(dx for dx, _ in steps), int(y) + sum(dy for _, dy in steps)
 
 
-def start_of(line):
+def start_of(line: str) -> Cell:
     """The cell in which an agent's course begins."""
     return cell_of(line.split()[1:3])
 
 
-class Killed(Exception):
-    """The process has ended before its answer was read, and was started again."""
-
-
-class Unfit(Exception):
-    """The fleet can't be driven."""
-
-
-# The place of the plan among the words that start a robot's process.
-PLAN = 3
-
-
-class Robot:
-    """A robot: its process, its drive, and what it holds as seen from outside."""
-
-    def __init__(self, words, goal, kills, rng, note):
-        self.words, self.goal, self.kills, self.rng, self.note = words, goal, kills, rng, note
-        self.process = None
-        self.held = ()
-        self.done = 0
-        self.drives = 0
-        self.deaths = 0
-        self.start("new")
-
-    def start(self, tape):
-        """Starts the process on the robot's tape. Its first line says where the robot is by what was stored."""
-        while True:
-            self.process = subprocess.Popen([*self.words, "--tape", tape], stdin=subprocess.PIPE, stdout=subprocess.PIPE, text=True)
-            self.note("started", self.process.pid)
-            answer = self.read()
-            if answer:
-                return self.stand(answer)
-            self.wait_out()
-
-    def read(self):
-        """The words of the next answer, none where the process has ended."""
-        line = self.process.stdout.readline()
-        if not line.endswith("\n"):
-            return []
-        self.note("answered", line[:-1])
-        return line.split()
-
-    def end(self):
-        """Waits until the process has ended."""
-        self.process.communicate()
-        self.note("ended", self.process.returncode)
-
-    def wait_out(self):
-        """Whatever failed, a process that says so may be started again a little later."""
-        self.end()
-        if self.process.returncode != FAILED:
-            raise Unfit(f"{' '.join(self.words)}: ended with status {self.process.returncode}")
-        print(f"{' '.join(self.words)}: failed, and is started again", file=sys.stderr, flush=True)
-        time.sleep(PAUSE)
-
-    def stand(self, answer):
-        """Takes over what an `at` or a `between` line says. Between two cells the drive goes on."""
-        if answer[0] == "at":
-            self.held, self.done = (cell_of(answer[1:3]),), int(answer[4])
-        else:
-            self.held, self.done = (cell_of(answer[1:3]), cell_of(answer[3:5])), int(answer[6])
-            self.drives = self.rng.randint(1, LONGEST_DRIVE)
-
-    def die(self):
-        """The process is killed, wherever it is just now, and started again."""
-        self.process.kill()
-        self.end()
-        self.deaths += 1
-        self.start("kept")
-
-    def take(self, plan):
-        """Goes on by another plan. What it has heard it hears again."""
-        self.words[PLAN] = str(plan)
-        self.end()
-        self.start("kept")
-
-    def ask(self, line):
-        """The words of the answer to a line."""
-        self.note("asked", line)
-        with contextlib.suppress(BrokenPipeError):
-            self.process.stdin.write(line + "\n")
-            self.process.stdin.flush()
-        if self.rng.random() < self.kills:
-            time.sleep(self.rng.random() / 500)
-            self.die()
-            raise Killed
-        answer = self.read()
-        if answer in ([], ["refused", "StoreFailed"]):
-            self.wait_out()
-            self.start("kept")
-            raise Killed
-        return answer
-
-    def go_on(self):
-        """One moment of the robot's life: it drives, says that it has arrived, or asks whether it may go on. Answers whether it is at its end."""
-        if self.drives > 1:
-            self.drives -= 1
-        elif len(self.held) == 2:
-            answer = self.ask("finish")
-            self.held, self.done, self.drives = (cell_of(answer[1:]),), self.done + 1, 0
-        else:
-            answer = self.ask("start")
-            if answer == ["refused", "AtEnd"]:
-                return True
-            if answer[0] == "moving":
-                self.held = (self.held[0], cell_of(answer[1:]))
-                self.drives = self.rng.randint(1, LONGEST_DRIVE)
-        return False
-
-    def is_home(self):
-        """Whether the tape, opened once more, says that the robot stands where its course ends."""
-        self.end()
-        self.start("kept")
-        self.end()
-        return self.held == (self.goal,)
-
-
-def cell_of(words):
-    return int(words[0]), int(words[1])
-
-
-class Link:
-    """Carries messages, some never, some twice, each with a delay of its own."""
-
-    def __init__(self, loss, rng):
-        self.loss, self.rng = loss, rng
-        self.under_way = []
-        self.sent = self.lost = self.repeated = 0
-
-    def send(self, now, to, message):
-        self.sent += 1
-        if self.rng.random() < self.loss:
-            self.lost += 1
-            return
-        copies = 2 if self.rng.random() < self.loss else 1
-        self.repeated += copies - 1
-        for _ in range(copies):
-            self.under_way.append((now + self.rng.randint(1, LONGEST_DELAY), to, message))
-
-    def arrived(self, now):
-        """The messages that are due, in any order."""
-        due = [it for it in self.under_way if it[0] <= now]
-        self.under_way = [it for it in self.under_way if it[0] > now]
-        self.rng.shuffle(due)
-        return [(to, message) for _, to, message in due]
-
-
-def meeting(robots):
+def meeting(robots: Sequence[Seat]) -> Optional[tuple[int, int, Cell]]:
     """Two robots that hold a common cell, if there are such."""
-    holders = {}
+    holders: dict[Cell, int] = {}
     for number, robot in enumerate(robots):
         for cell in robot.held:
             if cell in holders:
@@ -228,7 +90,7 @@ def meeting(robots):
     return None
 
 
-def picture(rows, robots, step):
+def picture(rows: Sequence[str], robots: Sequence[Seat], step: int) -> str:
     """The map with the robots: a robot that drives is in both of its cells."""
     shown = [list(row) for row in rows]
     for number, robot in enumerate(robots):
@@ -237,7 +99,61 @@ def picture(rows, robots, step):
     return "\n".join([f"step {step}", *("".join(row) for row in shown), ""])
 
 
-def check_plan(given, plan, nothing):
+class Fleet:
+    """Robots and the link between them, moment by moment."""
+
+    def __init__(self, given: argparse.Namespace, robots: Sequence[Robot], rows: Sequence[str], rng: random.Random):
+        self.given, self.rows, self.rng = given, rows, rng
+        self.seats: list[Seat] = [*robots]
+        self.link = Link(given.loss, rng)
+        self.step = 0
+        self.arrived: set[int] = set()
+
+    @property
+    def robots(self) -> list[Robot]:
+        """Those that weren't carried off."""
+        return [seat for seat in self.seats if isinstance(seat, Robot)]
+
+    def is_safe_for(self, moments: int) -> bool:
+        """Whether no two robots hold a common cell for so many moments."""
+        return all(self.is_safe_after_a_moment() for _ in range(moments))
+
+    def is_safe_after_a_moment(self) -> bool:
+        """Whether no two robots hold a common cell, while each lives on for a moment."""
+        self.step += 1
+        for to, message in self.link.arrived(self.step):
+            with contextlib.suppress(Unanswered):
+                self.seats[to].ask(f"hear {message}")
+        for number in self.rng.sample(range(len(self.seats)), len(self.seats)):
+            with contextlib.suppress(Unanswered):
+                self._live(number)
+            if self.has_met():
+                return False
+        if not self.given.quiet:
+            print(picture(self.rows, self.seats, self.step))
+        return True
+
+    def _live(self, number: int) -> None:
+        """A moment of one robot, and what it says to the others."""
+        seat = self.seats[number]
+        if number not in self.arrived and seat.go_on():
+            self.arrived.add(number)
+        if (self.step + number) % SAY_EACH == 0:
+            message = seat.ask("tell" if self.given.tell else "say")[1]
+            for other in range(len(self.seats)):
+                if other != number:
+                    self.link.send(self.step, other, message)
+
+    def has_met(self) -> bool:
+        """Whether two robots hold a common cell, which is told."""
+        met = meeting(self.seats)
+        if met:
+            print(picture(self.rows, self.seats, self.step))
+            print(f"step {self.step}: the robots {met[0]} and {met[1]} hold {met[2]} both")
+        return met is not None
+
+
+def check_plan(given: argparse.Namespace, plan: pathlib.Path, nothing: pathlib.Path) -> None:
     """A plan that can't be driven to its end is not driven at all."""
     nothing.write_text("mapf-events 1\n")
     words = [given.program, "run", str(given.map), str(plan), str(nothing), "--complete"]
@@ -247,7 +163,7 @@ def check_plan(given, plan, nothing):
         raise Unfit(f"{given.plan}: `mapf run --complete` says '{said}'")
 
 
-def robots_of(given, folder, rng):
+def robots_of(given: argparse.Namespace, folder: pathlib.Path, rng: random.Random) -> list[Robot]:
     """The robots of the plan's first agents, each with a box of its own where these are wanted, beside the plan that it is driven by."""
     head, courses = read_courses(given.plan)
     courses = courses[:given.agents]
@@ -263,19 +179,62 @@ def robots_of(given, folder, rng):
     return [Robot(words[n], goal_of(line), given.kills, rng, notes[n]) for n, line in enumerate(courses)]
 
 
-def run(given, folder):
+def run(given: argparse.Namespace, folder: pathlib.Path) -> int:
     rng = random.Random(given.seed)
     rows = given.map.read_text(encoding="ascii", errors="replace").splitlines()[4:]
     if given.orders is not None:
         return run_orders(given, folder, rows, rng)
     fleet = Fleet(given, robots_of(given, folder, rng), rows, rng)
-    while len(fleet.arrived) < len(fleet.robots):
+    if given.take is not None and not is_safe_while_taken(fleet, given.take):
+        return 1
+    if given.take is not None:
+        begin_anew(fleet, given.take, folder)
+    while len(fleet.arrived) < len(fleet.seats):
         if not fleet.is_safe_after_a_moment():
             return 1
     return told_at_the_end(given.seed, fleet)
 
 
-def run_orders(given, folder, rows, rng):
+def is_safe_while_taken(fleet: Fleet, taken: int) -> bool:
+    """Whether no two robots hold a common cell until one is carried off, and the others, who go on without it, are stopped."""
+    if taken >= len(fleet.seats):
+        raise Unfit(f"there is no robot {taken} to be carried off")
+    before, without = fleet.rng.randint(1, LATEST_TAKE), fleet.rng.randint(1, LONGEST_WITHOUT)
+    if not fleet.is_safe_for(before):
+        return False
+    fleet.seats[taken] = fleet.robots[taken].be_carried_off()
+    print(f"robot {taken} was carried off at step {fleet.step}", end=", ")
+    if not fleet.is_safe_for(without):
+        return False
+    print(f"and the others were stopped at step {fleet.step}")
+    for robot in fleet.rng.sample(fleet.robots, len(fleet.robots)):
+        robot.come_to_stand()
+        if fleet.has_met():
+            return False
+    return True
+
+
+def begin_anew(fleet: Fleet, taken: int, folder: pathlib.Path) -> None:
+    """The others drive what is left. Each stands where its new agent starts, with a new tape."""
+    given, old = fleet.given, fleet.robots
+    plan, tapes = folder / "others.plan", folder / "others"
+    files = [str(given.map), str(folder / "fleet.plan"), str(folder / "%.tape")]
+    plan.write_text(plan_of_others(given.program, files, secrets.randbelow(NUMBERS), taken))
+    check_plan(given, plan, folder / "none.events")
+    tapes.mkdir()
+    files = [str(given.map), str(plan)]
+    words = [[given.program, "agent", *files, str(n), str(tapes / f"{n}.tape")] for n in range(len(old))]
+    goals = [goal_of(line) for line in read_courses(plan)[1]]
+    new = [Robot(words[n], goals[n], given.kills, fleet.rng, note_of("", n, files)) for n in range(len(old))]
+    for number, (one, other) in enumerate(zip(old, new)):
+        if one.held != other.held or one.goal != other.goal:
+            raise Unfit(f"robot {number} of the others holds {one.held} on its way to {one.goal}, and its new agent {other.held} on its way to {other.goal}")
+        other.deaths = one.deaths
+    fleet.link.leave_out(taken)
+    fleet.seats, fleet.arrived = [*new], set()
+
+
+def run_orders(given: argparse.Namespace, folder: pathlib.Path, rows: Sequence[str], rng: random.Random) -> int:
     """The robots drive for as long as there are orders."""
     orders, robots = ordered_robots(given, folder, rng)
     fleet = Fleet(given, robots, rows, rng)
@@ -302,16 +261,16 @@ def run_orders(given, folder, rows, rng):
     return told_at_the_end(given.seed, fleet)
 
 
-def is_more_due(given, orders):
+def is_more_due(given: argparse.Namespace, orders: Orders) -> bool:
     return not given.orders or orders.given < given.orders
 
 
-def told_of_orders(orders, robots):
+def told_of_orders(orders: Orders, robots: Sequence[Robot]) -> str:
     done = sum(orders.carried_out(number, robot.done) for number, robot in enumerate(robots))
     return f"{done} of {orders.given} orders carried out, by {len(orders.plans)} plans without a stop"
 
 
-def ordered_robots(given, folder, rng):
+def ordered_robots(given: argparse.Namespace, folder: pathlib.Path, rng: random.Random) -> tuple[Orders, list[Robot]]:
     """The first orders, and the robots that drive by them, from where the plan has them begin."""
     _, courses = read_courses(given.plan)
     starts = [start_of(line) for line in courses[:given.agents]]
@@ -322,47 +281,7 @@ def ordered_robots(given, folder, rng):
     return orders, [Robot(words[n], None, given.kills, rng, note_of("", n, files)) for n in range(len(starts))]
 
 
-class Fleet:
-    """Robots and the link between them, moment by moment."""
-
-    def __init__(self, given, robots, rows, rng):
-        self.given, self.robots, self.rows, self.rng = given, robots, rows, rng
-        self.link = Link(given.loss, rng)
-        self.step = 0
-        self.arrived = set()
-
-    def is_safe_after_a_moment(self):
-        """Whether no two robots hold a common cell, while each lives on for a moment."""
-        self.step += 1
-        for to, message in self.link.arrived(self.step):
-            with contextlib.suppress(Killed):
-                self.robots[to].ask(f"hear {message}")
-        for number in self.rng.sample(range(len(self.robots)), len(self.robots)):
-            with contextlib.suppress(Killed):
-                live(self.robots, number, self.step, self.arrived, self.link, self.given.tell)
-            met = meeting(self.robots)
-            if met:
-                print(picture(self.rows, self.robots, self.step))
-                print(f"step {self.step}: the robots {met[0]} and {met[1]} hold {met[2]} both")
-                return False
-        if not self.given.quiet:
-            print(picture(self.rows, self.robots, self.step))
-        return True
-
-
-def live(robots, number, step, arrived, link, tells):
-    """A moment of one robot, and what it says to the others."""
-    robot = robots[number]
-    if number not in arrived and robot.go_on():
-        arrived.add(number)
-    if (step + number) % SAY_EACH == 0:
-        message = robot.ask("tell" if tells else "say")[1]
-        for other in range(len(robots)):
-            if other != number:
-                link.send(step, other, message)
-
-
-def told_at_the_end(seed, fleet):
+def told_at_the_end(seed: int, fleet: Fleet) -> int:
     """Whether each tape says that its robot has arrived, and what was counted."""
     robots, step, link = fleet.robots, fleet.step, fleet.link
     for number, robot in enumerate(robots):
@@ -374,13 +293,18 @@ def told_at_the_end(seed, fleet):
     return 0
 
 
-def count(word):
-    if not word.isascii() or not word.isdigit() or not 1 <= int(word[:20]) < 1 << 16:
-        raise argparse.ArgumentTypeError(f"a number from 1 to 65535 is wanted, and '{word[:40]}' is none")
-    return int(word)
+def count(word: str) -> int:
+    found = number_in(word, MOST)
+    if not found:
+        raise argparse.ArgumentTypeError(f"a number from 1 to {MOST} is wanted, and '{word[:40]}' is none")
+    return found
 
 
-def rate(word):
+def agent(word: str) -> int:
+    return number_up_to(word, MOST)
+
+
+def rate(word: str) -> float:
     """With a rate of 1 nothing would ever come through."""
     with contextlib.suppress(ValueError):
         if 0 <= float(word) < 1:
@@ -388,7 +312,7 @@ def rate(word):
     raise argparse.ArgumentTypeError(f"a rate from 0 to below 1 is wanted, and '{word[:40]}' is none")
 
 
-def main():
+def main() -> int:
     parser = argparse.ArgumentParser(description="Drives a fleet: one process `mapf agent` for each agent of a plan.")
     parser.add_argument("--agents", type=count, default=12, help="how many of the plan's agents drive (12)")
     parser.add_argument("--seed", type=int, default=1, help="the seed of all chances (1)")
@@ -396,19 +320,19 @@ def main():
     parser.add_argument("--kills", type=rate, default=0.02, help="how many questions end in a kill of the process (0.02)")
     parser.add_argument("--tell", action="store_true", help="each message has all that its sender knows, and not only what it has finished itself")
     parser.add_argument("--quiet", action="store_true", help="shows no map, only how it ended")
-    parser.add_argument("--orders", type=count, nargs="?", const=0, metavar="N", help="the robots carry out N orders, or as many as there is time for, without a stop")
+    what = parser.add_mutually_exclusive_group()
+    what.add_argument("--orders", type=count, nargs="?", const=0, metavar="N", help="the robots carry out N orders, or as many as there is time for, without a stop")
+    what.add_argument("--take", type=agent, metavar="I", help="robot I is carried off, and the others begin anew")
+    what.add_argument("--boxes", type=pathlib.Path, help="a new folder, for the plan and the robots' boxes")
     parser.add_argument("--program", default=usual_program(), help="the program mapf (%(default)s)")
     parser.add_argument("--map", type=pathlib.Path, default=HERE / "warehouse.map")
     parser.add_argument("--plan", type=pathlib.Path, default=HERE / "warehouse.plan")
     parser.add_argument("--folder", type=pathlib.Path, help="where a folder for the tapes is made, as on a disk that is full (where temporary files are)")
-    parser.add_argument("--boxes", type=pathlib.Path, help="a new folder, for the plan and the robots' boxes")
     given = parser.parse_args()
-    if given.orders is not None and given.boxes:
-        parser.error("--boxes: a box is of one plan, and --orders are many")
     try:
         with tempfile.TemporaryDirectory(dir=given.folder) as folder:
             return run(given, pathlib.Path(folder))
-    except (Unfit, NoPlan) as fault:
+    except (Unfit, NoPlan, NoNewPlan) as fault:
         print(f"fleet: {fault}", file=sys.stderr)
         return 1
     except OSError as fault:

@@ -14,9 +14,9 @@ from typing import Callable, Collection, Iterator, NamedTuple, Optional, Sequenc
 from agent import STORE_FAILED
 from dialogues import OPENED, Box, Process, Turn
 from foresight import ASKED
-from journal import NONE, WHOLE
+from journal import NONE, RIM, WHOLE
 
-HELD, MAY = "held", "may"
+HELD, MAY, LEFT_OUT = "held", "may", "left out"
 NO_MEMORY = "refused OutOfMemory"
 HEAR, SAID, HEARD = "hear ", "said ", "heard "
 SAYS = ("say", "tell")
@@ -47,8 +47,8 @@ def records_of(state: str) -> int:
 
 @dataclasses.dataclass
 class Step:
-    """An entry of the list: an event of a run; `held` and `may`, which ask what an agent holds and what it may do next; or none, where any agent
-    answers the line alike."""
+    """An entry of the list: an event of a run; `held` and `may`, which ask what an agent holds and what it may do next; what an earlier plan alone
+    answers; or none, where any agent answers the line alike."""
 
     turn: Turn
     event: str
@@ -61,7 +61,7 @@ class Step:
 
     @property
     def is_event(self) -> bool:
-        return self.event not in ("", HELD, MAY)
+        return self.event not in ("", HELD, MAY, LEFT_OUT)
 
 
 def digits_of(turn: Turn) -> str:
@@ -105,12 +105,22 @@ def counts(turn: Turn, with_unanswered: bool) -> bool:
     return turn.answer != NO_MEMORY or not turn.asked.startswith(("tell", HEAR))
 
 
+def hangs_on_plan(turn: Turn, is_stored: bool) -> bool:
+    """Whether another plan that goes on may give another answer. By whichever plan it is, then, nobody has moved."""
+    if turn.answer is None:
+        return False
+    is_failed_start = (turn.asked, turn.answer) == ("start", STORE_FAILED) and not is_stored
+    return is_failed_start or turn.answer.startswith(RIM) or bool(ASKED.fullmatch(turn.asked))
+
+
 def steps_of(box: Box, said: Collection[str], with_unanswered: bool) -> Iterator[Step]:
     """What happened to an agent, in order."""
     state, opened = "", box.opened
     for process, after in itertools.zip_longest(opened, opened[1:]):
         for turn in process.turns:
-            if turn.asked == OPENED:
+            if process.is_earlier and hangs_on_plan(turn, has_stored(state, after)):
+                yield Step(turn, LEFT_OUT, turn.answer)
+            elif turn.asked == OPENED:
                 yield Step(turn, f"restart {box.agent}", turn.answer)
             elif turn.asked in ("start", "finish"):
                 yield from written(turn, has_stored(state, after))
@@ -204,7 +214,7 @@ class History:
 
 def history_of(boxes: Sequence[Box], with_unanswered: bool = False) -> History:
     """The list, perhaps with all that agents were to say and may not have said."""
-    boots = {str(about.get("boot", "")) for box in boxes for about in box.about}
+    boots = {str(process.about.get("boot", "")) for box in boxes for process in box.processes}
     said = {digits_of(turn) for box in boxes for turn in box.calls if turn.asked in SAYS} - {""}
     steps = [list(steps_of(box, said, with_unanswered)) for box in boxes]
     order = Order(steps, len(boots) == 1 and boots != {""})

@@ -36,7 +36,7 @@ def cell_of(words: Sequence[str]) -> Cell:
 
 
 # Refusals that hang on where a plan ends: another plan may not give them.
-RIM = ("refused AtEnd", "refused Waits ")
+RIM = ("refused AtEnd", "refused Waits ", "refused TooMany")
 
 
 class Journal:

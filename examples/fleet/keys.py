@@ -20,6 +20,7 @@ from typing import Iterable, Iterator, Sequence
 
 sys.dont_write_bytecode = True
 from count_file import make_count, path_of  # noqa: E402
+from given import number_in  # noqa: E402
 
 WAS_THERE, FAILED = 1, 3
 HEADER = "mapf-keys 1"
@@ -95,9 +96,10 @@ def make_or_keep(path: str, robots: int) -> None:
 
 
 def amount(word: str) -> int:
-    if word.isascii() and word.isdigit() and 0 < int(word[:9]) <= MOST:
-        return int(word)
-    raise argparse.ArgumentTypeError(f"a number from 1 to {MOST} is wanted, and '{word[:40]}' is none")
+    found = number_in(word, MOST)
+    if not found:
+        raise argparse.ArgumentTypeError(f"a number from 1 to {MOST} is wanted, and '{word[:40]}' is none")
+    return found
 
 
 def read_words(words: Sequence[str]) -> argparse.Namespace:

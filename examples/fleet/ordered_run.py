@@ -47,7 +47,7 @@ class OrderedRun(Run):
         self.done = [self._finished_moves(robot) for robot in range(len(self.done))]
         at_end = [done == moves[-1] for done, moves in zip(self.done, self.orders.moves)]
         if self.orders.given < self.wanted and any(at_end):
-            self.orders.give_out()
+            self._give_out()
             self.gets_at = [now + self.rng.uniform(0, LONGEST_WAY) for _ in self.gets_at]
             return False
         if self.orders.given < self.wanted or not all(at_end) or min(self.has) < len(self.orders.plans) - 1:
@@ -56,6 +56,13 @@ class OrderedRun(Run):
         plans, carried_out = len(self.orders.plans), sum(self.orders.carried_out(robot, done) for robot, done in enumerate(self.done))
         self.told += f" arrived {len(self.done)} seconds {now - self.begun:.2f} orders {carried_out} plans {plans} "
         return True
+
+    def _give_out(self) -> None:
+        """Adds orders, and puts their plan beside the robots' boxes, where these are kept."""
+        self.orders.give_out()
+        plan, boxes = self.orders.plans[-1], self.settings.boxes
+        if boxes:
+            shutil.copyfile(plan, boxes / plan.name)
 
     def _hand_out(self, now: float) -> None:
         """Puts the last plan in the place of a robot's, whole, where its time has come."""

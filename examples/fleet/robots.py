@@ -34,6 +34,7 @@ import cables as cable_kinds  # noqa: E402
 from addresses import Address, address  # noqa: E402
 from broker import Broker, NoBroker  # noqa: E402
 from fleet_run import Failed, Run, Settings, Wrong  # noqa: E402
+from given import number_in  # noqa: E402
 from keys import BadKeys, make_or_keep  # noqa: E402
 from ordered_run import OrderedRun  # noqa: E402
 from orders import NoPlan, Orders  # noqa: E402
@@ -58,9 +59,10 @@ def amount(word: str) -> float:
 
 
 def plan_number(word: str) -> int:
-    if not word.isascii() or not word.isdigit() or int(word[:20]) >= NUMBERS:
+    found = number_in(word, NUMBERS - 1)
+    if found is None:
         raise argparse.ArgumentTypeError(f"a number below {NUMBERS} is wanted, and '{word[:40]}' is none")
-    return int(word)
+    return found
 
 
 def read_words(words: Sequence[str]) -> argparse.Namespace:
@@ -84,7 +86,7 @@ def read_words(words: Sequence[str]) -> argparse.Namespace:
     parser.add_argument("--tls", type=pathlib.Path, metavar="FOLDER", help="the robots and the broker have certificates that broker/certificates.sh made")
     parser.add_argument("--port", type=int, default=0, metavar="N", help="the first of the ports on this machine (any that are free)")
     parser.add_argument("--keep", type=pathlib.Path, metavar="FOLDER", help="keeps the plan, the log and the replies of each run there")
-    parser.add_argument("--boxes", type=pathlib.Path, metavar="FOLDER", help="keeps the plan and the black boxes of each run there")
+    parser.add_argument("--boxes", type=pathlib.Path, metavar="FOLDER", help="keeps the plans and the black boxes of each run there")
     parser.add_argument("--map", type=pathlib.Path, default=HERE / "warehouse.map")
     parser.add_argument("--plan", type=pathlib.Path, default=HERE / "warehouse.plan")
     parser.add_argument("--program", default=usual_program(), metavar="PATH", help="the program mapf (%(default)s)")
@@ -93,8 +95,8 @@ def read_words(words: Sequence[str]) -> argparse.Namespace:
     given = parser.parse_args(words)
     if given.robots is not None and given.robots < 1:
         parser.error("--robots: a number above 0 is wanted")
-    if given.orders is not None and (given.orders < 1 or given.boxes):
-        parser.error("--orders: a number above 0 is wanted, and no --boxes, since a box is of one plan")
+    if given.orders is not None and given.orders < 1:
+        parser.error("--orders: a number above 0 is wanted")
     if given.tls and given.link != "mqtt":
         parser.error("--tls goes with --link mqtt")
     if given.cuts and not given.cables:
@@ -188,7 +190,8 @@ class Fleet:
         starts = [(int(x), int(y)) for _, x, y, *_ in map(str.split, self.courses)]
         orders = Orders(self.settings.program, self.settings.map, folder, number, starts, random.Random(f"orders {seed}"))
         orders.give_out()
-        return OrderedRun(orders, self.given.orders, self.settings, self.place, self.cables, broker, seed, folder=folder)
+        settings = self.with_boxes(number, orders.plans[0])
+        return OrderedRun(orders, self.given.orders, settings, self.place, self.cables, broker, seed, folder=folder)
 
     def with_boxes(self, number: int, plan: pathlib.Path) -> Settings:
         """The settings of a run, with a new folder for its boxes where these are wanted."""

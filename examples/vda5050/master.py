@@ -8,7 +8,8 @@ their black boxes, `N.box`. Where it has not all agents of the plan, other maste
 
 A vehicle's order ends where its agent answers `moving`, and where the agent says that so many more moves may follow; what comes behind is horizon. It may
 be killed at any moment, and goes on from what the tapes and the vehicles say. It reads lines: `pause`, `resume`, `cancel` and `show`, of all vehicles or, with
-a number behind, of one. An order that was cancelled begins again by `resume`. When all vehicles have arrived, it says so in a line, and goes on.
+a number behind, of one. An order that was cancelled begins again by `resume`. When all vehicles have arrived, it says so in a line, and goes on. Where
+another plan, one that goes on from the one before, is put in the place of PLAN (by a rename), all go over to it, and the vehicles keep their orders.
 
 Status 1: the map or the plan has a fault. 2: a bad command line. 3: a file, a socket or a program failed. It ends when it is asked to.
 """
@@ -29,13 +30,14 @@ from bus import Bus, Post  # noqa: E402
 from check_boxes import number  # noqa: E402
 from contact import Contact  # noqa: E402
 from frame import BadFrame, read_frame  # noqa: E402
+from given import number_in  # noqa: E402
 from leaving import heed_signals  # noqa: E402
 from letters import sender_of  # noqa: E402
 from link_mqtt import NoBroker, NoClient, topic_of  # noqa: E402
 from pilot import Pilot  # noqa: E402
 from program import usual_program  # noqa: E402
 from links import number_of  # noqa: E402
-from robot import seconds  # noqa: E402
+from robot import PlanFile, seconds  # noqa: E402
 from route import NoPath, Route, path_of  # noqa: E402
 from service import Supervisor  # noqa: E402
 from standard import CONNECTION, FACTSHEET, STATE, Identity, kind_of  # noqa: E402
@@ -46,6 +48,7 @@ UNFIT, FAILED = 1, 3
 LOOK = 0.2
 HEARD = (CONNECTION, FACTSHEET, STATE)
 COMMANDS = ("pause", "resume", "cancel", "show")
+MOST_AGENT = 65_535
 
 
 class BadFleet(Exception):
@@ -76,9 +79,10 @@ def read_fleet(path: str) -> dict[int, Identity]:
         lines = file.read().splitlines()
     for place, line in enumerate(lines, 1):
         words = line.split()
-        if len(words) != 3 or not (words[0].isascii() and words[0].isdigit()) or set("+#/") & set(line):
+        agent = number_in(words[0], MOST_AGENT) if len(words) == 3 else None
+        if agent is None or set("+#/") & set(line):
             raise BadFleet(f"{path}: line {place} isn't AGENT MANUFACTURER SERIAL")
-        fleet[int(words[0])] = Identity(words[1], words[2])
+        fleet[agent] = Identity(words[1], words[2])
     if not lines or len(set(fleet.values())) < len(lines):
         raise BadFleet(f"{path}: each agent and each vehicle stands there once, and one at least")
     return fleet
@@ -107,24 +111,34 @@ class Master:
         topics = [identity.topic(kind) for identity in fleet.values() for kind in HEARD]
         self.bus = Bus(given.broker, f"mapf-{self.run}-master-{min(fleet)}", [*topics, topic_of(self.run, "+")])
         self.bus.greet = self._greet
-        frame, files = read_frame(given.frame, given.map), (given.map, given.plan)
-        map_id = given.map_id or pathlib.Path(given.map).stem
+        self.plan, self.frame = PlanFile(given.plan), read_frame(given.frame, given.map)
         self.pilots: dict[int, Pilot] = {}
         for agent, identity in fleet.items():
-            route = Route(path_of(given.program, files, agent), frame, map_id, self.run, agent)
             alarm = Alarms(agent).tell
             contact = Contact(identity, self.bus, alarm)
-            self.pilots[agent] = Pilot(route, self._teller(agent, alarm), contact, (given.ahead, given.horizon), alarm)
+            self.pilots[agent] = Pilot(self._route(agent), self._teller(agent, alarm), contact, (given.ahead, given.horizon), alarm)
         # What agents of others have said last.
         self.elsewhere: dict[int, bytes] = {}
         self.tells_at = 0.0
         self.has_arrived = False
+
+    def _route(self, agent: int) -> Route:
+        given = self.given
+        cells = path_of(given.program, (given.map, given.plan), agent)
+        return Route(cells, self.frame, given.map_id or pathlib.Path(given.map).stem, self.run, agent)
 
     def _teller(self, agent: int, alarm: Callable[[str], None]) -> Teller:
         given, tape = self.given, self.given.folder / f"{agent}.tape"
         lock = Lock(f"{tape}.lock", f"master: vehicle {agent}: waits until the agent before has ended", self.supervisor.lives)
         words = [given.program, "agent", given.map, given.plan, str(agent), str(tape), "--tape", "kept", "--explain"]
         return Teller(words, lock, note_of(str(given.folder / f"{agent}.box"), agent, (given.map, given.plan)), alarm)
+
+    def _go_over(self) -> None:
+        """All go on by the plan that has come into the place of the one before. The vehicles keep their orders."""
+        self.plan.take()
+        for agent, pilot in self.pilots.items():
+            pilot.go_over(self._route(agent))
+        self.has_arrived = False
 
     # Messages between agents
 
@@ -199,6 +213,8 @@ class Master:
         commands = Commands()
         while True:
             self.supervisor.lives()
+            if self.plan.is_another():
+                self._go_over()
             now = time.monotonic()
             while said := list(self._turn(now)):
                 for agent in said:

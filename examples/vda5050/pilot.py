@@ -47,6 +47,11 @@ class Pilot:
         where = f"at {self.route.node_id(place.index)}, released to {self.route.node_id(place.end)}" if place else "nobody knows where"
         return f"vehicle {self.route.agent} {'online' if self.contact.is_online else 'offline'} {where}, done {teller.done} of {self.route.last}"
 
+    def go_over(self, route: Route) -> None:
+        """Goes on by another plan, whose route begins as the one before."""
+        self.route, self.place = route, None
+        self.teller.go_over()
+
     def take(self, kind: str, payload: bytes) -> None:
         self.has_news |= self.contact.take(kind, payload)
 

@@ -58,6 +58,11 @@ class Teller:
             agent.end()
             self.starts_at = time.monotonic() + PAUSE
 
+    def go_over(self) -> None:
+        """Has an agent started by another plan, whatever was wrong with the one before."""
+        self.end()
+        self.is_over = False
+
     def ask(self, line: str) -> list[str]:
         """The words of its answer. One whose tape failed ends, and one that was killed has."""
         answer = GONE
