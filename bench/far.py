@@ -1,19 +1,21 @@
 """Whole scenarios, and plans whose agents go far, on maps that `generate` makes."""
 import itertools
 import random
+from typing import Optional, Sequence
 
-from generate import STEPS
+from generate import STEPS, Cell
 
+Pair = tuple[Cell, Cell]
 # The maps of whole scenarios.
 KINDS = ("open", "sparse", "dense", "maze", "corridors", "rooms")
 
 
-def greatest_region(width, height, rows):
+def greatest_region(width: int, height: int, rows: Sequence[str]) -> list[Cell]:
     """The places of the cells of the greatest region of floor, row by row; no step leads from one region into another."""
     stride = width + 1
     # A blocked column behind each row, and a blocked row behind the last, so that a place before the first is blocked too.
     left = bytearray("@".join([*rows, "@" * stride]).encode())
-    greatest = []
+    greatest: list[int] = []
     for first in range(stride * height):
         if left[first] != ord("."):
             continue
@@ -30,7 +32,7 @@ def greatest_region(width, height, rows):
     return [(at % stride, at // stride) for at in sorted(greatest)]
 
 
-def pairs_of(text, seed, count):
+def pairs_of(text: str, seed: int, count: int) -> list[Pair]:
     """So many pairs of cells of a map, each of which a walk leads from the one to the other: half of them of cells anywhere in the greatest
     region, the others nearer to each other."""
     _, height, width, _, *rows = text.split("\n")[:-1]
@@ -38,7 +40,7 @@ def pairs_of(text, seed, count):
     cells = greatest_region(*size, rows)
     number_of = {cell: number for number, cell in enumerate(cells)}
     rng = random.Random(f"pairs {size} {seed}")
-    pairs = []
+    pairs: list[Pair] = []
     while len(pairs) < count:
         start = rng.choice(cells)
         goal = rng.choice(cells)
@@ -50,16 +52,16 @@ def pairs_of(text, seed, count):
     return pairs
 
 
-def spread(lengths, count):
+def spread(lengths: Sequence[float], count: int) -> list[int]:
     """The numbers of so many of these lengths, from the least to the greatest, with about as many in each part of the range as there
     are to be had, as in a scenario of MovingAI."""
     order = sorted(range(len(lengths)), key=lengths.__getitem__)
     most = lengths[order[-1]]
     parts = max(1, count // 10)
-    by_part = [[] for _ in range(parts)]
+    by_part: list[list[int]] = [[] for _ in range(parts)]
     for number in order:
         by_part[min(parts - 1, int(lengths[number] / most * parts))].append(number)
-    chosen = []
+    chosen: list[int] = []
     # From part to part, one of each, until there are enough.
     for turn in itertools.zip_longest(*by_part):
         chosen += [number for number in turn if number is not None]
@@ -68,7 +70,7 @@ def spread(lengths, count):
     return sorted(chosen[:count], key=lengths.__getitem__)
 
 
-def pairs_text(width, height, pairs, lengths):
+def pairs_text(width: int, height: int, pairs: Sequence[Pair], lengths: Sequence[float]) -> str:
     """The text of a scenario with a row for each pair, which lists a length for it. A bucket is as wide as four straight steps."""
     lines = ["version 1"]
     for (start, goal), length in zip(pairs, lengths):
@@ -77,10 +79,10 @@ def pairs_text(width, height, pairs, lengths):
     return "\n".join([*lines, ""])
 
 
-def path_between(width, height, rows):
+def path_between(width: int, height: int, rows: Sequence[str]) -> list[Cell]:
     """The cells of a walk by straight steps through a region of floor, as far as any from its first cell leads."""
     first = greatest_region(width, height, rows)[0]
-    before = {first: None}
+    before: dict[Cell, Optional[Cell]] = {first: None}
     reached = [first]
     # It grows while it is walked through.
     for x, y in reached:
@@ -90,14 +92,15 @@ def path_between(width, height, rows):
             if is_on and beside not in before and rows[beside[1]][beside[0]] == ".":
                 before[beside] = (x, y)
                 reached.append(beside)
-    path, cell = [], reached[-1]
+    path: list[Cell] = []
+    cell: Optional[Cell] = reached[-1]
     while cell is not None:
         path.append(cell)
         cell = before[cell]
     return path
 
 
-def following_plan_text(map_text, count, acts, number=7):
+def following_plan_text(map_text: str, count: int, acts: int, number: int = 7) -> str:
     """The text of a plan of at most so many agents on a map, one close behind the other on a walk through it, each of which takes at most so many
     steps along it."""
     _, height, width, _, *rows = map_text.split("\n")[:-1]
