@@ -165,6 +165,8 @@ PROOFS = [
 
 # The commands that run a valid plan.
 RUNNING = ("run M P E", "agent M P 0 T", "agent M P 65535 T")
+# Commands that read the tapes of all agents, of whom there are none here.
+OF_FLEETS = ("status M P no%", "handover M P no%", "anew M P no% 7", "anew M P no% 7 --without 65535")
 
 # Plans that are not valid on the map LANE: a verdict of `check` alone, and a fault of the other commands.
 PLAN_FAULTS = [(SWAP, "Swap 0 1 0"), (VERTEX, "Vertex 0 1 2 0 0"), (plan("0 1 ="), "BadStart 0"), (plan("0 0 -n"), "BadMove 0 1")]
@@ -735,7 +737,7 @@ def of_checks(harness: Harness) -> Iterator[Outcome]:
         files = {"M": LANE, "P": BEHIND, "S": text}
         yield asked(harness, "check M P --scen S", files, answer(status, due))
     for map_text, text, fault in TEXT_FAULTS:
-        for words in ("check M P", "check M P --json", "check M P --scen S", "deps M P", "deps M P --cell 0 0", "path M P", "path M P --agent 9", "cut M P 9", *RUNNING):
+        for words in ("check M P", "check M P --json", "check M P --scen S", "deps M P", "deps M P --cell 0 0", "path M P", "path M P --agent 9", "cut M P 9", *RUNNING, *OF_FLEETS):
             yield asked(harness, words, {"M": map_text, "P": text, "S": TASKS, "E": "no events"}, answer(1, fault))
 
 
@@ -753,7 +755,7 @@ def of_graphs_and_runs(harness: Harness) -> Iterator[Outcome]:
     for text, count in ((NOBODY, 0), (BEHIND, 2), (SWAP, 2)):
         yield asked(harness, f"path M P --agent {count}", {"M": LANE, "P": text}, answer(1, "NoSuchAgent"))
     for text, fault in PLAN_FAULTS:
-        for words in ("deps M P", "deps M P --cell 0 0", "cut M P 0", "cut M P 9", *RUNNING):
+        for words in ("deps M P", "deps M P --cell 0 0", "cut M P 0", "cut M P 9", *RUNNING, *OF_FLEETS):
             yield asked(harness, words, {"M": LANE, "P": text, "E": "no events"}, answer(1, fault))
     for map_text, text, lines, replies in RUNS:
         files = {"M": map_text, "P": text, "E": events(*lines)}

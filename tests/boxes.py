@@ -50,6 +50,40 @@ TALK = f"""0 opens: at 1 0 done 0
 1 ends: 0
 0 tell
 0 ends: 0"""
+# The same two by a plan in which each goes back behind that. They go over to it one by one, and each forgets then what it has heard.
+LONGER = ROOT / "examples" / "onward.plan"
+ALL_NEWS = "46020001000000090002000000000001000100000002"
+CHANGE = f"""0 opens: at 1 0 done 0
+1 opens: at 0 0 done 0
+1 start: refused Waits 0 1
+0 start: moving 2 0
+0 finish: arrived 2 0
+0 tell: said {NEWS}
+0 start: refused AtEnd
+1 hear {NEWS}: heard 0 1
+1 may 2: may 1
+1 start: refused StoreFailed
+1 ends: 3
+1 goes over: at 0 0 done 0
+1 start: refused Waits 0 1
+1 hear {NEWS}: heard 0 1
+1 may 2: may 2
+1 start: moving 1 0
+1 finish: arrived 1 0
+1 start: moving 0 0
+1 finish: arrived 0 0
+1 tell: said {ALL_NEWS}
+0 hear {ALL_NEWS}: refused TooMany
+0 ends: 0
+0 goes over: at 2 0 done 1
+0 start: refused Waits 1 2
+0 hear {ALL_NEWS}: heard 1 2
+0 start: moving 1 0
+0 finish: arrived 1 0
+0 start: refused AtEnd
+1 ends: 0
+0 ends: 0"""
+CHANGED = "2 agents, 2 restarts, 0 kills, 22 calls, 0 unanswered, 0 of them stored, 1 failed writes, 2 said, 3 heard, 0 strangers' lines, 5 left out"
 COUNTED = "2 agents, 3 restarts, 2 kills, 24 calls, 3 unanswered, 1 of them stored, 1 failed writes, 4 said, 4 heard, 3 strangers' lines"
 AGREED = f"agreed: {COUNTED}\n"
 # The status, and what is told in any case.
@@ -106,14 +140,15 @@ def boxes_of(talk: str) -> dict[int, list[dict[str, Any]]]:
     """The lines of each agent's box."""
     boxes: dict[int, list[dict[str, Any]]] = {}
     process: dict[int, int] = {}
-    sums = [hashlib.sha256(path.read_bytes()).hexdigest() for path in (MAP, PLAN)]
-    about = {"boot": "one", "map": sums[0], "plan": sums[1]}
+    sums = {path: hashlib.sha256(path.read_bytes()).hexdigest() for path in (MAP, PLAN, LONGER)}
+    plans = {"opens": PLAN, "goes over": LONGER}
     for place, line in enumerate(talk.splitlines()):
         asked, _, answer = line[2:].partition(": ")
         agent, at = int(line[0]), round(place * EACH, 6)
-        if asked == "opens":
+        words: list[tuple[str, object]] = [("asked", asked)]
+        if asked in plans:
             process[agent] = process.get(agent, agent * 100) + 1
-        words: list[tuple[str, object]] = [("started", about)] if asked == "opens" else [("asked", asked)]
+            words = [("started", {"boot": "one", "map": sums[MAP], "plan": sums[plans[asked]]})]
         words += [("answered", answer)] if answer else []
         for word, value in [("ended", int(answer))] if asked == "ends" else words:
             boxes.setdefault(agent, []).append({"wall": at, "clock": at, "agent": agent, "process": process[agent], word: value})
@@ -128,9 +163,9 @@ def files_of(talk: str) -> dict[str, bytes]:
     return {f"{agent}.box": text_of(lines) for agent, lines in boxes_of(talk).items()}
 
 
-def asked(harness: Harness, files: dict[str, bytes], *more: str) -> Ended:
+def asked(harness: Harness, files: dict[str, bytes], *more: str, plan: pathlib.Path = PLAN) -> Ended:
     """What is said of boxes with these bytes."""
-    words = [sys.executable, str(CHECK), str(MAP), str(PLAN), *files, "--program", str(harness.program), *more]
+    words = [sys.executable, str(CHECK), str(MAP), str(plan), *files, "--program", str(harness.program), *more]
     return harness.run(words, folder=harness.folder(files))
 
 
@@ -161,9 +196,11 @@ def held(harness: Harness, name: str, map_file: str, folder: pathlib.Path, due: 
 
 
 def asked_of(harness: Harness, map_file: str, folder: pathlib.Path) -> Ended:
-    """The plan of the folder, but none that is beside a tape, and its boxes."""
-    plans = [path for path in sorted(folder.glob("*.plan")) if not path.with_suffix("").exists()]
-    files = map(str, [*plans, *sorted(folder.glob("*.box"))])
+    """The plan of the folder, but none that is beside a tape, and its boxes. Several plans that went on from one another are told by their numbers."""
+    plans = [path for path in folder.glob("*.plan") if not path.with_suffix("").exists()]
+    *earlier, last = sorted(plans, key=lambda path: (len(path.name), path.name))
+    words = ["--earlier", *earlier] if earlier else []
+    files = map(str, [last, *sorted(folder.glob("*.box")), *words])
     return harness.run([sys.executable, str(CHECK), map_file, *files, "--program", str(harness.program)])
 
 
@@ -221,6 +258,28 @@ def of_times(harness: Harness) -> list[Outcome]:
         agreeing("all at one time", harness, at_once, AGREED),
         ended_as("what was heard too early on one machine", "check_boxes.py", asked(harness, early), Ended(1, due_of(later), b"")),
         agreeing("clocks of two machines", harness, apart, off),
+    ]
+
+
+def of_later_plans(harness: Harness) -> list[Outcome]:
+    """Two agents that go over to a plan that goes on: one by one, and both by the old one."""
+    earlier = ["--earlier", str(PLAN)]
+
+    def told(name: str, talk: str, due: Ended, *more: str, plan: pathlib.Path = LONGER) -> Outcome:
+        return ended_as(name, f"check_boxes.py {shown(more)}", asked(harness, files_of(talk), *more, plan=plan), due)
+
+    agrees = Ended(0, f"agreed: {CHANGED}\n".encode(), b"")
+    without = Ended(2, b"", f"check_boxes: 0.box: its agent was given another plan than {LONGER}\n".encode())
+    moved = CHANGE.replace("0 start: moving 2 0", "0 start: refused Waits 1 1")
+    unmoved = Ended(1, due_of("agent 0 differs at 04, line 6 of 0.box|finish|arrived 2 0|refused NotMoving|and 14 more"), b"")
+    other = CHANGE.replace("1 start: refused Waits 0 1\n1 hear", "1 start: refused AtEnd\n1 hear")
+    at_end = Ended(1, due_of("agent 1 differs at 12, line 15 of 1.box|start|refused AtEnd|refused Waits 0 1"), b"")
+    return [
+        told("boxes of two plans", CHANGE, agrees, *earlier),
+        told("an earlier plan that isn't given", CHANGE, without),
+        told("a move by an earlier plan that was refused", moved, unmoved, *earlier),
+        told("a refusal by the last plan", other, at_end, *earlier),
+        told("the last plan isn't used", TALK, Ended(0, AGREED.encode(), b""), "--earlier", str(LONGER), plan=PLAN),
     ]
 
 
@@ -316,6 +375,6 @@ def of_exchanged_boxes(harness: Harness) -> list[Outcome]:
 def tests(harness: Harness) -> Iterator[Callable[[], Sequence[Outcome]]]:
     for damage in DAMAGED:
         yield functools.partial(of_damage, harness, *damage)
-    for test in (of_talk, of_times, of_torn_boxes, of_other_files, of_an_older_tape, of_exchanged_boxes):
+    for test in (of_talk, of_times, of_later_plans, of_torn_boxes, of_other_files, of_an_older_tape, of_exchanged_boxes):
         yield functools.partial(test, harness)
     yield lambda: list(of_bad_boxes(harness))

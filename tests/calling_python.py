@@ -14,6 +14,7 @@ from plan_chains import Plan, difference, extended, read, rested
 from random_runs import random_events, random_map, random_plan
 from run_model import Run, agents_of, courses_of
 from scenarios import Ground, numbers_of, random_ground, random_row, row_line, straight_steps
+from statuses import Fleet, random_fleet, tapes_of
 from texts import BEHIND, LANE, SWAP, plan
 
 TOOLS = ROOT / "tools"
@@ -161,6 +162,33 @@ def of_scenarios(harness: Harness, seed: int) -> list[Outcome]:
     return [compared(f"scenario {seed}: {name}", f"mapf.{name}, of {ground!r}, {scen!r}", *it) for name, *it in tests]
 
 
+def standing(fleet: Fleet, agent: int) -> mapf.AgentStatus:
+    """What is said of an agent of a fleet."""
+    it, need = fleet.agents[agent], fleet.waits(agent)
+    if agent in fleet.faults:
+        return mapf.AgentStatus("unknown", fault=words(fleet.line(agent).partition(" ")[2]))
+    (x, y), moves = it.held()[0], len(it.needs)
+    if it.is_moving:
+        return mapf.AgentStatus("moving", mapf.Between(x, y, *it.held()[1], it.done), moves)
+    state = mapf.At(x, y, it.done)
+    if need:
+        return mapf.AgentStatus("waits", state, moves, *need)
+    return mapf.AgentStatus("arrived" if it.done == moves else "ready", state, moves)
+
+
+def of_fleets(harness: Harness, seed: int) -> list[Outcome]:
+    """The tapes of a fleet that was stopped somewhere."""
+    map_text, plan_text, fleet = random_fleet(random.Random(f"python fleet {seed}"), seed % 2 == 0)
+    folder = harness.folder({"m": map_text.encode(), "p": plan_text.encode(), **tapes_of(fleet)})
+    found = mapf.status(folder / "m", folder / "p", folder / "%.tape", program=harness.program)
+    agents = tuple(standing(fleet, agent) for agent in range(len(fleet.agents)))
+    lines = [line.split() for line in fleet.text().splitlines()[len(agents) :]]
+    roots, circles = ({int(it[1]): int(it[3]) for it in lines if it[0] == kind} for kind in ("root", "rotation"))
+    shutil.rmtree(folder)
+    name = f"fleet {seed}: status"
+    return [compared(name, f"mapf.status, of {map_text!r}, {plan_text!r}", found, mapf.Status(agents, roots, circles))]
+
+
 # ---- as the documents show it
 
 
@@ -201,6 +229,19 @@ def dialogue(harness: Harness) -> Iterator[Test]:
         heard = [other.start(), other.hear(b"\x46"), other.hear(found[5]), other.ask("what"), other.start()]
     due = [mapf.Refused(words("Waits 0 1")), mapf.Refused(words("BadLength")), mapf.Heard(0, 1), mapf.Refused(words("BadLine")), mapf.Moving(1, 0)]
     yield "what another one hears", heard, due
+
+
+def stopped(harness: Harness) -> Iterator[Test]:
+    """What follows from the tapes of a fleet, one of which is on its way, and what of another run's."""
+    folder = harness.folder({"m": LANE.encode(), "p": BEHIND.encode(), "0.tape": b"P\1\0\0\0\7\0\0\0\0", "1.tape": b""})
+    files, program = (folder / "m", folder / "p", folder / "%.tape"), {"program": harness.program}
+    yield "a handover", mapf.handover(*files, **program), plan("1 0 e", "0 0 e")
+    yield "a new plan", mapf.anew(*files, 9, **program), plan("2 0 =", "0 0 e", number=9)
+    yield "a new plan without one", mapf.anew(*files, 9, without=0, **program), plan("0 0 e", number=9)
+    yield "a number that is used", raised(lambda: mapf.anew(*files, 7, **program)), ("Fault", "mapf: SameNumber", "SameNumber", 1)
+    (folder / "0.tape").unlink()
+    bad = ("Fault", "mapf: BadTape 0", "BadTape", 1)
+    yield "a tape that is lost", (raised(lambda: mapf.handover(*files, **program)), raised(lambda: mapf.anew(*files, 9, without=1, **program))), (bad, bad)
 
 
 def stale(harness: Harness) -> tuple[object, ...]:
@@ -274,16 +315,25 @@ FAILING = (
     ("echo accepted", "'accepted' is no answer of mapf", 3),
     ("exit 0", "'' is no answer of mapf", 3),
 )
+# The same, asked for a status.
+ODD = (
+    ("echo 1 at 0 0 done 0 of 0 arrived", "'1 at 0 0 done 0 of 0 arrived' is no answer of mapf", 3),
+    ("echo 0 at 0 0 done 0 of 1", "'at 0 0 done 0 of 1' is no answer of mapf", 3),
+    ("echo root 1 keeps", "'root 1 keeps' is no answer of mapf", 3),
+    ("echo 0 NoTape; exit 3", "`mapf status` ended with status 3, and without a word", 3),
+)
 
 
 def failing(harness: Harness) -> Iterator[Test]:
     folder = harness.folder()
-    for number, (script, line, status) in enumerate(FAILING):
+    calls = [("check", *it) for it in FAILING] + [("status", *it) for it in ODD]
+    for number, (name, script, line, status) in enumerate(calls):
         program = folder / str(number)
         program.write_text(f"#!/bin/sh\n{script}\n")
         program.chmod(0o755)
-        found = raised(lambda: mapf.check("m", "p", program=program))
-        yield f"a program: {script}", (found[0], *found[1::2]), ("Failed", line, status)
+        more = ("%",) if name == "status" else ()
+        found = raised(lambda: getattr(mapf, name)("m", "p", *more, program=program))
+        yield f"a program, asked for {name}: {script}", (found[0], *found[1::2]), ("Failed", line, status)
     gone = raised(lambda: mapf.check("m", "p", program=folder / "no"))
     yield "a program that isn't there", gone[:2], ("Failed", f"{folder / 'no'} can't be started: No such file or directory")
 
@@ -319,5 +369,6 @@ def tested(part: Callable[[Harness], Iterator[Test]], harness: Harness) -> list[
 
 def outcomes(harness: Harness) -> Iterator[Outcome]:
     seeds: Sequence[int] = LONG_SEEDS if harness.is_long else SHORT_SEEDS
-    tests = [functools.partial(tested, part, harness) for part in (shown, dialogue, ends, faults, failing, finding)]
-    yield from side_by_side([*tests, *(functools.partial(of, harness, seed) for of in (of_plans, of_scenarios) for seed in seeds)])
+    parts = (shown, dialogue, stopped, ends, faults, failing, finding)
+    tests = [functools.partial(tested, part, harness) for part in parts]
+    yield from side_by_side([*tests, *(functools.partial(of, harness, seed) for of in (of_plans, of_scenarios, of_fleets) for seed in seeds)])

@@ -109,6 +109,10 @@ class Chromium:
             raise ValueError(f"{script[:200]}: {json.dumps(answer['exceptionDetails'])[:600]}")
         return answer["result"].get("value")
 
+    def when(self, condition: str, script: str) -> object:
+        """What a script of the page comes to in the first frame in which a condition holds."""
+        return self.value(f"new Promise((go) => {{ const look = () => ({condition}) ? go({script}) : requestAnimationFrame(look); look(); }})")
+
     def open(self, file: pathlib.Path, width: int = 1280, height: int = 800, dark: bool = False) -> None:
         """Opens a page in a window of this size, and waits until it is drawn."""
         self.faults, self.requests = [], []

@@ -19,6 +19,9 @@ FILES = {
     "G": b"mapf-proof 1\nobjective makespan\nbound 1\nleaf\n",
     # A tape on which nothing is kept yet.
     "K": b"",
+    # The tapes of all agents of P: one moves, and nothing is kept of the other yet.
+    "J0": b"P\1\0\0\0\7\0\0\0\0",
+    "J1": b"",
 }
 NAMED_AS_OPTIONS = {"-h": FILES["M"], "--json": FILES["P"], "--scen": FILES["S"], "-": FILES["E"], "--complete": FILES["E"]}
 MAP = FILES["M"].decode()
@@ -41,6 +44,16 @@ CONTINUES = "continues from 2, adds 2 moves\n"
 OPTIMAL = "optimal cost 2 nodes 1\n"
 OPTIMAL_JSON = '{"optimal":true,"cost":2,"bound":2,"nodes":1}\n'
 KEPT = "at 1 0 done 0\nrecords 0 torn 0\n"
+# What is left of P, with all agents and without one.
+LEFT = "mapf-plan 1\nnumber 8\nagents 2\nagent 2 0 =\nagent 0 0 e\n"
+LEFT_WITHOUT_0 = "mapf-plan 1\nnumber 8\nagents 1\nagent 0 0 e\n"
+LEFT_WITHOUT_1 = "mapf-plan 1\nnumber 8\nagents 1\nagent 2 0 =\n"
+STATES_JSON = (
+    '{"agent":0,"between":[1,0,2,0],"done":0,"of":1,"state":"moving"}\n'
+    '{"agent":1,"at":[0,0],"done":0,"of":1,"state":"waits","for":0,"until":1}\n'
+    '{"root":0,"keeps":1}\n'
+)
+STATES = "0 between 1 0 2 0 done 0 of 1\n1 at 0 0 done 0 of 1 waits 0 1\nroot 0 keeps 1\n"
 
 # Words that are a command, and what it writes. After `--` each word is a word, and none an option.
 COMMANDS = [
@@ -172,6 +185,26 @@ COMMANDS = [
     ("tape M P 0 K", KEPT),
     ("tape M P 0 K --explain", KEPT),
     ("tape -- M P 0001 K", "at 0 0 done 0\nrecords 0 torn 0\n"),
+    ("status M P J%", STATES),
+    ("status M P J% --explain", STATES),
+    ("status --explain -- M P J%", STATES),
+    ("status M --json P J%", STATES_JSON),
+    ("status M O K", ""),
+    ("handover M P J%", CUT_AT_1),
+    ("handover M P J% --explain", CUT_AT_1),
+    ("handover --explain -- M P J%", CUT_AT_1),
+    ("handover M -- --json J%", CUT_AT_1),
+    ("handover M O N", FILES["O"].decode()),
+    ("anew M P J% 8", LEFT),
+    ("anew M P J% 0008 --explain", LEFT),
+    ("anew --explain -- M P J% 8", LEFT),
+    ("anew M -- --json J% 8", LEFT),
+    ("anew M P J% 0", LEFT.replace("8", "0")),
+    ("anew M P J% 4294967295", LEFT.replace("8", "4294967295")),
+    ("anew M P J% 8 --without 0", LEFT_WITHOUT_0),
+    ("anew M --without=1 P J% 8", LEFT_WITHOUT_1),
+    ("anew --without 0001 -- M P J% 8", LEFT_WITHOUT_1),
+    ("anew M O N 8", FILES["O"].decode().replace("7", "8")),
 ]
 
 # Files in another order than the command has them, or one that is not there, and the fault that shows which was read as what.
@@ -283,6 +316,28 @@ OTHER_FILES = [
     ("tape M P 0 N", 1, "NoTape"),
     ("tape M P 2 no/N", 1, "NoTape"),
     ("tape N P 0 N", 3, "OpenFailed"),
+    ("status P M J%", 1, "BadHeader 1"),
+    ("status N P J%", 3, "OpenFailed"),
+    ("status M N J%", 3, "OpenFailed"),
+    ("handover P M J%", 1, "BadHeader 1"),
+    ("handover N P J%", 3, "OpenFailed"),
+    ("handover M N J%", 3, "OpenFailed"),
+    ("handover M P N%", 1, "BadTape 0"),
+    ("handover M P J0", 1, "BadTape 1"),
+    ("handover M P M%N", 1, "BadTape 0"),
+    ("anew P M J% 8", 1, "BadHeader 1"),
+    ("anew N P J% 8", 3, "OpenFailed"),
+    ("anew M N J% 8", 3, "OpenFailed"),
+    ("anew M N J% 7 --without 9", 3, "OpenFailed"),
+    ("anew M P N% 8", 1, "BadTape 0"),
+    ("anew M P J0 8", 1, "BadTape 1"),
+    ("anew M P N% 8 --without 0", 1, "BadTape 1"),
+    ("anew M P N% 7", 1, "SameNumber"),
+    ("anew M P N% 000007 --without 1", 1, "SameNumber"),
+    ("anew M P N% 7 --without 2", 1, "NoSuchAgent"),
+    ("anew M P J% 8 --without 65535", 1, "NoSuchAgent"),
+    ("anew M O N 7", 1, "SameNumber"),
+    ("anew M O N 8 --without 0", 1, "NoSuchAgent"),
 ]
 
 # Plans that are valid and rejected all the same, and why.
@@ -470,6 +525,27 @@ BAD = [
     ("tape M P 0 K X", "'X'", "Usage: mapf tape [OPTIONS] <map> <plan> <id> <file>"),
     ("tape M P 65536 K", "'65536' for '<id>'", "Usage: mapf tape [OPTIONS] <map> <plan> <id> <file>"),
     ("tape M P 0 K --tape new", "'--tape'", "Usage: mapf tape"),
+    ("status", "<map>", "Usage: mapf status <map> <plan> <tapes>"),
+    ("status M P", "<tapes>", "Usage: mapf status <map> <plan> <tapes>"),
+    ("status M P J0 J1", "'J1'", "Usage: mapf status [OPTIONS] <map> <plan> <tapes>"),
+    ("status M P J% --agent 0", "'--agent'", "Usage: mapf status"),
+    ("handover", "<map>", "Usage: mapf handover <map> <plan> <tapes>"),
+    ("handover M P", "<tapes>", "Usage: mapf handover <map> <plan> <tapes>"),
+    ("handover M P J0 J1", "'J1'", "Usage: mapf handover [OPTIONS] <map> <plan> <tapes>"),
+    ("handover M P J% --without 0", "'--without'", "Usage: mapf handover"),
+    ("anew", "<map>", "Usage: mapf anew <map> <plan> <tapes> <number>"),
+    ("anew M P J%", "<number>", "Usage: mapf anew <map> <plan> <tapes> <number>"),
+    ("anew M P J% 8 9", "'9'", "Usage: mapf anew [OPTIONS] <map> <plan> <tapes> <number>"),
+    ("anew M P J% new", "'new'", "from 0 to 4294967295"),
+    ("anew M P J% 4294967296", "'4294967296'", "from 0 to 4294967295"),
+    ("anew M P J% -1", "'-1'", "--help"),
+    ("anew M P J% +1", "'+1'", "from 0 to 4294967295"),
+    ("anew M P J% 8 --without", "'--without <without>'", "--help"),
+    ("anew M P J% 8 --without 65536", "--without", "from 0 to 65535"),
+    ("anew M P J% 8 --without 1x", "--without", "from 0 to 65535"),
+    ("anew M P J% 8 --without -1", "'-1'", "--help"),
+    ("anew M P J% 8 --without 0 --without 1", "--without", "Usage: mapf anew"),
+    ("anew M P J% 8 --number 9", "'--number'", "Usage: mapf anew"),
     ("--explain map M", "'--explain'", "Usage: mapf <COMMAND>"),
     ("map M --explain --explain", "--explain", "Usage: mapf map"),
     ("map M --explain=x", "--explain", "Usage: mapf map"),
@@ -484,8 +560,8 @@ def refusal(why: str, usage: str = "") -> bytes:
 
 # What is told in full.
 WHOLE = {
-    "": refusal("'mapf' requires a subcommand but one was not provided\n  [subcommands: map, scen, row, rows, check, bound, deps, path, cut, continues, optimal, run, agent, tape, help]", "<COMMAND>"),
-    "nope": refusal("unrecognized subcommand 'nope'", "<COMMAND>"),
+    "": refusal("'mapf' requires a subcommand but one was not provided\n  [subcommands: map, scen, row, rows, check, bound, deps, path, cut, continues, optimal, run, agent, tape, status, handover, anew, help]", "<COMMAND>"),
+    "zzz": refusal("unrecognized subcommand 'zzz'", "<COMMAND>"),
     # Clap's own advice, by another measure.
     "mapp_": refusal("unrecognized subcommand 'mapp_'\n\n  tip: a similar subcommand exists: 'map'", "<COMMAND>"),
     "chek": refusal("unrecognized subcommand 'chek'\n\n  tip: a similar command exists: 'check'", "<COMMAND>"),
@@ -516,6 +592,9 @@ WHOLE = {
     "agent M P 65536 T": refusal(
         "invalid value '65536' for '<id>': the number of an agent, from 0 to 65535, is wanted, in digits alone", "agent [OPTIONS] <map> <plan> <id> <file>"
     ),
+    "anew M P J% 8 --without 1x": refusal(
+        "invalid value for '--without <without>': the number of an agent, from 0 to 65535, is wanted, in digits alone", "anew [OPTIONS] <map> <plan> <tapes> <number>"
+    ),
     "agent M P 0 T --tape old": refusal("invalid value for '--tape <tape>': new or kept is wanted", "agent [OPTIONS] <map> <plan> <id> <file>"),
 }
 
@@ -540,6 +619,8 @@ ODD = [
     ["deps", "M", "P", "--cell", "1 0"],
     ["path", "M", "P", "--agent", ""],
     ["path", "M", "P", "--agent", " 0"],
+    ["anew", "M", "P", "J%", " 8"],
+    ["anew", "M", "P", "J%", "8", "--without", ""],
     ["agent", "M", "P", "", "T"],
     ["agent", "M", "P", "0 ", "T"],
     ["agent", "M", "P", "0", "T", "--tape", ""],

@@ -430,6 +430,8 @@ CALLS = [
     ("P --to paths --from csv", 2, b"", "--from goes with a conversion to a plan"),
     ("P --to yaml", 2, b"", "invalid choice: 'yaml'"),
     ("T --number 4294967296", 2, b"", "a number from 0 to 4294967295 or 'new' is wanted"),
+    (f"T --number {0:020}4294967296", 2, b"", "a number from 0 to 4294967295 or 'new' is wanted"),
+    (f"T --number {0:020}7", 0, PLAN, "T is read as paths\nconvert: 2 agents, 2 acts\n"),
     ("T --number -1", 2, b"", "--number"),
     ("", 2, b"", "FILE"),
     ("N", 3, b"", "convert: N: No such file or directory\n"),

@@ -14,6 +14,7 @@ from typing import Iterator, Optional, Sequence
 import command_lines
 import help_texts
 from harness import LONGEST, VERSION, Ended, Harness, Outcome, compared, ended_as, has_terminals, side_by_side
+from statuses import tape_of
 from texts import BEHIND, CORNER, CORNER_WRITTEN, LANE, NOBODY, ONWARD, PROOF, ROW, ROW_WRITTEN, SHORT, SQUARE, SWAP, TASKS, TURN, events
 
 FILES = {
@@ -31,6 +32,9 @@ FILES = {
     "Q": SQUARE.encode(),
     "R": TURN.encode(),
     "Z": PROOF.encode(),
+    # The tapes of all agents of P: one moves, and nothing is kept of the other yet.
+    "J0": tape_of(0, 1),
+    "J1": b"",
 }
 REPLIES = "refused Waits 0 1\nmoving 2 0\narrived 2 0\nrefused Waits 0 1\n"
 
@@ -61,6 +65,11 @@ WRITING = [
     ("run Q R J --complete", "refused Waits 1 1\n"),
     ("run Q R E --complete", "refused Waits 2 1\nrefused Waits 1 1\nrefused NotMoving\nrefused Waits 2 1\nblocked 0\n"),
     ("agent M P 0 T", "at 1 0 done 0\n"),
+    ("status M P J%", "0 between 1 0 2 0 done 0 of 1\n1 at 0 0 done 0 of 1 waits 0 1\nroot 0 keeps 1\n"),
+    ("status M P no%", "0 NoTape\n1 NoTape\n"),
+    ("handover M P J%", "mapf-plan 1\nnumber 7\nagents 2\nagent 1 0 e\nagent 0 0 e\n"),
+    ("anew M P J% 8", "mapf-plan 1\nnumber 8\nagents 2\nagent 2 0 =\nagent 0 0 e\n"),
+    ("anew M P J% 8 --without 0", "mapf-plan 1\nnumber 8\nagents 1\nagent 0 0 e\n"),
     ("--version", VERSION),
 ]
 # Commands with a fault, and the line of it.
@@ -80,10 +89,16 @@ FAULTY = [
     ("run M X E", "mapf: Swap 0 1 0\n"),
     ("run M X E --complete", "mapf: Swap 0 1 0\n"),
     ("agent M P 2 T", "mapf: NoSuchAgent\n"),
+    ("status M X J%", "mapf: Swap 0 1 0\n"),
+    ("handover M P J0", "mapf: BadTape 1\n"),
+    ("anew M P J% 7", "mapf: SameNumber\n"),
+    ("anew M P J% 8 --without 2", "mapf: NoSuchAgent\n"),
+    ("anew M P no% 8", "mapf: BadTape 0\n"),
 ]
 
 # What such commands end with, where it is another status than 0 or a fault too.
 STATUSES = {
+    "status M P no%": (1, ""),
     "check M X": (1, ""),
     "check M X --all": (1, ""),
     "run M P J": (1, "mapf: BadEvent 3\n"),
@@ -111,15 +126,18 @@ ODD_STREAMS = [
 UNREADABLE = [
     *("map D", "scen D", "row D S 0", "row C D 0", "check D P", "check M D", "check M P --scen D"),
     *("deps D P", "deps M D", "deps M D --cell 1 0", "path D P", "path M D", "cut D P 0", "cut M D 0", "continues D P Y", "continues M D Y", "continues M P D", "optimal D P Z", "optimal M D Z", "optimal M P D", "run D P E", "run M D E", "run M P D", "run M P D --complete", "agent D P 0 T", "agent M D 0 T"),
+    *("status D P J%", "status M D J%", "handover D P J%", "handover M D J%", "anew D P J% 8", "anew M D J% 8"),
 ]
 # Commands with a file that is not there, and one in front of it, which is opened all the same, or behind it, which is not.
 OPENED = [
     *(("row M no 0", "M"), ("check M no", "M"), ("check M P --scen no", "M"), ("check M P --scen no", "P")),
     *(("deps M no", "M"), ("path M no", "M"), ("cut M no 0", "M"), ("continues M no Y", "M"), ("continues M P no", "P"), ("optimal M no Z", "M"), ("optimal M P no", "P"), ("run M no E", "M"), ("run M P no", "P"), ("agent M no 0 T", "M")),
+    *(("status M no J%", "M"), ("handover M no J%", "M"), ("anew M no J% 8", "M")),
 ]
 NOT_OPENED = [
     *(("row no S 0", "S"), ("check no P", "P"), ("check M no --scen F", "F"), ("deps no P", "P"), ("path no P", "P"), ("cut no P 0", "P"), ("continues M no Y", "Y"), ("optimal M no Z", "Z")),
     *(("run no P E", "P"), ("run M no E", "E"), ("agent no P 0 T", "P")),
+    *(("status no P J%", "P"), ("status M no J%", "J0"), ("handover no P J%", "P"), ("handover M no J%", "J0"), ("anew no P J% 8", "P"), ("anew M no J% 8", "J0")),
 ]
 
 

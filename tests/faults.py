@@ -63,7 +63,12 @@ FILES = {
     "V": "mapf-events 3\n",
     "Z": PROOF,
     "Z9": PROOF.replace("2", "9"),
+    # The tapes of all agents of P: one moves, and nothing is kept of the other yet.
+    "J0": MOVING.decode(),
+    "J1": "",
 }
+# Tapes that are read, with those of all agents, and what is told where one fails.
+TAPES = {"J0": 0, "J1": 1}
 # The tape is no file of the table: it is put there before each run.
 TAPE = "T"
 # What is beside it, and the name under which that is written.
@@ -97,7 +102,9 @@ class Case:
 
     @property
     def files(self) -> set[str]:
-        return {word for word in self.words.split() if word in FILES or word == TAPE}
+        """Those that are named, and the tapes that have an agent's number in place of `%`."""
+        named = {word.replace("%", agent) for word in self.words.split() for agent in "01"}
+        return {name for name in named if name in FILES or name == TAPE}
 
     @property
     def at_hand(self) -> str:
@@ -110,6 +117,8 @@ class Case:
         return not self.due.err and (self.words.endswith(NEW) or (self.beside is not None and self.beside[14:] != self.at_hand.encode()))
 
 
+# What `mapf status` says of the two agents of P.
+MOVES, WAITS, KEEPS = "0 between 1 0 2 0 done 0 of 1\n", "1 at 0 0 done 0 of 1 waits 0 1\n", "root 0 keeps 1\n"
 TURN_DEPS = "agents 4 moves 4 needs 4 rotations 1\nneed 0 0 1 1\nneed 1 0 2 1\nneed 2 0 3 1\nneed 3 0 0 1\nrotation 0 0 1 2 3\n"
 CASES = [
     Case("map C", answer(0, CORNER_WRITTEN)),
@@ -213,6 +222,14 @@ CASES = [
     Case("tape M P 0 T", answer(0, "between 1 0 2 0 done 0\nrecords 1 torn 9\n"), tape=MOVING + STANDING[:9]),
     Case("tape M P 0 T", answer(1, "WrongAgent 0"), tape=OTHER_AGENT),
     Case("tape M P 2 T", answer(1, "NoSuchAgent"), tape=b""),
+    Case("status M P J%", answer(0, f"{MOVES}{WAITS}{KEEPS}")),
+    Case("status M X J%", answer(1, "Swap 0 1 0")),
+    Case("handover M P J%", answer(0, "mapf-plan 1\nnumber 7\nagents 2\nagent 1 0 e\nagent 0 0 e\n")),
+    Case("handover M X J%", answer(1, "Swap 0 1 0")),
+    Case("anew M P J% 8", answer(0, "mapf-plan 1\nnumber 8\nagents 2\nagent 2 0 =\nagent 0 0 e\n")),
+    Case("anew M P J% 8 --without 0", answer(0, "mapf-plan 1\nnumber 8\nagents 1\nagent 0 0 e\n")),
+    Case("anew M P J% 7", answer(1, "SameNumber")),
+    Case("anew M P J% 8 --without 2", answer(1, "NoSuchAgent")),
     Case("map -", answer(0, CORNER_WRITTEN), CORNER.encode()),
     Case("scen -", answer(1, "BadNumber 2 5"), FILES["N"].encode()),
     Case("--version", answer(0, VERSION)),
@@ -221,7 +238,7 @@ CASES = [
 ]
 # Bad command lines; in a short test one that `clap` refuses, and those that are refused behind it.
 BAD_LINES = [Case(words, Ended(2, b"", told)) for words, told in command_lines.WHOLE.items()]
-FEW_BAD_LINES = [case for case in BAD_LINES if case.words in ("nope", "row M S 1x", "agent M P 65536 T")]
+FEW_BAD_LINES = [case for case in BAD_LINES if case.words in ("zzz", "row M S 1x", "agent M P 65536 T")]
 # A run of which only its end is free: what completes it is judged, and then the same whenever nothing fails.
 COMPLETED = "run M P L --complete"
 
@@ -323,6 +340,16 @@ def is_refused_once(case: Case, ended: Ended) -> bool:
     return len(differ) == 1 and differ[0].startswith((b"hear ", b"tell")) and wrote.count(b"refused OutOfMemory") == 1
 
 
+def is_told_of_tapes(case: Case, failed: list[int], name: str, ended: Ended) -> bool:
+    """Whether a command that reads all tapes tells that those of some agents have this fault: an agent that is left out may have any."""
+    words = case.words.split()
+    if words[0] == "status":
+        text = "".join(f"{agent} {name}\n" if agent in failed else said for agent, said in enumerate((MOVES, WAITS)))
+        return ended == Ended(1, f"{text}{'' if 1 in failed else KEEPS}".encode(), b"")
+    blamed = [agent for agent in failed if words[-2:] != ["--without", str(agent)]]
+    return ended == (answer(1, f"BadTape {blamed[0]}") if blamed else case.due)
+
+
 def is_allowed(case: Case, call: str, kind: str, met: str, ended: Ended) -> bool:
     """Whether a command did what it may do where this call failed, of the file or stream that was met."""
     due = case.due
@@ -332,6 +359,10 @@ def is_allowed(case: Case, call: str, kind: str, met: str, ended: Ended) -> bool
         return ended == due or (is_fault(ended, "OutOfMemory") and begins(case.early, ended.out)) or is_refused_once(case, ended)
     if met == BY_NAME:
         return is_store_failed(case, ended)
+    if met in TAPES:
+        # From a failure that goes on the tapes of later agents fail too.
+        failed = [agent for tape, agent in TAPES.items() if tape == met or (kind == "on" and agent > TAPES[met])]
+        return is_told_of_tapes(case, failed, "OpenFailed" if call == "open" else "TapeFailed", ended)
     if call in ("open", "look"):
         # What is beside the tape is opened to be marked too.
         return (is_fault(ended, "TapeFailed" if met in (FOLDER, DRAFT) else "OpenFailed") and not ended.out) or (
@@ -396,7 +427,8 @@ def opened(case: Case) -> set[str]:
     """The files that a command opens: none where its words are none, and no tape where there is no agent for it."""
     if case.due.status == 2:
         return set()
-    return case.files - ({TAPE} if case.due.err in (b"mapf: NoSuchAgent\n", b"mapf: Swap 0 1 0\n") else set())
+    has_no_agent = case.due.err in (b"mapf: NoSuchAgent\n", b"mapf: SameNumber\n", b"mapf: Swap 0 1 0\n")
+    return case.files - ({TAPE, *TAPES} if has_no_agent else set())
 
 
 def written_beside(case: Case) -> set[str]:

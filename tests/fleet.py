@@ -12,6 +12,8 @@ from harness import ROOT, Harness, Outcome, compared, shown, side_by_side
 LONG = range(1, 21)
 FLEET = ROOT / "examples" / "fleet" / "fleet.py"
 RATES = ((0.2, 0.02), (0.5, 0.1))
+# How many robots drive, of which one is carried off.
+ROBOTS = 12
 # Orders, and how many robots carry them out.
 SHORT_ORDERS, LONG_ORDERS, DRIVERS = 24, 60, 6
 SHORT = ((1, *RATES[0], ["--tell"]), (2, *RATES[1], []), (3, *RATES[0], []), (4, *RATES[1], ["--tell"]))
@@ -38,6 +40,7 @@ def bad_calls(harness: Harness) -> Iterator[Outcome]:
     torn = harness.folder({"plan": b"\xff\n"}) / "plan"
     for name, words, status, told in (
         ("no agents", ["--agents", "0"], 2, "a number from 1 to 65535 is wanted, and '0' is none"),
+        ("too many agents", ["--agents", f"{0:020}65536"], 2, "a number from 1 to 65535 is wanted, and '0000000000000000000065536' is none"),
         ("fewer than no agents", ["--agents", "-1"], 2, "a number from 1 to 65535 is wanted, and '-1' is none"),
         ("all is lost", ["--loss", "1"], 2, "a rate from 0 to below 1 is wanted, and '1' is none"),
         ("all are killed", ["--kills", "nan"], 2, "a rate from 0 to below 1 is wanted, and 'nan' is none"),
@@ -46,7 +49,11 @@ def bad_calls(harness: Harness) -> Iterator[Outcome]:
         ("no program", ["--program", "./no"], 3, "fleet: ./no: No such file or directory"),
         ("no folder", ["--folder", "no"], 3, "No such file or directory"),
         ("no order", ["--orders", "0"], 2, "a number from 1 to 65535 is wanted, and '0' is none"),
-        ("boxes of orders", ["--orders", "1", "--boxes", "new"], 2, "--boxes: a box is of one plan, and --orders are many"),
+        ("boxes of orders", ["--orders", "1", "--boxes", "new"], 2, "argument --boxes: not allowed with argument --orders"),
+        ("a robot of none", ["--take", "-1"], 2, "'-1' is no number up to 65535"),
+        ("taken from boxes", ["--take", "0", "--boxes", "new"], 2, "argument --boxes: not allowed with argument --take"),
+        ("taken from orders", ["--take", "0", "--orders"], 2, "argument --orders: not allowed with argument --take"),
+        ("one too many is taken", ["--take", "12"], 1, "fleet: there is no robot 12 to be carried off"),
         ("boxes that were there before", ["--boxes", "."], 3, "fleet: .: File exists"),
         ("a plan that is none", ["--plan", str(torn)], 1, "`mapf run --complete` says 'mapf: BadHeader 1'"),
         ("a rotation", turn, 1, "`mapf run --complete` says 'blocked 0'"),
@@ -71,6 +78,25 @@ def carry_out(harness: Harness, seed: int, loss: float, kills: float, more: list
     return [compared(name, f"{shown(command)}, which told {ended.out[-500:]!r} {ended.err[-500:]!r}", wrote, (0, True, True))]
 
 
+def carried_off(harness: Harness, seed: int, loss: float, kills: float, more: list[str]) -> list[Outcome]:
+    """One is lifted off in the middle of the run, and the others arrive by a plan of what is left."""
+    gone = seed % ROBOTS
+    words = [*more, "--seed", str(seed), "--loss", str(loss), "--kills", str(kills), "--quiet", "--program", str(harness.program)]
+    command = [sys.executable, str(FLEET), "--agents", str(ROBOTS), "--take", str(gone), *words]
+    ended = harness.run(command)
+    due = rf"robot {gone} was carried off at step \d+, and the others were stopped at step \d+\nseed {seed}: {ROBOTS - 1} robots arrived after .*\n"
+    wrote = (ended.status, bool(re.fullmatch(due, ended.out.decode(errors="replace"))))
+    name = " ".join([f"robot {gone} is carried off, seed {seed}, {loss} lost, {kills} killed", *more])
+    return [compared(name, f"{shown(command)}, which told {ended.out[-500:]!r} {ended.err[-500:]!r}", wrote, (0, True))]
+
+
+def the_only_one(harness: Harness) -> Iterator[Outcome]:
+    """Nobody is left, who has arrived."""
+    command = [sys.executable, str(FLEET), "--agents", "1", "--take", "0", "--quiet", "--program", str(harness.program)]
+    ended = harness.run(command)
+    yield compared("the only robot is carried off", shown(command), (ended.status, b"seed 1: 0 robots arrived" in ended.out, ended.err), (0, True, b""))
+
+
 def full_disk(harness: Harness) -> Iterator[Outcome]:
     """Whatever isn't stored is waited out, and then all arrive."""
     program = failing_program(harness, Chances(unopened=0.2, lost=0.1, stored=0.1))
@@ -89,3 +115,6 @@ def outcomes(harness: Harness) -> Iterator[Outcome]:
     yield from side_by_side(functools.partial(drive, harness, *run) for run in runs)
     ordered = [(seed, *rates, more) for seed in (1, 2, 3) for rates in RATES for more in ([], ["--tell"])] if harness.is_long else SHORT[:2]
     yield from side_by_side(functools.partial(carry_out, harness, *run) for run in ordered)
+    yield from the_only_one(harness)
+    taken = [(seed, *rates, more) for seed in LONG for rates in RATES for more in ([], ["--tell"])] if harness.is_long else SHORT
+    yield from side_by_side(functools.partial(carried_off, harness, *run) for run in taken)

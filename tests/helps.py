@@ -80,7 +80,9 @@ def forms(text: str) -> list[str]:
     """What the lines of an answer look like, by its help, as regular expressions."""
     said = text.partition("Print help\n\n")[2].partition("\n\nStatus:")[0]
     listed = re.findall(r"^  (\S.*?)(?: {2,}|$)", said, re.MULTILINE)
-    return [*map(as_pattern, listed), *map(re.escape, re.findall(r"`([^`]+)`", said))]
+    quoted = re.findall(r"`([^`]+)`", said)
+    # Commands and options are quoted too.
+    return [*map(as_pattern, listed), *(re.escape(it) for it in quoted if not it.startswith(("mapf ", "--")))]
 
 
 def as_pattern(form: str) -> str:
@@ -134,6 +136,8 @@ def of_command(harness: Harness, name: str, about: str) -> tuple[str, list[Outco
 def of_commands(harness: Harness, listed: dict[str, str]) -> Iterator[Outcome]:
     folder = harness.folder()
     shutil.copytree(ROOT / "examples", folder / "examples")
+    # The other tape of the fleet whose tapes are asked for.
+    (folder / "robot1.tape").write_bytes(b"")
     for name, about in listed.items():
         text, found = of_command(harness, name, about)
         yield from found

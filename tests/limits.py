@@ -11,6 +11,7 @@ from typing import Callable, Iterator, Mapping, Sequence
 
 from answers import answer
 from harness import Ended, Harness, Outcome, compared, shown, side_by_side
+from statuses import tape_of
 from texts import BEHIND, LANE, PROOF, SQUARE, plan, scen
 
 MOST_ACTS, MOST_AGENTS, MOST_ACTS_OF_ALL = 65_535, 10_000, 16_777_216
@@ -186,6 +187,7 @@ def of_long_plans(harness: Harness) -> list[Outcome]:
     ):
         files = {**to_the_end, "K": plan("2 0 =", f"0 0 {kept}").encode()}
         outcomes.append(asked(harness, f"a plan of {most} acts behind one of {len(kept)}", "continues M K P", files, due))
+    outcomes += of_a_long_run(harness, to_the_end, to_and_fro)
     for acts, fault in ((f"{to_and_fro}n", f"BadMove 1 {most - 1}"), (f"{'-' * (most - 1)}w", f"BadMove 1 {most - 1}")):
         spoiled = {"M": LANE.encode(), "P": plan("2 0 =", f"0 0 {acts}").encode()}
         outcomes.append(asked(harness, f"a path with {fault}", "path M P", spoiled, answer(1, fault)))
@@ -199,6 +201,29 @@ def of_long_plans(harness: Harness) -> list[Outcome]:
     for count in (most + 1, 1_000_000):
         files = {"M": LANE.encode(), "P": plan(f"0 0 {'-' * count}").encode()}
         outcomes.append(asked(harness, f"{count} acts", "check M P", files, answer(1, "TooMany 4")))
+    return outcomes
+
+
+def of_a_long_run(harness: Harness, files: Mapping[str, bytes], to_and_fro: str) -> list[Outcome]:
+    """Tapes up to the longest, of an agent that goes to and fro and then has a last move, beside one that has none."""
+    most, whole = len(to_and_fro) + 1, Ended(0, files["P"], b"")
+    outcomes = []
+    for records, cut, left in (
+        (0, answer(0, plan("2 0 =", "0 0 =")), f"0 0 {to_and_fro}e"),
+        (2 * most - 3, answer(0, plan("2 0 =", f"0 0 {to_and_fro}")), "0 0 e"),
+        (2 * most - 2, answer(0, plan("2 0 =", f"0 0 {to_and_fro}")), "0 0 e"),
+        (2 * most - 1, whole, "1 0 ="),
+        (2 * most, whole, "1 0 ="),
+    ):
+        fleet = {**files, "0.tape": b"", "1.tape": tape_of(1, records)}
+        state = f"at {(records // 2) % 2} 0" if records % 2 == 0 else f"between {(records // 2) % 2} 0 {(records // 2 + 1) % 2} 0"
+        kept = "" if records % 2 else " arrived" if records == 2 * most else " ready"
+        told = f"0 at 2 0 done 0 of 0 arrived\n1 {state} done {records // 2} of {most}{kept}\n"
+        outcomes.append(asked(harness, f"the status of {records} records", "status M P %.tape", fleet, answer(0, told)))
+        outcomes.append(asked(harness, f"handed over with {records} records", "handover M P %.tape", fleet, cut))
+        outcomes.append(asked(harness, f"begun anew with {records} records", "anew M P %.tape 8", fleet, answer(0, plan("2 0 =", left, number=8))))
+    too_long = {**files, "0.tape": b"", "1.tape": tape_of(1, 2 * most) + b"P" * 10}
+    outcomes.append(asked(harness, "a record more", "handover M P %.tape", too_long, answer(1, "BadTape 1")))
     return outcomes
 
 
@@ -319,6 +344,23 @@ def lines(*texts: str) -> bytes:
     return "\n".join([*texts, ""]).encode()
 
 
+def of_most_tapes(harness: Harness, files: Mapping[str, bytes]) -> list[Outcome]:
+    """Of as many agents that go east at once the last half have begun."""
+    count = MOST_AGENTS
+    begun = count // 2
+    fleet = {**files, **{f"{agent}.tape": tape_of(agent, 0 if agent < begun else 1 if agent == begun else 2) for agent in range(count)}}
+    left = [f"{agent} 0 e" if agent < begun else f"{agent + 1} 0 =" for agent in range(count)]
+    at = [*(f"{agent} at {agent} 0 done 0 of 1 waits {agent + 1} 1" for agent in range(begun)), f"{begun} between {begun} 0 {begun + 1} 0 done 0 of 1"]
+    at += [f"{agent} at {agent + 1} 0 done 1 of 1 arrived" for agent in range(begun + 1, count)]
+    outcomes = [asked(harness, f"the status of {count} agents", "status M P %.tape", fleet, Ended(0, lines(*at, f"root {begun} keeps {begun}"), b""))]
+    outcomes.append(asked(harness, f"{count} agents are handed over", "handover M P %.tape", fleet, Ended(0, files["P"], b"")))
+    for words, kept in (("", left), (" --without 0", left[1:]), (f" --without {count - 1}", left[:-1])):
+        due = answer(0, plan(*kept, number=8))
+        outcomes.append(asked(harness, f"{count} agents begin anew{words}", f"anew M P %.tape 8{words}", fleet, due))
+    outcomes.append(asked(harness, f"agent {count} is carried off", f"anew M P %.tape 8 --without {count}", files, answer(1, "NoSuchAgent")))
+    return outcomes
+
+
 def of_a_line(harness: Harness) -> list[Outcome]:
     """As many agents as there may be, one behind the other, all of which go east at once: who waits for whom, and what the last ones say."""
     count = MOST_AGENTS
@@ -328,6 +370,7 @@ def of_a_line(harness: Harness) -> list[Outcome]:
     needs = lines(f"agents {count} moves {count} needs {last} rotations 0", *(f"need {i} 0 {i + 1} 1" for i in range(last)))
     outcomes = [asked(harness, f"deps of {count} agents", "deps M P", files, Ended(0, needs, b""))]
     outcomes.append(asked(harness, f"a plan of {count} agents, cut at 0", "cut M P 0", files, cut))
+    outcomes += of_most_tapes(harness, files)
     both = {**files, "K": cut.out}
     outcomes.append(asked(harness, f"a plan of {count} agents behind their starts", "continues M K P", both, answer(0, f"continues from 0, adds {count} moves\n")))
     turns = [

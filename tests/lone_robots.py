@@ -1,5 +1,7 @@
 """One robot of examples/fleet by itself: in a copy of its folder, as a service with a drive of its own, and what it says of others on its network."""
 import functools
+import hashlib
+import json
 import os
 import pathlib
 import re
@@ -24,6 +26,8 @@ UNIT, SETTINGS = SYSTEMD / "mapf-robot@.service", SYSTEMD / "robot.conf"
 MAP, PLAN = ROOT / "examples" / "plain.map", ROOT / "examples" / "behind.plan"
 # Where each robot of the plan starts, and what its tape says when it has arrived.
 STARTS, ENDS = ("1 0", "0 0"), (b"at 2 0 done 1\n", b"at 1 0 done 1\n")
+# A plan that goes on from that one.
+ONWARD = ROOT / "examples" / "onward.plan"
 # A right message of a plan with another number.
 OTHERS = bytes.fromhex("460100010000000500000001")
 # Seconds in which a robot that lives says so more than once.
@@ -200,6 +204,28 @@ def of_a_robot_elsewhere(harness: Harness, ports: Callable[[], int]) -> list[Out
     return [ended_as("a robot that was carried off", shown(words), ended, due)]
 
 
+def of_a_renamed_plan(harness: Harness, ports: Callable[[], int]) -> list[Outcome]:
+    """The box of a robot says of each start by which plan it was."""
+    copied, box = Copied(harness), "0.box"
+    copied.start([sys.executable, str(copied.fleet / "own_drive.py"), "drive", *STARTS[0].split()])
+    wait_until((copied.folder / "drive").exists)
+    tape, link = copied.make_tape(0).name, ["--listen", f"127.0.0.1:{ports()}", "--peers", "", "--box", box]
+    shutil.copy(PLAN, copied.folder / "run.plan")
+    copied.start([sys.executable, str(copied.fleet / "robot.py"), str(MAP), "run.plan", "0", tape, "--drive", "drive", "--program", copied.program, *link])
+    due = [hashlib.sha256(plan.read_bytes()).hexdigest() for plan in (PLAN, ONWARD)]
+
+    def plans() -> list[str]:
+        lines = (copied.folder / box).read_text(encoding="ascii").splitlines() if (copied.folder / box).exists() else []
+        return [line["started"]["plan"] for line in map(json.loads, lines) if "started" in line]
+
+    wait_until(lambda: plans() == due[:1])
+    shutil.copy(ONWARD, copied.folder / "next.plan")
+    (copied.folder / "next.plan").rename(copied.folder / "run.plan")
+    wait_until(lambda: len(plans()) > 1)
+    said = copied.end()
+    return [compared("a box of two plans", f"robot.py, whose plan is renamed, which told {said[-500:]!r}", plans(), due)]
+
+
 def of_one_number(harness: Harness) -> list[Outcome]:
     """A tape's records fit another plan of its number, whatever the paths are. What is beside the tape tells the two apart."""
     other = PLAN.read_bytes().replace(b"agent 1 0 e-", b"agent 1 0 w").replace(b"agent 0 0 e", b"agent 2 0 =")
@@ -251,13 +277,14 @@ def of_a_lone_broker(harness: Harness) -> list[Outcome]:
 
 
 def of_one_text(_: Harness) -> list[Outcome]:
-    """Two folders are copied alone, and have this text each."""
-    texts = {(ROOT / name / "leaving.py").read_bytes() for name in ("tools", "examples/fleet")}
-    return [compared("how tools end", "looked at both leaving.py", len(texts), 1)]
+    """Two folders are copied alone, and have these texts each."""
+    names = ("given.py", "leaving.py")
+    texts = {name: {(ROOT / folder / name).read_bytes() for folder in ("tools", "examples/fleet")} for name in names}
+    return [compared(f"a text of two folders, {name}", f"looked at both {name}", len(texts[name]), 1) for name in names]
 
 
 def tests(harness: Harness, ports: Callable[[], int]) -> Iterator[Callable[[], Sequence[Outcome]]]:
-    for with_ports in (of_services, of_signs_of_life, of_another_plan, of_a_robot_elsewhere):
+    for with_ports in (of_services, of_signs_of_life, of_another_plan, of_a_robot_elsewhere, of_a_renamed_plan):
         yield functools.partial(with_ports, harness, ports)
     for test in (of_one_number, of_the_unit, of_a_lone_broker, of_one_text):
         yield functools.partial(test, harness)

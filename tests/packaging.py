@@ -17,7 +17,7 @@ TOOL = pathlib.Path("tools") / "package.py"
 PARTS = ("completions", "dist", "docs", "examples", "tools", "README.md", "CHANGELOG.md", "mapf")
 NOT_DONE = shutil.ignore_patterns("__pycache__")
 NAME = re.compile(r"package: (.*/mapf_[0-9][0-9.]*(?:~unreleased)?_amd64\.deb)\n")
-TOOLS = ("convert", "judge", "prove", "repair", "rows", "show")
+TOOLS = ("convert", "handover", "judge", "prove", "repair", "rows", "show", "watch")
 # The documents whose commands are run from the package.
 SHOWN = ("README.md", "docs/OPERATING.md", "docs/CONVERTING.md", "docs/PROVING.md")
 # A user who is not the one that runs the tests; and a time that is none of the sources.

@@ -30,15 +30,18 @@ import explaining
 import faults
 import fleet
 import formats
+import handovers
 import judging
 import launcher
 import limits
 import listing
+import live_watching
 import messages
 import packaging
 import proving
 import refusals
 import repairing
+import replanning
 import replays
 import robots
 import rows_and_bounds
@@ -47,6 +50,7 @@ import shipping
 import showing
 import signed_messages
 import sources
+import statuses
 import tabling
 import vectors
 import vehicles
@@ -78,6 +82,9 @@ PARTS: dict[str, tuple[str, Callable[[Harness], Iterator[Outcome]]]] = {
     "endings": ("how runs end: the events that complete them, or the rotation in the way", endings.outcomes),
     "chains": ("plans that go on from plans, beside a plain model", continuations.outcomes),
     "changing": ("fleets that go over from plan to plan while they drive", changing.outcomes),
+    "statuses": ("what the tapes of a whole fleet say, beside a plain model", statuses.outcomes),
+    "watch": ("fleets that are watched: what is told, alarms, gauges and pages", live_watching.outcomes),
+    "handovers": ("what follows from the tapes of a stopped fleet: a cut, or a plan of what is left, beside a plain model", handovers.outcomes),
     "bounds": ("rows of scenarios, bounds of plans and lists of faults, up to the limits", rows_and_bounds.outcomes),
     "scenarios": ("whole scenarios and bounds of plans, beside plain searches", scenarios.outcomes),
     "proofs": ("proofs that plans are the best, beside a plain model and a search of all joint plans", proving.outcomes),
@@ -86,6 +93,7 @@ PARTS: dict[str, tuple[str, Callable[[Harness], Iterator[Outcome]]]] = {
     "convert": ("plans of other formats, converted and back", converting.outcomes),
     "judge": ("many plans, judged as one table", judging.outcomes),
     "repair": ("plans in which agents rotate, planned anew", repairing.outcomes),
+    "replan": ("what is to be planned anew for a fleet that was stopped", replanning.outcomes),
     "rows": ("many scenarios, certified as one table", tabling.outcomes),
     "show": ("plans and runs as pages in a browser, and as pictures", showing.outcomes),
     "package": ("Debian's package: made twice, installed on an empty root, called and removed", packaging.outcomes),

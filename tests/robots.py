@@ -128,15 +128,13 @@ def of_orders(harness: Harness, robots: int, orders: int, more: Sequence[str]) -
     """Plan after plan, over a link and with kills: the log is that of the last plan."""
     words = ["--robots", str(robots), "--orders", str(orders), "--limit", str(LONGEST_OF_ORDERS), *more]
     fleet = Fleet(harness, words)
-    # A box is of one plan.
-    del fleet.command[-2:]
     ended = fleet.run(LONGEST_OF_ORDERS)
     counted = fleet.counted(ended)
     wrote = (ended.status, [(run["arrived"], run["orders"]) for run in counted], fleet.held(), short_of(counted, {KILLS: 1}))
     due = (0, [(robots, orders)], [True], {})
     name = f"{orders} orders, {' '.join(more)}"
     ran = f"{shown(fleet.command)}, which told {ended.out[-1500:]!r} {ended.err[-1500:]!r}"
-    return [compared(name, ran, wrote, due), compared(f"{name}: what is left", ran, left_in(fleet.folder), [])]
+    return [compared(name, ran, wrote, due), compared(f"{name}: what is left", ran, left_in(fleet.folder), []), *fleet.boxes(name)]
 
 
 def of_numbers(harness: Harness) -> list[Outcome]:
@@ -294,8 +292,8 @@ def of_topics(harness: Harness, python: str) -> list[Outcome]:
 
 
 def of_stops(harness: Harness) -> list[Outcome]:
-    """The broker is killed and started again."""
-    fleet = Fleet(harness, ["--link", "mqtt", "--robots", "3", "--moves", "0.2", "--stops", "1", "--kills", "1", "--seed", "4"])
+    """The broker is killed and started again: by this seed early enough for a run on any machine."""
+    fleet = Fleet(harness, ["--link", "mqtt", "--robots", "3", "--moves", "0.2", "--stops", "1", "--kills", "1", "--seed", "13"])
     return fleet.judged("MQTT, a broker that stops", 3, stops=1)
 
 
@@ -378,6 +376,7 @@ def bad_calls(harness: Harness, taken: int) -> Iterator[tuple[str, list[str], in
         ("more robots than agents", [*robots, "--robots", "13"], 3, "there are 12 agents, and 13 were due"),
         ("no such link", [*robots, "--link", "post"], 2, "invalid choice: 'post'"),
         ("no cables", [*robots, "--cuts", "1"], 2, "there are no cables here"),
+        ("no number of a plan", [*robots, "--number", f"{0:020}4294967296"], 2, "a number below 4294967296 is wanted"),
     )
     python = with_paho()
     if python:

@@ -1,7 +1,6 @@
 """What pages of tools/show.py do in a browser: what they draw and where, what they say, and what each key does."""
 import os
 import pathlib
-import time
 from typing import Callable, Iterator, Sequence
 
 from chromium import Chromium
@@ -251,6 +250,8 @@ def running(page: Page, browser: Chromium) -> Iterator[Outcome]:
     yield compared("a broken agent is a square", file.name, pixel(browser, 1 - 0.86 * radius, 0.5 * radius), FAULT)
 
 
+# So that it still plays when it is looked at.
+SLOWLY = "page.setSpeed(0.25)"
 # Where the first agent is, from the middle of the drawing on.
 FROM_THE_MIDDLE = """page.view.pixel(page.world.moment.x[0], page.world.moment.y[0])
   .map((it, side) => Math.round(it - [page.width, page.height][side] / 2))"""
@@ -300,6 +301,7 @@ def press_all(browser: Chromium, ran: str, keys: Sequence[tuple[str, bool, str, 
 def keys(page: Page, browser: Chromium) -> Iterator[Outcome]:
     file = page("keys.html", "hall.map", "keys.plan")
     browser.open(file)
+    browser.value(SLOWLY)
     yield from press_all(browser, "the plan keys.plan", KEYS)
     for letter in "1":
         browser.key(letter)
@@ -323,6 +325,7 @@ def fingers(page: Page, browser: Chromium) -> Iterator[Outcome]:
     """Buttons, the slider, dragging and the wheel."""
     file = page("keys.html", "hall.map", "keys.plan")
     browser.open(file)
+    browser.value(SLOWLY)
     moves = (("last", "page.time", 4), ("back", "page.time", 3), ("on", "page.time", 4), ("first", "page.time", 0))
     for name, look, due in (*moves, ("play", "page.playing", True), ("play", "page.playing", False)):
         browser.value(f"document.getElementById('{name}').click()")
@@ -341,9 +344,7 @@ def fingers(page: Page, browser: Chromium) -> Iterator[Outcome]:
     yield compared("dragging chooses nobody", file.name, browser.value("page.wishes.agent"), -1)
     scale = browser.value("page.view.scale")
     browser.ask("Input.dispatchMouseEvent", type="mouseWheel", x=300, y=300, deltaX=0, deltaY=-200)
-    browser.settle()
-    time.sleep(0.1)
-    yield compared("the wheel zooms", file.name, browser.value("page.view.scale") > scale, True)
+    yield compared("the wheel zooms", file.name, browser.when(f"page.view.scale !== {scale}", "page.view.scale") > scale, True)
     for name, grows in (("closer", True), ("farther", False)):
         scale = browser.value("page.view.scale")
         browser.value(f"document.getElementById('{name}').click()")
@@ -370,6 +371,7 @@ def focus(page: Page, browser: Chromium) -> Iterator[Outcome]:
     file = page("keys.html", "hall.map", "keys.plan")
     for name, act in WAYS_BACK:
         browser.open(file)
+        browser.value(SLOWLY)
         act(browser)
         before = browser.value("page.playing")
         browser.key(" ")
@@ -430,12 +432,10 @@ def playing(page: Page, browser: Chromium) -> Iterator[Outcome]:
     file = page("keys.html", "hall.map", "keys.plan")
     browser.open(file)
     browser.value("page.setSpeed(2), page.play()")
-    time.sleep(0.9)
-    on_the_way = browser.value("[page.playing, page.time > 0.5 && page.time < 3.5]")
-    yield compared("it plays", file.name, on_the_way, [True, True])
+    yield compared("it plays", file.name, browser.when("page.time > 0.5", "[page.playing, page.time < 3.5]"), [True, True])
     browser.value("page.setSpeed(8)")
-    time.sleep(0.9)
-    yield compared("it ends at the end", file.name, browser.value("[page.playing, page.time]"), [False, 4])
+    yield compared("it ends at the end", file.name, browser.when("!page.playing", "page.time"), 4)
+    browser.value(SLOWLY)
     browser.key(" ")
     yield compared("and begins again", file.name, browser.value("page.playing && page.time < 4"), True)
 
@@ -452,8 +452,10 @@ def readers(page: Page, browser: Chromium) -> Iterator[Outcome]:
     yield compared("the moment in words", file.name, told, due)
     live = "[document.getElementById('now').getAttribute('aria-live'), page.canvas.getAttribute('role'), page.canvas.getAttribute('aria-describedby')]"
     yield compared("it is read aloud", file.name, browser.value(live), ["polite", "img", "now"])
-    browser.value("page.play(), page.draw()")
-    yield compared("but not while it plays", file.name, browser.value("document.getElementById('now').getAttribute('aria-live')"), "off")
+    # The words come again some frames later.
+    browser.value("page.play()")
+    aloud = "document.getElementById('now').getAttribute('aria-live')"
+    yield compared("but not while it plays", file.name, browser.when(f"!page.playing || {aloud} === 'off'", aloud), "off")
     browser.value("page.pause()")
     nameless = """[...document.querySelectorAll('button, input, select')]
       .filter((it) => !it.textContent.trim() && !it.ariaLabel && !(it.labels && it.labels.length)).length"""

@@ -34,7 +34,6 @@ MADE = {
     "agent/refusal.rt: From<AllocError> for TellFault: from": NAMED_ANEW,
     "agent/replies.rt: reply_to_delivery": PASSED_ON,
     "agent_commands/agent_fault.rt: From<AllocError> for AgentFault: from": NAMED_ANEW,
-    "agent_commands/agent_part.rt: read_terms": NAMED_ANEW,
     "agent_commands/plan_file.rt: blame_of": NAMED_ANEW,
     "check_commands/verdicts.rt: accept": NAMED_ANEW,
     "check_commands/verdicts.rt: list": NAMED_ANEW,
@@ -51,6 +50,11 @@ MADE = {
     "executor/runner.rt: Runner<'g>: tell": PASSED_ON,
     "executor/runs.rt: run_with": "was given a reply back that there was no room for",
     "executor/said.rt: Said: keep_told": "takes back what it had taken, and then says why",
+    "fleet_commands/anew_command.rt: fault_of": NAMED_ANEW,
+    "fleet_commands/found_tapes.rt: unless_refused": NAMED_ANEW,
+    "fleet_commands/handover_fault.rt: From<AllocError> for HandoverFault: from": NAMED_ANEW,
+    "fleet_commands/handover_fault.rt: From<PushFault> for HandoverFault: from": NAMED_ANEW,
+    "fleet_commands/status_command.rt: tell": NO_TEXT,
     "grid/map_fault.rt: From<AllocError> for MapFault: from": NAMED_ANEW,
     "least_steps/step_fault.rt: From<AllocError> for StepFault: from": NAMED_ANEW,
     "mapf/main.rt: fault_of": "tells why the system didn't give the words of the command line",
@@ -63,6 +67,7 @@ MADE = {
     "plan_text/plan_reader.rt: Progress: add_line": PASSED_ON,
     "plan_text/plan_text_fault.rt: From<AllocError> for PlanTextFault: from": NAMED_ANEW,
     "planned/planned_fault.rt: From<OutOfMemory> for PlannedFault: from": NAMED_ANEW,
+    "planned/reading.rt: read_at_hand": NAMED_ANEW,
     "proof_check/progress.rt: unjudged": NAMED_ANEW,
     "proof_commands/optimal_command.rt: tell": NO_TEXT,
     "proof_text/proof_fault.rt: From<AllocError> for ProofFault: from": NAMED_ANEW,
@@ -81,7 +86,7 @@ MADE = {
     "text_io/out_of_memory.rt: From<AllocError> for OutOfMemory: from": NAMED_ANEW,
 }
 # In how many places a function says it, where that is more than one.
-PLACES = {"command_line/command_line.rt: refused": 2, "command_line/words.rt: no_number": 2}
+PLACES = {"command_line/command_line.rt: refused": 2, "command_line/words.rt: no_number": 2, "fleet_commands/status_command.rt: tell": 2}
 
 # Lines of a body, each with how many such values it makes.
 FORMS = [

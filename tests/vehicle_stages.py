@@ -81,15 +81,15 @@ class Stage:
             process.communicate()
         self.broker.end()
 
-    def judged(self, name: str) -> list[Outcome]:
-        """Messages and boxes of all that was done on this stage."""
+    def judged(self, name: str, *earlier: str) -> list[Outcome]:
+        """Messages and boxes of all that was done on this stage, by the plan that was driven last, and perhaps by others before."""
         text = self.harness.mapf(["path", "row.map", "run.plan"], folder=self.folder).out.decode()
         paths = vehicle_messages.paths_of(text)
         wrong = vehicle_messages.against_rules(self.records(), paths, vehicle_messages.middle_of(1), self.folder)
-        boxes = [f"{agent}.box" for agent in "01" if (self.folder / f"{agent}.box").exists()]
-        words = [sys.executable, str(CHECK), "row.map", "run.plan", *boxes, "--program", self.program]
-        ended = self.harness.run(words, folder=self.folder)
         ran = f"{name}, of which the masters said {self.said('fleet')[-500:] if 'fleet' in self.running else ''!r}"
+        boxes = [f"{agent}.box" for agent in "01" if (self.folder / f"{agent}.box").exists()]
+        words = [sys.executable, str(CHECK), "row.map", "run.plan", *boxes, "--program", self.program, *(["--earlier", *earlier] if earlier else [])]
+        ended = self.harness.run(words, folder=self.folder)
         return [compared(f"{name}: its orders", ran, wrong[:3], []), compared(f"{name}: its boxes", f"{words} told {ended!r}", ended.status, 0)]
 
 
@@ -117,6 +117,26 @@ def of_commands(stage: Stage) -> list[Outcome]:
     due = [True] * 7 + [False] + [True] * 5
     ran = f"pause, resume, cancel 0, resume 0; it said {stage.said('fleet')[-600:]!r}"
     return [compared("commands to a master", ran, found, due), *stage.judged("commands to a master")]
+
+
+def of_a_renamed_plan(stage: Stage) -> list[Outcome]:
+    """The plan is given out in two pieces: vehicles that drive by the first one go on by the whole, with the orders that they have."""
+    plan, whole = stage.folder / "run.plan", stage.folder / "whole.plan"
+    plan.rename(whole)
+    first = stage.harness.mapf(["cut", "row.map", "whole.plan", "4"], folder=stage.folder).out
+    for file in (plan, stage.folder / "first.plan"):
+        file.write_bytes(first)
+    for agent in (0, 1):
+        stage.vehicle(agent, "--speed", "0.7")
+    # So none has an order up to the end of the first piece before the second one is there.
+    stage.master("fleet", "--ahead", "0")
+    found: list[object] = [wait_until(lambda: all(stage.orders(agent) for agent in (0, 1)))]
+    whole.rename(plan)
+    found.append(wait_until(lambda: [it["lastNodeId"] for it in stage.states()] == ["8-0", "7-0"], 30))
+    found.append(stage.have_arrived("fleet"))
+    found.append([len({it["orderId"] for it in stage.orders(agent)}) for agent in (0, 1)])
+    ran = f"a plan in two pieces; the master said {stage.said('fleet')[-600:]!r}"
+    return [compared("a plan in two pieces", ran, found, [True, True, True, [1, 1]]), *stage.judged("a plan in two pieces", "first.plan")]
 
 
 def of_two_masters(stage: Stage) -> list[Outcome]:
@@ -167,5 +187,5 @@ def of_a_stage(harness: Harness, test: Callable[[Stage], list[Outcome]], python:
 
 
 def tests(harness: Harness, python: str, program: str) -> Iterator[Callable[[], Sequence[Outcome]]]:
-    for test in (of_commands, of_two_masters, of_a_vehicle_elsewhere, of_a_large_vehicle):
+    for test in (of_commands, of_a_renamed_plan, of_two_masters, of_a_vehicle_elsewhere, of_a_large_vehicle):
         yield functools.partial(of_a_stage, harness, test, python, program)

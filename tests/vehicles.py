@@ -177,7 +177,7 @@ def of_a_signal(harness: Harness, program: str) -> list[Outcome]:
 
 def of_bad_calls(harness: Harness, python: str) -> list[Outcome]:
     """One clear line and a status, whatever is wrong."""
-    files = {"fleet": b"0 maker v0\n", "twice": b"0 maker v0\n1 maker v0\n", "none": b"", "other": b"0 maker/v0\n", "far": b"7 maker v7\n"}
+    files = {"fleet": b"0 maker v0\n", "twice": b"0 maker v0\n1 maker v0\n", "none": b"", "other": b"0 maker/v0\n", "great": b"%s maker v0\n" % (b"1" * 5_000), "far": b"7 maker v7\n"}
     folder = harness.folder({**files, "bad.yaml": b"resolution: 0\n", "row.map": vehicle_stages.ROW, "run.plan": vehicle_stages.PLAN})
     nobody = ["--broker", "127.0.0.1:9", "--patience", "0"]
     program = ["--program", str(harness.program)]
@@ -190,6 +190,7 @@ def of_bad_calls(harness: Harness, python: str) -> list[Outcome]:
         ("a vehicle twice", master("twice"), 1, "each agent and each vehicle stands there once"),
         ("no vehicles", master("none"), 1, "each agent and each vehicle stands there once"),
         ("a line that is none", master("other"), 1, "other: line 1 isn't AGENT MANUFACTURER SERIAL"),
+        ("a number that no agent has", master("great"), 1, "great: line 1 isn't AGENT MANUFACTURER SERIAL"),
         ("no list of vehicles", master("lost"), 3, "master: lost: No such file or directory"),
         ("a bad frame", master("fleet", "--frame", "bad.yaml"), 1, "bad.yaml: `resolution: METRES` is wanted"),
         ("no such agent", master("far"), 1, "`mapf path` says of agent 7 'mapf: NoSuchAgent'"),

@@ -3,6 +3,7 @@ import dataclasses
 import gzip
 from typing import Union
 
+from statuses import tape_of
 from texts import SQUARE, TURN
 
 Text = Union[str, bytes]
@@ -126,6 +127,9 @@ COURSES = [
     Wrong("deps land wrong", plan("0 0 e", "1 0 w"), ("In step 0 agent 0 moves from 0 0 to 1 0, and agent 1 the other way", "at time 0:\n    0 ab.\n")),
 ]
 
+# Commands that read the tapes of all agents.
+OF_FLEETS = ("status land wrong no%", "handover land wrong no%", "anew land wrong no% 8", "anew land wrong no% 7 --without 9")
+
 COMMANDS = [
     Wrong("row land wrong 2", ROWS, ("The last row of wrong is row 1: rows count from 0.\n",)),
     Wrong("row land wrong 0", "version 1\n", ("wrong has no row.\n",)),
@@ -158,6 +162,15 @@ COMMANDS = [
     ),
     Wrong("tape land pair 0 nothing", b"", ("nothing, a tape:\n", "`mapf tape` makes none", "Make no new one:")),
     Wrong("tape land pair 0 /dev/zero", b"", ("/dev/zero, a tape:\nIt is a pipe or a device, and no file of bytes.\n",)),
+    *(Wrong(words, plan("0 0 e", "1 0 w"), ("wrong:4, a plan on the map land:\n", "In step 0 agent 0 moves from 0 0 to 1 0")) for words in OF_FLEETS),
+    Wrong("handover land pair no%", "", ("`mapf status`",)),
+    Wrong("anew land pair no% 8", "", ("`mapf status` says",)),
+    Wrong("anew land pair no% 7", "", ("number",)),
+    Wrong("anew land pair no% 8 --without 2", "", ("The last agent of pair is agent 1",)),
+    Wrong("anew land pair tape% 8", "", ("aren't of one run",)),
+    *(Wrong(words, "", ("wrong:1, read as a plan:\nThe file is empty.\n",)) for words in OF_FLEETS),
+    *(Wrong(words.replace("wrong", "nothing"), "", ("nothing, to be read as a plan: there is no such file.\n",)) for words in OF_FLEETS),
+    *(Wrong(words.replace("land wrong", "wrong pair"), "type octal\n", ("wrong:1, read as a map:\n", "Line 1 must be `type octile`.\n")) for words in OF_FLEETS),
     Wrong("agent land pair 0 no/tape", b"", ("no/tape, to be read as a tape: there is no such file, and it can't be made: its folder is missing.\n",)),
     Wrong("agent land pair 0 wrong/tape", b"", ("a part of its path is a file, and no folder.\nThe system says: Not a directory (os error 20).\n",)),
     # Nobody makes files there, not even root.
@@ -205,5 +218,7 @@ REJECTED = [
 # By what is read.
 INPUTS = {"a map": MAPS, "a scenario": SCENARIOS, "a plan": PLANS, "events": LISTS, "a plan on a map": COURSES, "a command": COMMANDS, "a verdict": REJECTED, "two plans": CONTINUATIONS}
 FILES = {"land": LAND, "shore": SHORE, "pair": PAIR, "rows": ROWS, "events": EVENTS, "square": SQUARE}
+# Tapes by which agent 1 has gone where agent 0 still is.
+FILES.update({"tape0": "", "tape1": tape_of(1, 1).decode()})
 # Beside the tape `wrong` another plan is kept, and beside `bare` what is none of a tape.
 FILES.update({"wrong.plan": f"mapf-tape 1 +\n{PAIR}".replace("0 0 e", "0 0 -e"), "bare": "", "bare.plan": PAIR})
