@@ -8,7 +8,7 @@ import shutil
 import sys
 from typing import Any, Callable, Iterator, Sequence
 
-from harness import ROOT, Harness, Outcome, compared, side_by_side
+from harness import ROOT, Harness, Outcome, compared, put_program, side_by_side
 from listing import all_faults, first_rotation, named, rotations, spoiled
 from plan_chains import Plan, difference, extended, read, rested
 from random_runs import random_events, random_map, random_plan
@@ -329,8 +329,7 @@ def failing(harness: Harness) -> Iterator[Test]:
     calls = [("check", *it) for it in FAILING] + [("status", *it) for it in ODD]
     for number, (name, script, line, status) in enumerate(calls):
         program = folder / str(number)
-        program.write_text(f"#!/bin/sh\n{script}\n")
-        program.chmod(0o755)
+        put_program(program, f"#!/bin/sh\n{script}\n")
         more = ("%",) if name == "status" else ()
         found = raised(lambda: getattr(mapf, name)("m", "p", *more, program=program))
         yield f"a program, asked for {name}: {script}", (found[0], *found[1::2]), ("Failed", line, status)

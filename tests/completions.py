@@ -6,7 +6,7 @@ import shutil
 import sys
 from typing import Iterator, Mapping, Sequence
 
-from harness import ROOT, Ended, Harness, Outcome, compared, ended_as
+from harness import ROOT, Ended, Harness, Outcome, compared, ended_as, put_program
 
 # Asks for the offers to the last word of a command line, as bash does.
 ASK = """
@@ -112,8 +112,7 @@ def made_up(harness: Harness, texts: Mapping[str, str], page: str) -> pathlib.Pa
     (folder / README).write_text(page)
     (folder / "completions").mkdir()
     program = folder / "program"
-    program.write_text('#!/bin/sh\ncat "${0%/*}/$*"\n')
-    program.chmod(0o755)
+    put_program(program, '#!/bin/sh\ncat "${0%/*}/$*"\n')
     return folder
 
 

@@ -21,7 +21,7 @@ import path_model
 import plain_formats
 import planner
 import refused_texts
-from harness import ROOT, Ended, Harness, Outcome, compared, shown, side_by_side
+from harness import ROOT, Ended, Harness, Outcome, compared, put_program, shown, side_by_side
 from plain_formats import SHAPES, WIDTH, WRITERS, Paths, padded, plan_text, reading, scen_text
 
 TOOL = ROOT / "tools" / "convert.py"
@@ -619,8 +619,8 @@ def of_liars(harness: Harness) -> list[Outcome]:
     room, cases = Room(harness), []
     text, plan = room.file("T", TEXT), room.file("P", PLAN)
     for number, (name, body, told) in enumerate(LIARS):
-        liar = room.file(f"{number}.sh", f"#!/bin/sh\n{body}\n".encode())
-        os.chmod(liar, 0o755)
+        liar = str(room.folder / f"{number}.sh")
+        put_program(pathlib.Path(liar), f"#!/bin/sh\n{body}\n")
         for words in ([text], [plan, "--to", "csv"]):
             room.convert(words, program=liar)
             cases.append((f"{name}, {words[1:]}", told))

@@ -3,7 +3,7 @@ import dataclasses
 import pathlib
 import sys
 
-from harness import Harness
+from harness import Harness, put_program
 
 PROGRAM = """#!{python}
 import os, random, subprocess, sys
@@ -69,6 +69,5 @@ def failing_program(harness: Harness, chances: Chances) -> pathlib.Path:
     program = harness.folder() / "mapf"
     kinds = dataclasses.asdict(chances)
     words = {"python": sys.executable, "program": str(harness.program), "unopened": kinds.pop("unopened"), "chances": kinds}
-    program.write_text(PROGRAM.format(**words), encoding="ascii")
-    program.chmod(0o755)
+    put_program(program, PROGRAM.format(**words))
     return program

@@ -45,6 +45,12 @@ class Outcome:
     lacks: str = ""
 
 
+def put_program(path: pathlib.Path, text: str) -> None:
+    """Writes a program that can be started at once. Were it written here, a process that another thread starts meanwhile would have it open for writing
+    for a moment, and the system starts no such file."""
+    subprocess.run(["sh", "-c", 'cat >"$0" && chmod 755 "$0"', str(path)], input=text.encode(), check=True)
+
+
 class Harness:
     """The program under test, and a folder for what the tests write."""
 

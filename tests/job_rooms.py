@@ -14,7 +14,7 @@ import time
 from typing import Iterator, Mapping, Optional, Sequence
 
 import converting
-from harness import ROOT, Ended, Harness, shown
+from harness import ROOT, Ended, Harness, put_program, shown
 
 # How often a call is stopped.
 STOPS = 8
@@ -36,8 +36,7 @@ class Room:
     def script(self, name: str, lines: str) -> str:
         """A program of the shell."""
         path = self.folder / name
-        path.write_text(f"#!/bin/sh\n{lines}\n", encoding="utf-8")
-        path.chmod(0o755)
+        put_program(path, f"#!/bin/sh\n{lines}\n")
         return str(path)
 
     def words(self, *words: str, program: str = "") -> list[str]:

@@ -7,7 +7,7 @@ import signal
 import subprocess
 from typing import Callable, Iterator, Sequence
 
-from harness import LONGEST, ROOT, SHIPPED, Ended, Harness, Outcome, compared, ended_as
+from harness import LONGEST, ROOT, SHIPPED, Ended, Harness, Outcome, compared, ended_as, put_program
 from texts import BEHIND, LANE, SWAP
 
 
@@ -117,8 +117,7 @@ def programs_that_do_not_start(harness: Harness) -> Iterator[Outcome]:
 def own_build(folder: pathlib.Path) -> None:
     built = folder / "crates" / "mapf" / "out" / "mapf"
     built.parent.mkdir(parents=True)
-    built.write_text(BUILT)
-    built.chmod(0o755)
+    put_program(built, BUILT)
 
 
 def one_line(name: str, ended: Ended, named: str) -> Outcome:

@@ -17,7 +17,7 @@ from typing import Callable, Iterator, Sequence
 
 import boxes
 import watching
-from harness import ROOT, Ended, Harness, Outcome, compared, ended_as, shown
+from harness import ROOT, Ended, Harness, Outcome, compared, ended_as, put_program, shown
 from processes import children, processes_of, wait_until
 
 FLEET = ROOT / "examples" / "fleet"
@@ -265,8 +265,8 @@ time.sleep(600)
 
 def of_a_lone_broker(harness: Harness) -> list[Outcome]:
     """A broker ends with who started it, also where that is killed."""
-    folder = harness.folder({"mosquitto": b"#!/bin/sh\nwhile :; do sleep 1; done\n"})
-    (folder / "mosquitto").chmod(0o755)
+    folder = harness.folder()
+    put_program(folder / "mosquitto", "#!/bin/sh\nwhile :; do sleep 1; done\n")
     environment = {**os.environ, "PATH": f"{folder}:{os.environ['PATH']}"}
     with subprocess.Popen([sys.executable, "-c", STARTER, str(FLEET), str(folder)], env=environment, stdout=subprocess.PIPE) as starter:
         up = starter.stdout.readline()

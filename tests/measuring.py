@@ -7,7 +7,7 @@ import shlex
 import sys
 from typing import Iterator, Optional
 
-from harness import ROOT, Ended, Harness, Outcome, compared, ended_as
+from harness import ROOT, Ended, Harness, Outcome, compared, ended_as, put_program
 
 sys.path.insert(0, str(ROOT / "bench"))
 import far  # noqa: E402
@@ -199,8 +199,8 @@ def of_small(harness: Harness) -> Iterator[Outcome]:
     """Small texts are measured: both programs answer them alike, and none of what they answer is
     otherwise than it should be, or nothing is kept."""
     stand_in = STAND_IN.format(shlex.quote(str(harness.program.resolve())))
-    folder = harness.folder({"peer": stand_in.encode()})
-    (folder / "peer").chmod(0o755)
+    folder = harness.folder()
+    put_program(folder / "peer", stand_in)
     programs = ["--program", str(harness.program.resolve()), "--peer", str(folder / "peer")]
     for command, due in (("rows", SCENARIOS), ("alone", ALONE)):
         words = [*programs, *SMALL, "--only", command, "--keep", "kept.json"]

@@ -8,7 +8,7 @@ import subprocess
 from typing import Callable, Iterator, Sequence
 
 import boxes
-from harness import ROOT, Ended, Harness, Outcome, compared, ended_as, shown
+from harness import ROOT, Ended, Harness, Outcome, compared, ended_as, put_program, shown
 from processes import heeding, left_in, processes_of, wait_until
 
 NETWORK = ROOT / "examples" / "fleet" / "network.sh"
@@ -31,8 +31,8 @@ def of_dry_run(harness: Harness) -> list[Outcome]:
 
 
 def of_bad_networks(harness: Harness) -> list[Outcome]:
-    folder = harness.folder({"id": b"#!/bin/sh\necho 1000\n"})
-    (folder / "id").chmod(0o755)
+    folder = harness.folder()
+    put_program(folder / "id", "#!/bin/sh\necho 1000\n")
     outcomes = []
     for words, status, told in (
         ([], 3, "network.sh: skipped: it makes network namespaces, which needs root\n"),

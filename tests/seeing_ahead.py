@@ -1,7 +1,7 @@
 """A program in place of mapf whose agents answer `may N`, where the program under test doesn't know that question; and one whose agents don't know it."""
 import sys
 
-from harness import ROOT, Harness
+from harness import ROOT, Harness, put_program
 
 PLAIN, BEHIND = str(ROOT / "examples" / "plain.map"), str(ROOT / "examples" / "behind.plan")
 PROGRAM = """#!{python}
@@ -52,8 +52,7 @@ def knows_it(harness: Harness) -> bool:
 def in_place(harness: Harness, answer: str) -> str:
     program = harness.folder() / "mapf"
     words = {"python": sys.executable, "program": str(harness.program), "fleet": str(ROOT / "examples" / "fleet"), "answer": answer}
-    program.write_text(PROGRAM.format(**words), encoding="ascii")
-    program.chmod(0o755)
+    put_program(program, PROGRAM.format(**words))
     return str(program)
 
 
