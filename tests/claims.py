@@ -122,8 +122,25 @@ def of_folders(harness: Harness) -> Iterator[Outcome]:
         yield compared(f"a folder beside a {claim} tape", shown(["mapf", *words]), harness.mapf(words, folder=folder), due)
 
 
+def of_refused_new_tapes(harness: Harness) -> Iterator[Outcome]:
+    """A new tape that is refused for what is beside it leaves no file, and what is beside it stays."""
+    for text, due in ((beside("+", BEHIND), EMPTIED), (BEHIND.encode(), DAMAGED), (b"", DAMAGED)):
+        folder, words = harness.folder({"M": LANE.encode(), "P": BEHIND.encode(), "T.plan": text}), ["agent", "M", "P", "0", "T", "--tape", "new"]
+        found = harness.mapf(words, folder=folder), left_of(folder)
+        yield compared(f"a new tape beside {text[:13]!r}", shown(["mapf", *words]), found, (due, {"T.plan": text}))
+    folder, words = harness.folder({"M": LANE.encode(), "P": BEHIND.encode()}), ["agent", "M", "P", "0", "T", "--tape", "new"]
+    (folder / "T.plan").mkdir()
+    ended = harness.mapf(words, folder=folder)
+    yield compared("a new tape beside a folder", shown(["mapf", *words]), (ended, (folder / "T").exists()), (Ended(3, b"", b"mapf: OpenFailed\n"), False))
+    folder = harness.folder({"M": LANE.encode(), "P": BEHIND.encode()})
+    (folder / "T.plan.new").mkdir()
+    ended = harness.mapf(words, folder=folder)
+    yield compared("a folder in the place of the draft of a plan", shown(["mapf", *words]), ended, Ended(3, b"", b"mapf: TapeFailed\n"))
+
+
 def outcomes(harness: Harness) -> Iterator[Outcome]:
     yield from of_claims(harness)
     yield from of_plans_beside(harness)
     yield from of_marks(harness)
     yield from of_folders(harness)
+    yield from of_refused_new_tapes(harness)

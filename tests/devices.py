@@ -385,6 +385,9 @@ def tapes_that_are_no_files(harness: Harness) -> Iterator[Outcome]:
             words = ["agent", "M", "P", "0", name, *claim]
             ended = harness.mapf(words, b"start\n", folder)
             yield ended_as(" ".join(words), f"mapf {' '.join(words)}", ended, Ended(3, b"", b"mapf: OpenFailed\n"))
+        for name in ["pipe", "link", "/dev/null", "/dev", "."]:
+            words = ["tape", "M", "P", "0", name]
+            yield ended_as(" ".join(words), f"mapf {' '.join(words)}", harness.mapf(words, folder=folder), Ended(3, b"", b"mapf: OpenFailed\n"))
         os.symlink("real", folder / "other")
         words = ["agent", "M", "P", "0", "other", "--tape", "new"]
         yield ended_as("a link to a tape", f"mapf {' '.join(words)}", harness.mapf(words, folder=folder), Ended(0, b"at 1 0 done 0\n", b""))

@@ -30,6 +30,10 @@ ADVICE = [
     ("WrongPlan", "a robot runs by another plan"),
     ("Waits", "ask again when a message was heard"),
     ("OpenFailed", "--explain"),
+    ("Damaged", "make no new one, and do not drive"),
+    ("PlansPart", "give all the same plan"),
+    ("NotSigned", "with `--keys`"),
+    ("NotItsTopic", "its own topic"),
 ]
 # How the texts of an example begin, and the command that reads what stands there.
 HEADERS = {"type octile": "map", "version 1": "scen", "mapf-plan 1": "plan", "mapf-events": "events", "mapf-proof": "proof"}

@@ -11,6 +11,7 @@ from typing import Iterator, Mapping, NamedTuple, Optional, Sequence
 from answers import ARRIVED_AS_OTHER, OTHER_AGENT, answer, lines
 from harness import Ended, Harness, Outcome, compared, ended_as, shown, side_by_side
 from listing import first_rotation
+from one_run import is_one_run
 from plan_chains import Course, Plan, read
 from random_runs import Cell, moved, random_map, random_plan
 from run_model import agents_of
@@ -53,6 +54,10 @@ class Fleet:
         faulty = sorted(agent for agent in self.instead if agent != without)
         return f"BadTape {faulty[0]}" if faulty else ""
 
+    def no_run(self, without: Optional[int] = None) -> str:
+        """The fault of tapes that are not those of one run."""
+        return "" if is_one_run(self.plan.text(), self.records, lambda agent: agent != without and agent not in self.instead) else "NotOneRun"
+
 
 def put(path: pathlib.Path, content: Optional[bytes]) -> None:
     """Makes a file, or what stands in its place."""
@@ -74,7 +79,7 @@ def cut_at(fleet: Fleet) -> int:
 
 
 def handed_over(fleet: Fleet) -> Ended:
-    fault = fleet.bad_tape()
+    fault = fleet.bad_tape() or fleet.no_run()
     return answer(1, fault) if fault else answer(0, fleet.plan.cut(cut_at(fleet)).text())
 
 
@@ -116,7 +121,7 @@ def begun_anew(fleet: Fleet, number: int = NEW, without: Optional[int] = None) -
         return answer(1, "NoSuchAgent")
     if number == fleet.plan.number:
         return answer(1, "SameNumber")
-    fault = fleet.bad_tape(without)
+    fault = fleet.bad_tape(without) or fleet.no_run(without)
     if fault:
         return answer(1, fault)
     new = rest_of(fleet, number, without)
@@ -254,7 +259,9 @@ CASES = (
     Case("anew M P %.tape 0", BEHIND, (0, 0), 0, plan("1 0 e-", "0 0 e", number=0)),
     Case(f"anew M P %.tape {GREATEST}", BEHIND, (1, 0), 0, plan("2 0 =", "0 0 e", number=GREATEST)),
     # The other one has gone where nobody has left yet.
-    Case(ON_BOTH[1], BEHIND, (0, 1), 1, "NotOneRun"),
+    *(Case(words, BEHIND, (0, 1), 1, "NotOneRun") for words in ON_BOTH),
+    # It has gone through the middle cell and back, where the other one should have been before.
+    *(Case(words, ONWARD, (0, 4), 1, "NotOneRun") for words in ON_BOTH),
     Case(f"{ON_BOTH[1]} --without 0", BEHIND, (0, 1), 0, plan("1 0 =", number=9)),
     Case(f"{ON_BOTH[1]} --without 1", BEHIND, (0, 1), 0, plan("1 0 e-", number=9)),
     Case(f"{ON_BOTH[1]} --without 1", PASSING, (0, 0), 0, plan("1 0 e---", number=9)),
@@ -271,8 +278,10 @@ CASES = (
     *(Case(words, plan("1 0 e"), (0,), 1, "BadStart 0", WALL) for words in ON_BOTH),
     # All turn at once, and none has begun; and one that has begun all, which no run does.
     Case(ON_BOTH[0], TURNING, (0, 0, 0, 0), 0, plan("0 0 =", "1 0 =", "1 1 =", "0 1 ="), SQUARE),
-    Case(ON_BOTH[1], TURNING, (1, 0, 0, 0), 1, "NotOneRun", SQUARE),
-    Case(f"{ON_BOTH[1]} --without 1", TURNING, (1, 0, 0, 0), 0, plan("1 0 -s", "1 1 wn", "0 1 ne", number=9), SQUARE),
+    *(Case(words, TURNING, (1, 0, 0, 0), 1, "NotOneRun", SQUARE) for words in ON_BOTH),
+    *(Case(words, TURNING, (2, 2, 2, 2), 1, "NotOneRun", SQUARE) for words in ON_BOTH),
+    Case(f"{ON_BOTH[1]} --without 1", TURNING, (1, 0, 0, 0), 1, "NotOneRun", SQUARE),
+    Case(f"{ON_BOTH[1]} --without 0", TURNING, (1, 0, 0, 0), 0, plan("1 0 sw", "1 1 wn", "0 1 ne", number=9), SQUARE),
 )
 
 # What stands in place of the tape of agent 1 of BEHIND, whom nothing hinders to begin its one move.
@@ -311,14 +320,11 @@ def faulty_tapes(harness: Harness) -> Iterator[Outcome]:
 
 
 def named_otherwise(harness: Harness) -> Iterator[Outcome]:
-    """An agent's number stands in place of each `%`, and one agent needs none."""
-    alone = plan("1 0 e")
+    """An agent's number stands in place of each `%`."""
     for name, text, paths, due in (
         ("%", BEHIND, ("0", "1"), plan("2 0 =", "0 0 e", number=NEW)),
         ("%/%.%", BEHIND, ("0/0.0", "1/1.1"), plan("2 0 =", "0 0 e", number=NEW)),
         ("%%", BEHIND, ("00", "11"), plan("2 0 =", "0 0 e", number=NEW)),
-        ("tape", alone, ("tape",), plan("2 0 =", number=NEW)),
-        ("tape", BEHIND, ("tape",), "BadTape 1"),
     ):
         folder = harness.folder({"M": LANE.encode(), "P": text.encode()})
         for agent, path in enumerate(paths):

@@ -17,7 +17,7 @@ ROOT = pathlib.Path(__file__).resolve().parent.parent
 SHIPPED = pathlib.Path("dist") / "x86_64-linux" / "mapf"
 # The kit that proved the program, and what the program says of itself.
 KIT = (ROOT / SHIPPED).with_name("made-from.txt").read_text().partition("\nkit ")[2].partition("\n")[0]
-VERSION = f"mapf 0.1.0\nproved by {KIT}\n"
+VERSION = f"mapf 0.2.0-dev\nproved by {KIT}\n"
 # No run of a part takes nearly as long: a command that hangs fails its test.
 LONGEST = 120
 # The status of a command that could not be started, as a shell has it.

@@ -5,12 +5,13 @@ import functools
 import os
 import pathlib
 import re
+import shutil
 import struct
 import subprocess
 from typing import Callable, Iterator, Mapping, Sequence
 
 from answers import answer
-from harness import Ended, Harness, Outcome, compared, shown, side_by_side
+from harness import LONGEST, Ended, Harness, Outcome, compared, shown, side_by_side
 from statuses import tape_of
 from texts import BEHIND, LANE, PROOF, SQUARE, plan, scen
 
@@ -623,6 +624,23 @@ def of_walled_agents(harness: Harness) -> list[Outcome]:
     return [asked(harness, f"one of {len(agents)} agents is walled off", "optimal M P T", files, answer(0, f"optimal cost {bound} nodes 3\n"))]
 
 
+def of_least_memory(harness: Harness) -> list[Outcome]:
+    """So much address space is enough for each command to begin, and to explain a fault."""
+    least, outcomes = 4 * 2**20, []
+    files = {"M": LANE.encode(), "P": BEHIND.encode(), "W": b"type octile\nheight 1\nwidth 3\nmap\n..\n", "0.tape": b""}
+    short = b"mapf: ShortRow 5\n"
+    for words, status, err in (
+        ("--version", 0, b""), ("map M", 0, b""), ("check M P", 0, b""), ("deps M P", 0, b""), ("status M P %.tape", 1, b""), ("agent M P 0 T", 0, b""),
+        ("map W", 1, short), ("map W --explain", 1, short), ("help faults", 0, b""),
+    ):
+        command = ["prlimit", f"--as={least}", str(harness.program), *words.split()]
+        if not shutil.which("prlimit"):
+            break
+        ran = subprocess.run(command, cwd=harness.folder(files), stdin=subprocess.DEVNULL, capture_output=True, timeout=LONGEST)
+        outcomes.append(compared(f"{words} in {least} bytes", f"mapf {words}", (ran.returncode, ran.stderr[: len(short)]), (status, err)))
+    return outcomes
+
+
 TESTS: Sequence[Test] = (
     of_maps,
     *(functools.partial(of_walks, width=width, height=height) for width, height in ((2_048, 2_047), (65_535, 63), (64, 65_535))),
@@ -641,6 +659,7 @@ TESTS: Sequence[Test] = (
     of_proofs,
     of_walled_agents,
     of_what_an_agent_keeps,
+    of_least_memory,
 )
 
 

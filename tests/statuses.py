@@ -1,13 +1,15 @@
 """`mapf status` beside a plain model: fleets that were stopped anywhere, tapes that are lost or damaged, and rotations that block."""
 import functools
 import json
+import os
 import random
 from typing import Iterator, Optional
 
-from harness import Ended, Harness, Outcome, side_by_side
+from harness import Ended, Harness, Outcome, compared, shown as shown_words, side_by_side
+from one_run import faults_of, turns_of
 from random_runs import random_map, random_plan
 from run_model import Agent, agents_of, courses_of
-from texts import LANE, BEHIND, plan
+from texts import LANE, BEHIND, beside, plan
 
 SHORT_SEEDS, LONG_SEEDS = range(1, 121), range(1, 1001)
 NUMBER = 7
@@ -40,7 +42,7 @@ class Fleet:
 
     def __init__(self, plan_text: str, agents: list[Agent], faults: dict[int, str]):
         self.agents, self.faults = agents, faults
-        self.courses = courses_of(plan_text)
+        self.plan_text, self.courses = plan_text, courses_of(plan_text)
 
     def done(self, agent: int) -> int:
         return 0 if agent in self.faults else self.agents[agent].done
@@ -83,46 +85,51 @@ class Fleet:
             seen.append(need[0])
         return seen[-1]
 
-    def rotations(self) -> list[tuple[int, int]]:
-        """The step and the least agent of each rotation, in order."""
-        found = set()
-        for step in range(max((course[-1][0] for course in self.courses), default=0)):
-            def at(agent: int, time: int) -> tuple[int, int]:
-                return [cell for since, cell in self.courses[agent] if since <= time][-1]
-            count = len(self.courses)
-            into = {i: j for i in range(count) for j in range(count) if i != j and at(i, step) != at(i, step + 1) == at(j, step)}
-            for first in range(count):
-                ring = [first]
-                while into.get(ring[-1]) is not None and into[ring[-1]] not in ring:
-                    ring.append(into[ring[-1]])
-                if into.get(ring[-1]) == first:
-                    found.add((step, min(ring)))
-        return sorted(found)
-
-    def next_step(self, agent: int) -> Optional[int]:
-        """The step in which an agent's next move is planned."""
+    def stands_before(self, agent: int, step: int) -> bool:
+        """Whether an agent is known to stand, with its next move planned in a step."""
         times = [time for time, _ in self.courses[agent]]
-        number = self.done(agent)
-        return times[number + 1] - 1 if number < len(self.agents[agent].needs) else None
+        it = self.agents[agent]
+        return agent not in self.faults and not it.is_moving and it.done < len(it.needs) and times[it.done + 1] == step + 1
 
     def keepers(self) -> list[tuple[str, int, int]]:
         """Who keeps others: its kind, its number, and how many."""
         count = len(self.agents)
         ends = [self.end(agent) for agent in range(count)]
         roots = [(root, sum(end == root for end in ends) - 1) for root in range(count) if self.waits(root) is None]
-        circles = [(at, sum(end == least for end in ends)) for at, (step, least) in enumerate(self.rotations()) if self.waits(least) and self.next_step(least) == step and ends[least] == least]
+        circles = [
+            (at, sum(end in turn.agents for end in ends))
+            for at, turn in enumerate(turns_of(self.plan_text))
+            if all(self.stands_before(agent, turn.step) for agent in turn.agents)
+        ]
         return [*(("root", root, keeps) for root, keeps in roots if keeps), *(("rotation", at, keeps) for at, keeps in circles)]
+
+    def run_faults(self) -> list[tuple[int, ...]]:
+        """What shows that the tapes are not those of one run."""
+        return faults_of(self.plan_text, self.agents, lambda agent: agent not in self.faults)
+
+    @property
+    def status(self) -> int:
+        return 1 if self.faults or self.run_faults() else 0
 
     def text(self) -> str:
         lines = [self.line(agent) for agent in range(len(self.agents))]
         lines += [f"{kind} {number} keeps {keeps}" for kind, number, keeps in self.keepers()]
+        lines += [f"NotOneRun {' '.join(str(number) for number in numbers)}" for numbers in self.run_faults()]
         return "".join(f"{line}\n" for line in lines)
 
     def json(self) -> str:
         """An object in a line, for each of these lines."""
         things = [self.thing(agent) for agent in range(len(self.agents))]
         things += [{kind: number, "keeps": keeps} for kind, number, keeps in self.keepers()]
+        things += [run_fault(*numbers) for numbers in self.run_faults()]
         return "".join(json.dumps(thing, separators=(",", ":")) + "\n" for thing in things)
+
+
+def run_fault(first: int, *others: int) -> dict[str, object]:
+    """A line `NotOneRun` as an object."""
+    if not others:
+        return {"fault": "NotOneRun", "rotation": first}
+    return {"fault": "NotOneRun", "agents": [first, others[0]], "until": others[1]}
 
 
 def tapes_of(fleet: Fleet) -> dict[str, bytes]:
@@ -140,7 +147,7 @@ def shown(harness: Harness, name: str, texts: tuple[str, str], fleet: Fleet) -> 
     folder = harness.folder({"M": texts[0].encode(), "P": texts[1].encode(), **tapes_of(fleet)})
     for words, text in (([], fleet.text()), (["--json"], fleet.json())):
         ended = harness.mapf(["status", "M", "P", "%.tape", *words], folder=folder)
-        due = Ended(1 if fleet.faults else 0, text.encode(), b"")
+        due = Ended(fleet.status, text.encode(), b"")
         if ended != due:
             return Outcome(name, f"ran    {' '.join(['mapf status M P %.tape', *words])}\n    wrote  {ended}\n    due    {due}")
     return Outcome(name, "")
@@ -156,13 +163,110 @@ def random_fleet(rng: random.Random, may_turn: bool) -> tuple[str, str, Fleet]:
     return map_text, plan_text, Fleet(plan_text, agents, faults)
 
 
+def with_any_tapes(rng: random.Random, plan_text: str) -> Fleet:
+    """Tapes that were hardly ever so at one time."""
+    agents = agents_of(plan_text)
+    for agent in agents:
+        agent.records = rng.randint(0, 2 * len(agent.needs))
+    return Fleet(plan_text, agents, {agent: rng.choice(list(DAMAGES)) for agent in range(len(agents)) if rng.random() < 0.1})
+
+
 def of_random_fleets(harness: Harness, seed: int) -> list[Outcome]:
-    map_text, plan_text, fleet = random_fleet(random.Random(seed), seed % 2 == 0)
-    return [shown(harness, f"a fleet that was stopped, seed {seed}", (map_text, plan_text), fleet)]
+    rng = random.Random(seed)
+    map_text, plan_text, fleet = random_fleet(rng, seed % 2 == 0)
+    # A fleet that drives never comes to such a line.
+    assert not fleet.run_faults()
+    mixed = with_any_tapes(rng, plan_text)
+    return [
+        shown(harness, f"a fleet that was stopped, seed {seed}", (map_text, plan_text), fleet),
+        shown(harness, f"tapes of no one run, seed {seed}", (map_text, plan_text), mixed),
+    ]
+
+
+def with_records(plan_text: str, *records: int) -> Fleet:
+    agents = agents_of(plan_text)
+    for agent, count in zip(agents, records):
+        agent.records = count
+    return Fleet(plan_text, agents, {})
+
+
+# Each of the two follows on from what they have in common, and agent 1 goes another way by each.
+COMMON = plan("0 0 e", "0 1 -")
+ONE, OTHER = plan("0 0 e-", "0 1 --e"), plan("0 0 e-", "0 1 -n")
+# What is beside the tapes of the two agents, which lines come of it behind those of the agents, and the status.
+PLANS_BESIDE = {
+    "none": ((None, None), "", 0),
+    "one plan": ((ONE, ONE), "", 0),
+    "one plan, and none": ((None, OTHER), "", 0),
+    "a plan and one that goes on from it": ((COMMON, OTHER), "", 0),
+    "the same the other way round": ((OTHER, COMMON), "", 0),
+    "two plans that go on from one": ((ONE, OTHER), "PlansPart 0 1 2\n", 1),
+    "another number": ((ONE, ONE.replace("number 7", "number 8")), "PlansPart 0 1 0\n", 1),
+    "more agents": ((COMMON, plan("0 0 e", "0 1 -", "1 1 =")), "PlansPart 0 1 0\n", 1),
+    "no plan": ((ONE, "mapf-plan 2\n"), "beside 1 PlanDamaged\n", 1),
+    "what ends early": ((ONE[:-1], ONE), "beside 0 PlanDamaged\n", 1),
+}
+BESIDE_AS_JSON = {
+    "PlansPart 0 1 2\n": '{"fault":"PlansPart","agents":[0,1],"time":2}\n',
+    "PlansPart 0 1 0\n": '{"fault":"PlansPart","agents":[0,1],"time":0}\n',
+    "beside 1 PlanDamaged\n": '{"beside":1,"fault":"PlanDamaged"}\n',
+    "beside 0 PlanDamaged\n": '{"beside":0,"fault":"PlanDamaged"}\n',
+    "": "",
+}
+
+
+def plans_beside(harness: Harness) -> Iterator[Outcome]:
+    """Plans beside tapes that belong together, that part, and that are none."""
+    fleet = with_records(COMMON, 0, 0)
+    for name, (plans, more, status) in PLANS_BESIDE.items():
+        files = {"M": SQUARE.encode(), "P": COMMON.encode(), **tapes_of(fleet)}
+        files.update({f"{agent}.tape.plan": beside("-", text) for agent, text in enumerate(plans) if text is not None})
+        folder = harness.folder(files)
+        for words, text in (([], fleet.text() + more), (["--json"], fleet.json() + BESIDE_AS_JSON[more])):
+            called = ["status", "M", "P", "%.tape", *words]
+            due = Ended(status, text.encode(), b"")
+            yield compared(f"plans beside tapes: {name}", shown_words(["mapf", *called]), harness.mapf(called, folder=folder), due)
+
+
+def third_plan(harness: Harness) -> Iterator[Outcome]:
+    """Of three plans the one that goes furthest so far is the one with which the next is compared."""
+    start = plan("0 0 =", "1 0 =", "0 1 =")
+    plans = [start, plan("0 0 =", "1 0 =", "0 1 e"), plan("0 0 =", "1 0 s", "0 1 =")]
+    fleet = with_records(start, 0, 0, 0)
+    files = {"M": SQUARE.encode(), "P": start.encode(), **tapes_of(fleet)}
+    files.update({f"{agent}.tape.plan": beside("-", text) for agent, text in enumerate(plans)})
+    called = ["status", "M", "P", "%.tape"]
+    due = Ended(1, f"{fleet.text()}PlansPart 1 2 1\n".encode(), b"")
+    yield compared("three plans beside tapes", shown_words(["mapf", *called]), harness.mapf(called, folder=harness.folder(files)), due)
+
+
+def no_files(harness: Harness) -> Iterator[Outcome]:
+    """What is no file of bytes is never opened: to open a pipe would wait for who writes it."""
+    fleet = Fleet(BEHIND, agents_of(BEHIND), {})
+    for name in ("1.tape", "1.tape.plan"):
+        for kind, make in (("pipe", os.mkfifo), ("folder", os.mkdir)):
+            files = {"M": LANE.encode(), "P": BEHIND.encode(), **tapes_of(fleet)}
+            files.pop(name, None)
+            folder = harness.folder(files)
+            make(folder / name)
+            called = ["status", "M", "P", "%.tape"]
+            lines = fleet.text().splitlines()
+            if name == "1.tape":
+                lines = [lines[0], "1 OpenFailed"]
+            else:
+                lines.append("beside 1 OpenFailed")
+            due = Ended(1, "".join(f"{line}\n" for line in lines).encode(), b"")
+            yield compared(f"a {kind} as {name}", shown_words(["mapf", *called]), harness.mapf(called, folder=folder), due)
 
 
 def outcomes(harness: Harness) -> Iterator[Outcome]:
     yield shown(harness, "a fleet that has not begun", (LANE, BEHIND), Fleet(BEHIND, agents_of(BEHIND), {}))
     yield shown(harness, "a ring that turns twice", (SQUARE, TURNING), Fleet(TURNING, agents_of(TURNING), {}))
+    yield shown(harness, "a ring in which one has begun", (SQUARE, TURNING), with_records(TURNING, 1, 0, 0, 0))
+    yield shown(harness, "a ring that has turned", (SQUARE, TURNING), with_records(TURNING, 2, 2, 2, 2))
+    yield shown(harness, "one that has entered a cell that is not left", (LANE, BEHIND), with_records(BEHIND, 0, 1))
+    yield from plans_beside(harness)
+    yield from third_plan(harness)
+    yield from no_files(harness)
     seeds = LONG_SEEDS if harness.is_long else SHORT_SEEDS
     yield from side_by_side(functools.partial(of_random_fleets, harness, seed) for seed in seeds)

@@ -98,8 +98,11 @@ PLANS = [
     Wrong("path land wrong", plan("0 0 " + "-" * 65536), ("This agent has 65536 acts. An agent has at most 65535",)),
     Wrong("path land wrong", "mapf-plan 1\nnumber 7\nagents 2\nagent 0 0 e\n", ("wrong:5, read", "Line 3 announces 2 agents, and there are whole lines of 1.\n")),
     Wrong("path land wrong", plan("0 0 e")[:-1], (marked(4, "agent 0 0 e", f"{' ' * 11}^"), "an LF ends every line, the last one too")),
+    # A planner's text in one line, short and long.
+    Wrong("check land wrong", "Agent 0: (1,0)->(0,0)->", ("an LF ends every line", "`mapf-convert` (in a checkout `tools/convert.py`) makes a plan")),
+    Wrong("check land wrong", "Agent 0: " + "(1,0)->" * 10_000, ("at most 65553 bytes", "`mapf-convert` (in a checkout `tools/convert.py`) makes a plan")),
     Wrong("path land wrong", PAIR + "\n", ("wrong:6, read", "Line 3 announces 2 agents, and nothing may follow their lines, not even an empty line.\n")),
-    Wrong("path land wrong", '{"plan": []}\n', ("begins like JSON", "`tools/convert.py` makes a plan")),
+    Wrong("path land wrong", '{"plan": []}\n', ("begins like JSON", "`mapf-convert` (in a checkout `tools/convert.py`) makes a plan")),
 ]
 
 LISTS = [

@@ -1,5 +1,5 @@
 -- What a tape file is, and what it is not.
-use Rattle.std.proofs.Common.{◌≡◌, ◌∙◌, ℕ, ◌+◌, ◌*◌, ◌<◌, ◌≤◌, Bool, true, false, List, length, Some, None, refl, sym, subst}
+use Rattle.std.proofs.Common.{◌≡◌, ◌∙◌, ℕ, ◌+◌, ◌*◌, ◌<◌, ◌≤◌, Bool, true, false, List, length, Some, None, inl, inr, refl, sym, subst}
 use Rattle.std.specs.Prelude.{Option, option_map, IfSome, MatchResult, Result, Ok, Err}
 use Rattle.std.proofs.lemmas.Option.{same_Some, none-some}
 use Rattle.model.specs.History.{record_length}
@@ -80,6 +80,23 @@ new_refused remaining p t (Planned f) few why = absurd why
 new_refused remaining p t (Tape f) few why = absurd why
 new_refused remaining p t (Dialogue f) few why = absurd why
 
+-- and why its file isn't made
+pub not_made : {F : Type 0} (remaining : F → Option (List ℕ)) (claim : TapeClaim) (p : Plan) (table : Timetable) (i : ℕ) (fault : AgentFault)
+    → HasAgent table i → claim ≡ New → IsNotMadeAnew remaining fault → IsNoTape remaining claim p table i fault
+not_made remaining claim p table i PlanDamaged has new why = inr (new, why)
+not_made remaining claim p table i TapeEmptied has new why = inr (new, why)
+not_made remaining claim p table i OpenFailed has new why = has
+not_made remaining claim p table i (File TapeFailed) has new why = has
+not_made remaining claim p table i (File OutOfMemory) has new why = has
+not_made remaining claim p table i (File TooLong) has new why = absurd why
+not_made remaining claim p table i (File InUse) has new why = absurd why
+not_made remaining claim p table i NoTape has new why = absurd why
+not_made remaining claim p table i TapeExists has new why = absurd why
+not_made remaining claim p table i OtherPlan has new why = absurd why
+not_made remaining claim p table i (Planned f) has new why = absurd why
+not_made remaining claim p table i (Tape f) has new why = absurd why
+not_made remaining claim p table i (Dialogue f) has new why = absurd why
+
 -- and one that is to be kept
 pub kept_refused : {F : Type 0} (remaining : F → Option (List ℕ)) (p : Plan) (t : FileTape F) (has_record : Bool) (fault : AgentFault)
     → (has_record ≡ false → length (file_state t).contents < record_length) → IsNotLetBy remaining p has_record fault → IsNotTaken remaining Kept p t fault
@@ -114,9 +131,9 @@ take_ends remaining claim p table i t (Ok u) of h = ((of.0, of.1, (of.2.0, same_
 take_ends remaining claim p table i t (Err TapeExists) of h = (h.0, (t, of, h.1))
 take_ends remaining claim p table i t (Err NoTape) of h = (h, (of.0, of.1))
 take_ends remaining claim p table i t (Err OpenFailed) of h = (of.0, of.1)
-take_ends remaining claim p table i t (Err PlanDamaged) of h = (t, of, h)
-take_ends remaining claim p table i t (Err TapeEmptied) of h = (t, of, h)
-take_ends remaining claim p table i t (Err OtherPlan) of h = (t, of, h)
+take_ends remaining claim p table i t (Err PlanDamaged) of h = inl (t, of, h)
+take_ends remaining claim p table i t (Err TapeEmptied) of h = inl (t, of, h)
+take_ends remaining claim p table i t (Err OtherPlan) of h = inl (t, of, h)
 take_ends remaining claim p table i t (Err (File TapeFailed)) of h = (of.0, of.1)
 take_ends remaining claim p table i t (Err (File OutOfMemory)) of h = (of.0, of.1)
 take_ends remaining claim p table i t (Err (File TooLong)) of h = absurd h

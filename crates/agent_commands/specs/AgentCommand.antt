@@ -65,9 +65,16 @@ IsNotBeside {F} remaining claim p tape _ = ⊥
 abbrev pub HasAgent : Timetable → ℕ → Type 0
 HasAgent tt i = (track : Track) × (track_of tt i ≡ Some track)
 
--- a tape was opened that the plan beside it doesn't let be taken
+-- no file was made for a new tape, since beside it there is no such text, or one that says that a record was stored
+abbrev pub IsNotMade : {F : Type 0} → (F → Option (List ℕ)) → TapeClaim → AgentFault → Type 0
+IsNotMade {F} remaining claim PlanDamaged = (claim ≡ New) × ((file : F) × HasNoPlan remaining file)
+IsNotMade {F} remaining claim TapeEmptied = (claim ≡ New) × ((file : F) × HasMark remaining file)
+IsNotMade {F} remaining claim _ = ⊥
+
+-- a tape was opened that the plan beside it doesn't let be taken, or a new one was not made for it
 abbrev pub IsUnfit : {F : Type 0} → (F → Option (List ℕ)) → TapeClaim → Plan → Timetable → ℕ → AgentFault → Type 0
-IsUnfit {F} remaining claim p tt i fault = (tape : FileTape F) × IsTapeOf remaining tt i tape × IsNotBeside remaining claim p tape fault
+IsUnfit {F} remaining claim p tt i fault =
+    ((tape : FileTape F) × IsTapeOf remaining tt i tape × IsNotBeside remaining claim p tape fault) ⊎ IsNotMade remaining claim fault
 
 -- Why there is no tape. Only a file with ten bytes or more behind the room is too long; only a new tape must have no whole record, and only one
 -- that was kept must be there, with its plan.

@@ -1,14 +1,14 @@
 //! Whether a tape belongs to the plan at hand, and what is to be done to the file that says so.
-ghost use Rattle.std.specs.Prelude.{◌≡◌, ◌↔◌, IfErr, IfOk, IsTrue, MatchResult};
-ghost use Rattle.agent_commands.specs.KeptPlan.{IsAkin};
+ghost use Rattle.std.specs.Prelude.{◌≡◌, ◌↔◌, IfErr, IfOk, IsTrue, MatchResult, OnErr};
+ghost use Rattle.agent_commands.specs.KeptPlan.{IsAkin, IsFoundBeside};
 ghost use Rattle.agent_commands.specs.Code.Parts.{IsLost};
-ghost use Rattle.agent_commands.specs.Code.Plans.{IsKeptTask, IsNoTaskFor, IsNotLetBy, IsNotMadeAnew, IsTaskFor};
+ghost use Rattle.agent_commands.specs.Code.Plans.{IsKeptTask, IsNoTaskFor, IsNotLetBy, IsNotMadeAnew, IsTaskFor, claim_of};
 
 use crate::agent_fault::AgentFault;
 use crate::plan_file::{
     KeptPlan, name_beside, read_kept, read_mark, set_mark, sync_file, write_kept,
 };
-use crate::tape_files::{keep_name, open_file};
+use crate::tape_files::{is_absent, keep_name, open_file, open_to_read};
 use crate::terms::Terms;
 use continuing::continues;
 use plan::Plan;
@@ -31,6 +31,21 @@ pub(crate) enum PlanTask {
     Write,
 }
 
+/// Looks beside a new tape before its file is made, if there is none: a tape that is refused for what is beside it leaves no file.
+pub(crate) fn look_before_making<R: Files + AllocGlobal>(
+    rt: &R,
+    tape: &str,
+    terms: &Terms,
+) -> Result<(), AgentFault>
+    ensures new { OnErr result (claim_of terms.now ≡ TapeClaim.New) }
+    ensures beside { IfErr result (IsNotMadeAnew R.File.remaining) }
+{
+    match terms {
+        Terms::New(_) if is_absent(rt, tape) => look_beside_new(rt, tape),
+        _ => Ok(()),
+    }
+}
+
 /// Looks at the file beside a new tape, if there is one: it is written anew unless it says that a record was stored, or is another file.
 pub(crate) fn look_beside_new<R: Files + AllocGlobal>(rt: &R, tape: &str) -> Result<(), AgentFault>
     ensures { IfErr result (IsNotMadeAnew R.File.remaining) }
@@ -43,6 +58,18 @@ pub(crate) fn look_beside_new<R: Files + AllocGlobal>(rt: &R, tape: &str) -> Res
             None => Err(AgentFault::PlanDamaged),
         },
         Err(AgentFault::NoTape) => Ok(()),
+        Err(fault) => Err(fault),
+    }
+}
+
+/// The plan beside a tape, if there is one. Its file is only read.
+pub fn plan_beside<R: Files + AllocGlobal>(rt: &R, tape: &str) -> Result<Option<Plan>, AgentFault>
+    ensures { IsFoundBeside R.File.remaining result }
+{
+    let name = name_beside(rt.alloc(), tape)?;
+    match open_to_read(rt, &name) {
+        Ok(file) => Ok(Some(read_kept(rt.alloc(), &mut Counted::new(file))?.plan)),
+        Err(AgentFault::NoTape) => Ok(None),
         Err(fault) => Err(fault),
     }
 }

@@ -15,6 +15,8 @@ mod terms;
 
 pub use agent_command::{Seat, agent_cmd};
 pub use agent_fault::AgentFault;
-pub use plan_file::{name_beside, plan_beside};
+pub use kept_plan::plan_beside;
+pub use plan_file::name_beside;
 pub use tape_command::tape_cmd;
+pub use tape_files::open_to_read;
 pub use tape_report::read_records;

@@ -12,7 +12,9 @@ ghost use Rattle.agent_commands.specs.Code.Parts.{IsNotTaken, IsTakenTape, ungua
 ghost use Rattle.agent_commands.specs.Code.Plans.{IsTermsFor, claim_of};
 
 use crate::agent_fault::AgentFault;
-use crate::kept_plan::{PlanTask, keep_plan, look_beside_kept, look_beside_new};
+use crate::kept_plan::{
+    PlanTask, keep_plan, look_before_making, look_beside_kept, look_beside_new,
+};
 use crate::plan_file::name_beside;
 use crate::tape_files::{HeldFile, keep_name, open_file};
 use crate::tape_guard::TapeGuard;
@@ -73,6 +75,7 @@ where
         (IsNoTape R.File.remaining (claim_of terms.now) p tt part.now.agent) }
 {
     let moves = part.own_moves();
+    look_before_making(rt, path, terms)?;
     let HeldFile { file, id } = open_file(rt, path, terms.claim())?;
     let opened = FileTape::open(rt.alloc(), file, 2 * RECORD_LENGTH * moves)?;
     let TakenTape { tape, task } = take_tape(rt, path, opened, terms)?;

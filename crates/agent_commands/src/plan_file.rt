@@ -76,14 +76,6 @@ fn blame_of(fault: PlanTextFault) -> AgentFault
     }
 }
 
-/// The plan that such a file has, if it can be read as one.
-pub fn plan_beside<F: Read>(alloc: Global, file: &mut Counted<F>) -> Option<Plan> {
-    match read_kept(alloc, file) {
-        Ok(kept) => Some(kept.plan),
-        Err(_) => None,
-    }
-}
-
 /// Reads whether the first line is marked; `None` where there is no such line.
 pub(crate) fn read_mark<F: Read>(file: &mut Counted<F>) -> Result<Option<bool>, FileTapeFault>
     ensures ok { IfOk result (ReadsMark (F.remaining (counted_inner file.old)) (F.remaining (counted_inner file.new))) }

@@ -53,8 +53,33 @@ pub(crate) fn open_file<R: Files>(
             Some(id) => Ok(HeldFile { file, id }),
             None => Err(AgentFault::OpenFailed),
         },
-        Err(error) if !makes && error.kind() == ErrorKind::NotFound => Err(AgentFault::NoTape),
+        Err(error) if !makes => Err(not_opened(error.kind())),
         Err(_) => Err(AgentFault::OpenFailed),
+    }
+}
+
+/// Opens a file to be read, if it is one like others. To open a pipe would wait for who writes it.
+pub fn open_to_read<R: Files>(rt: &R, path: &str) -> Result<R::File, AgentFault>
+    ensures { IfErr result (IsNotOpened TapeClaim.Kept) }
+{
+    match fs::metadata(rt, path) {
+        Ok(metadata) if metadata.is_file() => {}
+        Ok(_) => return Err(AgentFault::OpenFailed),
+        Err(error) => return Err(not_opened(error.kind())),
+    }
+    match fs::open(rt, path) {
+        Ok(file) => Ok(file),
+        Err(error) => Err(not_opened(error.kind())),
+    }
+}
+
+/// Why a file was not opened that has to be there.
+fn not_opened(kind: ErrorKind) -> AgentFault
+    ensures { IsNotOpened TapeClaim.Kept result }
+{
+    match kind {
+        ErrorKind::NotFound => AgentFault::NoTape,
+        _ => AgentFault::OpenFailed,
     }
 }
 
@@ -63,6 +88,14 @@ fn regular_id<F: OpenFile>(file: &F) -> Option<FileId> {
     match file.metadata() {
         Ok(metadata) if metadata.is_file() => Some(FileId::of(&metadata)),
         _ => None,
+    }
+}
+
+/// Whether there is no file with this name.
+pub(crate) fn is_absent<R: Files>(rt: &R, path: &str) -> bool {
+    match fs::metadata(rt, path) {
+        Ok(_) => false,
+        Err(error) => error.kind() == ErrorKind::NotFound,
     }
 }
 

@@ -1,6 +1,7 @@
 -- The command line of `mapf`, in the words of clap.
-use Rattle.std.specs.Prelude.{◌≡◌, ◌↔◌, ℕ, ◌^◌, ◌<◌, ◌≤◌, ◌⊎◌, Bool, true, List, [], ◌∷◌, ◌++◌, map, option_map, fold, codes, if◌then◌else◌, Option, None, Some, String, string_bytes}
+use Rattle.std.specs.Prelude.{◌≡◌, ◌↔◌, ℕ, ◌^◌, ◌<◌, ◌≤◌, ◌==◌, ◌⊎◌, Bool, true, List, [], ◌∷◌, ◌++◌, map, option_map, fold, codes, if◌then◌else◌, Option, None, Some, String, string_bytes}
 use Rattle.std.specs.Global.{Global}
+use Rattle.std.specs.List.{list_any}
 use Rattle.std.specs.Str.{bytes_eq}
 use Rattle.grid.specs.declared.cell.Cell.{Cell}
 use Rattle.text_io.specs.Text.{SpellsNumber}
@@ -250,9 +251,13 @@ MakesClaim option rows claim = (word : Text) × (first_of option rows ≡ Some w
 abbrev pub GivesClaim : Text → List Row → Type 0
 GivesClaim option rows = (word : Text) → first_of option rows ≡ Some word → (claim : TapeClaim) × SaysClaim claim word
 
+-- the rows give this word a value with a `%`, for which numbers stand
+abbrev pub GivesPattern : Text → List Row → Type 0
+GivesPattern word rows = (pattern : Text) × (first_of word rows ≡ Some pattern) × (list_any (λ c. c == 37) pattern ≡ true)
+
 -- The values that the command with this name wants, if it wants some, are such: the number of a row, of a new plan, or a time, is spelled, and is below 2^32,
 -- that of an agent, with its tape too, below 2^16, and those of a cell, of one agent, also one that is left out, of how many there are, of rows, or of how
--- many faults, which is not 0, where one is given; and what is claimed of a tape is said.
+-- many faults, which is not 0, where one is given; what is claimed of a tape is said; and the name of all tapes has a `%`.
 abbrev pub HasValues : Text → List Row → Type 0
 HasValues name rows =
     (name ≡ codes "row" → GivesNumberBelow (2 ^ 32) (codes "row") rows) × (name ≡ codes "agent" → GivesNumberBelow (2 ^ 16) (codes "id") rows)
@@ -261,7 +266,8 @@ HasValues name rows =
     × (name ≡ codes "check" → GivesNumbers (2 ^ 16) (codes "agents") rows) × (name ≡ codes "cut" → GivesNumberBelow (2 ^ 32) (codes "time") rows)
     × (name ≡ codes "check" → GivesNumbersFrom 1 (codes "all") rows) × (name ≡ codes "rows" → GivesNumbersFrom 0 (codes "from") rows)
     × (name ≡ codes "rows" → GivesNumbersFrom 0 (codes "to") rows) × (name ≡ codes "anew" → GivesNumberBelow (2 ^ 32) (codes "number") rows)
-    × (name ≡ codes "anew" → GivesNumbers (2 ^ 16) (codes "without") rows)
+    × (name ≡ codes "anew" → GivesNumbers (2 ^ 16) (codes "without") rows) × (name ≡ codes "status" → GivesPattern (codes "tapes") rows)
+    × (name ≡ codes "handover" → GivesPattern (codes "tapes") rows) × (name ≡ codes "anew" → GivesPattern (codes "tapes") rows)
 
 -- `--all` alone stands for `--all=1000`
 abbrev pub spelled_word : Text → Text

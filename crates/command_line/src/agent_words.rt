@@ -5,7 +5,9 @@ ghost use Rattle.command_line.specs.Words.{HasValues, IsCommand};
 ghost use Rattle.command_line.specs.Code.Parts.{HasWords, IsRefusal};
 
 use crate::lines::{FleetLine, FleetQuery, Line};
-use crate::words::{agent_id, has_flag, long_number, optional_number, tape_claim, word};
+use crate::words::{
+    agent_id, has_flag, long_number, optional_number, tape_claim, tapes_word, word,
+};
 use crate::{LineFault, help};
 use clap::ArgMatches;
 use std::alloc::Global;
@@ -44,13 +46,14 @@ pub(crate) fn read_tape(alloc: Global, given: &ArgMatches<'_>) -> Result<Line, L
 /// Reads `status` by the words that it was given.
 pub(crate) fn read_status(alloc: Global, given: &ArgMatches<'_>) -> Result<Line, LineFault>
     ensures ok { IfOk result (IsCommand (codes "status") (rows_of (found_of given.now))) }
-    ensures err { IfErr result (λ e. HasWords (codes "status") (rows_of (found_of given.now)) → e ≡ LineFault.OutOfMemory) }
+    ensures err { IfErr result (λ e. HasWords (codes "status") (rows_of (found_of given.now)) → HasValues (codes "status") (rows_of (found_of given.now))
+        → e ≡ LineFault.OutOfMemory) }
     ensures refusal { IfErr result IsRefusal }
 {
     Ok(Line::Fleet(FleetLine {
         map: word(alloc, given, "map")?,
         plan: word(alloc, given, "plan")?,
-        tapes: word(alloc, given, "tapes")?,
+        tapes: tapes_word(alloc, given)?,
         query: FleetQuery::Status {
             json: has_flag(given, "json"),
         },
@@ -60,13 +63,14 @@ pub(crate) fn read_status(alloc: Global, given: &ArgMatches<'_>) -> Result<Line,
 /// Reads `handover` by the words that it was given.
 pub(crate) fn read_handover(alloc: Global, given: &ArgMatches<'_>) -> Result<Line, LineFault>
     ensures ok { IfOk result (IsCommand (codes "handover") (rows_of (found_of given.now))) }
-    ensures err { IfErr result (λ e. HasWords (codes "handover") (rows_of (found_of given.now)) → e ≡ LineFault.OutOfMemory) }
+    ensures err { IfErr result (λ e. HasWords (codes "handover") (rows_of (found_of given.now)) → HasValues (codes "handover") (rows_of (found_of given.now))
+        → e ≡ LineFault.OutOfMemory) }
     ensures refusal { IfErr result IsRefusal }
 {
     Ok(Line::Fleet(FleetLine {
         map: word(alloc, given, "map")?,
         plan: word(alloc, given, "plan")?,
-        tapes: word(alloc, given, "tapes")?,
+        tapes: tapes_word(alloc, given)?,
         query: FleetQuery::Handover,
     }))
 }
@@ -81,7 +85,7 @@ pub(crate) fn read_anew(alloc: Global, given: &ArgMatches<'_>) -> Result<Line, L
     Ok(Line::Fleet(FleetLine {
         map: word(alloc, given, "map")?,
         plan: word(alloc, given, "plan")?,
-        tapes: word(alloc, given, "tapes")?,
+        tapes: tapes_word(alloc, given)?,
         query: FleetQuery::Anew {
             number: long_number(alloc, given, "number", &help::NEW_NUMBER)?,
             without: optional_number(alloc, given, "without", help::NO_LEFT_OUT)?,

@@ -27,8 +27,8 @@ pub(crate) struct CommandText<'a> {
 }
 
 /// The version, and in a second line the kit that proved it, as `tools/dist.py` finds it.
-pub(crate) const VERSION: &str = "0.1.0
-proved by rattle-kit-13f logic dac8208d650f15bf";
+pub(crate) const VERSION: &str = "0.2.0-dev
+proved by rattle-kit-13b logic dac8208d650f15bf";
 
 pub(crate) const PROGRAM_ABOUT: &str =
     "Reads maps, scenarios and plans, answers what they hold, and runs plans";
@@ -136,6 +136,14 @@ For more information, try '--help'.
 ";
 
 /// What is said of a word that makes no claim of a tape.
+pub(crate) const NO_PATTERN: &str =
+    "error: invalid value for '<tapes>': a name with % for an agent's number is wanted
+
+Usage: mapf <status|handover|anew> <map> <plan> <tapes>
+
+For more information, try '--help'.
+";
+
 pub(crate) const NO_CLAIM: &str = "error: invalid value for '--tape <tape>': new or kept is wanted
 
 Usage: mapf agent [OPTIONS] <map> <plan> <id> <file>

@@ -142,14 +142,22 @@ Then there is a line for who waits for nobody, and keeps others:
   root I keeps N       N agents wait for agent I, directly or not
   rotation R keeps N   N agents wait in rotation R, as `mapf deps` numbers them,
                        or for it: they wait for ever
-Nothing is written to a tape, and all may be read beside the agents.
+Then there is a line for what nobody may drive on with:
+  NotOneRun I J C      agent I has begun a move that waits until agent J has
+                       finished C moves, and by its tape J has fewer
+  NotOneRun R          an agent has begun its move in rotation R
+  PlansPart I J T      the plans beside the tapes of I and J differ from time T
+                       on, and neither goes on from the other
+  beside I FAULT       the plan beside the tape of I can't be read
+Nothing is written to a tape, and all may be read beside the agents. Where they
+move meanwhile, only a NotOneRun that comes again is one.
 With --json each line is an object, as
   {\"agent\":0,\"at\":[3,2],\"done\":4,\"of\":9,\"state\":\"waits\",\"for\":7,\"until\":2}
 
 Status:
   0  the lines are written
   1  a text or the plan has a fault: one line on standard error; or some line
-     says why a tape isn't taken
+     says why a tape isn't taken, NotOneRun, PlansPart or beside
   2  a bad command line
   3  a file can't be opened (--explain says which, and why), a device failed, or
      memory was refused
@@ -178,8 +186,8 @@ tapes are read as by `mapf status`.
 
 Status:
   0  the plan is written
-  1  a text or the plan has a fault, or a tape, as `mapf: BadTape 3`: which one
-     it is, `mapf status` says
+  1  a text or the plan has a fault, or a tape, as `mapf: BadTape 3`, or the
+     tapes are not those of one run (NotOneRun): `mapf status` says more
   2  a bad command line
   3  a file can't be opened (--explain says which, and why), a device failed, or
      memory was refused
@@ -210,8 +218,8 @@ each stands where the new plan begins.
 Status:
   0  the plan is written: it is valid
   1  a text or the plan has a fault, there is no such agent, the number is that
-     of the plan, or a tape has a fault, as `mapf: BadTape 3`; or two agents
-     would meet (`NotOneRun`), since some tape is an older one
+     of the plan, or a tape has a fault, as `mapf: BadTape 3`; or the tapes are
+     not those of one run, as where one is an older copy (`NotOneRun`)
   2  a bad command line
   3  a file can't be opened (--explain says which, and why), a device failed, or
      memory was refused

@@ -1,12 +1,12 @@
 //! The words of the command line.
-ghost use Rattle.std.specs.Prelude.{◌≡◌, ◌↔◌, ℕ, ◌^◌, ◌<◌, ◌≤◌, [], codes, true, false, IfOk, IfErr, OnOk, OnErr, MatchOption, IsTrue, Some, is_some, map, option_map, fold, string_bytes};
+ghost use Rattle.std.specs.Prelude.{◌≡◌, ◌↔◌, ℕ, ◌^◌, ◌<◌, ◌≤◌, ◌==◌, [], codes, true, false, IfOk, IfErr, OnOk, OnErr, MatchOption, IsTrue, Some, is_some, map, option_map, fold, string_bytes};
 ghost use Rattle.std.specs.Char.{is_ascii_digit};
-ghost use Rattle.std.specs.List.{list_all};
+ghost use Rattle.std.specs.List.{list_all, list_any};
 ghost use Rattle.clap.specs.Words.{app_of, with_subcommand, first_of, found_of, rows_of, rule_of, takes, fault_of};
 ghost use Rattle.grid.specs.declared.cell.Cell.{Cell};
 ghost use Rattle.text_io.specs.Text.{SpellsNumber};
 ghost use Rattle.tape_claim.specs.declared.TapeClaim.{TapeClaim};
-ghost use Rattle.command_line.specs.Words.{program_app, AsksToExplain, IsFlagGiven, HasValues, GivesNumber, GivesNumberBelow, GiveValues, SpellsCell, MayGiveCell, GivesCells, GivesClaim, MakesClaim, SaysClaim, MayGiveNumber, GivesNumbers, IsAskedBy, IsLineBy, IsFaultBy, IsLineOf, IsFaultOf, GivesNumbersFrom, MayGiveNumberFrom, spelled_out};
+ghost use Rattle.command_line.specs.Words.{program_app, AsksToExplain, IsFlagGiven, HasValues, GivesNumber, GivesNumberBelow, GiveValues, SpellsCell, MayGiveCell, GivesCells, GivesClaim, MakesClaim, SaysClaim, MayGiveNumber, GivesNumbers, IsAskedBy, IsLineBy, IsFaultBy, IsLineOf, IsFaultOf, GivesNumbersFrom, MayGiveNumberFrom, GivesPattern, spelled_out};
 ghost use Rattle.command_line.specs.Code.Parts.{HasWords, IsRefusal, rule_of_word, shape_of_text};
 
 use crate::command_line::refused;
@@ -347,6 +347,28 @@ pub(crate) fn word(alloc: Global, given: &ArgMatches<'_>, name: &str) -> Result<
         Some(text) => Ok(String::from_str(alloc, text)?),
         None => Err(no_command(alloc)),
     }
+}
+
+/// The name of all tapes, in which numbers stand for `%`.
+pub(crate) fn tapes_word(alloc: Global, given: &ArgMatches<'_>) -> Result<String, LineFault>
+    ensures ok { IfOk result (λ s. first_of (codes "tapes") (rows_of (found_of given.now)) ≡ Some (string_bytes s)) }
+    ensures err { IfErr result (λ e. IsTrue (is_some (first_of (codes "tapes") (rows_of (found_of given.now)))) → GivesPattern (codes "tapes") (rows_of (found_of given.now))
+        → e ≡ LineFault.OutOfMemory) }
+    ensures refusal { IfErr result IsRefusal }
+{
+    let tapes = word(alloc, given, "tapes")?;
+    if is_pattern(&tapes) {
+        Ok(tapes)
+    } else {
+        Err(LineFault::bad_command(alloc, help::NO_PATTERN))
+    }
+}
+
+/// Whether a name has a `%`.
+fn is_pattern(name: &str) -> bool
+    ensures { result ≡ list_any (λ c. c == 37) name.now }
+{
+    name.bytes().any(|byte| byte == b'%')
 }
 
 /// The word that an argument was given, if it was given one.

@@ -25,13 +25,15 @@ const MESSAGE: &str = "a message";
 
 const REPLY: &str = "a reply";
 
+const SIGNED: &str = "a signed message";
+
 const OF_ANOTHER_PLAN: &str =
     "Give the agent the tape that it had with this plan, or a new file for a new run.\n";
 
 const CHANGED_ON_THE_WAY: &str =
     "Nothing was heard. Drop it: its bytes were changed on the way, or are another program's.\n";
 
-static ADVICE: [Advice; 30] = [
+static ADVICE: [Advice; 38] = [
     Advice {
         of: "a command",
         name: "OpenFailed",
@@ -50,7 +52,12 @@ static ADVICE: [Advice; 30] = [
     Advice {
         of: "a command",
         name: "NotOneRun",
-        text: "Some tape is an older copy, or of another run with this number. Look where the robots stand, and plan from there.\n",
+        text: "Some tape is an older copy, or of another run with this number. Look where the robots stand, and plan from there.\nIf agents move while `mapf status` reads their tapes, ask it again: only what stays is so.\n",
+    },
+    Advice {
+        of: "a command",
+        name: "PlansPart",
+        text: "Stop the robots that have one of the two plans, before they come to that time. Then give all the same plan.\n",
     },
     Advice {
         of: TAPE,
@@ -70,7 +77,7 @@ static ADVICE: [Advice; 30] = [
     Advice {
         of: TAPE,
         name: "Damaged",
-        text: "An agent can't tell from it how far it has come: look where it stands before it gets a new tape.\n",
+        text: "The tape is lost: make no new one, and do not drive. Others may have entered cells that the robot gave up.\nLook where it stands, and begin a new run from there.\n",
     },
     Advice {
         of: TAPE,
@@ -136,6 +143,41 @@ static ADVICE: [Advice; 30] = [
         of: MESSAGE,
         name: "TooMany",
         text: "Nothing was heard. Its sender runs by another plan that has the same number: stop the fleet.\n",
+    },
+    Advice {
+        of: SIGNED,
+        name: "NotSigned",
+        text: "Start each robot of the fleet with `--keys`. Where all have keys, a stranger speaks: find out who.\n",
+    },
+    Advice {
+        of: SIGNED,
+        name: "BadTag",
+        text: "Where all messages of one robot are dropped, its keys are others: give it the file of the fleet.\n",
+    },
+    Advice {
+        of: SIGNED,
+        name: "OtherRun",
+        text: "Look for a robot that still drives that plan, and stop it.\n",
+    },
+    Advice {
+        of: SIGNED,
+        name: "UnknownSender",
+        text: "Give all robots one file of keys, made for as many robots as the plan has agents.\n",
+    },
+    Advice {
+        of: SIGNED,
+        name: "NotItsSender",
+        text: "Somebody has the keys of the fleet: stop all robots, make new keys, and begin a new run.\n",
+    },
+    Advice {
+        of: SIGNED,
+        name: "NotNewer",
+        text: "A few are nothing. Where they go on, messages are played back, or the count of the sender is an older one.\n",
+    },
+    Advice {
+        of: SIGNED,
+        name: "NotItsTopic",
+        text: "A robot sends under a wrong number, or a stranger speaks. Let the broker hold each robot to its own topic.\n",
     },
     Advice {
         of: REPLY,

@@ -121,7 +121,7 @@ pub(crate) fn command_entries() -> &'static [Entry] {
     &COMMANDS
 }
 
-static COMMANDS: [Entry; 13] = [
+static COMMANDS: [Entry; 14] = [
     Entry {
         name: "NoSuchRow",
         numbers: "",
@@ -153,7 +153,14 @@ static COMMANDS: [Entry; 13] = [
     Entry {
         name: "NotOneRun",
         numbers: "",
-        sentence: "By their tapes two agents would meet, or stand in one cell, so these tapes aren't of one run of the plan.",
+        sentence: "The tapes are not those of one run of the plan: by them a move began too early, a rotation began, or two agents would meet.\n`mapf status` adds numbers: the agent that began too early, the one for which it had to wait, and until how many\nmoves; or the number of the rotation alone.",
+        example: "",
+        answer: "",
+    },
+    Entry {
+        name: "PlansPart",
+        numbers: "agent agent time",
+        sentence: "By the plans beside their tapes the two agents do other things from this time on, and neither plan goes on from the other.",
         example: "",
         answer: "",
     },
@@ -352,6 +359,63 @@ static MESSAGES: [Entry; 6] = [
         name: "TooMany",
         numbers: "",
         sentence: "The message tells of more moves than an agent has.",
+        example: "",
+        answer: "",
+    },
+];
+
+/// Why `robot.py` drops what others say, before its agent hears of it.
+pub(crate) fn signed_entries() -> &'static [Entry] {
+    &SIGNED
+}
+
+static SIGNED: [Entry; 7] = [
+    Entry {
+        name: "NotSigned",
+        numbers: "",
+        sentence: "The robot has keys, and dropped a message that is not signed.",
+        example: "",
+        answer: "",
+    },
+    Entry {
+        name: "BadTag",
+        numbers: "",
+        sentence: "The robot dropped a message whose signature is wrong: it is forged or damaged, or its sender has other keys.",
+        example: "",
+        answer: "",
+    },
+    Entry {
+        name: "OtherRun",
+        numbers: "",
+        sentence: "The robot dropped a message that is signed for a plan with another number.",
+        example: "",
+        answer: "",
+    },
+    Entry {
+        name: "UnknownSender",
+        numbers: "",
+        sentence: "The robot dropped a message because its file of keys has no key of the sender.",
+        example: "",
+        answer: "",
+    },
+    Entry {
+        name: "NotItsSender",
+        numbers: "",
+        sentence: "The robot dropped a message that is signed by one robot and names another as its sender.",
+        example: "",
+        answer: "",
+    },
+    Entry {
+        name: "NotNewer",
+        numbers: "",
+        sentence: "The robot dropped a message that is no newer than one that it heard before from the same sender.",
+        example: "",
+        answer: "",
+    },
+    Entry {
+        name: "NotItsTopic",
+        numbers: "",
+        sentence: "The robot dropped a message that names another sender than the topic under which the broker handed it on.",
         example: "",
         answer: "",
     },

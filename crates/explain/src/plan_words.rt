@@ -43,11 +43,14 @@ pub(crate) fn explain_plan_text<R: Files>(
     }
 }
 
+/// What is said of a first line that begins no plan.
+const FIRST_LINE: &str =
+    "Line 1 must be `mapf-plan 1`. `mapf-convert` (in a checkout `tools/convert.py`) makes a plan of what many planners write.\n";
+
 fn bad_header(line: &Line, page: &mut Page) {
     show_line(page, line, content(line.bytes()));
     page.say(match line.number {
-        1 =>
-            "Line 1 must be `mapf-plan 1`. `tools/convert.py` makes a plan of what many planners write.\n",
+        1 => FIRST_LINE,
         2 => "Line 2 must be `number`, one space and the plan's number, as `number 7`.\n",
         _ => "Line 3 must be `agents`, one space and how many agents there are, as `agents 2`.\n",
     });
@@ -148,6 +151,7 @@ fn too_many(line: &Line, page: &mut Page) {
     if line.end == LineEnd::Longer || bytes.len() > 65_553 {
         show_line(page, line, Span::at_column(65_554));
         page.say("A line has at most 65553 bytes before its LF.\n");
+        page.say(first_line_hint(line));
     } else if line.number < FIRST_AGENT {
         show_line(page, line, content(bytes));
         page.say("A plan has at most 10000 agents.\n");
@@ -173,6 +177,16 @@ fn unfinished(agents: Option<u64>, line: &Line, page: &mut Page) {
         page.say("The text ends inside this line: an LF ends every line, the last one too.\n");
     }
     put_missing(agents, line.number, page);
+    page.say(first_line_hint(line));
+}
+
+/// What is said of a text that ends or grows too long in its first line, unless that begins a plan.
+fn first_line_hint(line: &Line) -> &'static str {
+    if line.number == 1 && !line.bytes().is_empty() && !line.bytes().starts_with(b"mapf-plan") {
+        FIRST_LINE
+    } else {
+        ""
+    }
 }
 
 /// Says that lines from this number on are missing.

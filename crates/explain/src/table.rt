@@ -2,7 +2,7 @@
 use crate::files::FileKind;
 use crate::other_faults::{
     command_entries, course_entries, departing_entries, fit_entries, message_entries,
-    reply_entries, tape_entries,
+    reply_entries, signed_entries, tape_entries,
 };
 use crate::page::Page;
 use crate::text_faults::{
@@ -22,7 +22,7 @@ pub(crate) struct Entry {
 }
 
 /// How many groups of faults there are.
-pub(crate) const GROUPS: usize = 12;
+pub(crate) const GROUPS: usize = 13;
 
 /// What the faults of a group are faults of.
 pub(crate) fn group_name(group: usize) -> &'static str {
@@ -38,6 +38,7 @@ pub(crate) fn group_name(group: usize) -> &'static str {
         8 => "a command",
         9 => "a tape",
         10 => "a message",
+        11 => "a signed message",
         _ => "a reply",
     }
 }
@@ -56,6 +57,7 @@ pub(crate) fn group_entries(group: usize) -> &'static [Entry] {
         8 => command_entries(),
         9 => tape_entries(),
         10 => message_entries(),
+        11 => signed_entries(),
         _ => reply_entries(),
     }
 }

@@ -5,3 +5,5 @@ pub mod FoundLemmas
 pub mod EndLemmas
 pub mod PieceLemmas
 pub mod ReadLemmas
+pub mod RunLemmas
+pub mod PlanLemmas

@@ -8,6 +8,13 @@ use Rattle.text_commands.specs.Pieces.{pieces_of, pieces_text}
 pub made : (piece : Piece) (given word : List ℕ) (wide number : ℕ) → (piece.word.now ≡ given) × (piece.number ≡ wide) → given ≡ word → wide ≡ number → SaysPiece piece word number
 made piece given word wide number is chosen widened = (is.0 ∙ chosen, is.1 ∙ widened)
 
+pub one-piece : (p : Piece) (v : List ℕ) (m : ℕ) → SaysPiece p v m → pieces_text (pieces_of (p ∷ [])) ≡ pieces_text ((v, m) ∷ [])
+one-piece p v m a = rw (a.0, a.1) refl
+
+pub three-pieces : (p q r : Piece) (v w x : List ℕ) (l m n : ℕ) → SaysPiece p v l → SaysPiece q w m → SaysPiece r x n
+    → pieces_text (pieces_of (p ∷ q ∷ r ∷ [])) ≡ pieces_text ((v, l) ∷ (w, m) ∷ (x, n) ∷ [])
+three-pieces p q r v w x l m n a b c = rw (a.0, a.1, b.0, b.1, c.0, c.1) refl
+
 pub two-pieces : (p q : Piece) (v w : List ℕ) (m n : ℕ) → SaysPiece p v m → SaysPiece q w n → pieces_text (pieces_of (p ∷ q ∷ [])) ≡ pieces_text ((v, m) ∷ (w, n) ∷ [])
 two-pieces p q v w m n a b = rw (a.0, a.1, b.0, b.1) refl
 

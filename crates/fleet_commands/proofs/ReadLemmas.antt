@@ -1,5 +1,5 @@
 -- What comes of a plan that was read.
-use Rattle.std.proofs.Common.{◌≡◌, ◌∙◌, ℕ, List, Ok, Err, sym, subst}
+use Rattle.std.proofs.Common.{◌≡◌, ◌∙◌, ℕ, List, [], Ok, Err, inl, inr, sym, subst}
 use Rattle.std.specs.Prelude.{Option, Result}
 use Rattle.text_io.specs.declared.counted.Counted.{Counted}
 use Rattle.grid.specs.Map.{Grid}
@@ -10,9 +10,9 @@ use Rattle.plan.specs.Checking.{IsRefusedFor}
 use Rattle.planned.specs.Planned.{IsAtHand}
 use Rattle.planned.specs.declared.planned_fault.PlannedFault.{PlannedFault}
 use Rattle.planned.specs.declared.reading.PlanAtHand.{PlanAtHand}
-use Rattle.fleet_commands.specs.HandoverCommand.{AreAllKnown, ReadsThen}
+use Rattle.fleet_commands.specs.HandoverCommand.{AreReadAs, ReadsThen}
 use Rattle.fleet_commands.specs.AnewCommand.{IsBegunAnew, MayBeAnew}
-use Rattle.fleet_commands.specs.FoundTapes.{Found, AreFoundIn}
+use Rattle.fleet_commands.specs.FoundTapes.{Found}
 use Rattle.fleet_commands.specs.LeftPlan.{left_plan}
 use Rattle.fleet_commands.specs.Code.Reading.{IsJudgedSo, IsNotKnownBy, fault_of}
 use Rattle.fleet_commands.specs.declared.handover_fault.HandoverFault.{HandoverFault}
@@ -47,17 +47,17 @@ module _ {F : Type 0} (file_left : F → Option (List ℕ)) (without : Option �
   unknown-as NoSuchAgent known = absurd known
   unknown-as SameNumber known = absurd known
   unknown-as (BadTape i) known = (may, known)
-  unknown-as NotOneRun known = absurd known
+  unknown-as NotOneRun known = (may, inl known)
   unknown-as OutOfMemory known = tt
 
   -- what was checked is what is left
-  pub left-as : (found : List Found) (left : Plan) → AreFoundIn file_left it.dependencies found → AreAllKnown without found
+  pub left-as : (found : List Found) (left : Plan) → AreReadAs file_left it.dependencies without found []
       → left ≡ left_plan it.plan it.dependencies found without number
       → (answer : Result Plan HandoverFault) → IsJudgedSo it.map left answer → IsBegunAnew file_left without number it answer
-  left-as found left are known is (Ok p) checked = (may, (found, are, known, checked.0 ∙ is, subst (IsValid it.map) (sym checked.0) checked.1))
-  left-as found left are known is (Err (Planned fault)) checked = absurd checked
-  left-as found left are known is (Err NoSuchAgent) checked = absurd checked
-  left-as found left are known is (Err SameNumber) checked = absurd checked
-  left-as found left are known is (Err (BadTape i)) checked = absurd checked
-  left-as found left are known is (Err NotOneRun) checked = (may, (found, are, known, λ valid. checked (subst (IsValid it.map) (sym is) valid)))
-  left-as found left are known is (Err OutOfMemory) checked = tt
+  left-as found left are is (Ok p) checked = (may, (found, are, checked.0 ∙ is, subst (IsValid it.map) (sym checked.0) checked.1))
+  left-as found left are is (Err (Planned fault)) checked = absurd checked
+  left-as found left are is (Err NoSuchAgent) checked = absurd checked
+  left-as found left are is (Err SameNumber) checked = absurd checked
+  left-as found left are is (Err (BadTape i)) checked = absurd checked
+  left-as found left are is (Err NotOneRun) checked = (may, inr (found, are, λ valid. checked (subst (IsValid it.map) (sym is) valid)))
+  left-as found left are is (Err OutOfMemory) checked = tt

@@ -1,12 +1,12 @@
 -- What `mapf anew` does and answers.
-use Rattle.std.specs.Prelude.{◌≡◌, ◌≢◌, ℕ, nat_le, Bool, true, false, ⊤, List, length, Option, option_map, unwrap_or, Result, Ok, Err}
+use Rattle.std.specs.Prelude.{◌≡◌, ◌≢◌, ◌⊎◌, ℕ, nat_le, Bool, true, false, ⊤, List, [], length, Option, option_map, unwrap_or, Result, Ok, Err}
 use Rattle.text_io.specs.declared.counted.Counted.{Counted}
 use Rattle.model.specs.Plan.{Plan, IsValid}
 use Rattle.model.specs.Timetable.{Timetable}
 use Rattle.planned.specs.declared.reading.PlanAtHand.{PlanAtHand}
 use Rattle.text_commands.specs.Ending.{End}
 use Rattle.fleet_commands.specs.FoundTapes.{Found, AreFoundIn}
-use Rattle.fleet_commands.specs.HandoverCommand.{AreAllKnown, IsFirstUnknown, ReadsThen, EndsByPlan}
+use Rattle.fleet_commands.specs.HandoverCommand.{AreReadAs, IsFirstUnknown, IsNotOneRun, ReadsThen, EndsByPlan}
 use Rattle.fleet_commands.specs.LeftPlan.{left_plan}
 use Rattle.fleet_commands.specs.declared.handover_fault.HandoverFault.{HandoverFault}
 use Rattle.fleet_commands.specs.declared.handover_fault.HandoverFault.TheVariants.{NoSuchAgent, SameNumber, BadTape, NotOneRun, OutOfMemory}
@@ -20,18 +20,20 @@ abbrev pub MayBeAnew : PlanAtHand → Option ℕ → ℕ → Type 0
 MayBeAnew it without number = (lacks_agent it.dependencies without ≡ false) × (number ≢ it.plan.number)
 
 -- The tapes were read, and this is what is left of the plan, which is valid, under another number; or the first of these stands: there is no such
--- agent, the number is the plan's, no agent is opened on a tape, or what is left isn't valid. Memory may be refused at any time.
+-- agent, the number is the plan's, no agent is opened on a tape, or the tapes are not those of one run, or what is left isn't valid. Memory may be
+-- refused at any time.
 abbrev pub IsBegunAnew : {F : Type 0} → (F → Option (List ℕ)) → Option ℕ → ℕ → PlanAtHand → Result Plan HandoverFault → Type 0
 IsBegunAnew file_left without number it (Ok left) =
-    MayBeAnew it without number × ((found : List Found) × AreFoundIn file_left it.dependencies found × AreAllKnown without found
+    MayBeAnew it without number × ((found : List Found) × AreReadAs file_left it.dependencies without found []
     × (left ≡ left_plan it.plan it.dependencies found without number) × IsValid it.map left)
 IsBegunAnew file_left without number it (Err NoSuchAgent) = lacks_agent it.dependencies without ≡ true
 IsBegunAnew file_left without number it (Err SameNumber) = (lacks_agent it.dependencies without ≡ false) × (number ≡ it.plan.number)
 IsBegunAnew file_left without number it (Err (BadTape i)) =
     MayBeAnew it without number × ((found : List Found) × AreFoundIn file_left it.dependencies found × IsFirstUnknown without found i)
 IsBegunAnew file_left without number it (Err NotOneRun) =
-    MayBeAnew it without number × ((found : List Found) × AreFoundIn file_left it.dependencies found × AreAllKnown without found
-    × (IsValid it.map (left_plan it.plan it.dependencies found without number) → ⊥))
+    MayBeAnew it without number × (IsNotOneRun file_left it.dependencies without
+    ⊎ ((found : List Found) × AreReadAs file_left it.dependencies without found []
+    × (IsValid it.map (left_plan it.plan it.dependencies found without number) → ⊥)))
 IsBegunAnew file_left without number it (Err OutOfMemory) = ⊤
 IsBegunAnew file_left without number it (Err _) = ⊥
 

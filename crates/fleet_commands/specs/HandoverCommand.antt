@@ -1,7 +1,9 @@
 -- What `mapf handover` does and answers.
-use Rattle.std.specs.Prelude.{◌≡◌, ℕ, ◌<◌, ◌&&◌, not, Bool, true, false, ⊤, List, length, Option, None, Result, Ok, Err}
+use Rattle.std.specs.Prelude.{◌≡◌, ◌≢◌, ℕ, ◌<◌, ◌&&◌, not, Bool, true, false, ⊤, List, [], length, Option, None, Result, Ok, Err}
 use Rattle.text_io.specs.declared.counted.Counted.{Counted}
 use Rattle.model.specs.Plan.{Plan}
+use Rattle.model.specs.Timetable.{Timetable}
+use Rattle.depgraph.specs.Rotations.{Turn, AreRotations}
 use Rattle.continuing.specs.Continuing.{cut_at}
 use Rattle.plan_text.specs.PlanText.{canonical_plan_text}
 use Rattle.planned.specs.Planned.{IsAtHand, ReadsTimetable}
@@ -12,9 +14,11 @@ use Rattle.text_commands.specs.Rewriting.{EndsWriting}
 use Rattle.fleet_commands.specs.FoundTapes.{Found, AreFoundIn, is_known}
 use Rattle.fleet_commands.specs.CutTimes.{IsCutTime}
 use Rattle.fleet_commands.specs.LeftPlan.{is_left_out}
+use Rattle.fleet_commands.specs.StatusText.{run_lines}
 use Rattle.fleet_commands.specs.FaultWords.{handover_fault_words}
 use Rattle.fleet_commands.specs.declared.handover_fault.HandoverFault.{HandoverFault}
-use Rattle.fleet_commands.specs.declared.handover_fault.HandoverFault.TheVariants.{Planned, BadTape, OutOfMemory}
+use Rattle.fleet_commands.specs.declared.handover_fault.HandoverFault.TheVariants.{Planned, BadTape, NotOneRun, OutOfMemory}
+use Rattle.fleet_commands.specs.declared.status_line.StatusLine.{StatusLine}
 
 -- ---- what is known
 
@@ -32,11 +36,22 @@ pub record IsFirstUnknown (without : Option ℕ) (found : List Found) (i : ℕ) 
 
 -- ---- what comes of it
 
--- The tapes were read, and this is the plan cut at the time by which all is made that was begun; or no agent is opened on a tape, or memory was refused.
+-- the tapes were read, but for an agent that is left out all are right, and these are the lines of what shows that they are not those of one run
+abbrev pub AreReadAs : {F : Type 0} → (F → Option (List ℕ)) → Timetable → Option ℕ → List Found → List StatusLine → Type 0
+AreReadAs file_left tt without found lines =
+    AreFoundIn file_left tt found × AreAllKnown without found × ((turns : List Turn) × AreRotations tt turns × (lines ≡ run_lines tt without turns found))
+
+-- such lines there are
+abbrev pub IsNotOneRun : {F : Type 0} → (F → Option (List ℕ)) → Timetable → Option ℕ → Type 0
+IsNotOneRun file_left tt without = (found : List Found) × (lines : List StatusLine) × AreReadAs file_left tt without found lines × (lines ≢ [])
+
+-- The tapes were read, they can be those of one run, and this is the plan cut at the time by which all is made that was begun; or no agent is opened on a tape, or the
+-- tapes are not those of one run, or memory was refused.
 abbrev pub IsHandedOver : {F : Type 0} → (F → Option (List ℕ)) → PlanAtHand → Result Plan HandoverFault → Type 0
 IsHandedOver file_left it (Ok kept) =
-    (found : List Found) × (time : ℕ) × AreFoundIn file_left it.dependencies found × AreAllKnown None found × IsCutTime it.dependencies found time × (kept ≡ cut_at time it.plan)
+    (found : List Found) × (time : ℕ) × AreReadAs file_left it.dependencies None found [] × IsCutTime it.dependencies found time × (kept ≡ cut_at time it.plan)
 IsHandedOver file_left it (Err (BadTape i)) = (found : List Found) × AreFoundIn file_left it.dependencies found × IsFirstUnknown None found i
+IsHandedOver file_left it (Err NotOneRun) = IsNotOneRun file_left it.dependencies None
 IsHandedOver file_left it (Err OutOfMemory) = ⊤
 IsHandedOver file_left it (Err _) = ⊥
 

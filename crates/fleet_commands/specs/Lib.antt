@@ -7,14 +7,18 @@ pub mod FoundTapes
 pub mod Standing
 -- what is made of numbers in turn
 pub mod Turns
+-- what is left of a plan
+pub mod LeftPlan
+-- what shows that the tapes are not those of one run
+pub mod OneRun
+-- what the plans beside them come to
+pub mod PlansBeside
 -- what is written of it
 pub mod StatusText
 -- what `mapf status` does and answers
 pub mod StatusCommand
 -- at which time a plan may be cut by that
 pub mod CutTimes
--- what is left of a plan
-pub mod LeftPlan
 -- why it isn't handed over, in words
 pub mod FaultWords
 -- what `mapf handover` does and answers

@@ -4,7 +4,7 @@ use Rattle.std.specs.List.{list_all, list_any, range_with_len}
 use Rattle.model.specs.Dependency.{Need, need}
 use Rattle.model.specs.Timetable.{Track, Timetable, moves, step_of, track_of}
 use Rattle.depgraph.specs.Rotations.{Turn}
-use Rattle.fleet_commands.specs.FoundTapes.{Found, finished_by, is_known}
+use Rattle.fleet_commands.specs.FoundTapes.{Found, begun_by, finished_by, is_known}
 use Rattle.fleet_commands.specs.declared.keeping.Keeping.{Keeping}
 use Rattle.fleet_commands.specs.declared.keeping.Keeping.TheVariants.{Unknown, OwnMove, OwnEnd, Nothing, Other}
 
@@ -58,11 +58,12 @@ abbrev pub is_planned_in : ℕ → Option Track → ℕ → Bool
 is_planned_in step None k = false
 is_planned_in step (Some track) k = nat_lt k (moves track) && (step_of track k == step)
 
--- an agent is known to have its move in this step before it
+-- an agent is known to stand, and to have its move in this step before it
 abbrev pub is_at_step : Timetable → List Found → (step i : ℕ) → Bool
-is_at_step tt found step i = is_known found i && is_planned_in step (track_of tt i) (finished_by found i)
+is_at_step tt found step i =
+    is_known found i && ((begun_by found i == finished_by found i) && is_planned_in step (track_of tt i) (finished_by found i))
 
--- the agents of a rotation are known to have all come to it
+-- the agents of a rotation are known to have all come to it, and none has begun its move in it
 abbrev pub has_come : Timetable → List Found → Turn → Bool
 has_come tt found turn = list_all (is_at_step tt found turn.step) turn.agents
 

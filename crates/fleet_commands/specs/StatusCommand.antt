@@ -1,6 +1,6 @@
 -- What `mapf status` does and answers.
-use Rattle.std.specs.Prelude.{◌≡◌, ◌⊎◌, ℕ, Bool, List, Option, Result, Ok, Err, if◌then◌else◌, is_err}
-use Rattle.std.specs.List.{list_any}
+use Rattle.std.specs.Prelude.{◌≡◌, ◌⊎◌, ℕ, Bool, true, false, List, ◌++◌, length, Option, None, Result, Ok, Err, if◌then◌else◌}
+use Rattle.std.specs.List.{flat_map, list_any}
 use Rattle.text_io.specs.declared.counted.Counted.{Counted}
 use Rattle.text_io.specs.declared.failure.Failure.TheVariants as failure
 use Rattle.text_io.specs.FaultWords.{failed}
@@ -14,17 +14,35 @@ use Rattle.text_commands.specs.declared.status.Status.TheVariants as status
 use Rattle.text_commands.specs.Ending.{End, answered_with, gave_up}
 use Rattle.text_commands.specs.Rewriting.{EndsWriting}
 use Rattle.fleet_commands.specs.FoundTapes.{Found, AreFoundIn}
-use Rattle.fleet_commands.specs.StatusText.{status_text}
+use Rattle.fleet_commands.specs.PlansBeside.{AreCompared}
+use Rattle.fleet_commands.specs.StatusText.{run_lines, status_line, status_lines}
+use Rattle.fleet_commands.specs.declared.plans_beside.Foremost.{Foremost}
+use Rattle.fleet_commands.specs.declared.status_line.StatusLine.{StatusLine}
+use Rattle.fleet_commands.specs.declared.status_line.StatusLine.TheVariants.{Agent, Root, Circle}
 
--- the answer is no where some tape has no agent
-abbrev pub status_by : List Found → Status
-status_by found = if list_any is_err found then status.Fault else status.Done
+-- what has to be mended before anybody drives on
+abbrev pub is_fault : StatusLine → Bool
+is_fault (Agent line) = false
+is_fault (Root i keeps) = false
+is_fault (Circle number keeps) = false
+is_fault _ = true
+
+-- the answer is no where a line tells a fault
+abbrev pub status_of : List StatusLine → Status
+status_of lines = if list_any is_fault lines then status.Fault else status.Done
+
+-- The lines say what the tapes have, what shows that these are not of one run, and what the plans beside them come to.
+abbrev pub AreAllLines : {F : Type 0} → (F → Option (List ℕ)) → Timetable → List StatusLine → Type 0
+AreAllLines file_left tt lines =
+    (found : List Found) × (turns : List Turn) × AreFoundIn file_left tt found × AreRotations tt turns
+    × ((foremost : Option Foremost) × (more : List StatusLine) × AreCompared file_left (length tt.tracks) foremost more
+    × (lines ≡ (status_lines tt turns found ++ run_lines tt None turns found) ++ more))
 
 -- What was found of a valid plan's tapes is written, or memory was refused for it.
 abbrev pub EndsByTapes : {F W : Type 0} → (F → Option (List ℕ)) → (W → Option (List ℕ)) → (json : Bool) → Timetable → Counted W → Counted W → End → Type 0
 EndsByTapes file_left contents json tt old new end =
-    ((found : List Found) × (turns : List Turn) × AreFoundIn file_left tt found × AreRotations tt turns
-    × EndsWriting contents old new (answered_with (status_by found)) end (status_text json tt turns found))
+    ((lines : List StatusLine) × AreAllLines file_left tt lines
+    × EndsWriting contents old new (answered_with (status_of lines)) end (flat_map (status_line json) lines))
     ⊎ ((end ≡ gave_up (failed failure.OutOfMemory)) × (new ≡ old))
 
 abbrev pub EndsByStatus : {F W : Type 0} → (F → Option (List ℕ)) → (W → Option (List ℕ)) → (json : Bool) → Counted W → Counted W → End → Result Timetable PlannedFault → Type 0

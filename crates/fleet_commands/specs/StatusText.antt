@@ -1,6 +1,6 @@
 -- What `mapf status` writes.
 use Rattle.std.specs.Prelude.{ℕ, ◌/◌, ◌&&◌, not, Bool, if◌then◌else◌, nat_lt, false, List, [], ◌∷◌, ◌++◌, length, map, codes, Option, None, Some, is_some, Ok, Err, slice_get, slice_index_or}
-use Rattle.std.specs.List.{flat_map, range_with_len}
+use Rattle.std.specs.List.{range_with_len}
 use Rattle.text_io.specs.FaultWords.{Words}
 use Rattle.text_commands.specs.Pieces.{pieces_text}
 use Rattle.text_commands.specs.Telling.{enclosed_words}
@@ -13,12 +13,14 @@ use Rattle.agent_commands.specs.FaultWords.{agent_fault_words}
 use Rattle.agent_commands.specs.declared.agent_fault.AgentFault.TheVariants.{NoTape}
 use Rattle.fleet_commands.specs.FoundTapes.{Found}
 use Rattle.fleet_commands.specs.Standing.{kept_now, waits_of, keepers_of, kept_count, has_come, stuck_count}
+use Rattle.fleet_commands.specs.OneRun.{is_turn_begun, unmet_in}
 use Rattle.fleet_commands.specs.Turns.{in_turn}
 use Rattle.fleet_commands.specs.declared.keeping.Keeping.{Keeping}
 use Rattle.fleet_commands.specs.declared.keeping.Keeping.TheVariants.{Unknown, OwnMove, OwnEnd, Nothing, Other}
+use Rattle.fleet_commands.specs.declared.one_run.Unmet.{Unmet}
 use Rattle.fleet_commands.specs.declared.status_line.AgentLine.{AgentLine}
 use Rattle.fleet_commands.specs.declared.status_line.StatusLine.{StatusLine}
-use Rattle.fleet_commands.specs.declared.status_line.StatusLine.TheVariants.{Agent, Fault, Root, Circle}
+use Rattle.fleet_commands.specs.declared.status_line.StatusLine.TheVariants.{Agent, Fault, Root, Circle, Unmet as Early, Begun, Parted, BesideFault}
 
 -- ---- a line as bytes, in words or as JSON
 
@@ -53,19 +55,44 @@ counts_text json line = pieces_text ((said json (codes " done ") (codes "],\"don
 abbrev pub progress_text : Bool → AgentLine → List ℕ
 progress_text json line = (agent_text json line.agent ++ pieces_text (held_pieces json line.held)) ++ counts_text json line
 
-abbrev pub fault_text : Bool → Words → List ℕ
-fault_text json words = enclosed_words (said json (codes " ") (codes ",\"fault\":\"")) words (said json (codes "\n") (codes "\"}\n"))
+-- a fault behind a word and a number
+abbrev pub fault_text : Bool → (head : List ℕ) → (number : ℕ) → Words → List ℕ
+fault_text json head number words =
+    pieces_text ((head, number) ∷ []) ++ enclosed_words (said json (codes " ") (codes ",\"fault\":\"")) words (said json (codes "\n") (codes "\"}\n"))
 
 abbrev pub keeps_text : Bool → (head : List ℕ) → (number keeps : ℕ) → List ℕ
 keeps_text json head number keeps =
     pieces_text ((head, number) ∷ (said json (codes " keeps ") (codes ",\"keeps\":"), keeps) ∷ []) ++ said json (codes "\n") (codes "}\n")
 
+-- an agent has begun a move that waits until the other has finished so many
+abbrev pub unmet_text : Bool → (i j count : ℕ) → List ℕ
+unmet_text json i j count =
+    pieces_text ((said json (codes "NotOneRun ") (codes "{\"fault\":\"NotOneRun\",\"agents\":["), i) ∷ (said json (codes " ") (codes ","), j)
+    ∷ (said json (codes " ") (codes "],\"until\":"), count) ∷ [])
+    ++ said json (codes "\n") (codes "}\n")
+
+-- a rotation was begun
+abbrev pub begun_text : Bool → ℕ → List ℕ
+begun_text json number =
+    pieces_text ((said json (codes "NotOneRun ") (codes "{\"fault\":\"NotOneRun\",\"rotation\":"), number) ∷ []) ++ said json (codes "\n") (codes "}\n")
+
+-- the plans of two agents differ from a time on
+abbrev pub parted_text : Bool → (i j time : ℕ) → List ℕ
+parted_text json i j time =
+    pieces_text ((said json (codes "PlansPart ") (codes "{\"fault\":\"PlansPart\",\"agents\":["), i) ∷ (said json (codes " ") (codes ","), j)
+    ∷ (said json (codes " ") (codes "],\"time\":"), time) ∷ [])
+    ++ said json (codes "\n") (codes "}\n")
+
 -- with its LF
 abbrev pub status_line : Bool → StatusLine → List ℕ
 status_line json (Agent line) = progress_text json line ++ keeping_text json line.keeping
-status_line json (Fault i fault) = agent_text json i ++ fault_text json (agent_fault_words fault)
+status_line json (Fault i fault) = fault_text json (said json [] (codes "{\"agent\":")) i (agent_fault_words fault)
 status_line json (Root i keeps) = keeps_text json (said json (codes "root ") (codes "{\"root\":")) i keeps
 status_line json (Circle number keeps) = keeps_text json (said json (codes "rotation ") (codes "{\"rotation\":")) number keeps
+status_line json (Early i unmet) = unmet_text json i unmet.agent unmet.count
+status_line json (Begun number) = begun_text json number
+status_line json (Parted i j time) = parted_text json i j time
+status_line json (BesideFault i fault) = fault_text json (said json (codes "beside ") (codes "{\"beside\":")) i (agent_fault_words fault)
 
 -- ---- which lines there are
 
@@ -105,5 +132,25 @@ status_lines tt turns found =
     ++ in_turn (root_line (keepers_of (waits_of tt found)) (waits_of tt found)) (length tt.tracks))
     ++ in_turn (circle_line tt found (keepers_of (waits_of tt found)) turns) (length turns)
 
-abbrev pub status_text : Bool → Timetable → List Turn → List Found → List ℕ
-status_text json tt turns found = flat_map (status_line json) (status_lines tt turns found)
+-- ---- lines that no run has
+
+-- of an agent that has begun a move too early
+abbrev pub unmet_line_by : ℕ → Option Unmet → List StatusLine
+unmet_line_by i None = []
+unmet_line_by i (Some unmet) = Early i unmet ∷ []
+
+abbrev pub unmet_line : Timetable → Option ℕ → List Found → ℕ → List StatusLine
+unmet_line tt without found i = unmet_line_by i (unmet_in tt without found i (track_of tt i))
+
+-- of a rotation in which an agent has begun its move
+abbrev pub begun_line_by : Timetable → Option ℕ → List Found → ℕ → Option Turn → List StatusLine
+begun_line_by tt without found number None = []
+begun_line_by tt without found number (Some turn) = if is_turn_begun tt without found turn then Begun number ∷ [] else []
+
+abbrev pub begun_line : Timetable → Option ℕ → List Found → List Turn → ℕ → List StatusLine
+begun_line tt without found turns number = begun_line_by tt without found number (slice_get turns number)
+
+-- what shows that the tapes, but for that of an agent that is left out, are not those of one run of the plan
+abbrev pub run_lines : Timetable → Option ℕ → List Turn → List Found → List StatusLine
+run_lines tt without turns found =
+    in_turn (unmet_line tt without found) (length tt.tracks) ++ in_turn (begun_line tt without found turns) (length turns)

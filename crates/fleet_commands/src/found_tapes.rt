@@ -3,12 +3,10 @@ ghost use Rattle.std.specs.Prelude.{◌≡◌, ◌<◌, ◌≤◌, ◌*◌, Some
 ghost use Rattle.model.specs.Timetable.{Track, moves, track_of};
 ghost use Rattle.fleet_commands.specs.FoundTapes.{is_known, AreFoundIn, AreWithinMoves, IsFoundIn, begun_by, finished_by};
 
-use agent_commands::{AgentFault, read_records};
+use agent_commands::{AgentFault, open_to_read, read_records};
 use depgraph::Dependencies;
 use robot::FileTapeFault;
 use std::alloc::{AllocError, Global};
-use std::fs;
-use std::io::ErrorKind;
 use std::rt::Files;
 use text_io::Counted;
 
@@ -30,7 +28,7 @@ pub(crate) fn read_tapes<R: Files + AllocGlobal>(
 }
 
 /// The name of an agent's tape.
-fn name_of(alloc: Global, name: &str, agent: u32) -> Result<String, AllocError> {
+pub(crate) fn name_of(alloc: Global, name: &str, agent: u32) -> Result<String, AllocError> {
     let number = format!(in alloc; "{agent}")?;
     name.replace(alloc, "%", &number)
 }
@@ -46,10 +44,9 @@ fn read_tape<R: Files + AllocGlobal>(
     ensures found { IfOk result (IsFoundIn R.File.remaining dependencies.now agent) }
     ensures within { (track : Track) → track_of dependencies.now agent ≡ Some track → IfOk result (λ found. IfOk found (λ records. records ≤ 2 * moves track)) }
 {
-    let mut file = match fs::open(rt, path) {
+    let mut file = match open_to_read(rt, path) {
         Ok(file) => Counted::new(file),
-        Err(error) if error.kind() == ErrorKind::NotFound => return Ok(Err(AgentFault::NoTape)),
-        Err(_) => return Ok(Err(AgentFault::OpenFailed)),
+        Err(fault) => return Ok(Err(fault)),
     };
     // There are few enough for their numbers.
     let _agents = dependencies.agents();
@@ -58,7 +55,9 @@ fn read_tape<R: Files + AllocGlobal>(
 }
 
 /// That memory was refused is said of no tape.
-fn unless_refused(found: Result<u32, AgentFault>) -> Result<Result<u32, AgentFault>, AllocError>
+pub(crate) fn unless_refused<T: Drop>(
+    found: Result<T, AgentFault>,
+) -> Result<Result<T, AgentFault>, AllocError>
     ensures { IfOk result (λ it. it ≡ found) }
 {
     match found {

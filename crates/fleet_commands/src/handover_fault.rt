@@ -22,7 +22,7 @@ pub enum HandoverFault {
     SameNumber,
     /// The tape of this agent has a fault.
     BadTape(u16),
-    /// By their tapes two agents would meet, so these are not of one run of the plan.
+    /// The tapes are not those of one run of the plan: by them a move was begun too early, or two agents would meet.
     NotOneRun,
     OutOfMemory,
 }

@@ -7,7 +7,7 @@ ghost use Rattle.depgraph.specs.Rotations.{turn_of};
 ghost use Rattle.fleet_commands.specs.FoundTapes.{finished_by};
 ghost use Rattle.fleet_commands.specs.Standing.{keepers_of, has_come, is_at_step, is_planned_in, kept_at, kept_by_need, kept_count, kept_now, keeper_after, step_from, stuck_count, waited_for, waits_of};
 
-use crate::found_tapes::{finished_by, is_known};
+use crate::found_tapes::{begun_by, finished_by, is_known};
 use agent_commands::AgentFault;
 use depgraph::{Dependencies, Part, Rotation};
 use std::alloc::{AllocError, Global};
@@ -60,7 +60,11 @@ fn kept_at(part: &Part<'_>, found: &[Result<u32, AgentFault>], records: u32) -> 
 }
 
 /// What keeps an agent from the move with this number.
-fn kept_by_need(part: &Part<'_>, found: &[Result<u32, AgentFault>], number: u32) -> Keeping
+pub(crate) fn kept_by_need(
+    part: &Part<'_>,
+    found: &[Result<u32, AgentFault>],
+    number: u32,
+) -> Keeping
     requires { number < length part.now.needs }
     ensures { (tt : Timetable) (is : IsPartOf tt part.now) → result ≡ kept_by_need (finished_by found.now) (need tt part.now.agent is.track number) }
 {
@@ -143,7 +147,7 @@ pub(crate) fn kept_count(ends: &[u16], agent: u16) -> u32
     (count as u32).saturating_sub(1)
 }
 
-/// Whether the agents of a rotation are known to have all come to it.
+/// Whether the agents of a rotation are known to have all come to it, and to stand before it.
 pub(crate) fn has_come(
     dependencies: &Dependencies,
     found: &[Result<u32, AgentFault>],
@@ -154,7 +158,7 @@ pub(crate) fn has_come(
     rotation.agents.iter().all(|agent| is_at_step(dependencies, found, *agent, rotation.step))
 }
 
-/// Whether an agent is known to have its move in a step before it.
+/// Whether an agent is known to stand, and to have its move in a step before it.
 fn is_at_step(
     dependencies: &Dependencies,
     found: &[Result<u32, AgentFault>],
@@ -163,7 +167,10 @@ fn is_at_step(
 ) -> bool
     ensures { result ≡ is_at_step dependencies.now found.now step agent }
 {
-    is_known(found, agent) && is_planned_in(dependencies, step, agent, finished_by(found, agent))
+    let finished = finished_by(found, agent);
+    is_known(found, agent)
+        && begun_by(found, agent) == finished
+        && is_planned_in(dependencies, step, agent, finished)
 }
 
 /// Whether the move of an agent with this number is planned in a step.

@@ -1,33 +1,46 @@
 //! Tapes each of which has to be right.
-ghost use Rattle.std.specs.Prelude.{◌≡◌, ◌≤◌, length, IfErr, IfOk, MatchOption};
-ghost use Rattle.fleet_commands.specs.FoundTapes.{AreFoundIn, AreWithinMoves};
-ghost use Rattle.fleet_commands.specs.HandoverCommand.{AreAllKnown, IsFirstUnknown, is_unknown};
+ghost use Rattle.std.specs.Prelude.{◌≡◌, ◌≤◌, [], length, IfErr, IfOk, MatchOption};
+ghost use Rattle.fleet_commands.specs.FoundTapes.{AreWithinMoves};
+ghost use Rattle.fleet_commands.specs.HandoverCommand.{AreAllKnown, AreReadAs, IsFirstUnknown, is_unknown};
 ghost use Rattle.fleet_commands.specs.LeftPlan.{is_left_out};
 ghost use Rattle.fleet_commands.specs.Code.Reading.{IsNotKnownBy};
 
 use crate::found_tapes::{is_known, read_tapes};
 use crate::handover_fault::HandoverFault;
+use crate::one_run::push_run_lines;
 use agent_commands::AgentFault;
 use depgraph::Dependencies;
 use std::rt::Files;
 
-/// Reads the tapes of all agents, each of which has to be right, but for that of an agent that is left out.
+/// Reads the tapes of all agents. But for that of an agent that is left out each has to be right, and nothing may show that they are not those of one run.
 pub(crate) fn read_known<R: Files + AllocGlobal>(
     rt: &R,
     dependencies: &Dependencies,
     tapes: &str,
     without: Option<u16>,
 ) -> Result<Vec<Result<u32, AgentFault>>, HandoverFault>
-    ensures known { IfOk result (λ found. AreFoundIn R.File.remaining dependencies.now found.items × AreAllKnown without found.items) }
+    ensures known { IfOk result (λ found. AreReadAs R.File.remaining dependencies.now without found.items []) }
     ensures fault { IfErr result (IsNotKnownBy R.File.remaining dependencies.now without) }
     ensures within { IfOk result (λ found. AreWithinMoves dependencies.now found.items) }
 {
     let found = read_tapes(rt, dependencies, tapes)?;
     // There are few enough for their numbers.
     let _agents = dependencies.agents();
-    match first_unknown(&found, without) {
-        Some(agent) => Err(HandoverFault::BadTape(agent)),
-        None => Ok(found),
+    if let Some(agent) = first_unknown(&found, without) {
+        return Err(HandoverFault::BadTape(agent));
+    }
+    let mut lines = Vec::new(rt.alloc());
+    push_run_lines(
+        &mut lines,
+        dependencies,
+        dependencies.rotations(),
+        &found,
+        without,
+    )?;
+    if lines.is_empty() {
+        Ok(found)
+    } else {
+        Err(HandoverFault::NotOneRun)
     }
 }
 

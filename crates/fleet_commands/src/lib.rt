@@ -10,6 +10,8 @@ mod keeping;
 mod known_tapes;
 pub mod laws;
 mod left_plan;
+mod one_run;
+mod plans_beside;
 pub mod status_command;
 mod status_line;
 mod status_lines;

@@ -1,15 +1,18 @@
 //! `mapf status`: says what the tapes of a fleet have, and who keeps whom.
-ghost use Rattle.std.specs.Prelude.{◌≡◌, is_ok, MatchResult};
+ghost use Rattle.std.specs.Prelude.{◌≡◌, is_ok, IfOk, MatchResult};
+ghost use Rattle.std.specs.List.{list_any};
 ghost use Rattle.model.specs.Timetable.{Timetable};
 ghost use Rattle.text_commands.specs.Ending.{EndsAndTells, end_of};
-ghost use Rattle.fleet_commands.specs.StatusCommand.{AnswersStatus, EndsByTapes, status_by};
+ghost use Rattle.fleet_commands.specs.StatusCommand.{AnswersStatus, AreAllLines, EndsByTapes, is_fault, status_of};
 
 use crate::found_tapes::read_tapes;
-use crate::status_line::write_lines;
+use crate::one_run::push_run_lines;
+use crate::plans_beside::push_plan_lines;
+use crate::status_line::{StatusLine, write_lines};
 use crate::status_lines::status_lines;
-use agent_commands::AgentFault;
 use depgraph::Dependencies;
 use planned::read_dependencies;
+use std::alloc::AllocError;
 use std::io::{Read, Write};
 use std::rt::Files;
 use text_commands::{Ending, Status, conclude, finish};
@@ -34,7 +37,8 @@ pub fn status_cmd<R: Files + AllocGlobal, M: Read, P: Read, W: Write, E: Write>(
 
 /// Reads a map from `map` and a plan from `plan`, checks the plan on the map, and then reads the tape of
 /// each agent, in the file that has the name `tapes` with the agent's number in place of each `%`. It
-/// writes to `out` where each agent is by its tape and what keeps it, and then who keeps others.
+/// writes to `out` where each agent is by its tape and what keeps it, then who keeps others, then what
+/// shows that the tapes are not those of one run, and then which plans beside them part.
 /// Nothing is locked or written else, so it may be asked beside the agents.
 pub fn perform<R: Files + AllocGlobal, M: Read, P: Read, W: Write>(
     rt: &R,
@@ -62,24 +66,56 @@ fn tell<R: Files + AllocGlobal, W: Write>(
 ) -> Ending
     ensures { EndsByTapes R.File.remaining W.contents json dependencies.now out.old out.new (end_of result) }
 {
-    let Ok(found) = read_tapes(rt, dependencies, tapes) else {
-        return Ending::gave_up(Failure::OutOfMemory.words());
-    };
-    let Ok(lines) = status_lines(rt.alloc(), dependencies, dependencies.rotations(), &found) else {
+    let Ok(lines) = all_lines(rt, dependencies, tapes) else {
         return Ending::gave_up(Failure::OutOfMemory.words());
     };
     let written = write_lines(&lines, json, out);
-    finish(written, Ending::answered_with(status_by(&found)), out)
+    finish(written, Ending::answered_with(status_of(&lines)), out)
 }
 
-/// The answer is no where no agent is opened on some tape.
-fn status_by(found: &[Result<u32, AgentFault>]) -> Status
-    ensures { result ≡ status_by found.now }
+/// Reads the tapes and the plans beside them: the lines of what they have.
+fn all_lines<R: Files + AllocGlobal>(
+    rt: &R,
+    dependencies: &Dependencies,
+    tapes: &str,
+) -> Result<Vec<StatusLine>, AllocError>
+    ensures { IfOk result (λ lines. AreAllLines R.File.remaining dependencies.now lines.items) }
 {
-    for agent in 0..found.len() {
-        if found[agent].is_err() {
-            return Status::Fault;
-        }
+    let found = read_tapes(rt, dependencies, tapes)?;
+    let rotations = dependencies.rotations();
+    let mut lines = status_lines(rt.alloc(), dependencies, rotations, &found)?;
+    push_run_lines(&mut lines, dependencies, rotations, &found, None)?;
+    push_plan_lines(rt, &mut lines, dependencies.agents(), tapes)?;
+    Ok(lines)
+}
+
+/// The answer is no where a line tells a fault.
+fn status_of(lines: &[StatusLine]) -> Status
+    ensures { result ≡ status_of lines.now }
+{
+    if has_fault(lines) {
+        Status::Fault
+    } else {
+        Status::Done
     }
-    Status::Done
+}
+
+fn has_fault(lines: &[StatusLine]) -> bool
+    ensures { result ≡ list_any is_fault lines.now }
+{
+    lines.iter().any(|line| is_fault(line))
+}
+
+/// Whether a line tells what has to be mended before anybody drives on.
+fn is_fault(line: &StatusLine) -> bool
+    ensures { result ≡ is_fault line.now }
+{
+    match line {
+        StatusLine::Agent(_) | StatusLine::Root { .. } | StatusLine::Circle { .. } => false,
+        StatusLine::Fault { .. }
+        | StatusLine::Unmet { .. }
+        | StatusLine::Begun { .. }
+        | StatusLine::Parted { .. }
+        | StatusLine::BesideFault { .. } => true,
+    }
 }

@@ -6,9 +6,10 @@ ghost use Rattle.text_io.specs.Counted.{counted_inner, failures_of};
 ghost use Rattle.text_io.specs.Sink.{held_back, Puts, Breaks};
 ghost use Rattle.text_io.specs.Writing.{WritesText};
 ghost use Rattle.text_commands.specs.Pieces.{pieces_text};
-ghost use Rattle.fleet_commands.specs.StatusText.{agent_text, counts_text, fault_text, held_pieces, keeping_text, keeps_text, progress_text, said, status_line};
+ghost use Rattle.fleet_commands.specs.StatusText.{agent_text, begun_text, counts_text, fault_text, held_pieces, keeping_text, keeps_text, parted_text, progress_text, said, status_line, unmet_text};
 
 use crate::keeping::Keeping;
+use crate::one_run::Unmet;
 use agent_commands::AgentFault;
 use model::Held;
 use std::io::Write;
@@ -35,6 +36,14 @@ pub(crate) enum StatusLine {
     Root { agent: u16, keeps: u32 },
     /// So many wait in a rotation, or for it.
     Circle { number: u64, keeps: u32 },
+    /// An agent has begun a move too early.
+    Unmet { agent: u16, unmet: Unmet },
+    /// An agent has begun its move in a rotation.
+    Begun { number: u64 },
+    /// The plan beside the tape of the other agent differs from this time on, and neither goes on from the other.
+    Parted { agent: u16, other: u16, time: u32 },
+    /// The plan beside a tape can't be read.
+    BesideFault { agent: u16, fault: AgentFault },
 }
 
 /// Writes the lines. The writer is not flushed.
@@ -91,7 +100,15 @@ fn put_line<W: Write>(
 {
     match line {
         StatusLine::Agent(line) => put_agent_line(sink, json, line),
-        StatusLine::Fault { agent, fault } => put_fault_line(sink, json, *agent, fault.words()),
+        StatusLine::Fault { agent, fault } => {
+            let head = said(json, b"", b"{\"agent\":");
+            put_fault(
+                sink,
+                json,
+                Piece::new(head, u128::from(*agent)),
+                fault.words(),
+            )
+        }
         StatusLine::Root { agent, keeps } => {
             let head = said(json, b"root ", b"{\"root\":");
             put_keeps(sink, json, Piece::new(head, u128::from(*agent)), *keeps)
@@ -99,6 +116,18 @@ fn put_line<W: Write>(
         StatusLine::Circle { number, keeps } => {
             let head = said(json, b"rotation ", b"{\"rotation\":");
             put_keeps(sink, json, Piece::new(head, u128::from(*number)), *keeps)
+        }
+        StatusLine::Unmet { agent, unmet } => put_unmet(sink, json, *agent, *unmet),
+        StatusLine::Begun { number } => put_begun(sink, json, *number),
+        StatusLine::Parted { agent, other, time } => put_parted(sink, json, *agent, *other, *time),
+        StatusLine::BesideFault { agent, fault } => {
+            let head = said(json, b"beside ", b"{\"beside\":");
+            put_fault(
+                sink,
+                json,
+                Piece::new(head, u128::from(*agent)),
+                fault.words(),
+            )
         }
     }
 }
@@ -123,19 +152,19 @@ fn put_agent_line<W: Write>(
     put_keeping(sink, json, line.keeping)
 }
 
-/// Puts the line of why no agent is opened on a tape.
-fn put_fault_line<W: Write>(
+/// Puts the fault of what has a number.
+fn put_fault<W: Write>(
     sink: &mut Sink<'_, W>,
     json: bool,
-    agent: u16,
+    head: Piece,
     words: FaultWords,
 ) -> Result<(), WriteFault>
-    ensures ok { OnOk result (Puts W.contents sink.old sink.new (agent_text json agent ++ fault_text json (words_of words))) }
-    ensures err { OnErr result (Breaks W.contents sink.old sink.new (agent_text json agent ++ fault_text json (words_of words))) }
+    ensures ok { OnOk result (Puts W.contents sink.old sink.new (fault_text json head.word.now head.number (words_of words))) }
+    ensures err { OnErr result (Breaks W.contents sink.old sink.new (fault_text json head.word.now head.number (words_of words))) }
 {
-    put_agent(sink, json, agent)?;
-    let head = said(json, b" ", b",\"fault\":\"");
-    put_fault_words(sink, head, words, said(json, b"\n", b"\"}\n"))
+    put_pieces(sink, &[head])?;
+    let behind = said(json, b" ", b",\"fault\":\"");
+    put_fault_words(sink, behind, words, said(json, b"\n", b"\"}\n"))
 }
 
 /// Puts which agent it is.
@@ -244,4 +273,64 @@ fn put_keeps<W: Write>(
     let word = said(json, b" keeps ", b",\"keeps\":");
     let pieces = [head, Piece::new(word, u128::from(keeps))];
     put_ended(sink, &pieces, said(json, b"\n", b"}\n"))
+}
+
+/// Puts which agent has begun a move too early, and what it should have waited for.
+fn put_unmet<W: Write>(
+    sink: &mut Sink<'_, W>,
+    json: bool,
+    agent: u16,
+    unmet: Unmet,
+) -> Result<(), WriteFault>
+    ensures ok { OnOk result (Puts W.contents sink.old sink.new (unmet_text json agent unmet.agent unmet.count)) }
+    ensures err { OnErr result (Breaks W.contents sink.old sink.new (unmet_text json agent unmet.agent unmet.count)) }
+{
+    let head = said(
+        json,
+        b"NotOneRun ",
+        b"{\"fault\":\"NotOneRun\",\"agents\":[",
+    );
+    let agent = Piece::new(head, u128::from(agent));
+    let other = Piece::new(said(json, b" ", b","), u128::from(unmet.agent));
+    let count = Piece::new(said(json, b" ", b"],\"until\":"), u128::from(unmet.count));
+    put_ended(sink, &[agent, other, count], said(json, b"\n", b"}\n"))
+}
+
+/// Puts which rotation was begun.
+fn put_begun<W: Write>(sink: &mut Sink<'_, W>, json: bool, number: u64) -> Result<(), WriteFault>
+    ensures ok { OnOk result (Puts W.contents sink.old sink.new (begun_text json number)) }
+    ensures err { OnErr result (Breaks W.contents sink.old sink.new (begun_text json number)) }
+{
+    let head = said(
+        json,
+        b"NotOneRun ",
+        b"{\"fault\":\"NotOneRun\",\"rotation\":",
+    );
+    put_ended(
+        sink,
+        &[Piece::new(head, u128::from(number))],
+        said(json, b"\n", b"}\n"),
+    )
+}
+
+/// Puts from which time on the plans of two agents differ.
+fn put_parted<W: Write>(
+    sink: &mut Sink<'_, W>,
+    json: bool,
+    agent: u16,
+    other: u16,
+    time: u32,
+) -> Result<(), WriteFault>
+    ensures ok { OnOk result (Puts W.contents sink.old sink.new (parted_text json agent other time)) }
+    ensures err { OnErr result (Breaks W.contents sink.old sink.new (parted_text json agent other time)) }
+{
+    let head = said(
+        json,
+        b"PlansPart ",
+        b"{\"fault\":\"PlansPart\",\"agents\":[",
+    );
+    let agent = Piece::new(head, u128::from(agent));
+    let other = Piece::new(said(json, b" ", b","), u128::from(other));
+    let time = Piece::new(said(json, b" ", b"],\"time\":"), u128::from(time));
+    put_ended(sink, &[agent, other, time], said(json, b"\n", b"}\n"))
 }

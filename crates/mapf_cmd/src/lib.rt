@@ -20,6 +20,7 @@ pub use fleet_commands::{NewPlan, anew_cmd, handover_cmd, status_cmd};
 pub use plan_commands::{continues_cmd, cut_cmd, deps_cell_cmd, deps_cmd, path_cmd};
 pub use program::{Screen, run};
 pub use proof_commands::optimal_cmd;
+pub use robot::{TalkFault, Talker, talk};
 pub use run_commands::run_cmd;
 pub use tape_claim::{LockFile, TapeClaim};
 pub use text_commands::{

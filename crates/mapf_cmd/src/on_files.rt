@@ -12,7 +12,7 @@ ghost use Rattle.agent_commands.specs.AgentCommand.{AnswersAgent};
 ghost use Rattle.agent_commands.specs.TapeCommand.{AnswersTape, EndsWithoutTape};
 ghost use Rattle.mapf_cmd.specs.Program.{AnswersFleet, AnswersQuery, CheckOn, OnFileOrInput, OnTwoFiles, OnThreeFiles, PerformsOn, ShowsOn, rows_asked, terms_of};
 
-use agent_commands::{Seat, agent_command, tape_command};
+use agent_commands::{AgentFault, Seat, agent_command, open_to_read, tape_command};
 use check_commands::{BoundForm, CheckTerms, bound_command, check_command};
 use command_line::{CheckLine, FleetLine, FleetQuery, Line, OptimalLine, PlanQuery, RowsLine};
 use explain::{FileKind, NamedFile};
@@ -317,12 +317,13 @@ fn tape_on_files<R: Files + AllocGlobal, W: Write>(
     let [map, plan, tape] = paths;
     let mut map = Counted::new(fs::open(rt, map)?);
     let mut plan = Counted::new(fs::open(rt, plan)?);
-    match open_if_there(rt, tape)? {
-        Some(file) => {
+    match open_to_read(rt, tape) {
+        Ok(file) => {
             let mut tape = Counted::new(file);
             Ok(tape_command::perform(rt.alloc(), &mut map, &mut plan, id, &mut tape, out))
         }
-        None => Ok(tape_command::without_tape()),
+        Err(AgentFault::NoTape) => Ok(tape_command::without_tape()),
+        Err(_) => Err(io::Error::from(ErrorKind::InvalidInput)),
     }
 }
 
@@ -352,15 +353,6 @@ fn fleet_on_files<R: Files + AllocGlobal, W: Write>(
             let ending = anew_command::perform(rt, &mut map, &mut plan, tapes, new, out);
             Ok(ending)
         }
-    }
-}
-
-/// Opens a file to be read, if there is one.
-fn open_if_there<R: Files>(rt: &R, path: &str) -> io::Result<Option<R::File>> {
-    match fs::open(rt, path) {
-        Ok(file) => Ok(Some(file)),
-        Err(error) if error.kind() == ErrorKind::NotFound => Ok(None),
-        Err(error) => Err(error),
     }
 }
 

@@ -13,14 +13,13 @@ use text_io::{Counted, FaultWords};
 pub(crate) fn parting<R: Files + AllocGlobal>(
     rt: &R,
     words: &FaultWords,
-    beside: &str,
+    tape: &str,
     plan: &str,
 ) -> Option<FaultWords> {
     if words.name() != "OtherPlan" {
         return None;
     }
-    let mut beside = Counted::new(open_again(rt, beside)?);
-    let kept = plan_beside(rt.alloc(), &mut beside)?;
+    let kept = plan_beside(rt, tape).ok()??;
     match continues(&kept, &plan_of(rt, plan)?) {
         Ok(()) => None,
         Err(fault) => Some(fault.words()),

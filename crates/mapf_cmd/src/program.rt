@@ -142,7 +142,7 @@ fn explain_agent<R: Files + AllocGlobal, E: Write>(
     };
     let [map, plan, tape] = files;
     let files = [map, plan, tape, file_of(FileKind::KeptPlan, &beside)];
-    match parting(rt, &words, &beside, plan.path) {
+    match parting(rt, &words, tape.path, plan.path) {
         Some(parted) => explain(rt, &files, &[words, parted], style, err),
         None => explain(rt, &files, &[words], style, err),
     }

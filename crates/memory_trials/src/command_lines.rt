@@ -46,7 +46,7 @@ static LINES: [(&str, u8, &str); 28] = [
     (
         "--version",
         0,
-        "mapf 0.1.0\nproved by rattle-kit-13f logic dac8208d650f15bf\n",
+        "mapf 0.2.0-dev\nproved by rattle-kit-13b logic dac8208d650f15bf\n",
     ),
 ];
 

@@ -8,6 +8,7 @@ mod run_fault;
 
 pub use completing::complete_text;
 pub use completion::Completion;
+pub use event_text::{EventFault, read_events, read_events_any, write_replies};
 pub use executor::{
     CompleteFault, Event, Reply, Runner, SimTape, Version, Why, laws, run, run_with,
 };

@@ -6,13 +6,14 @@ use Rattle.model.specs.declared.plan_fault.PlanFault.TheVariants.{OutOfMemory as
 use Rattle.model.specs.Plan.{Plan, IsValid}
 use Rattle.model.specs.Timetable.{Timetable}
 use Rattle.fleet_commands.specs.FoundTapes.{Found, AreFoundIn}
-use Rattle.fleet_commands.specs.HandoverCommand.{IsFirstUnknown}
+use Rattle.fleet_commands.specs.HandoverCommand.{IsFirstUnknown, IsNotOneRun}
 use Rattle.fleet_commands.specs.declared.handover_fault.HandoverFault.{HandoverFault}
 use Rattle.fleet_commands.specs.declared.handover_fault.HandoverFault.TheVariants.{BadTape, NotOneRun, OutOfMemory}
 
--- the tapes were read, and not all are known, or memory was refused
+-- the tapes were read, and not all are known, or they are not those of one run, or memory was refused
 abbrev pub IsNotKnownBy : {F : Type 0} → (F → Option (List ℕ)) → Timetable → Option ℕ → HandoverFault → Type 0
 IsNotKnownBy file_left tt without (BadTape i) = (found : List Found) × AreFoundIn file_left tt found × IsFirstUnknown without found i
+IsNotKnownBy file_left tt without NotOneRun = IsNotOneRun file_left tt without
 IsNotKnownBy file_left tt without OutOfMemory = ⊤
 IsNotKnownBy file_left tt without _ = ⊥
 

@@ -4,8 +4,13 @@ use Rattle.model.specs.Timetable.{moves}
 use Rattle.std.proofs.lemmas.Result.{err_from_is_err_and}
 use Rattle.agent_commands.specs.AgentCommand.{IsClaimed, IsTapeOf}
 use Rattle.agent_commands.specs.Code.Plans.{claim_of}
-use Rattle.agent_commands.proofs.TapeLemmas.{no_tape, of_file, take_ends}
+use Rattle.agent_commands.proofs.TapeLemmas.{no_tape, not_made, of_file, take_ends}
 use Rattle.agent_commands.proofs.opening.open_tape.Goals as goal
+
+pub returns-in_err-look_before_making : goal.returns-in_err-look_before_making
+returns-in_err-look_before_making g c p on table is =
+    let q = err_from_is_err_and c.from_residual.result c.from_residual.ensures.1 in
+    rw (q.1, q.2) (not_made g.R.File.Read.remaining (claim_of c.args.terms.now) p table c.args.part.now.agent _ (is.track, is.is_track) c.in_err-look_before_making.ensures.new c.in_err-look_before_making.ensures.beside)
 
 pub returns-in_err-opened : goal.returns-in_err-opened
 returns-in_err-opened g c p on table is =

@@ -78,3 +78,13 @@ pub returns-in-anew-clause-err : goal.returns-in-anew-clause-err
 returns-in-anew-clause-err c =
     let rows = rows_of (found_of c.args.given.now) in
     subst (λ name. IfErr c.read_anew.result (λ e. HasWords name rows → HasValues name rows → e ≡ OutOfMemory)) (sym c.in-anew.is) c.read_anew.ensures.err
+
+pub returns-in-status-clause-err : goal.returns-in-status-clause-err
+returns-in-status-clause-err c =
+    let rows = rows_of (found_of c.args.given.now) in
+    subst (λ name. IfErr c.read_status.result (λ e. HasWords name rows → HasValues name rows → e ≡ OutOfMemory)) (sym c.in-status.is) c.read_status.ensures.err
+
+pub returns-in-handover-clause-err : goal.returns-in-handover-clause-err
+returns-in-handover-clause-err c =
+    let rows = rows_of (found_of c.args.given.now) in
+    subst (λ name. IfErr c.read_handover.result (λ e. HasWords name rows → HasValues name rows → e ≡ OutOfMemory)) (sym c.in-handover.is) c.read_handover.ensures.err

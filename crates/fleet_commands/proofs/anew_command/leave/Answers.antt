@@ -26,5 +26,5 @@ returns g c =
     let it = c.args.at_hand.now in
     let found = c.in_ok-found.found.items in
     let may : MayBeAnew c.args.at_hand.now c.args.new.without c.args.new.number = (sym c.lacks_agent.ensures ∙ c.if-lacks_agent.false, λ same. c.if-new-number.false (same ∙ sym c.number.ensures.number)) in
-    left-as g.R.File.Read.remaining c.args.new.without c.args.new.number it may found c.in_ok-left.left c.in_ok-found.ensures.known.0 c.in_ok-found.ensures.known.1
+    left-as g.R.File.Read.remaining c.args.new.without c.args.new.number it may found c.in_ok-left.left c.in_ok-found.ensures.known
     (c.in_ok-left.ensures.left ∙ ap (λ l. left_plan it.plan it.dependencies l c.args.new.without c.args.new.number) c.deref.ensures.value) c.checked.result c.checked.ensures

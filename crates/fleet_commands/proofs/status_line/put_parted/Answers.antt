@@ -1,0 +1,21 @@
+-- What is put says what was chosen.
+use Rattle.std.proofs.Common.{◌++◌, ℕ, List, ap₂}
+use Rattle.text_commands.specs.Laws.Pieces.{breaks_as, puts_as}
+use Rattle.fleet_commands.proofs.PieceLemmas.{made, three-pieces}
+use Rattle.fleet_commands.proofs.status_line.put_parted.Goals as goal
+
+pub returns-clause-ok : goal.returns-clause-ok
+returns-clause-ok g c =
+    let agent = made c.new-agent.result _ _ _ c.args.agent c.new-agent.ensures c.said-head.ensures c.from.ensures in
+    let other = made c.new-other.result _ _ _ c.args.other c.new-other.ensures c.said.ensures c.from-2.ensures in
+    let time = made c.new-time.result _ _ _ c.args.time c.new-time.ensures c.said-2.ensures c.from-3.ensures in
+    let is = ap₂ (λ (pieces end : List ℕ). pieces ++ end) (three-pieces c.new-agent.result c.new-other.result c.new-time.result _ _ _ _ _ _ agent other time) c.said-3.ensures in
+    puts_as g.W.Write.contents _ _ c.put_ended.result _ _ is c.put_ended.ensures.ok
+
+pub returns-clause-err : goal.returns-clause-err
+returns-clause-err g c =
+    let agent = made c.new-agent.result _ _ _ c.args.agent c.new-agent.ensures c.said-head.ensures c.from.ensures in
+    let other = made c.new-other.result _ _ _ c.args.other c.new-other.ensures c.said.ensures c.from-2.ensures in
+    let time = made c.new-time.result _ _ _ c.args.time c.new-time.ensures c.said-2.ensures c.from-3.ensures in
+    let is = ap₂ (λ (pieces end : List ℕ). pieces ++ end) (three-pieces c.new-agent.result c.new-other.result c.new-time.result _ _ _ _ _ _ agent other time) c.said-3.ensures in
+    breaks_as g.W.Write.contents _ _ c.put_ended.result _ _ is c.put_ended.ensures.err
