@@ -127,7 +127,7 @@ CASES = (
     Case("", LANE, BEHIND, (MOVING, b""), 0, "cut at 1\n", ""),
     Case("", LANE, plan(), (), 0, "cut at 0\n", ""),
     Case("--without 0", LANE, plan("1 0 e"), (MOVING,), 0, f"freed 1 0 2 0\n{DRIVEN}", ""),
-    Case("--without 0 --number new", LANE, BEHIND, (MOVING + STANDING, b""), 0, f"freed 2 0\nagent 0 was 1\n{DRIVEN}", ""),
+    Case("--without 0", LANE, BEHIND, (MOVING + STANDING, b""), 0, f"freed 2 0\nagent 0 was 1\n{DRIVEN}", ""),
     Case("--without 1", LANE, BEHIND, (MOVING, b"\x51" * 10), 0, f"freed unknown Damaged 0\n{DRIVEN}", ""),
     Case("--without 1", SQUARE, TURN, (b"",) * 4, 0, f"freed 1 0\nagent 1 was 2\nagent 2 was 3\n{DRIVEN}", ""),
     Case("", LANE, BEHIND, (MOVING, None), 1, "", "handover: 1.tape: NoTape\n"),
@@ -141,7 +141,7 @@ CASES = (
     Case("", "no map", BEHIND, BOTH, 1, "", "handover: M: mapf: BadHeader 1\n"),
 )
 # Words that are no call.
-BAD_LINES = ("--number 8", "--number new --without", "--without -1", "--without 65536", "--without x", "--without 0 --number 4294967296", "--without 0 --number -1", f"--without 0 --number {0:020}4294967296")
+BAD_LINES = ("--number 8", "--number 8 --without", "--without 0 --number new", "--without -1", "--without 65536", "--without x", "--without 0 --number 4294967296", "--without 0 --number -1", f"--without 0 --number {0:020}4294967296")
 
 
 def by_hand(harness: Harness) -> Iterator[Outcome]:

@@ -376,7 +376,7 @@ def bad_calls(harness: Harness, taken: int) -> Iterator[tuple[str, list[str], in
         ("more robots than agents", [*robots, "--robots", "13"], 3, "there are 12 agents, and 13 were due"),
         ("no such link", [*robots, "--link", "post"], 2, "invalid choice: 'post'"),
         ("no cables", [*robots, "--cuts", "1"], 2, "there are no cables here"),
-        ("no number of a plan", [*robots, "--number", f"{0:020}4294967296"], 2, "a number below 4294967296 is wanted"),
+        ("no number of a plan", [*robots, "--number", f"{0:020}4294967296"], 2, "is no number up to 4294967295"),
     )
     python = with_paho()
     if python:
