@@ -18,6 +18,7 @@ import boxes
 import campaign
 import lone_robots
 import networking
+import robot_faults
 import watching
 from failing_agents import Chances, failing_program
 from harness import LONGEST, ROOT, Ended, Harness, Outcome, compared, shown, side_by_side
@@ -450,7 +451,7 @@ def outcomes(harness: Harness) -> Iterator[Outcome]:
     numbers = (signal.SIGTERM, signal.SIGINT, signal.SIGHUP) if harness.is_long else (signal.SIGTERM,)
     signals = [functools.partial(of_a_signal, harness, number) for number in numbers]
     lone = lone_robots.tests(harness, free_port)
-    others = [*lone, *networking.tests(harness), *watching.tests(harness), *boxes.tests(harness)]
+    others = [*lone, *robot_faults.tests(harness, free_port), *networking.tests(harness), *watching.tests(harness), *boxes.tests(harness)]
     tests = [*of_udp(harness), *of_mqtt(harness), *alone, *signals, *others]
     # Robots wait most of their time, so twice as many of these tests as of others run at once.
     yield from side_by_side(functools.partial(collected, tests[place::2]) for place in (0, 1))

@@ -7,7 +7,7 @@ Usage: robot.py MAP PLAN ID TAPE --drive SOCKET --listen HOST:PORT (--peers HOST
 It knows its own agent, its own drive and a link on which it says what it has finished and hears what others say; it may be killed at any moment
 and started again. Its tape was made before, once, by `mapf agent MAP PLAN ID TAPE --tape new`. What arrives on the link is given to the agent alone:
 bytes that are no message of the plan are dropped, and the tenth of a kind is told, the hundredth and so on. With --keys it signs what it says, and
-drops what isn't signed. Where another plan, one that goes on from the one before, is put in the place of PLAN (by a rename), it goes over to that between
+drops what isn't signed. Before its first move it listens for a while (--wait): the others may know that its tape is an older one. Where another plan, one that goes on from the one before, is put in the place of PLAN (by a rename), it goes over to that between
 two questions. As a service of systemd it says that it lives.
 
 Status 1: the map, the plan, the tape, the keys or the count has a fault. 2: a bad command line. 3: a file, a socket or a program failed. It ends when
@@ -42,6 +42,8 @@ UNFIT, FAILED = 1, 3
 LONGEST_MESSAGE = 65_533
 # Seconds after which the drive is told again where to go, and after which an agent that has ended is started again.
 AGAIN, PAUSE = 0.5, 0.05
+# For so many messages of each other robot it listens before its first move: of ten one comes through, also where most are lost.
+ROUNDS = 10
 
 
 class Misplaced(Exception):
@@ -71,6 +73,7 @@ def read_words(words: Sequence[str]) -> argparse.Namespace:
     parser.add_argument("--keys", metavar="FILE", help="the keys of the fleet: signs all that it says, and hears nothing else (none)")
     parser.add_argument("--tell", action="store_true", help="says all that it knows, and not only what it has finished")
     parser.add_argument("--every", type=seconds, default=0.2, metavar="S", help="says so again after so many seconds (%(default)g)")
+    parser.add_argument("--wait", type=seconds, metavar="S", help=f"listens for so many seconds before its first move ({ROUNDS} times --every)")
     parser.add_argument("--box", default="", metavar="FILE", help="its black box; it ends where that can't be written (none)")
     parser.add_argument("--program", default=usual_program(), metavar="PATH", help="the program mapf (%(default)s)")
     given = parser.parse_args(words)
@@ -81,6 +84,7 @@ def read_words(words: Sequence[str]) -> argparse.Namespace:
     if given.tls and not given.broker:
         parser.error("--tls goes with --broker")
     given.tls = given.tls and Tls(*given.tls)
+    given.wait = ROUNDS * given.every if given.wait is None else given.wait
     return given
 
 
@@ -109,7 +113,7 @@ class PlanFile:
         return False
 
 
-@dataclasses.dataclass(frozen=True)
+@dataclasses.dataclass
 class World:
     """What a robot keeps while one agent ends and the next is started."""
 
@@ -118,6 +122,8 @@ class World:
     supervisor: Supervisor
     dropped: Dropped
     plan: PlanFile
+    # For how many seconds it still has to listen before its first move.
+    wait: float
 
 
 class Robot:
@@ -125,12 +131,12 @@ class Robot:
 
     def __init__(self, given: argparse.Namespace, world: World, agent: Agent):
         self.link, self.wire, self.supervisor, self.dropped, self.agent = world.link, world.wire, world.supervisor, world.dropped, agent
-        self.plan = world.plan
+        self.plan, self.world = world.plan, world
         self.question, self.every = "tell" if given.tell else "say", given.every
         # Where the drive is to go, and whether something has changed since a start was refused.
         self.target: Optional[Cell] = None
         self.may_start = True
-        self.says_at = self.goes_at = 0.0
+        self.says_at = self.goes_at = self.moves_at = 0.0
 
     def ask(self, line: str) -> list[str]:
         """The words of an answer, which is reported. An agent whose tape failed has ended."""
@@ -150,6 +156,7 @@ class Robot:
             cells.add(self.target)
         if not {cell_of(drive[at : at + 2]) for at in range(1, len(drive), 2)} <= cells:
             raise Misplaced(f"the drive {' '.join(drive)}, and the tape says {self.agent.first}")
+        self.moves_at = time.monotonic() + self.world.wait
         self.say()
 
     def say(self) -> None:
@@ -192,15 +199,17 @@ class Robot:
             elif words[0] == "stands" and self.target == cell_of(words[1:3]):
                 self.finish()
 
-    def do_what_is_due(self) -> None:
+    def move(self) -> None:
         if self.target is None and self.may_start:
             self.start()
         now = time.monotonic()
         if self.target is not None and now >= self.goes_at:
             self.wire.tell(f"go {self.target[0]} {self.target[1]}")
             self.goes_at = now + AGAIN
-        if now >= self.says_at:
-            self.say()
+
+    def due(self) -> float:
+        """When something is to be done, whatever comes."""
+        return min(self.says_at, self.moves_at if self.world.wait else self.says_at if self.target is None else self.goes_at)
 
     def live(self) -> None:
         """Until the agent ends, there is another plan, or the robot is asked to end."""
@@ -209,10 +218,13 @@ class Robot:
             for source in (self.agent, self.link, self.wire):
                 selector.register(source.fileno(), selectors.EVENT_READ, source)
             while not self.plan.is_another():
-                self.do_what_is_due()
+                now = time.monotonic()
+                if not self.world.wait:
+                    self.move()
+                if now >= self.says_at:
+                    self.say()
                 self.supervisor.lives()
-                due = self.says_at if self.target is None else min(self.says_at, self.goes_at)
-                for key, _ in selector.select(max(0.0, due - time.monotonic())):
+                for key, _ in selector.select(max(0.0, self.due() - time.monotonic())):
                     if key.data is self.agent:
                         raise Ended
                     elif key.data is self.wire:
@@ -220,6 +232,9 @@ class Robot:
                     else:
                         for letter in self.link.received():
                             self.hear(letter)
+                # What was there when the time was over has been heard.
+                if now >= self.moves_at:
+                    self.world.wait = 0.0
 
 
 def drive(given: argparse.Namespace) -> None:
@@ -229,7 +244,7 @@ def drive(given: argparse.Namespace) -> None:
     note = note_of(given.box, given.id, (given.map, given.plan))
     words = [given.program, "agent", given.map, given.plan, str(given.id)]
     with contextlib.closing(link_of(given)) as link:
-        world = World(link, Wire(given.drive, given.id), supervisor, Dropped(given.id), PlanFile(given.plan))
+        world = World(link, Wire(given.drive, given.id), supervisor, Dropped(given.id), PlanFile(given.plan), given.wait)
         while True:
             world.plan.take()
             with contextlib.suppress(Ended):
@@ -247,9 +262,9 @@ def main(words: Sequence[str]) -> int:
         drive(given)
     except Unfit as fault:
         why, status = str(fault), fault.status
-    except (BadKeys, BadCount) as fault:
+    except (BadKeys, BadCount, Stale) as fault:
         why, status = str(fault), UNFIT
-    except (NoClient, NoBroker, BadCertificate, NoDrive, Misplaced, Stale) as fault:
+    except (NoClient, NoBroker, BadCertificate, NoDrive, Misplaced) as fault:
         why, status = str(fault), FAILED
     except OSError as fault:
         where = fault.filename or (given.listen and "{}:{}".format(*given.listen)) or given.tape

@@ -1,0 +1,128 @@
+"""A robot of examples/fleet where something is wrong beside it: its tape is an older one, its drive says odd things, a bad plan comes, a disk is full."""
+import functools
+import signal
+import socket
+import subprocess
+import sys
+import threading
+from typing import Callable, Iterator, Optional, Sequence
+
+import lone_robots
+from harness import ROOT, Harness, Outcome, compared, shown
+from processes import wait_until
+
+ROBOT = ROOT / "examples" / "fleet" / "robot.py"
+MAP, PLAN = lone_robots.MAP, lone_robots.PLAN
+# What agent 1 says of agent 0: it has finished its move.
+DONE = bytes.fromhex("46020001000000090001" + "000000000001")
+# Seconds between two messages of a neighbour.
+OFTEN = 0.05
+
+
+class Handled:
+    """Robot 0 of a plan, whose drive this test is: all that it says is kept, and it is answered as the test wants."""
+
+    def __init__(self, harness: Harness, port: int, *more: str, program: str = ""):
+        self.folder, self.port = harness.folder(), port
+        self.path = str(self.folder / "drive")
+        self.socket = socket.socket(socket.AF_UNIX, socket.SOCK_DGRAM)
+        self.socket.bind(self.path)
+        self.plan = self.folder / "run.plan"
+        self.plan.write_bytes(PLAN.read_bytes())
+        harness.mapf(["agent", str(MAP), str(self.plan), "0", "tape", "--tape", "new"], folder=self.folder)
+        words = [sys.executable, str(ROBOT), str(MAP), str(self.plan), "0", "tape", "--drive", self.path, "--program", program or str(harness.program)]
+        self.words = [*words, "--listen", f"127.0.0.1:{port}", "--peers", "", *more]
+        self.heard: list[str] = []
+        self.cell = "1 0"
+        # What the drive answers to a line, where it isn't what a drive has to.
+        self.odd: Callable[[str], Optional[bytes]] = lambda _: None
+        self.process: Optional["subprocess.Popen[bytes]"] = None
+        threading.Thread(target=self._attend, daemon=True).start()
+
+    def start(self) -> None:
+        with open(self.folder / "told", "ab") as err:
+            self.process = subprocess.Popen(self.words, cwd=self.folder, stdin=subprocess.DEVNULL, stderr=err, start_new_session=True)
+
+    def _attend(self) -> None:
+        while True:
+            try:
+                line = self.socket.recv(1 << 18).decode("ascii").partition(" ")[2]
+            except OSError:
+                return
+            self.heard.append(line)
+            answer = self.odd(line)
+            if answer is None and line.startswith(("where", "go ")):
+                self.cell = line[3:] if line.startswith("go ") else self.cell
+                answer = f"stands {self.cell}".encode()
+            if answer is not None:
+                self.say(answer)
+
+    def say(self, answer: bytes) -> None:
+        try:
+            self.socket.sendto(answer, f"{self.path}.0")
+        except OSError:
+            # The robot has ended.
+            pass
+
+    def has_heard(self, beginning: str) -> bool:
+        return any(line.startswith(beginning) for line in self.heard)
+
+    def told(self) -> list[str]:
+        """The lines on the robot's standard error."""
+        return (self.folder / "told").read_text(encoding="utf-8", errors="replace").splitlines()
+
+    def ends(self) -> Optional[int]:
+        """The status with which it ends by itself; none where it doesn't."""
+        wait_until(lambda: self.process.poll() is not None)
+        return self.process.poll()
+
+    def end(self) -> None:
+        if self.process and self.process.poll() is None:
+            self.process.send_signal(signal.SIGTERM)
+            self.process.wait(60)
+        self.socket.close()
+
+
+class Neighbour:
+    """Says something on the robot's port, again and again."""
+
+    def __init__(self, port: int, message: bytes):
+        self.port, self.message, self.is_over = port, message, threading.Event()
+        self.thread = threading.Thread(target=self._speak)
+
+    def __enter__(self) -> "Neighbour":
+        self.thread.start()
+        return self
+
+    def __exit__(self, *_: object) -> None:
+        self.is_over.set()
+        self.thread.join()
+
+    def _speak(self) -> None:
+        with socket.socket(socket.AF_INET, socket.SOCK_DGRAM) as mouth:
+            while not self.is_over.wait(OFTEN):
+                try:
+                    mouth.sendto(self.message, ("127.0.0.1", self.port))
+                except OSError:
+                    # The robot isn't there yet, or has ended.
+                    pass
+
+
+def of_an_older_tape(harness: Harness, ports: Callable[[], int]) -> list[Outcome]:
+    """A robot whose neighbours know more of it than its tape never moves, however often it is started, and ends for good."""
+    robot = Handled(harness, ports())
+    found = []
+    with Neighbour(robot.port, DONE):
+        for _ in range(2):
+            robot.start()
+            found.append(robot.ends())
+    robot.end()
+    last = "robot 0: its tape is an older one (refused StaleTape 1 1)"
+    stays = lone_robots.unit()["RestartPreventExitStatus"].split()
+    wrote = (found, {str(it) in stays for it in found}, [robot.has_heard(it) for it in ("start", "go ")], robot.told())
+    return [compared("a robot with an older tape", f"{shown(robot.words)}, which told {robot.told()}", wrote, ([1, 1], {True}, [False, False], [last] * 2))]
+
+
+def tests(harness: Harness, ports: Callable[[], int]) -> Iterator[Callable[[], Sequence[Outcome]]]:
+    for test in (of_an_older_tape,):
+        yield functools.partial(test, harness, ports)
