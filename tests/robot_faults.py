@@ -123,6 +123,25 @@ def of_an_older_tape(harness: Harness, ports: Callable[[], int]) -> list[Outcome
     return [compared("a robot with an older tape", f"{shown(robot.words)}, which told {robot.told()}", wrote, ([1, 1], {True}, [False, False], [last] * 2))]
 
 
+# What a drive must not say, and what is told of it.
+ODD = (b"unknown", b"hello", b"", b"stands 1", b"stands a b", b"stands 1 0 7", b"goes 1 0", b"slipped 1 0 x 0", b"stands 1 123456", b"stands -1 0", b"\xff\xfe")
+
+
+def of_an_odd_drive(harness: Harness, ports: Callable[[], int]) -> list[Outcome]:
+    """What isn't understood is no answer: the drive is asked again, and nothing moves until it says where it is."""
+    robot = Handled(harness, ports(), "--wait", "0")
+    wheres, moves = iter(ODD), iter((b"stands 2", b"stands 2 0 0"))
+    robot.odd = lambda line: next(wheres, None) if line.startswith("where") else next(moves, None) if line.startswith("go ") else None
+    robot.start()
+    goes = wait_until(lambda: robot.has_heard("finish"))
+    asked = [line.split()[0] for line in robot.heard if line.startswith(("where", "start", "finish"))]
+    robot.end()
+    told = [f"robot 0: the drive at {robot.path} says {it!r}, which isn't understood" for it in (*ODD, b"stands 2", b"stands 2 0 0")]
+    wrote = (goes, asked[: len(ODD) + 3], robot.told())
+    due = (True, [*["where"] * (len(ODD) + 1), "start", "finish"], told)
+    return [compared("a drive that says odd things", shown(robot.words), wrote, due)]
+
+
 def tests(harness: Harness, ports: Callable[[], int]) -> Iterator[Callable[[], Sequence[Outcome]]]:
-    for test in (of_an_older_tape,):
+    for test in (of_an_older_tape, of_an_odd_drive):
         yield functools.partial(test, harness, ports)

@@ -25,10 +25,11 @@ from typing import Optional, Sequence
 
 sys.dont_write_bytecode = True
 from addresses import address, addresses  # noqa: E402
+from alarms import Alarms  # noqa: E402
 from agent import STALE_TAPE, STORE_FAILED, Agent, Ended, Lock, Stale, Unfit  # noqa: E402
 from black_box import note_of  # noqa: E402
 from count_file import BadCount  # noqa: E402
-from drive import Cell, NoDrive, Wire  # noqa: E402
+from drive import AGAIN, Cell, NoDrive, Wire  # noqa: E402
 from keys import BadKeys  # noqa: E402
 from leaving import heed_signals  # noqa: E402
 from letters import Dropped, Letter, Link  # noqa: E402
@@ -40,8 +41,8 @@ from service import Supervisor  # noqa: E402
 UNFIT, FAILED = 1, 3
 # A longer message has more digits than a line of the agent may have.
 LONGEST_MESSAGE = 65_533
-# Seconds after which the drive is told again where to go, and after which an agent that has ended is started again.
-AGAIN, PAUSE = 0.5, 0.05
+# Seconds after which an agent that has ended is started again.
+PAUSE = 0.05
 # For so many messages of each other robot it listens before its first move: of ten one comes through, also where most are lost.
 ROUNDS = 10
 
@@ -241,10 +242,11 @@ def drive(given: argparse.Namespace) -> None:
     """One agent after another, each started when the one before has ended."""
     supervisor = Supervisor()
     lock = Lock(f"{given.tape}.lock", f"robot {given.id}: waits until the robot before it and its agent have ended", supervisor.lives)
+    alarm = Alarms(f"robot {given.id}").tell
     note = note_of(given.box, given.id, (given.map, given.plan))
     words = [given.program, "agent", given.map, given.plan, str(given.id)]
     with contextlib.closing(link_of(given)) as link:
-        world = World(link, Wire(given.drive, given.id), supervisor, Dropped(given.id), PlanFile(given.plan), given.wait)
+        world = World(link, Wire(given.drive, given.id, alarm), supervisor, Dropped(given.id), PlanFile(given.plan), given.wait)
         while True:
             world.plan.take()
             with contextlib.suppress(Ended):

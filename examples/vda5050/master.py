@@ -14,7 +14,6 @@ another plan, one that goes on from the one before, is put in the place of PLAN 
 Status 1: the map or the plan has a fault. 2: a bad command line. 3: a file, a socket or a program failed. It ends when it is asked to.
 """
 import argparse
-import collections
 import os
 import pathlib
 import sys
@@ -24,6 +23,7 @@ from typing import Callable, Iterator, Sequence
 sys.dont_write_bytecode = True
 import beside  # noqa: E402, F401
 from addresses import address  # noqa: E402
+from alarms import Alarms  # noqa: E402
 from agent import Lock  # noqa: E402
 from black_box import note_of  # noqa: E402
 from bus import Bus, Post  # noqa: E402
@@ -88,19 +88,6 @@ def read_fleet(path: str) -> dict[int, Identity]:
     return fleet
 
 
-class Alarms:
-    """What is wrong with a vehicle is told once, until something else is."""
-
-    def __init__(self, agent: int):
-        self.agent = agent
-        self.told: collections.deque[str] = collections.deque(maxlen=8)
-
-    def tell(self, what: str) -> None:
-        if what not in self.told:
-            self.told.append(what)
-            print(f"master: vehicle {self.agent}: {what}", file=sys.stderr, flush=True)
-
-
 class Master:
     """All pilots, and the messages between their agents."""
 
@@ -114,7 +101,7 @@ class Master:
         self.plan, self.frame = PlanFile(given.plan), read_frame(given.frame, given.map)
         self.pilots: dict[int, Pilot] = {}
         for agent, identity in fleet.items():
-            alarm = Alarms(agent).tell
+            alarm = Alarms(f"master: vehicle {agent}").tell
             contact = Contact(identity, self.bus, alarm)
             self.pilots[agent] = Pilot(self._route(agent), self._teller(agent, alarm), contact, (given.ahead, given.horizon), alarm)
         # What agents of others have said last.
