@@ -26,6 +26,7 @@ from drive import Cell  # noqa: E402
 from fleet_run import Failed, Wrong  # noqa: E402
 from frame import BadFrame  # noqa: E402
 from judge import Met  # noqa: E402
+from given import plan_number  # noqa: E402
 from leaving import heed_signals  # noqa: E402
 from orders import NoPlan, Orders  # noqa: E402
 from places import Loopback, NoRoom  # noqa: E402
