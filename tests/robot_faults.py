@@ -1,5 +1,6 @@
 """A robot of examples/fleet where something is wrong beside it: its tape is an older one, its drive says odd things, a bad plan comes, a disk is full."""
 import functools
+import pathlib
 import signal
 import socket
 import subprocess
@@ -11,7 +12,7 @@ import lone_robots
 from harness import ROOT, Harness, Outcome, compared, shown
 from processes import wait_until
 
-ROBOT = ROOT / "examples" / "fleet" / "robot.py"
+ROBOT, CHECK = (ROOT / "examples" / "fleet" / name for name in ("robot.py", "check_boxes.py"))
 MAP, PLAN = lone_robots.MAP, lone_robots.PLAN
 # What agent 1 says of agent 0: it has finished its move.
 DONE = bytes.fromhex("46020001000000090001" + "000000000001")
@@ -142,6 +143,49 @@ def of_an_odd_drive(harness: Harness, ports: Callable[[], int]) -> list[Outcome]
     return [compared("a drive that says odd things", shown(robot.words), wrote, due)]
 
 
+# Plans that don't go on from the one that is driven: one that was cut off, one with another number, and ones of other ways.
+BAD_PLANS = (
+    PLAN.read_bytes()[:-9],
+    PLAN.read_bytes().replace(b"number 9", b"number 10"),
+    PLAN.read_bytes().replace(b"agent 1 0 e-", b"agent 1 0 -e"),
+    b"",
+)
+
+
+def check(harness: Harness, folder: pathlib.Path, *words: str) -> str:
+    """What check_boxes.py says."""
+    ended = harness.run([sys.executable, str(CHECK), str(MAP), *words, "--program", str(harness.program)], folder=folder)
+    return (ended.out + ended.err).decode()
+
+
+def renamed(target: pathlib.Path, text: bytes) -> None:
+    """Puts another file in the place of one."""
+    new = target.with_name("new")
+    new.write_bytes(text)
+    new.rename(target)
+
+
+def of_bad_plans(harness: Harness, ports: Callable[[], int]) -> list[Outcome]:
+    """A bad plan that comes in the place of the one that is driven is told of, and stops nobody; a good one behind it is taken."""
+    robot = Handled(harness, ports(), "--wait", "0", "--box", "box")
+    robot.start()
+    wait_until(lambda: robot.has_heard("finish arrived"))
+    for count, text in enumerate(BAD_PLANS, 1):
+        renamed(robot.plan, text)
+        wait_until(lambda: len(robot.told()) >= count)
+    renamed(robot.plan, lone_robots.ONWARD.read_bytes())
+    # By the longer plan it has more to do, and by the one before it has come to its end.
+    goes_on = wait_until(lambda: robot.has_heard("start refused Waits 1 2"))
+    status = robot.process.poll()
+    robot.end()
+    begin = f"robot 0: {robot.plan} isn't taken, and the plan before it goes on: mapf: "
+    wrote = (goes_on, status, [line[: len(begin)] for line in robot.told()])
+    ran = f"{shown(robot.words)}, which told {robot.told()}"
+    checked = check(harness, robot.folder, "run.plan", "box", "--earlier", str(PLAN))
+    outcomes = [compared("bad plans in the place of one", ran, wrote, (True, None, [begin] * len(BAD_PLANS)))]
+    return [*outcomes, compared("a box with bad plans", "check_boxes.py", checked[:8], "agreed: ")]
+
+
 def tests(harness: Harness, ports: Callable[[], int]) -> Iterator[Callable[[], Sequence[Outcome]]]:
-    for test in (of_an_older_tape, of_an_odd_drive):
+    for test in (of_an_older_tape, of_an_odd_drive, of_bad_plans):
         yield functools.partial(test, harness, ports)

@@ -120,7 +120,8 @@ def of_commands(stage: Stage) -> list[Outcome]:
 
 
 def of_a_renamed_plan(stage: Stage) -> list[Outcome]:
-    """The plan is given out in two pieces: vehicles that drive by the first one go on by the whole, with the orders that they have."""
+    """The plan is given out in two pieces: vehicles that drive by the first one go on by the whole, with the orders that they have. Bad plans that
+    come between are told of, and stop nobody."""
     plan, whole = stage.folder / "run.plan", stage.folder / "whole.plan"
     plan.rename(whole)
     first = stage.harness.mapf(["cut", "row.map", "whole.plan", "4"], folder=stage.folder).out
@@ -131,12 +132,16 @@ def of_a_renamed_plan(stage: Stage) -> list[Outcome]:
     # So none has an order up to the end of the first piece before the second one is there.
     stage.master("fleet", "--ahead", "0")
     found: list[object] = [wait_until(lambda: all(stage.orders(agent) for agent in (0, 1)))]
+    for count, text in enumerate((first[:-9], first.replace(b"number 5050", b"number 5051"), PLAN.replace(b"0 0 eeeeeee", b"0 0 -eeeeeee")), 1):
+        (stage.folder / "bad.plan").write_bytes(text)
+        (stage.folder / "bad.plan").rename(plan)
+        found.append(wait_until(lambda: stage.said("fleet").count("isn't taken, and the plan before it goes on: ") == count))
     whole.rename(plan)
     found.append(wait_until(lambda: [it["lastNodeId"] for it in stage.states()] == ["8-0", "7-0"], 30))
     found.append(stage.have_arrived("fleet"))
     found.append([len({it["orderId"] for it in stage.orders(agent)}) for agent in (0, 1)])
     ran = f"a plan in two pieces; the master said {stage.said('fleet')[-600:]!r}"
-    return [compared("a plan in two pieces", ran, found, [True, True, True, [1, 1]]), *stage.judged("a plan in two pieces", "first.plan")]
+    return [compared("a plan in two pieces", ran, found, [True] * 6 + [[1, 1]]), *stage.judged("a plan in two pieces", "first.plan")]
 
 
 def of_two_masters(stage: Stage) -> list[Outcome]:

@@ -10,13 +10,17 @@ REMEMBERED = 8
 
 
 class Alarms:
-    """Tells once what is wrong with one robot or vehicle, until enough else is."""
+    """What is wrong with one robot or vehicle."""
 
     def __init__(self, who: str):
         self.who = who
         self.told: Deque[str] = collections.deque(maxlen=REMEMBERED)
 
+    def say(self, what: str) -> None:
+        print(f"{self.who}: {what}", file=sys.stderr, flush=True)
+
     def tell(self, what: str) -> None:
+        """Says so once, until enough else is wrong."""
         if what not in self.told:
             self.told.append(what)
-            print(f"{self.who}: {what}", file=sys.stderr, flush=True)
+            self.say(what)

@@ -155,12 +155,12 @@ def judged(rules: Rules, history: History) -> Iterator[Judged]:
 
 
 def hold_boxes(given: argparse.Namespace, boxes: Sequence[Box], agents: int) -> None:
-    """They have to be of this map and these plans, of which not all processes have the last one."""
+    """They have to be of this map and these plans, of which not all processes have the last one. What an agent didn't take counts for nothing."""
     due = {"map": [digest(given.map)], "plan": [*map(digest, [given.plan, *given.earlier])]}
     for box in boxes:
         if box.agent >= agents:
             raise BadBox(f"{box.path}: it is of agent {box.agent}, and {given.plan} has {agents} agents")
-        for process in box.processes:
+        for process in box.opened:
             for name, values in due.items():
                 if process.about.get(name, values[0]) not in values:
                     raise BadBox(f"{box.path}: its agent was given another {name} than {getattr(given, name)}")

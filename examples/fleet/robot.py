@@ -16,12 +16,11 @@ it is asked to.
 import argparse
 import contextlib
 import dataclasses
-import os
 import random
 import selectors
 import sys
 import time
-from typing import Optional, Sequence
+from typing import Iterator, Optional, Sequence
 
 sys.dont_write_bytecode = True
 from addresses import address, addresses  # noqa: E402
@@ -35,6 +34,7 @@ from leaving import heed_signals  # noqa: E402
 from letters import Dropped, Letter, Link  # noqa: E402
 from link_mqtt import BadCertificate, NoBroker, NoClient, Tls  # noqa: E402
 from links import link_of  # noqa: E402
+from plan_file import PlanFile  # noqa: E402
 from program import usual_program  # noqa: E402
 from service import Supervisor  # noqa: E402
 
@@ -91,27 +91,6 @@ def read_words(words: Sequence[str]) -> argparse.Namespace:
 
 def cell_of(words: Sequence[str]) -> Cell:
     return int(words[0]), int(words[1])
-
-
-class PlanFile:
-    """The file of the plan, and whether there is another one in its place since an agent was started."""
-
-    def __init__(self, path: str):
-        self.path = path
-        self.last = self._look()
-
-    def _look(self) -> tuple[int, int, int]:
-        found = os.stat(self.path)
-        return found.st_dev, found.st_ino, found.st_mtime_ns
-
-    def take(self) -> None:
-        self.last = self._look()
-
-    def is_another(self) -> bool:
-        # While it is being replaced in some other way there may be none.
-        with contextlib.suppress(FileNotFoundError):
-            return self._look() != self.last
-        return False
 
 
 @dataclasses.dataclass
@@ -242,20 +221,42 @@ def drive(given: argparse.Namespace) -> None:
     """One agent after another, each started when the one before has ended."""
     supervisor = Supervisor()
     lock = Lock(f"{given.tape}.lock", f"robot {given.id}: waits until the robot before it and its agent have ended", supervisor.lives)
-    alarm = Alarms(f"robot {given.id}").tell
-    note = note_of(given.box, given.id, (given.map, given.plan))
-    words = [given.program, "agent", given.map, given.plan, str(given.id)]
+    alarms, plan = Alarms(f"robot {given.id}"), PlanFile(given.plan)
+    note = note_of(given.box, given.id, (given.map, plan.copy))
+    words = [given.program, "agent", given.map, plan.copy, str(given.id), given.tape, "--tape", "kept", "--explain"]
     with contextlib.closing(link_of(given)) as link:
-        world = World(link, Wire(given.drive, given.id, alarm), supervisor, Dropped(given.id), PlanFile(given.plan), given.wait)
+        world = World(link, Wire(given.drive, given.id, alarms.tell), supervisor, Dropped(given.id), plan, given.wait)
         while True:
-            world.plan.take()
-            with contextlib.suppress(Ended):
-                agent = Agent([*words, given.tape, "--tape", "kept", "--explain"], lock, note)
+            with contextlib.suppress(Ended), of_another_plan(plan, alarms):
+                read_another(plan, alarms)
+                agent = Agent(words, [lock.fileno(), plan.file], note)
                 try:
+                    plan.take()
                     Robot(given, world, agent).live()
                 finally:
                     agent.end()
             time.sleep(PAUSE)
+
+
+def read_another(plan: PlanFile, alarms: Alarms) -> None:
+    """Reads the plan that has come into the place of the one before, where one has."""
+    try:
+        if plan.is_another():
+            plan.read()
+    except OSError as fault:
+        alarms.say(f"{plan.path} can't be read, and the plan before it goes on: {fault.strerror}")
+
+
+@contextlib.contextmanager
+def of_another_plan(plan: PlanFile, alarms: Alarms) -> Iterator[None]:
+    """A plan that the agent doesn't take is told of, and the one before it goes on. Where there is none before it, the robot ends."""
+    try:
+        yield
+    except Unfit as fault:
+        fault.told = fault.told.replace(plan.copy, plan.path)
+        if fault.status != UNFIT or not plan.go_back():
+            raise
+        alarms.say(f"{plan.path} isn't taken, and the plan before it goes on: {fault.fault}")
 
 
 def main(words: Sequence[str]) -> int:
@@ -263,6 +264,7 @@ def main(words: Sequence[str]) -> int:
     try:
         drive(given)
     except Unfit as fault:
+        sys.stderr.write(fault.told)
         why, status = str(fault), fault.status
     except (BadKeys, BadCount, Stale) as fault:
         why, status = str(fault), UNFIT

@@ -24,7 +24,7 @@ sys.dont_write_bytecode = True
 import beside  # noqa: E402, F401
 from addresses import address  # noqa: E402
 from alarms import Alarms  # noqa: E402
-from agent import Lock  # noqa: E402
+from agent import Lock, Unfit  # noqa: E402
 from black_box import note_of  # noqa: E402
 from bus import Bus, Post  # noqa: E402
 from check_boxes import number  # noqa: E402
@@ -35,9 +35,10 @@ from leaving import heed_signals  # noqa: E402
 from letters import sender_of  # noqa: E402
 from link_mqtt import NoBroker, NoClient, topic_of  # noqa: E402
 from pilot import Pilot  # noqa: E402
+from plan_file import PlanFile  # noqa: E402
 from program import usual_program  # noqa: E402
 from links import number_of  # noqa: E402
-from robot import PlanFile, seconds  # noqa: E402
+from robot import seconds  # noqa: E402
 from route import NoPath, Route, path_of  # noqa: E402
 from service import Supervisor  # noqa: E402
 from standard import CONNECTION, FACTSHEET, STATE, Identity, kind_of  # noqa: E402
@@ -104,6 +105,7 @@ class Master:
             alarm = Alarms(f"master: vehicle {agent}").tell
             contact = Contact(identity, self.bus, alarm)
             self.pilots[agent] = Pilot(self._route(agent), self._teller(agent, alarm), contact, (given.ahead, given.horizon), alarm)
+        self.plan.take()
         # What agents of others have said last.
         self.elsewhere: dict[int, bytes] = {}
         self.tells_at = 0.0
@@ -111,20 +113,31 @@ class Master:
 
     def _route(self, agent: int) -> Route:
         given = self.given
-        cells = path_of(given.program, (given.map, given.plan), agent)
+        cells = path_of(given.program, (given.map, self.plan.copy), agent, [self.plan.file])
         return Route(cells, self.frame, given.map_id or pathlib.Path(given.map).stem, self.run, agent)
 
     def _teller(self, agent: int, alarm: Callable[[str], None]) -> Teller:
         given, tape = self.given, self.given.folder / f"{agent}.tape"
         lock = Lock(f"{tape}.lock", f"master: vehicle {agent}: waits until the agent before has ended", self.supervisor.lives)
-        words = [given.program, "agent", given.map, given.plan, str(agent), str(tape), "--tape", "kept", "--explain"]
-        return Teller(words, lock, note_of(str(given.folder / f"{agent}.box"), agent, (given.map, given.plan)), alarm)
+        words = [given.program, "agent", given.map, self.plan.copy, str(agent), str(tape), "--tape", "kept", "--explain"]
+        note = note_of(str(given.folder / f"{agent}.box"), agent, (given.map, self.plan.copy))
+        return Teller(words, [lock.fileno(), self.plan.file], note, alarm)
 
     def _go_over(self) -> None:
-        """All go on by the plan that has come into the place of the one before. The vehicles keep their orders."""
+        """All go on by the plan that has come into the place of the one before, if all agents take it. The vehicles keep their orders."""
+        try:
+            self.plan.read()
+            routes = {agent: self._route(agent) for agent in self.pilots}
+            for pilot in self.pilots.values():
+                pilot.teller.try_plan()
+        except (Unfit, NoPath, OSError) as fault:
+            why = fault.fault if isinstance(fault, Unfit) else fault
+            self.plan.go_back()
+            print(f"master: {self.plan.path} isn't taken, and the plan before it goes on: {why}", file=sys.stderr, flush=True)
+            return
         self.plan.take()
         for agent, pilot in self.pilots.items():
-            pilot.go_over(self._route(agent))
+            pilot.go_over(routes[agent])
         self.has_arrived = False
 
     # Messages between agents

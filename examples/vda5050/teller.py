@@ -1,10 +1,11 @@
 """The agent of a vehicle: asked and told by the master control, and started again whenever it ends."""
 import contextlib
 import time
-from typing import Callable, Optional, Sequence
+from typing import Optional, Sequence
 
 import beside  # noqa: F401
-from agent import STALE_TAPE, STORE_FAILED, Agent, Ended, Lock, Unfit
+from agent import STALE_TAPE, STORE_FAILED, Agent, Ended, Unfit
+from alarms import Alarm
 from black_box import Note
 
 # Seconds after which an agent that has ended is started again, and one that didn't start for a fault that may pass.
@@ -18,8 +19,8 @@ GONE = "refused Gone"
 class Teller:
     """What its agent has stored: how many moves it has finished, and whether it has begun one more."""
 
-    def __init__(self, words: Sequence[str], lock: Lock, note: Note, alarm: Callable[[str], None]):
-        self.words, self.lock, self.note, self.alarm = words, lock, note, alarm
+    def __init__(self, words: Sequence[str], files: Sequence[int], note: Note, alarm: Alarm):
+        self.words, self.files, self.note, self.alarm = words, files, note, alarm
         self.agent: Optional[Agent] = None
         self.starts_at = 0.0
         self.done, self.is_between, self.is_over = 0, False, False
@@ -37,12 +38,12 @@ class Teller:
         if self.agent or self.is_over or now < self.starts_at:
             return False
         try:
-            self.agent = Agent(self.words, self.lock, self.note)
+            self.agent = Agent(self.words, self.files, self.note)
         except Ended:
             self.starts_at = now + PAUSE
             return False
         except Unfit as fault:
-            self.alarm(str(fault))
+            self.alarm(f"{fault}: {fault.fault}")
             self.is_over, self.starts_at = fault.status != OF_FILES, now + LATER
             return False
         first = self.agent.first.split()
@@ -57,6 +58,12 @@ class Teller:
             agent, self.agent = self.agent, None
             agent.end()
             self.starts_at = time.monotonic() + PAUSE
+
+    def try_plan(self) -> None:
+        """Raises `Unfit` where its agent doesn't take the plan that is there now."""
+        self.end()
+        with contextlib.suppress(Ended):
+            Agent(self.words, self.files, self.note).end()
 
     def go_over(self) -> None:
         """Has an agent started by another plan, whatever was wrong with the one before."""
