@@ -184,17 +184,15 @@ def bad_lines(harness: Harness) -> Iterator[Outcome]:
 
 
 def in_use(harness: Harness) -> Iterator[Outcome]:
-    """Nothing is made without an agent while another one, or itself, may still store."""
+    """Nothing is made while an agent may still store."""
     folder = harness.folder({"M": LANE.encode(), "P": BEHIND.encode(), "0.tape": b"", "1.tape": b""})
     words = [str(harness.program), "agent", "M", "P", "1", "1.tape"]
     with subprocess.Popen(words, cwd=folder, stdin=subprocess.PIPE, stdout=subprocess.PIPE) as process:
         process.stdout.readline()
-        for gone in ("0", "1"):
-            it = handed(harness, folder, "--without", gone)
+        for words in ((), ("--without", "0"), ("--without", "1")):
+            it = handed(harness, folder, *words)
             due = (1, "", "handover: 1.tape: it is in use, and all agents have to be stopped\n", {})
-            yield compared(f"without {gone} while agent 1 lives", it.ran, (it.status, it.out, it.err, it.files), due)
-        it = handed(harness, folder)
-        yield compared("a cut while agent 1 lives", it.ran, (it.status, it.out, it.err, sorted(it.files)), (0, "cut at 0\n", "", sorted(CUT)))
+            yield compared(f"{' '.join(words) or 'a cut'} while agent 1 lives", it.ran, (it.status, it.out, it.err, it.files), due)
         process.stdin.close()
     it = handed(harness, folder, "--without", "0")
     yield compared("when it has ended", it.ran, (it.status, it.out), (0, f"freed 1 0\nagent 0 was 1\n{DRIVEN}"))

@@ -4,15 +4,15 @@
 Usage: handover.py MAP PLAN TAPES FOLDER [--program PATH]
        handover.py MAP PLAN TAPES FOLDER --without I [--number N] [--program PATH]
 
-TAPES is the name of the agents' tapes, with % for an agent's number, as for `mapf status`. In FOLDER,
-which is made where it isn't there, are then:
+TAPES is the name of the agents' tapes, with % for an agent's number, as for `mapf status`. All agents
+have to be stopped: a tape that is in use is refused. In FOLDER, which is made where it isn't there,
+are then:
 
   cut.plan    the plan behind which all that was begun has ended, by `mapf handover`: agents go on by
               it, and then by any plan that goes on from it
   cut.scen    a row for each agent, from where the cut leaves it to where the plan ends
 
-With --without agent I is taken off the floor, and its tape may be lost. All agents have to be
-stopped: a tape that is in use is refused. In FOLDER are then:
+With --without agent I is taken off the floor, and its tape may be lost. In FOLDER are then:
 
   others.plan what is left of the plan for the others, by `mapf anew`, under a new number
   others.scen a row for each of them, from where it stands to where the plan ends
@@ -182,6 +182,7 @@ def tasks_of(plan: str) -> list[Task]:
 def hand_over(fleet: Stopped, folder: pathlib.Path) -> list[str]:
     """The cut, and what is left of it to be planned."""
     cut = fleet.cut()
+    fleet.hold_stopped(len(tasks_of(cut)))
     ends = tasks_of(pathlib.Path(fleet.plan).read_text(encoding="ascii"))
     tasks = [(start, end) for (_, start), (_, end) in zip(tasks_of(cut), ends)]
     folder.mkdir(exist_ok=True)
