@@ -1,5 +1,6 @@
 """A robot of examples/fleet where something is wrong beside it: its tape is an older one, its drive says odd things, a bad plan comes, a disk is full."""
 import functools
+import json
 import pathlib
 import signal
 import socket
@@ -9,7 +10,7 @@ import threading
 from typing import Callable, Iterator, Optional, Sequence
 
 import lone_robots
-from harness import ROOT, Harness, Outcome, compared, shown
+from harness import ROOT, Harness, Outcome, compared, put_program, shown
 from processes import wait_until
 
 ROBOT, CHECK = (ROOT / "examples" / "fleet" / name for name in ("robot.py", "check_boxes.py"))
@@ -18,6 +19,25 @@ MAP, PLAN = lone_robots.MAP, lone_robots.PLAN
 DONE = bytes.fromhex("46020001000000090001" + "000000000001")
 # Seconds between two messages of a neighbour.
 OFTEN = 0.05
+
+
+# A program whose agents can't store anything while a file is there.
+FULL = """#!{python}
+import os, subprocess, sys
+if sys.argv[1] != "agent" or not os.path.exists({full!r}):
+    os.execv({program!r}, [{program!r}, *sys.argv[1:]])
+agent = subprocess.Popen([{program!r}, *sys.argv[1:]], stdin=subprocess.PIPE, stdout=subprocess.PIPE, close_fds=False)
+print(agent.stdout.readline().decode(), end="", flush=True)
+for line in sys.stdin.buffer:
+    if line == b"start\\n":
+        agent.stdin.close()
+        agent.wait()
+        print("refused StoreFailed", flush=True)
+        sys.exit(3)
+    agent.stdin.write(line)
+    agent.stdin.flush()
+    print(agent.stdout.readline().decode(), end="", flush=True)
+"""
 
 
 class Handled:
@@ -186,6 +206,33 @@ def of_bad_plans(harness: Harness, ports: Callable[[], int]) -> list[Outcome]:
     return [*outcomes, compared("a box with bad plans", "check_boxes.py", checked[:8], "agreed: ")]
 
 
+# A robot whose disk is full rests behind each try at least so many seconds.
+RESTS = (0.1, 0.2, 0.4, 0.8, 1.6)
+
+
+def of_a_full_disk(harness: Harness, ports: Callable[[], int]) -> list[Outcome]:
+    """A record that can't be stored is told of once, and tried again behind longer and longer rests, until it is stored."""
+    full = pathlib.Path(harness.folder()) / "full"
+    full.touch()
+    program = full.with_name("mapf")
+    put_program(program, FULL.format(python=sys.executable, program=str(harness.program), full=str(full)))
+    robot = Handled(harness, ports(), "--wait", "0", "--box", "box", program=str(program))
+    robot.start()
+
+    def tries(word: str) -> list[float]:
+        lines = (robot.folder / "box").read_text(encoding="ascii").splitlines() if (robot.folder / "box").exists() else []
+        return [line["clock"] for line in map(json.loads, lines) if word in line]
+
+    wait_until(lambda: len(tries("started")) > len(RESTS))
+    rests = [start - end >= least for end, start, least in zip(tries("ended"), tries("started")[1:], RESTS)]
+    full.unlink()
+    goes_on = wait_until(lambda: robot.has_heard("finish arrived"))
+    robot.end()
+    due = ["robot 0: its tape can't be stored (refused StoreFailed); it stands, and tries again"]
+    wrote = (rests, goes_on, robot.told())
+    return [compared("a robot on a full disk", f"{shown(robot.words)}, which told {robot.told()}", wrote, ([True] * len(RESTS), True, due))]
+
+
 def tests(harness: Harness, ports: Callable[[], int]) -> Iterator[Callable[[], Sequence[Outcome]]]:
-    for test in (of_an_older_tape, of_an_odd_drive, of_bad_plans):
+    for test in (of_an_older_tape, of_an_odd_drive, of_bad_plans, of_a_full_disk):
         yield functools.partial(test, harness, ports)

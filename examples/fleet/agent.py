@@ -18,6 +18,13 @@ class Ended(Exception):
     """The process has ended, by whatever, and may be started again."""
 
 
+class Unstored(Ended):
+    """A record couldn't be stored, as on a full disk."""
+
+    def __init__(self) -> None:
+        super().__init__(STORE_FAILED)
+
+
 class Unfit(Exception):
     """The process doesn't start. The status is its own, and what it told says why."""
 

@@ -25,7 +25,7 @@ from typing import Iterator, Optional, Sequence
 sys.dont_write_bytecode = True
 from addresses import address, addresses  # noqa: E402
 from alarms import Alarms  # noqa: E402
-from agent import STALE_TAPE, STORE_FAILED, Agent, Ended, Lock, Stale, Unfit  # noqa: E402
+from agent import STALE_TAPE, STORE_FAILED, Agent, Ended, Lock, Stale, Unfit, Unstored  # noqa: E402
 from black_box import note_of  # noqa: E402
 from count_file import BadCount  # noqa: E402
 from drive import AGAIN, Cell, NoDrive, Wire  # noqa: E402
@@ -41,8 +41,8 @@ from service import Supervisor  # noqa: E402
 UNFIT, FAILED = 1, 3
 # A longer message has more digits than a line of the agent may have.
 LONGEST_MESSAGE = 65_533
-# Seconds after which an agent that has ended is started again.
-PAUSE = 0.05
+# Seconds after which an agent that has ended is started again. Where its tape can't be stored they double, up to these.
+PAUSE, LONGEST_PAUSE = 0.05, 30.0
 # For so many messages of each other robot it listens before its first move: of ten one comes through, also where most are lost.
 ROUNDS = 10
 
@@ -104,6 +104,7 @@ class World:
     plan: PlanFile
     # For how many seconds it still has to listen before its first move.
     wait: float
+    pause: float = PAUSE
 
 
 class Robot:
@@ -123,7 +124,7 @@ class Robot:
         answer = self.agent.ask(line)
         self.wire.tell(f"{line} {answer}")
         if answer == STORE_FAILED:
-            raise Ended
+            raise Unstored
         return answer.split()
 
     def begin(self) -> None:
@@ -164,12 +165,12 @@ class Robot:
         self.may_start = False
         answer = self.ask("start")
         if answer[0] == "moving":
-            self.target = cell_of(answer[1:3])
+            self.target, self.world.pause = cell_of(answer[1:3]), PAUSE
             self.goes_at = 0.0
 
     def finish(self) -> None:
         if self.ask("finish")[0] == "arrived":
-            self.target, self.may_start = None, True
+            self.target, self.may_start, self.world.pause = None, True, PAUSE
             self.say()
 
     def heed_drive(self) -> None:
@@ -227,7 +228,7 @@ def drive(given: argparse.Namespace) -> None:
     with contextlib.closing(link_of(given)) as link:
         world = World(link, Wire(given.drive, given.id, alarms.tell), supervisor, Dropped(given.id), plan, given.wait)
         while True:
-            with contextlib.suppress(Ended), of_another_plan(plan, alarms):
+            with contextlib.suppress(Ended), of_a_full_disk(world, alarms), of_another_plan(plan, alarms):
                 read_another(plan, alarms)
                 agent = Agent(words, [lock.fileno(), plan.file], note)
                 try:
@@ -235,7 +236,19 @@ def drive(given: argparse.Namespace) -> None:
                     Robot(given, world, agent).live()
                 finally:
                     agent.end()
-            time.sleep(PAUSE)
+            time.sleep(world.pause)
+
+
+@contextlib.contextmanager
+def of_a_full_disk(world: World, alarms: Alarms) -> Iterator[None]:
+    """That a record isn't stored is told of once, and it rests longer before each try, until one is stored."""
+    try:
+        yield
+    except Unstored as fault:
+        if world.pause == PAUSE:
+            alarms.say(f"its tape can't be stored ({fault}); it stands, and tries again")
+        world.pause = min(2 * world.pause, LONGEST_PAUSE)
+        raise
 
 
 def read_another(plan: PlanFile, alarms: Alarms) -> None:
