@@ -22,6 +22,7 @@ SHORT_SEEDS, LONG_SEEDS = range(1, 13), range(1, 201)
 # A time of day before how long that is ago.
 TIME = re.compile(r"(since|at) ((?:\S+ )?\S+) (?=\()")
 NOTHING = "ALARM: nothing has moved since "
+NO_FILE = "No such file or directory"
 
 
 def of_fleet(harness: Harness, seed: int) -> list[Outcome]:
@@ -116,6 +117,46 @@ def alarms(harness: Harness) -> Iterator[Outcome]:
     lasted = time.monotonic() - begun
     found = (ended.status, lasted >= 0.6, ended.out.count(b"ALARM"))
     yield compared("an alarm that ends it", shown(words), found, (1, True, 1))
+
+
+def stuck(harness: Harness) -> Iterator[Outcome]:
+    """A root that stands is an alarm, though others move; one that was just let go is none."""
+    # Agent 1 waits for agent 0, and the last one goes on all the time.
+    still = plan("2 0 ee", "1 0 ee", f"9 0 {29 * 'e'}")
+    folder = room_of(harness, LONG, still, tapes_of(new_fleet(still)))
+    begin = "ALARM: root 0 hasn't moved: ready at 2 0, done 0 of 2, since "
+    with Watched(harness, folder, "--alarm", "1") as watched:
+        alarm = ""
+        for records in range(1, 58):
+            put(folder, 2, records)
+            alarm = watched.next("3 agents") and next((it for it in watched.lines if it.startswith("ALARM")), "")
+            if alarm:
+                break
+        put(folder, 0, 1)
+        over = watched.next("over: ALARM: root 0")
+    wrote = (alarm[: len(begin)], over[: len(begin) + 6], begin in over)
+    yield compared("a root that stands while others move", LIVE, wrote, (begin, f"over: {begin}", True))
+    # It waited for long, and is let go just now: nothing is wrong with it.
+    fleet = new_fleet()
+    folder, times = old_room(harness, LONG, TRAIN, fleet)
+    put(folder, 0, 4)
+    ended = harness.run(words_of(harness, "--alarm", "1000"), folder=folder)
+    found = (ended.status, [it for it in ended.out.decode().splitlines() if "ALARM" in it])
+    yield compared("a root that was let go just now", ONCE, found, (0, []))
+
+
+def gone(harness: Harness) -> Iterator[Outcome]:
+    """A tape that was there and isn't any more."""
+    folder, _ = old_room(harness, LONG, TRAIN, new_fleet())
+    with Watched(harness, folder, *PATIENT) as watched:
+        watched.next("3 agents")
+        (folder / "1.tape").rename(folder / "away")
+        alarm = watched.next("ALARM")
+        (folder / "away").rename(folder / "1.tape")
+        over = watched.next("over")
+    due = "ALARM: tape 1 has disappeared, since "
+    wrote = (alarm[: len(due)], over[: len(due) + 6])
+    yield compared("a tape that disappears", LIVE, wrote, (due, f"over: {due}"))
 
 
 def blocked(harness: Harness) -> Iterator[Outcome]:
@@ -229,19 +270,19 @@ def replaced(harness: Harness) -> Iterator[Outcome]:
         wrote.append(watched.next("root 0 keeps 2: ready at 3 0, done 1 of 3")[:42])
         acts = held_until(lambda: acts_in(folder / "page.html"), 9 * b"e")
     root = "root 0 keeps 2: ready at 3 0, done 1 of "
-    due = [f"{root}2,", " now mapf: OpenFailed", f"{root}3,"]
+    due = [f"{root}2,", f" now p: {NO_FILE}", f"{root}3,"]
     yield compared("a plan that is replaced", LIVE, wrote, due)
     yield compared("the plan of its page then", f"{LIVE} --page page.html", acts, 9 * b"e")
 
 
-NO_FILE = "No such file or directory"
 # Calls that end with one line on standard error: what is done to the files, more words, the line,
 # and the status.
 REFUSED: tuple[tuple[Mapping[str, Optional[str]], Sequence[str], str, int], ...] = (
     ({"m": SHORT}, (), "mapf: ShortRow 6", 1),
     ({"p": "x\n"}, (), "mapf: BadHeader 1", 1),
     ({"p": plan("0 0 e", "1 0 w")}, ("--live",), "mapf: Swap 0 1 0", 1),
-    ({"p": None}, ("--live",), "mapf: OpenFailed", 3),
+    ({"p": None}, ("--live",), f"p: {NO_FILE}", 3),
+    ({"m": None}, (), f"m: {NO_FILE}", 3),
     ({}, ("--program", "no/mapf"), f"no/mapf can't be started: {NO_FILE}", 3),
     ({}, ("--page", "no/page"), f"no/page can't be written: {NO_FILE}", 3),
 )
@@ -269,6 +310,8 @@ PARTS = (
     going,
     alarms,
     blocked,
+    stuck,
+    gone,
     older,
     since_a_look,
     silent,

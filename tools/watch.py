@@ -7,8 +7,8 @@ TAPES is the name of the tapes, with `%` for the agent's number, as `mapf status
 asked once, or with --live again and again, until all have arrived. On a terminal what is told is
 drawn anew in place; else each line is written once, behind the time of day, until it changes.
 
-An alarm is a rotation that blocks, a tape that has fewer records than it had, and that nothing
-moves for --alarm SECONDS while not all have arrived. BOXES, with `%` too, are the black boxes of
+An alarm is a rotation that blocks, a tape that has fewer records than it had or has disappeared, and
+that for --alarm SECONDS nothing moves while not all have arrived, or a root doesn't move. BOXES, with `%` too, are the black boxes of
 robots (`robot.py --box`): who hasn't written there for --silent SECONDS is told. --page FILE is a
 page for a browser, which shows where all are and who waits for whom, and comes anew by itself. With
 --metrics this machine can ask http://127.0.0.1:PORT/metrics for the same as gauges of Prometheus.
@@ -83,7 +83,7 @@ def read_words(words: Sequence[str]) -> argparse.Namespace:
     parser.add_argument("--alarm-ends", action="store_true", help="ends at an alarm, with status 1")
     for name, usual, about in (
         ("every", 1.0, "looks each so many seconds"),
-        ("alarm", 30.0, "it is an alarm that nothing moves for so long"),
+        ("alarm", 30.0, "it is an alarm that nothing moves, or a root, for so long"),
         ("silent", 10.0, "tells who hasn't reported for so long"),
     ):
         parser.add_argument(

@@ -2,16 +2,18 @@
 import contextlib
 import dataclasses
 import os
-from typing import Mapping, Optional
+from typing import Mapping, Optional, Union
 
 from mapf.faults import Failed, Fault
-from mapf.fleets import ARRIVED, MOVING, AgentStatus, Status, status
+from mapf.fleets import ARRIVED, MOVING, READY, AgentStatus, Status, status
 from mapf.plans import deps
 from mapf.program import Program
 from watching.boxes import Report, read_report
 from watching.times import Lasting, Moment, changed, now
 
 HOLE = "%"
+# Faults that the program tells of a file that it can't open, and of a tape that isn't there.
+OPEN_FAILED, NO_TAPE = "OpenFailed", "NoTape"
 # No line with a number is as long.
 MOST_LINE = 64
 
@@ -50,6 +52,10 @@ class Look:
     turning: Mapping[int, tuple[int, ...]]
     # Whose tape has fewer records than it had, each with both numbers.
     older: Mapping[int, tuple[int, int]]
+    # Since when each root has neither moved nor waited for anybody, as far as it is known.
+    standing: Mapping[int, Moment]
+    # Whose tape was there, and isn't any more.
+    gone: frozenset[int]
     trouble: str = ""
 
     @property
@@ -95,6 +101,8 @@ class Looks:
         self.number: Optional[bytes] = None
         self.most: dict[int, int] = {}
         self.fewer: dict[int, tuple[int, int]] = {}
+        # Whose tape wasn't there at the look before.
+        self.missing: frozenset[int] = frozenset()
 
     def take(self) -> Look:
         """A look. Only the first one raises what is wrong with the map, the plan or the program:
@@ -105,19 +113,32 @@ class Looks:
             found = status(self.files.map, self.files.plan, self.files.tapes, program=self.program)
             turning = self.turning(found)
         except (Fault, Failed) as fault:
+            trouble = self.closed_file(fault) or fault.line
             if not self.last:
-                raise
-            self.last = dataclasses.replace(self.last, at=at, trouble=fault.line)
+                raise Failed(trouble) if trouble != fault.line else fault
+            self.last = dataclasses.replace(self.last, at=at, trouble=trouble)
             return self.last
         robots = tuple(self.robot(agent, it, at) for agent, it in enumerate(found.agents))
-        older = self.older(found)
-        self.last = Look(at, at, found, robots, self.progress(robots, at), turning, older)
+        older, gone = self.older(found), self.gone(found)
+        standing = self.standing(found, robots, at)
+        progress = self.progress(robots, at)
+        self.last = Look(at, at, found, robots, progress, turning, older, standing, gone)
         return self.last
+
+    def closed_file(self, fault: Union[Fault, Failed]) -> str:
+        """Which of the two files can't be opened, and why: the program doesn't say it."""
+        if fault.name == OPEN_FAILED:
+            for file in (self.files.map, self.files.plan):
+                try:
+                    open(file, "rb").close()
+                except OSError as error:
+                    return f"{file}: {error.strerror}"
+        return ""
 
     def heed_number(self, number: Optional[bytes]) -> None:
         """A plan with another number is another run, whose tapes begin anew."""
         if number not in (None, self.number):
-            self.number, self.most, self.fewer = number, {}, {}
+            self.number, self.most, self.fewer, self.missing = number, {}, {}, frozenset()
 
     def robot(self, agent: int, found: AgentStatus, at: Moment) -> Robot:
         before = self.last.robots[agent] if self.last and agent < len(self.last.robots) else None
@@ -156,6 +177,27 @@ class Looks:
                 self.most[agent] = count
                 moments.append(robot.tape.since)
         return max(moments, key=lambda it: it.clock, default=at)
+
+    def standing(
+        self, found: Status, robots: tuple[Robot, ...], at: Moment
+    ) -> Mapping[int, Moment]:
+        """Since when the roots stand. One that may go may have waited until just now."""
+        before = self.last.standing if self.last else {}
+        moments = {}
+        for root in found.roots:
+            tape = robots[root].tape
+            is_free = tape.value.keeping == READY
+            earliest = before.get(root, at) if is_free else tape.since
+            moments[root] = max(earliest, tape.since, key=lambda it: it.clock)
+        return moments
+
+    def gone(self, found: Status) -> frozenset[int]:
+        """Whose tape was there, and wasn't at two looks: one that is copied may be replaced."""
+        before, agents = self.missing, enumerate(found.agents)
+        self.missing = frozenset(
+            agent for agent, it in agents if str(it.fault) == NO_TAPE and agent in self.most
+        )
+        return before & self.missing
 
     def turning(self, found: Status) -> Mapping[int, tuple[int, ...]]:
         """The agents of the rotations that block, which the plan is asked for once."""

@@ -63,8 +63,8 @@ def by_count(counts: dict[int, int]) -> list[int]:
 
 
 def alarms_of(look: Look, limits: Limits) -> list[Line]:
-    """What is an alarm: a rotation that blocks and a tape that is an older one at once, that
-    nothing moves or that tapes can't be read after a time."""
+    """What is an alarm: a rotation that blocks, and a tape that is an older one or has disappeared,
+    at once; that nothing moves, that a root stands or that tapes can't be read, after a time."""
     lines = []
     if look.trouble and look.at.clock - look.asked.clock >= limits.alarm:
         lines.append(since(f"{ALARM}the tapes can't be read, {look.trouble},", look.asked, look.at))
@@ -76,9 +76,20 @@ def alarms_of(look: Look, limits: Limits) -> list[Line]:
     for agent, (had, has) in look.older.items():
         told = f"{ALARM}tape {agent} is an older one: it had {had} records, and has {has},"
         lines.append(since(told, look.since(agent), look.at, agent))
+    for agent in sorted(look.gone):
+        told = f"{ALARM}tape {agent} has disappeared,"
+        lines.append(since(told, look.since(agent), look.at, agent))
     if not look.has_arrived and look.at.clock - look.progress.clock >= limits.alarm:
         lines.append(since(f"{ALARM}nothing has moved", look.progress, look.at))
-    return lines
+    return lines + few(list(standing_lines(look, limits)), "roots that haven't moved")
+
+
+def standing_lines(look: Look, limits: Limits) -> Iterator[Line]:
+    """The roots that have stood for long, those that keep most first."""
+    for root in by_count(look.status.roots):
+        if look.at.clock - look.standing[root].clock >= limits.alarm:
+            told = f"{ALARM}root {root} hasn't moved: {place_of(look, root)},"
+            yield since(told, look.standing[root], look.at, root)
 
 
 def summary(look: Look) -> Line:
