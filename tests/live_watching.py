@@ -11,7 +11,7 @@ from typing import Iterator, Mapping, Optional, Sequence
 
 import live_gauges
 import live_views
-from harness import Ended, Harness, Outcome, compared, ended_as, shown, side_by_side
+from harness import Ended, Harness, Outcome, compared, ended_as, put_program, shown, side_by_side
 from statuses import random_fleet, tape_of, tapes_of
 from texts import LANE, NOBODY, SHORT, plan
 from watched_fleets import AGO, LIVE, LONG, ONCE, PATIENT, QUICK, TRAIN, Told, Watched, blocks
@@ -157,6 +157,65 @@ def gone(harness: Harness) -> Iterator[Outcome]:
     due = "ALARM: tape 1 has disappeared, since "
     wrote = (alarm[: len(due)], over[: len(due) + 6])
     yield compared("a tape that disappears", LIVE, wrote, (due, f"over: {due}"))
+
+
+# A fleet as an answer of `mapf status`: agent 0 has finished so many moves, and agent 1 is on its way.
+ANSWER = """0 at {done} 0 done {done} of 9 ready
+1 between 0 0 1 0 done 0 of 9
+root 0 keeps 1
+"""
+ANSWERS = """#!/bin/sh
+count=$(cat count)
+if [ -e answer$((count + 1)) ]; then echo $((count + 1)) >count; fi
+cat answer$count
+exit 1
+"""
+# What is wrong with a whole fleet: its line, and the alarm.
+PARTED = "PlansPart 0 1 4", "ALARM: the plans of agents 0 and 1 part at time 4"
+TURNED = "NotOneRun 2", "ALARM: an agent has begun its move in rotation 2, which no run does"
+EARLY = "NotOneRun 1 0 3", "ALARM: agent 1 has begun a move that waits until agent 0 has done 3"
+
+
+def answering(harness: Harness, *answers: Sequence[str]) -> pathlib.Path:
+    """A folder with a program that answers `mapf status` by one after another, and then by the last
+    one. An answer has these faults, behind how many moves agent 0 has done."""
+    folder = room_of(harness, LONG, TRAIN, {"count": b"0"})
+    for number, (done, *faults) in enumerate(answers):
+        text = ANSWER.format(done=done) + "".join(f"{it}\n" for it in faults)
+        (folder / f"answer{number}").write_text(text)
+    put_program(folder / "mapf", ANSWERS)
+    return folder
+
+
+def not_one_run(harness: Harness) -> Iterator[Outcome]:
+    """Tapes that aren't of one run, in a single look and in looks behind one another."""
+    words = (*PATIENT, "--program", "./mapf")
+    for faults in ((PARTED,), (TURNED,), (EARLY,), (PARTED, EARLY, TURNED)):
+        folder = answering(harness, ("2", *(line for line, _ in faults)))
+        ended = harness.run(words_of(harness, *words), folder=folder)
+        lines = [it for it in ended.out.decode().splitlines() if it.startswith("ALARM")]
+        due = (1, sorted(told for _, told in faults), b"")
+        yield compared(f"{faults}, once", ONCE, (ended.status, sorted(lines), ended.err), due)
+    for line, told in (PARTED, TURNED):
+        folder = answering(harness, ("2",), ("2", line))
+        ended = harness.run(words_of(harness, *words, "--live", *QUICK, "--alarm-ends"), folder=folder)
+        wrote = (ended.status, told.encode() in ended.out, (folder / "count").read_bytes())
+        yield compared(f"{line}, at once", LIVE, wrote, (1, True, b"1\n"))
+
+
+def read_early(harness: Harness) -> Iterator[Outcome]:
+    """An agent whose tape was read before that of one that moved on meanwhile is no alarm."""
+    line, told = EARLY
+    looks = (("2", line), ("3",), ("2", line), ("2", line), ("3",))
+    folder = answering(harness, *looks)
+    with Watched(harness, folder, *PATIENT, "--program", "./mapf") as watched:
+        over = watched.next("over: ALARM: agent")
+    found = [it for it in watched.lines if "ALARM: agent" in it]
+    places = [it[:28] for it in watched.lines if it.startswith("root 0") or it == told]
+    root = "root 0 keeps 1: ready at {} 0"
+    due = [root.format(it) for it in (2, 3, 2)] + [told[:28], root.format(3)]
+    yield compared("a tape that was read early", LIVE, (found, over), ([told, over], f"over: {told}"))
+    yield compared("the looks until then", LIVE, places[:4], due[:4])
 
 
 def blocked(harness: Harness) -> Iterator[Outcome]:
@@ -312,6 +371,8 @@ PARTS = (
     blocked,
     stuck,
     gone,
+    not_one_run,
+    read_early,
     older,
     since_a_look,
     silent,

@@ -7,8 +7,8 @@ TAPES is the name of the tapes, with `%` for the agent's number, as `mapf status
 asked once, or with --live again and again, until all have arrived. On a terminal what is told is
 drawn anew in place; else each line is written once, behind the time of day, until it changes.
 
-An alarm is a rotation that blocks, a tape that has fewer records than it had or has disappeared, and
-that for --alarm SECONDS nothing moves while not all have arrived, or a root doesn't move. BOXES, with `%` too, are the black boxes of
+An alarm is a rotation that blocks, a tape that has fewer records than it had or has disappeared,
+tapes that aren't of one run, or whose plans don't go on from one another, and that for --alarm SECONDS nothing moves while not all have arrived, or a root doesn't move. BOXES, with `%` too, are the black boxes of
 robots (`robot.py --box`): who hasn't written there for --silent SECONDS is told. --page FILE is a
 page for a browser, which shows where all are and who waits for whom, and comes anew by itself. With
 --metrics this machine can ask http://127.0.0.1:PORT/metrics for the same as gauges of Prometheus.
@@ -121,7 +121,7 @@ class Watch:
         files = Files(given.map, given.plan, given.tapes, given.boxes)
         program, title = Program(given.program), f"{given.map} {given.plan}"
         self.given, self.limits = given, Limits(given.alarm, given.silent)
-        self.looks, self.screen = Looks(files, program), screen_of(given.live, title)
+        self.looks, self.screen = Looks(files, program, given.live), screen_of(given.live, title)
         self.page = Page(given.page, files, program, given.every) if given.page else None
 
     def run(self) -> int:

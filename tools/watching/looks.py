@@ -4,8 +4,8 @@ import dataclasses
 import os
 from typing import Mapping, Optional, Union
 
-from mapf.faults import Failed, Fault
-from mapf.fleets import ARRIVED, MOVING, READY, AgentStatus, Status, status
+from mapf.faults import Failed, Fault, FaultWords
+from mapf.fleets import ARRIVED, MOVING, NOT_ONE_RUN, READY, AgentStatus, Status, status
 from mapf.plans import deps
 from mapf.program import Program
 from watching.boxes import Report, read_report
@@ -56,6 +56,8 @@ class Look:
     standing: Mapping[int, Moment]
     # Whose tape was there, and isn't any more.
     gone: frozenset[int]
+    # Why the tapes aren't of one run, as far as that is sure.
+    faults: tuple[FaultWords, ...]
     trouble: str = ""
 
     @property
@@ -93,8 +95,8 @@ def number_line(plan: str) -> Optional[bytes]:
 class Looks:
     """Looks at one fleet, and remembers the one before."""
 
-    def __init__(self, files: Files, program: Program) -> None:
-        self.files, self.program = files, program
+    def __init__(self, files: Files, program: Program, has_more: bool) -> None:
+        self.files, self.program, self.has_more = files, program, has_more
         self.last: Optional[Look] = None
         self.count = 0
         # The most records that each tape of the plan was seen to have, and who had fewer lately.
@@ -103,6 +105,8 @@ class Looks:
         self.fewer: dict[int, tuple[int, int]] = {}
         # Whose tape wasn't there at the look before.
         self.missing: frozenset[int] = frozenset()
+        # Who moved too early by the look before.
+        self.early: list[FaultWords] = []
 
     def take(self) -> Look:
         """A look. Only the first one raises what is wrong with the map, the plan or the program:
@@ -122,7 +126,8 @@ class Looks:
         older, gone = self.older(found), self.gone(found)
         standing = self.standing(found, robots, at)
         progress = self.progress(robots, at)
-        self.last = Look(at, at, found, robots, progress, turning, older, standing, gone)
+        faults = self.faults(found)
+        self.last = Look(at, at, found, robots, progress, turning, older, standing, gone, faults)
         return self.last
 
     def closed_file(self, fault: Union[Fault, Failed]) -> str:
@@ -138,7 +143,8 @@ class Looks:
     def heed_number(self, number: Optional[bytes]) -> None:
         """A plan with another number is another run, whose tapes begin anew."""
         if number not in (None, self.number):
-            self.number, self.most, self.fewer, self.missing = number, {}, {}, frozenset()
+            self.number, self.most, self.fewer = number, {}, {}
+            self.missing, self.early = frozenset(), []
 
     def robot(self, agent: int, found: AgentStatus, at: Moment) -> Robot:
         before = self.last.robots[agent] if self.last and agent < len(self.last.robots) else None
@@ -199,6 +205,15 @@ class Looks:
         )
         return before & self.missing
 
+    def faults(self, found: Status) -> tuple[FaultWords, ...]:
+        """Why the tapes aren't of one run. They are read one after another while agents go on: that
+        one moves too early is sure where the one for which it had to wait lacks the moves at the
+        next look too, if there is one."""
+        before, self.early = self.early, [it for it in found.faults if is_early(it)]
+        sure = [it for it in found.faults if not is_early(it)]
+        late = [it for it in before if lacks_moves(found, *it.numbers[1:])]
+        return (*sure, *(late if self.has_more else self.early))
+
     def turning(self, found: Status) -> Mapping[int, tuple[int, ...]]:
         """The agents of the rotations that block, which the plan is asked for once."""
         if not found.rotations:
@@ -218,6 +233,17 @@ class Looks:
         most = {agent: self.most.get(agent, 0) for agent in counts}
         self.fewer = {it: (most[it], counts[it]) for it in counts if counts[it] < most[it]}
         return {agent: it for agent, it in self.fewer.items() if agent in before}
+
+
+def is_early(fault: FaultWords) -> bool:
+    """Whether it says that an agent has begun a move before another one has finished enough."""
+    return fault.name == NOT_ONE_RUN and len(fault.numbers) > 1
+
+
+def lacks_moves(found: Status, agent: int, until: int) -> bool:
+    """Whether an agent has finished fewer moves than so many, as far as its tape can be taken."""
+    state = found.agents[agent].state if agent < len(found.agents) else None
+    return state is not None and state.done < until
 
 
 def is_as_before(one: AgentStatus, other: AgentStatus) -> bool:
