@@ -233,16 +233,22 @@ def dialogue(harness: Harness) -> Iterator[Test]:
     files, program = (example("plain.map"), example("behind.plan")), {"program": harness.program}
     tape = harness.folder() / "tape0"
     with mapf.Agent(*files, 0, tape, kind="new", **program) as agent:
+        free = [agent.may(5)]
         found = [agent.state, agent.start(), agent.held(), agent.say(), agent.finish(), agent.tell(), agent.start()]
+        free.append(agent.may(0))
     due = [mapf.At(1, 0, 0), mapf.Moving(2, 0), mapf.Between(1, 0, 2, 0, 0), bytes.fromhex("460100000000000900000000"), mapf.Arrived(2, 0)]
     due += [bytes.fromhex("46020000000000090001000000000001"), mapf.Refused(words("AtEnd"))]
     yield "a dialogue", found, due
     yield "how it ended", agent.process.returncode, 0
     yield "its tape", mapf.tape(*files, 0, tape, **program), mapf.Tape(mapf.At(2, 0, 1), 2, 0)
     with mapf.Agent(*files, 1, tape.with_name("tape1"), kind="new", **program) as other:
-        heard = [other.start(), other.hear(b"\x46"), other.hear(found[5]), other.ask("what"), other.start()]
+        free.append(other.may(1))
+        heard = [other.start(), other.hear(b"\x46"), other.hear(found[5]), other.ask("what")]
+        free.append(other.may(999_999_999))
+        heard += [other.start(), raised(lambda: other.may(-1))[0]]
     due = [mapf.Refused(words("Waits 0 1")), mapf.Refused(words("BadLength")), mapf.Heard(0, 1), mapf.Refused(words("BadLine")), mapf.Moving(1, 0)]
-    yield "what another one hears", heard, due
+    yield "what another one hears", heard, [*due, "Failed"]
+    yield "how many moves are free", free, [1, 0, 0, 1]
 
 
 def stopped(harness: Harness) -> Iterator[Test]:

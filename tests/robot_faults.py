@@ -1,6 +1,7 @@
 """A robot of examples/fleet where something is wrong beside it: its tape is an older one, its drive says odd things, a bad plan comes, a disk is full."""
 import functools
 import json
+import os
 import pathlib
 import signal
 import socket
@@ -11,7 +12,7 @@ from typing import Callable, Iterator, Optional, Sequence
 
 import lone_robots
 from harness import ROOT, Harness, Outcome, compared, put_program, shown
-from processes import wait_until
+from processes import children, processes_of, wait_until
 
 ROBOT, CHECK = (ROOT / "examples" / "fleet" / name for name in ("robot.py", "check_boxes.py"))
 MAP, PLAN = lone_robots.MAP, lone_robots.PLAN
@@ -233,6 +234,25 @@ def of_a_full_disk(harness: Harness, ports: Callable[[], int]) -> list[Outcome]:
     return [compared("a robot on a full disk", f"{shown(robot.words)}, which told {robot.told()}", wrote, ([True] * len(RESTS), True, due))]
 
 
+def of_a_killed_robot(harness: Harness, ports: Callable[[], int]) -> list[Outcome]:
+    """Nothing is wrong with a disk where an agent answers a robot that was killed."""
+    robot = Handled(harness, ports(), "--box", "box", "--wait", "1000")
+    robot.start()
+    wait_until(lambda: robot.has_heard("say "))
+    agent = children(robot.process.pid)[0]
+    os.kill(agent, signal.SIGSTOP)
+    box = robot.folder / "box"
+    asked = wait_until(lambda: b'"asked"' in box.read_bytes().splitlines()[-1])
+    # It has asked, and waits for the answer.
+    wait_until(lambda: "pipe" in pathlib.Path(f"/proc/{robot.process.pid}/wchan").read_text(encoding="ascii"), 1)
+    robot.process.kill()
+    robot.process.wait()
+    os.kill(agent, signal.SIGCONT)
+    is_over = wait_until(lambda: not processes_of(robot.folder))
+    robot.end()
+    return [compared("a robot that was killed", shown(robot.words), (asked, is_over, robot.told()), (True, True, []))]
+
+
 def tests(harness: Harness, ports: Callable[[], int]) -> Iterator[Callable[[], Sequence[Outcome]]]:
-    for test in (of_an_older_tape, of_an_odd_drive, of_bad_plans, of_a_full_disk):
+    for test in (of_an_older_tape, of_an_odd_drive, of_bad_plans, of_a_full_disk, of_a_killed_robot):
         yield functools.partial(test, harness, ports)
