@@ -3,6 +3,7 @@ import functools
 import json
 import os
 import pathlib
+import re
 import signal
 import socket
 import subprocess
@@ -253,6 +254,63 @@ def of_a_killed_robot(harness: Harness, ports: Callable[[], int]) -> list[Outcom
     return [compared("a robot that was killed", shown(robot.words), (asked, is_over, robot.told()), (True, True, []))]
 
 
+def of_no_room_for_a_box(harness: Harness, ports: Callable[[], int]) -> list[Outcome]:
+    """A robot whose black box can't be written says so, and drives."""
+    outcomes = []
+    for box, why in (("no/box", "No such file or directory"), ("/dev/full", "No space left on device")):
+        robot = Handled(harness, ports(), "--wait", "0", "--box", box)
+        robot.start()
+        goes_on = wait_until(lambda: robot.has_heard("finish arrived"))
+        status = robot.process.poll()
+        robot.end()
+        due = [f"robot 0: {box} can't be written, and lacks what happens meanwhile: {why}"]
+        outcomes.append(compared(f"the box {box}", shown(robot.words), (goes_on, status, robot.told()), (True, None, due)))
+    return outcomes
+
+
+def of_a_gap(harness: Harness, ports: Callable[[], int]) -> list[Outcome]:
+    """A box that lacks lines says so itself, and nobody takes it for a whole one."""
+    robot = Handled(harness, ports(), "--wait", "0", "--box", "boxes/box")
+    robot.start()
+    wait_until(lambda: robot.has_heard("finish arrived"))
+    (robot.folder / "boxes").mkdir()
+    box = robot.folder / "boxes" / "box"
+    wait_until(lambda: box.exists() and box.read_bytes().count(b"\n") > 2)
+    robot.end()
+    checked = check(harness, robot.folder, "run.plan", "boxes/box")
+    due = re.fullmatch(r"check_boxes: boxes/box: line 1 says that \d+ lines before it couldn't be written\n", checked)
+    return [compared("a box with a gap", f"check_boxes.py, which told {checked!r}", bool(due), True)]
+
+
+def of_many_boxes(harness: Harness, ports: Callable[[], int]) -> list[Outcome]:
+    """A box that gets too long goes on in another file, also behind a kill; all are read as one, in order, and none may be missing."""
+    robot = Handled(harness, ports(), "--wait", "0", "--every", "0.01", "--box", "box", "--box-size", "2000")
+    for count in (3, 12):
+        robot.start()
+        wait_until(lambda: (robot.folder / f"box.{count}").exists())
+        robot.process.kill()
+        robot.process.wait()
+        wait_until(lambda: not processes_of(robot.folder))
+    robot.end()
+    files = sorted(robot.folder.glob("box.*"), key=lambda it: int(it.suffix[1:]))
+    sizes = {it.stat().st_size <= 2000 for it in [*files, robot.folder / "box"]}
+    whole = robot.folder / "whole"
+    lines = b"".join(it.read_bytes() for it in [*files, robot.folder / "box"]).splitlines(keepends=True)
+    whole.write_bytes(b"".join(line for line in lines if b'"follows"' not in line))
+    told = [check(harness, robot.folder, "run.plan", name) for name in ("box", "whole")]
+    outcomes = [compared("a box of many files", shown(robot.words), (sizes, told[0][:8], told[0]), ({True}, "agreed: ", told[1]))]
+    changed = files[6].read_text(encoding="ascii").replace("said 4601", "said 4602", 1)
+    files[6].write_text(changed, encoding="ascii")
+    told.append(check(harness, robot.folder, "run.plan", "box"))
+    place = changed[: changed.index("said 4602")].count("\n") + 1
+    outcomes.append(compared("a line of one of them", "check_boxes.py", f"line {place} of box.7\n" in told[2], True))
+    files[4].unlink()
+    told.append(check(harness, robot.folder, "run.plan", "box"))
+    outcomes.append(compared("one that is missing", "check_boxes.py", told[3], "check_boxes: box.5: No such file or directory\n"))
+    return outcomes
+
+
 def tests(harness: Harness, ports: Callable[[], int]) -> Iterator[Callable[[], Sequence[Outcome]]]:
-    for test in (of_an_older_tape, of_an_odd_drive, of_bad_plans, of_a_full_disk, of_a_killed_robot):
+    of_boxes = (of_no_room_for_a_box, of_a_gap, of_many_boxes)
+    for test in (of_an_older_tape, of_an_odd_drive, of_bad_plans, of_a_full_disk, of_a_killed_robot, *of_boxes):
         yield functools.partial(test, harness, ports)

@@ -87,11 +87,6 @@ class Agent:
                 if status > 0:
                     raise Unfit(status, told.read()) from None
             raise
-        except OSError:
-            # What can't be noted isn't done.
-            self.process.kill()
-            self.process.wait()
-            raise
 
     def _line(self) -> str:
         line = self.process.stdout.readline() if self.process.stdout else b""

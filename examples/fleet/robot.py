@@ -29,6 +29,7 @@ from agent import STALE_TAPE, STORE_FAILED, Agent, Ended, Lock, Stale, Unfit, Un
 from black_box import note_of  # noqa: E402
 from count_file import BadCount  # noqa: E402
 from drive import AGAIN, Cell, NoDrive, Wire  # noqa: E402
+from given import number_in  # noqa: E402
 from keys import BadKeys  # noqa: E402
 from leaving import heed_signals  # noqa: E402
 from letters import Dropped, Letter, Link  # noqa: E402
@@ -39,6 +40,8 @@ from program import usual_program  # noqa: E402
 from service import Supervisor  # noqa: E402
 
 UNFIT, FAILED = 1, 3
+# How long the file of a black box may have to be.
+LEAST_OF_BOX, MOST_OF_BOX = 1000, 1 << 60
 # A longer message has more digits than a line of the agent may have.
 LONGEST_MESSAGE = 65_533
 # Seconds after which an agent that has ended is started again. Where its tape can't be stored they double, up to these.
@@ -58,6 +61,13 @@ def seconds(word: str) -> float:
     raise argparse.ArgumentTypeError(f"a number of seconds is wanted, and '{word[:40]}' is none")
 
 
+def box_size(word: str) -> int:
+    found = number_in(word, MOST_OF_BOX)
+    if found is None or found < LEAST_OF_BOX:
+        raise argparse.ArgumentTypeError(f"{word[:40]!r} is no number of bytes from {LEAST_OF_BOX} on")
+    return found
+
+
 def read_words(words: Sequence[str]) -> argparse.Namespace:
     parser = argparse.ArgumentParser(prog="robot.py", description=__doc__, formatter_class=argparse.RawDescriptionHelpFormatter)
     parser.add_argument("map", metavar="MAP")
@@ -75,7 +85,8 @@ def read_words(words: Sequence[str]) -> argparse.Namespace:
     parser.add_argument("--tell", action="store_true", help="says all that it knows, and not only what it has finished")
     parser.add_argument("--every", type=seconds, default=0.2, metavar="S", help="says so again after so many seconds (%(default)g)")
     parser.add_argument("--wait", type=seconds, metavar="S", help=f"listens for so many seconds before its first move ({ROUNDS} times --every)")
-    parser.add_argument("--box", default="", metavar="FILE", help="its black box; it ends where that can't be written (none)")
+    parser.add_argument("--box", default="", metavar="FILE", help="its black box (none)")
+    parser.add_argument("--box-size", type=box_size, default=0, metavar="BYTES", help="goes on in another file where its box would get longer (never)")
     parser.add_argument("--program", default=usual_program(), metavar="PATH", help="the program mapf (%(default)s)")
     given = parser.parse_args(words)
     if (given.broker is None) == (given.listen is None):
@@ -84,6 +95,8 @@ def read_words(words: Sequence[str]) -> argparse.Namespace:
         parser.error("--listen goes with either --peers or --group")
     if given.tls and not given.broker:
         parser.error("--tls goes with --broker")
+    if given.box_size and not given.box:
+        parser.error("--box-size goes with --box")
     given.tls = given.tls and Tls(*given.tls)
     given.wait = ROUNDS * given.every if given.wait is None else given.wait
     return given
@@ -223,7 +236,7 @@ def drive(given: argparse.Namespace) -> None:
     supervisor = Supervisor()
     lock = Lock(f"{given.tape}.lock", f"robot {given.id}: waits until the robot before it and its agent have ended", supervisor.lives)
     alarms, plan = Alarms(f"robot {given.id}"), PlanFile(given.plan)
-    note = note_of(given.box, given.id, (given.map, plan.copy))
+    note = note_of(given.box, given.id, (given.map, plan.copy), given.box_size)
     words = [given.program, "agent", given.map, plan.copy, str(given.id), given.tape, "--tape", "kept", "--explain"]
     with contextlib.closing(link_of(given)) as link:
         world = World(link, Wire(given.drive, given.id, alarms.tell), supervisor, Dropped(given.id), plan, given.wait)

@@ -38,7 +38,7 @@ from pilot import Pilot  # noqa: E402
 from plan_file import PlanFile  # noqa: E402
 from program import usual_program  # noqa: E402
 from links import number_of  # noqa: E402
-from robot import seconds  # noqa: E402
+from robot import box_size, seconds  # noqa: E402
 from route import NoPath, Route, path_of  # noqa: E402
 from service import Supervisor  # noqa: E402
 from standard import CONNECTION, FACTSHEET, STATE, Identity, kind_of  # noqa: E402
@@ -69,6 +69,7 @@ def read_words(words: Sequence[str]) -> argparse.Namespace:
     parser.add_argument("--horizon", type=number, default=4, metavar="N", help="shows so many more (%(default)s)")
     parser.add_argument("--every", type=seconds, default=1.0, metavar="S", help="tells other masters again after so many seconds (%(default)g)")
     parser.add_argument("--patience", type=seconds, default=10.0, metavar="S", help="how long a broker may be away at first (%(default)g)")
+    parser.add_argument("--box-size", type=box_size, default=0, metavar="BYTES", help="goes on in another file where a box would get longer (never)")
     parser.add_argument("--program", default=usual_program(), metavar="PATH", help="the program mapf (%(default)s)")
     return parser.parse_args(words)
 
@@ -120,7 +121,7 @@ class Master:
         given, tape = self.given, self.given.folder / f"{agent}.tape"
         lock = Lock(f"{tape}.lock", f"master: vehicle {agent}: waits until the agent before has ended", self.supervisor.lives)
         words = [given.program, "agent", given.map, self.plan.copy, str(agent), str(tape), "--tape", "kept", "--explain"]
-        note = note_of(str(given.folder / f"{agent}.box"), agent, (given.map, self.plan.copy))
+        note = note_of(str(given.folder / f"{agent}.box"), agent, (given.map, self.plan.copy), given.box_size, alarm)
         return Teller(words, [lock.fileno(), self.plan.file], note, alarm)
 
     def _go_over(self) -> None:
