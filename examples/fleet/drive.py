@@ -73,6 +73,15 @@ class Drive:
         self.floor.has_left(self.robot, left)
 
 
+@contextlib.contextmanager
+def naming(path: str) -> Iterator[None]:
+    """A fault of a socket names no file by itself."""
+    try:
+        yield
+    except OSError as fault:
+        raise OSError(fault.errno, fault.strerror or str(fault), path) from None
+
+
 class Wire:
     """A robot's end: it tells the watcher what its agent answered, and the drive where to go. All that robots tell comes in one queue, so
     what one says before it sends a message stands before what another says that has heard it."""
@@ -80,21 +89,23 @@ class Wire:
     def __init__(self, path: str, robot: int, alarm: Alarm):
         self.path, self.robot, self.own, self.alarm = path, robot, f"{path}.{robot}", alarm
         self.socket = socket.socket(socket.AF_UNIX, socket.SOCK_DGRAM)
-        with contextlib.suppress(FileNotFoundError):
-            os.unlink(self.own)
-        self.socket.bind(self.own)
+        with naming(self.own):
+            with contextlib.suppress(FileNotFoundError):
+                os.unlink(self.own)
+            self.socket.bind(self.own)
 
     def fileno(self) -> int:
         return self.socket.fileno()
 
     def tell(self, text: str) -> None:
         """Comes back once it stands in the queue; nothing is lost."""
-        try:
-            self.socket.sendto(f"{self.robot} {text}".encode("ascii"), self.path)
-        except OSError as fault:
-            if fault.errno in (errno.ENOENT, errno.ECONNREFUSED, errno.ECONNRESET):
-                raise NoDrive(f"no drive is at {self.path}") from None
-            raise
+        with naming(self.path):
+            try:
+                self.socket.sendto(f"{self.robot} {text}".encode("ascii"), self.path)
+            except OSError as fault:
+                if fault.errno in (errno.ENOENT, errno.ECONNREFUSED, errno.ECONNRESET):
+                    raise NoDrive(f"no drive is at {self.path}") from None
+                raise
 
     def told(self) -> Iterator[list[str]]:
         """What the drive has said meanwhile. What isn't understood is no answer."""
@@ -120,4 +131,4 @@ class Wire:
                 return words
             time.sleep(AGAIN)
             self.tell("where")
-        raise NoDrive(f"the drive at {self.path} doesn't say where it is")
+        raise NoDrive(f"the drive at {self.path} doesn't say where it is: is it one that may write to {self.own}?")
