@@ -103,9 +103,9 @@ class Master:
         self.plan, self.frame = PlanFile(given.plan), read_frame(given.frame, given.map)
         self.pilots: dict[int, Pilot] = {}
         for agent, identity in fleet.items():
-            alarm = Alarms(f"master: vehicle {agent}").tell
-            contact = Contact(identity, self.bus, alarm)
-            self.pilots[agent] = Pilot(self._route(agent), self._teller(agent, alarm), contact, (given.ahead, given.horizon), alarm)
+            alarms = Alarms(f"master: vehicle {agent}")
+            contact, teller = Contact(identity, self.bus, alarms.tell), self._teller(agent, alarms.tell)
+            self.pilots[agent] = Pilot(self._route(agent), teller, contact, (given.ahead, given.horizon), alarms)
         self.plan.take()
         # What agents of others have said last.
         self.elsewhere: dict[int, bytes] = {}
