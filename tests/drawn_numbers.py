@@ -79,10 +79,11 @@ def numbers_read(tool: Tool) -> list[str]:
 
 def of_renumbering(harness: Harness) -> Iterator[Outcome]:
     """A plan under another number is the same plan; a text that is none is refused, and nothing is written."""
+    renumbered, off = BEHIND.replace("number 7", "number 8"), plan("9 9 e", number=8)
     for name, text, words, due in (
-        ("a plan is renumbered", BEHIND, "p --number 8", (0, BEHIND.replace("number 7", "number 8"), "convert: p is a plan, and has the number 8 now\n")),
+        ("a plan is renumbered", BEHIND, "p --number 8", (0, renumbered, "convert: p is a plan, and has the number 8 now\n")),
         ("a plan that is cut", BEHIND[:-5], "p --number 8", (1, "", "p:5: ")),
-        ("a plan that its map doesn't allow", plan("9 9 e"), "p --number 8 --map m", (0, plan("9 9 e", number=8), "m allows no such plan: BadStart 0.")),
+        ("a plan that its map doesn't allow", plan("9 9 e"), "p --number 8 --map m", (0, off, "m allows no such plan: BadStart 0.")),
         ("a plan that isn't the scenario's", BEHIND, "p --number 8 --scen s", (1, "", "agent 0 starts in column 1, row 0, column 0, row 0 was due")),
     ):
         scenario = b"version 1\n0\tm\t3\t1\t0\t0\t1\t0\t1\n0\tm\t3\t1\t1\t0\t2\t0\t1\n"

@@ -152,7 +152,8 @@ def users_room(harness: Harness) -> Iterator[Optional[pathlib.Path]]:
         for file in (harness.program, MAP, PLAN):
             shutil.copy(file, folder / file.name)
         try:
-            subprocess.run([PYTHON, "-c", "import sys; sys.exit(sys.version_info < (3, 9))"], user=ROBOT_USER, group=SHARED, extra_groups=[], check=True)
+            is_new = [PYTHON, "-c", "import sys; sys.exit(sys.version_info < (3, 9))"]
+            subprocess.run(is_new, user=ROBOT_USER, group=SHARED, extra_groups=[], check=True)
         except (OSError, subprocess.SubprocessError):
             folder = None
         yield folder
@@ -171,7 +172,8 @@ def of_two_users(harness: Harness, ports: Callable[[], int]) -> list[Outcome]:
         os.chown(tapes, ROBOT_USER, SHARED)
         as_robot = {"user": ROBOT_USER, "extra_groups": [], "umask": int(unit()["UMask"], 8), "cwd": tapes}
         program, files = str(folder / "mapf"), [str(folder / MAP.name), str(folder / PLAN.name), "0", "tape"]
-        subprocess.run([program, "agent", *files, "--tape", "new"], stdin=subprocess.DEVNULL, stdout=subprocess.DEVNULL, check=True, group=SHARED, **as_robot)
+        nowhere = {"stdin": subprocess.DEVNULL, "stdout": subprocess.DEVNULL}
+        subprocess.run([program, "agent", *files, "--tape", "new"], check=True, group=SHARED, **nowhere, **as_robot)
         words = [PYTHON, str(folder / "fleet" / "robot.py"), *files, "--drive", socket_path, "--wait", "0", "--program", program]
         words += ["--listen", f"127.0.0.1:{ports()}", "--peers", ""]
         drive_words = [PYTHON, str(folder / "fleet" / "own_drive.py"), socket_path, *STARTS[0].split()]

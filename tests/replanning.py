@@ -141,7 +141,10 @@ CASES = (
     Case("", "no map", BEHIND, BOTH, 1, "", "handover: M: mapf: BadHeader 1\n"),
 )
 # Words that are no call.
-BAD_LINES = ("--number 8", "--number 8 --without", "--without 0 --number new", "--without -1", "--without 65536", "--without x", "--without 0 --number 4294967296", "--without 0 --number -1", f"--without 0 --number {0:020}4294967296")
+BAD_LINES = (
+    *("--number 8", "--number 8 --without", "--without 0 --number new", "--without -1", "--without 65536", "--without x"),
+    *("--without 0 --number 4294967296", "--without 0 --number -1", f"--without 0 --number {0:020}4294967296"),
+)
 
 
 def by_hand(harness: Harness) -> Iterator[Outcome]:

@@ -1,4 +1,4 @@
-"""A robot of examples/fleet where something is wrong beside it: its tape is an older one, its drive says odd things, a bad plan comes, a disk is full."""
+"""A robot of examples/fleet where something is wrong beside it: an older tape, an odd drive, a bad plan, a full disk, a black box without room."""
 import functools
 import json
 import os
@@ -143,11 +143,15 @@ def of_an_older_tape(harness: Harness, ports: Callable[[], int]) -> list[Outcome
     last = "robot 0: its tape is an older one (refused StaleTape 1 1)"
     stays = lone_robots.unit()["RestartPreventExitStatus"].split()
     wrote = (found, {str(it) in stays for it in found}, [robot.has_heard(it) for it in ("start", "go ")], robot.told())
-    return [compared("a robot with an older tape", f"{shown(robot.words)}, which told {robot.told()}", wrote, ([1, 1], {True}, [False, False], [last] * 2))]
+    ran = f"{shown(robot.words)}, which told {robot.told()}"
+    return [compared("a robot with an older tape", ran, wrote, ([1, 1], {True}, [False, False], [last] * 2))]
 
 
 # What a drive must not say, and what is told of it.
-ODD = (b"unknown", b"hello", b"", b"stands 1", b"stands a b", b"stands 1 0 7", b"goes 1 0", b"slipped 1 0 x 0", b"stands 1 123456", b"stands -1 0", b"\xff\xfe")
+ODD = (
+    *(b"unknown", b"hello", b"", b"stands 1", b"stands a b", b"stands 1 0 7", b"goes 1 0"),
+    *(b"slipped 1 0 x 0", b"stands 1 123456", b"stands -1 0", b"\xff\xfe"),
+)
 
 
 def of_an_odd_drive(harness: Harness, ports: Callable[[], int]) -> list[Outcome]:

@@ -33,7 +33,7 @@ import os
 import pathlib
 import sys
 import tempfile
-from typing import Iterator, Optional, Sequence
+from typing import Iterator, Sequence
 
 sys.dont_write_bytecode = True
 import mapf  # noqa: E402

@@ -8,10 +8,12 @@ asked once, or with --live again and again, until all have arrived. On a termina
 drawn anew in place; else each line is written once, behind the time of day, until it changes.
 
 An alarm is a rotation that blocks, a tape that has fewer records than it had or has disappeared,
-tapes that aren't of one run, or whose plans don't go on from one another, and that for --alarm SECONDS nothing moves while not all have arrived, or a root doesn't move. BOXES, with `%` too, are the black boxes of
-robots (`robot.py --box`): who hasn't written there for --silent SECONDS is told. --page FILE is a
-page for a browser, which shows where all are and who waits for whom, and comes anew by itself. With
---metrics this machine can ask http://127.0.0.1:PORT/metrics for the same as gauges of Prometheus.
+and tapes that aren't of one run or whose plans don't go on from one another. It is an alarm too that
+for --alarm SECONDS nothing moves while not all have arrived, or a root doesn't move. BOXES, with `%`
+too, are the black boxes of robots (`robot.py --box`): who hasn't written there for --silent SECONDS
+is told. --page FILE is a page for a browser, which shows where all are and who waits for whom, and
+comes anew by itself. With --metrics this machine can ask http://127.0.0.1:PORT/metrics for the same
+as gauges of Prometheus.
 
 Status 0: all have arrived, or without --live nothing is wrong. 1: there is an alarm, which ends it
 without --live or with --alarm-ends; or without --live a tape that can't be taken; or the map or the

@@ -3,10 +3,11 @@
 
 Usage: check_boxes.py MAP PLAN BOX.. [--earlier PLAN..] [--agent N [--last N]] [--events FILE] [--program PATH]
 
-A BOX is what `robot.py --box` wrote, with its files BOX.1, BOX.2 and so on beside it where it has some; MAP and PLAN are the files by which the fleet was driven, with tapes that were new. All that was asked
-and answered becomes one list of events, which `mapf run` answers, and these answers have to be the agents' own. With --agent stands before
-that what one agent was asked last, what it answered, and what it held then by the rules. Where plans went on from one another, PLAN is the
-last one, and the others stand behind --earlier. By these an agent may refuse what it may do by the last one: such answers are left out.
+A BOX is what `robot.py --box` wrote; its earlier files, BOX.1, BOX.2 and so on, are read where they lie beside it. MAP and PLAN are the files by
+which the fleet was driven, with tapes that were new. All that was asked and answered becomes one list of events, which `mapf run` answers, and these
+answers have to be the agents' own. With --agent stands before that what one agent was asked last, what it answered, and what it held then by the
+rules. Where plans went on from one another, PLAN is the last one, and the others stand behind --earlier. By these an agent may refuse what it may do
+by the last one: such answers are left out.
 
 Status 0: they agree, in one line. 1: they don't; the first difference is shown whole. 2: a bad command line; or boxes that can't be read,
 don't go together, or don't fit the map and the plan. 3: another file or the program failed.

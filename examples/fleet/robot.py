@@ -7,11 +7,14 @@ Usage: robot.py MAP PLAN ID TAPE --drive SOCKET --listen HOST:PORT (--peers HOST
 It knows its own agent, its own drive and a link on which it says what it has finished and hears what others say; it may be killed at any moment
 and started again. Its tape was made before, once, by `mapf agent MAP PLAN ID TAPE --tape new`. What arrives on the link is given to the agent alone:
 bytes that are no message of the plan are dropped, and the tenth of a kind is told, the hundredth and so on. With --keys it signs what it says, and
-drops what isn't signed. Before its first move it listens for a while (--wait): the others may know that its tape is an older one. Where another plan, one that goes on from the one before, is put in the place of PLAN (by a rename), it goes over to that between
-two questions. As a service of systemd it says that it lives.
+drops what isn't signed. Before its first move it listens for a while (--wait): the others may know that its tape is an older one. As a service of
+systemd it says that it lives.
 
-Status 1: the map, the plan, the tape, the keys or the count has a fault. 2: a bad command line. 3: a file, a socket or a program failed. It ends when
-it is asked to.
+Where another plan, one that goes on from the one before, is put in the place of PLAN (by a rename), it goes over to that between two questions. Of a
+plan that its agent doesn't take it tells, and goes on with the one that it has. On a full disk it stands, and tries again.
+
+Status 1: the map, the plan, the tape, the keys or the count has a fault, or the tape is an older one. 2: a bad command line. 3: a file, a socket or a
+program failed. It ends when it is asked to.
 """
 import argparse
 import contextlib

@@ -16,10 +16,12 @@ STANDS = re.compile(
 MOVES = re.compile(rf"between {NUMBER} {NUMBER} {NUMBER} {NUMBER} done {NUMBER} of {NUMBER}")
 FAULT = re.compile(r"[A-Z]\w*(?: [0-9]+)*")
 KEEPS = re.compile(rf"(root|rotation) {NUMBER} keeps {NUMBER}")
-# What is wrong with tapes together. Of two agents' plans: the time from which on they differ. Of an agent's begun move: for whom it has to wait, and how
-# many moves that one has to finish; or the rotation that it belongs to.
+# What is wrong with tapes together. Of two agents' plans: the time from which on they differ. Of a
+# begun move: for whom it has to wait, and how many moves that one has to finish; or its rotation.
 PLANS_PART, NOT_ONE_RUN = "PlansPart", "NotOneRun"
-TOGETHER = re.compile(rf"{PLANS_PART} {NUMBER} {NUMBER} {NUMBER}|{NOT_ONE_RUN} {NUMBER}(?: {NUMBER} {NUMBER})?")
+TOGETHER = re.compile(
+    rf"{PLANS_PART}(?: {NUMBER}){{3}}|{NOT_ONE_RUN} {NUMBER}(?: {NUMBER} {NUMBER})?"
+)
 
 
 @dataclasses.dataclass(frozen=True)
