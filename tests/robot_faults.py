@@ -133,7 +133,8 @@ class Neighbour:
 
 def of_an_older_tape(harness: Harness, ports: Callable[[], int]) -> list[Outcome]:
     """A robot whose neighbours know more of it than its tape never moves, however often it is started, and ends for good."""
-    robot = Handled(harness, ports())
+    # So it listens for 20 seconds, or until it hears of it.
+    robot = Handled(harness, ports(), "--every", "2")
     found = []
     with Neighbour(robot.port, DONE):
         for _ in range(2):
