@@ -8,8 +8,9 @@ import sys
 from typing import Any, Callable, Iterator, Sequence
 
 import vehicle_messages
-from harness import ROOT, Harness, Outcome, compared
+from harness import ROOT, Harness, Outcome, compared, put_program
 from processes import wait_until
+from robot_faults import FULL, RESTS
 from robots import Broker
 
 VDA = ROOT / "examples" / "vda5050"
@@ -240,6 +241,30 @@ def of_a_vehicle_that_stands(stage: Stage) -> list[Outcome]:
     return [compared("a vehicle that stands", f"the master said {stage.said('fleet')[-900:]!r}", (wrote, len(lines)), ([True] * 6, 6))]
 
 
+def of_a_full_disk(stage: Stage) -> list[Outcome]:
+    """Records that can't be stored are told of once, and tried again behind longer and longer rests."""
+    full, program = stage.folder / "full", stage.folder / "mapf"
+    full.touch()
+    put_program(program, FULL.format(python=sys.executable, program=stage.program, full=str(full)))
+    stage.program = str(program)
+    for agent in (0, 1):
+        stage.vehicle(agent)
+    stage.master()
+    box = stage.folder / "0.box"
+
+    def times(word: str) -> list[float]:
+        lines = box.read_text(encoding="ascii").splitlines() if box.exists() else []
+        return [line["clock"] for line in map(json.loads, lines) if word in line]
+
+    wait_until(lambda: len(times("started")) > len(RESTS))
+    rests = [start - end >= least for end, start, least in zip(times("ended"), times("started")[1:], RESTS)]
+    full.unlink()
+    told = stage.said("fleet").count("vehicle 0: its tape can't be stored (refused StoreFailed); it stands, and tries again\n")
+    found = (rests, told, stage.have_arrived("fleet"))
+    ran = f"a full disk, of which the master said {stage.said('fleet')[-600:]!r}"
+    return [compared("a master's full disk", ran, found, ([True] * len(RESTS), 1, True)), *stage.judged("a master's full disk")]
+
+
 def of_a_stage(harness: Harness, test: Callable[[Stage], list[Outcome]], python: str, program: str) -> list[Outcome]:
     stage = Stage(harness, python, program)
     try:
@@ -249,5 +274,5 @@ def of_a_stage(harness: Harness, test: Callable[[Stage], list[Outcome]], python:
 
 
 def tests(harness: Harness, python: str, program: str) -> Iterator[Callable[[], Sequence[Outcome]]]:
-    for test in (of_commands, of_a_renamed_plan, of_two_masters, of_a_vehicle_elsewhere, of_a_large_vehicle, of_a_vehicle_that_stands):
+    for test in (of_commands, of_a_renamed_plan, of_two_masters, of_a_vehicle_elsewhere, of_a_large_vehicle, of_a_vehicle_that_stands, of_a_full_disk):
         yield functools.partial(of_a_stage, harness, test, python, program)
