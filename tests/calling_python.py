@@ -189,6 +189,20 @@ def of_fleets(harness: Harness, seed: int) -> list[Outcome]:
     return [compared(name, f"mapf.status, of {map_text!r}, {plan_text!r}", found, mapf.Status(agents, roots, circles))]
 
 
+def of_faulty_fleets(harness: Harness) -> Iterator[Outcome]:
+    """Why tapes aren't of one run, by a program that says so."""
+    for lines in (("PlansPart 0 1 4",), ("NotOneRun 1 0 3", "NotOneRun 65535"), ("NotOneRun 1 0",), ("PlansPart 0 1",), ("Unknown 1",)):
+        folder = harness.folder()
+        answer = "".join(f"{line}\n" for line in ("0 at 1 0 done 0 of 1 ready", "1 NoTape", "root 0 keeps 1", "rotation 2 keeps 1", *lines))
+        put_program(folder / "mapf", f"#!/bin/sh\ncat <<END\n{answer}END\nexit 1\n")
+        found = raised(lambda: mapf.status("m", "p", "%.tape", program=folder / "mapf"))
+        agents = (mapf.AgentStatus("ready", mapf.At(1, 0, 0), 1), mapf.AgentStatus("unknown", fault=words("NoTape")))
+        due: tuple[object, ...] = ("nothing", mapf.Status(agents, {0: 1}, {2: 1}, tuple(map(words, lines))))
+        if lines[0] in ("NotOneRun 1 0", "PlansPart 0 1", "Unknown 1"):
+            due = ("Failed", f"'{lines[0]}' is no answer of mapf", f"'{lines[0]}' is no answer of mapf", 3)
+        yield compared(f"a fleet whose tapes have {lines}", "mapf.status", found, due)
+
+
 # ---- as the documents show it
 
 
@@ -219,16 +233,22 @@ def dialogue(harness: Harness) -> Iterator[Test]:
     files, program = (example("plain.map"), example("behind.plan")), {"program": harness.program}
     tape = harness.folder() / "tape0"
     with mapf.Agent(*files, 0, tape, kind="new", **program) as agent:
+        free = [agent.may(5)]
         found = [agent.state, agent.start(), agent.held(), agent.say(), agent.finish(), agent.tell(), agent.start()]
+        free.append(agent.may(0))
     due = [mapf.At(1, 0, 0), mapf.Moving(2, 0), mapf.Between(1, 0, 2, 0, 0), bytes.fromhex("460100000000000900000000"), mapf.Arrived(2, 0)]
     due += [bytes.fromhex("46020000000000090001000000000001"), mapf.Refused(words("AtEnd"))]
     yield "a dialogue", found, due
     yield "how it ended", agent.process.returncode, 0
     yield "its tape", mapf.tape(*files, 0, tape, **program), mapf.Tape(mapf.At(2, 0, 1), 2, 0)
     with mapf.Agent(*files, 1, tape.with_name("tape1"), kind="new", **program) as other:
-        heard = [other.start(), other.hear(b"\x46"), other.hear(found[5]), other.ask("what"), other.start()]
+        free.append(other.may(1))
+        heard = [other.start(), other.hear(b"\x46"), other.hear(found[5]), other.ask("what")]
+        free.append(other.may(999_999_999))
+        heard += [other.start(), raised(lambda: other.may(-1))[0]]
     due = [mapf.Refused(words("Waits 0 1")), mapf.Refused(words("BadLength")), mapf.Heard(0, 1), mapf.Refused(words("BadLine")), mapf.Moving(1, 0)]
-    yield "what another one hears", heard, due
+    yield "what another one hears", heard, [*due, "Failed"]
+    yield "how many moves are free", free, [1, 0, 0, 1]
 
 
 def stopped(harness: Harness) -> Iterator[Test]:
@@ -370,4 +390,5 @@ def outcomes(harness: Harness) -> Iterator[Outcome]:
     seeds: Sequence[int] = LONG_SEEDS if harness.is_long else SHORT_SEEDS
     parts = (shown, dialogue, stopped, ends, faults, failing, finding)
     tests = [functools.partial(tested, part, harness) for part in parts]
+    tests.append(lambda: list(of_faulty_fleets(harness)))
     yield from side_by_side([*tests, *(functools.partial(of, harness, seed) for of in (of_plans, of_scenarios, of_fleets) for seed in seeds)])

@@ -13,7 +13,6 @@ import shlex
 import shutil
 import subprocess
 import sys
-import zlib
 from typing import Callable, Iterator, Optional, Sequence
 
 import example_texts
@@ -396,7 +395,6 @@ CALLS = [
     ("T --number 7", 0, PLAN, "T is read as paths\nconvert: 2 agents, 2 acts\n"),
     ("T --number 7 --from paths", 0, PLAN, "convert: 2 agents, 2 acts\n"),
     ("T --number 7 --map M --scen S", 0, PLAN, ""),
-    ("T", 0, PLAN.replace(b"number 7", b"number %d" % zlib.crc32(PLAN.replace(b"number 7", b"number 0"))), ""),
     ("P --to paths", 0, b"Agent 0: (0,1)->(0,0)->\nAgent 1: (0,0)->(0,1)->\n", ""),
     ("P --to tracker --map M --scen S", 0, b"l\nr\n", "u is written for north"),
     ("W --number 7 --map M", 0, b"mapf-plan 1\nnumber 7\nagents 1\nagent 1 0 e\n", "M allows no such plan: BadMove 0 0."),
@@ -429,8 +427,8 @@ CALLS = [
     ("P --to paths --number 3", 2, b"", "--number goes with a conversion to a plan"),
     ("P --to paths --from csv", 2, b"", "--from goes with a conversion to a plan"),
     ("P --to yaml", 2, b"", "invalid choice: 'yaml'"),
-    ("T --number 4294967296", 2, b"", "a number from 0 to 4294967295 or 'new' is wanted"),
-    (f"T --number {0:020}4294967296", 2, b"", "a number from 0 to 4294967295 or 'new' is wanted"),
+    ("T --number 4294967296", 2, b"", "is no number up to 4294967295"),
+    (f"T --number {0:020}4294967296", 2, b"", "is no number up to 4294967295"),
     (f"T --number {0:020}7", 0, PLAN, "T is read as paths\nconvert: 2 agents, 2 acts\n"),
     ("T --number -1", 2, b"", "--number"),
     ("", 2, b"", "FILE"),
@@ -548,7 +546,7 @@ def of_drawn_numbers(harness: Harness) -> list[Outcome]:
     room = Room(harness)
     text = room.file("T", FILES["T"])
     for _ in range(DRAWN):
-        room.convert([text, "--number", "new"])
+        room.convert([text])
     plans, shown_last = [], ""
     for done in room.done():
         plans.append((done.written or b"").split(b"\n", 2))

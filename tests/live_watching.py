@@ -11,7 +11,7 @@ from typing import Iterator, Mapping, Optional, Sequence
 
 import live_gauges
 import live_views
-from harness import Ended, Harness, Outcome, compared, ended_as, shown, side_by_side
+from harness import Ended, Harness, Outcome, compared, ended_as, put_program, shown, side_by_side
 from statuses import random_fleet, tape_of, tapes_of
 from texts import LANE, NOBODY, SHORT, plan
 from watched_fleets import AGO, LIVE, LONG, ONCE, PATIENT, QUICK, TRAIN, Told, Watched, blocks
@@ -22,6 +22,7 @@ SHORT_SEEDS, LONG_SEEDS = range(1, 13), range(1, 201)
 # A time of day before how long that is ago.
 TIME = re.compile(r"(since|at) ((?:\S+ )?\S+) (?=\()")
 NOTHING = "ALARM: nothing has moved since "
+NO_FILE = "No such file or directory"
 
 
 def of_fleet(harness: Harness, seed: int) -> list[Outcome]:
@@ -116,6 +117,107 @@ def alarms(harness: Harness) -> Iterator[Outcome]:
     lasted = time.monotonic() - begun
     found = (ended.status, lasted >= 0.6, ended.out.count(b"ALARM"))
     yield compared("an alarm that ends it", shown(words), found, (1, True, 1))
+
+
+def stuck(harness: Harness) -> Iterator[Outcome]:
+    """A root that stands is an alarm, though others move; one that was just let go is none."""
+    # Agent 1 waits for agent 0, and the last one goes on all the time.
+    still = plan("2 0 ee", "1 0 ee", f"9 0 {29 * 'e'}")
+    folder = room_of(harness, LONG, still, tapes_of(new_fleet(still)))
+    begin = "ALARM: root 0 hasn't moved: ready at 2 0, done 0 of 2, since "
+    with Watched(harness, folder, "--alarm", "2") as watched:
+        alarm = ""
+        for records in range(1, 58):
+            put(folder, 2, records)
+            watched.next("3 agents")
+            # On a machine that is slow nothing may have moved for so long either.
+            alarm = next((it for it in watched.lines if it.startswith("ALARM: root 0")), "")
+            if alarm:
+                break
+        put(folder, 0, 1)
+        over = watched.next("over: ALARM: root 0")
+    wrote = (alarm[: len(begin)], over[: len(begin) + 6], begin in over)
+    yield compared("a root that stands while others move", LIVE, wrote, (begin, f"over: {begin}", True))
+    # It waited for long, and is let go just now: nothing is wrong with it.
+    fleet = new_fleet()
+    folder, times = old_room(harness, LONG, TRAIN, fleet)
+    put(folder, 0, 4)
+    ended = harness.run(words_of(harness, "--alarm", "1000"), folder=folder)
+    found = (ended.status, [it for it in ended.out.decode().splitlines() if "ALARM" in it])
+    yield compared("a root that was let go just now", ONCE, found, (0, []))
+
+
+def gone(harness: Harness) -> Iterator[Outcome]:
+    """A tape that was there and isn't any more."""
+    folder, _ = old_room(harness, LONG, TRAIN, new_fleet())
+    with Watched(harness, folder, *PATIENT) as watched:
+        watched.next("3 agents")
+        (folder / "1.tape").rename(folder / "away")
+        alarm = watched.next("ALARM")
+        (folder / "away").rename(folder / "1.tape")
+        over = watched.next("over")
+    due = "ALARM: tape 1 has disappeared, since "
+    wrote = (alarm[: len(due)], over[: len(due) + 6])
+    yield compared("a tape that disappears", LIVE, wrote, (due, f"over: {due}"))
+
+
+# A fleet as an answer of `mapf status`: agent 0 has finished so many moves, and agent 1 is on its way.
+ANSWER = """0 at {done} 0 done {done} of 9 ready
+1 between 0 0 1 0 done 0 of 9
+root 0 keeps 1
+"""
+ANSWERS = """#!/bin/sh
+count=$(cat count)
+if [ -e answer$((count + 1)) ]; then echo $((count + 1)) >count; fi
+cat answer$count
+exit 1
+"""
+# What is wrong with a whole fleet: its line, and the alarm.
+PARTED = "PlansPart 0 1 4", "ALARM: the plans of agents 0 and 1 part at time 4"
+TURNED = "NotOneRun 2", "ALARM: an agent has begun its move in rotation 2, which no run does"
+EARLY = "NotOneRun 1 0 3", "ALARM: agent 1 has begun a move that waits until agent 0 has done 3"
+
+
+def answering(harness: Harness, *answers: Sequence[str]) -> pathlib.Path:
+    """A folder with a program that answers `mapf status` by one after another, and then by the last
+    one. An answer has these faults, behind how many moves agent 0 has done."""
+    folder = room_of(harness, LONG, TRAIN, {"count": b"0"})
+    for number, (done, *faults) in enumerate(answers):
+        text = ANSWER.format(done=done) + "".join(f"{it}\n" for it in faults)
+        (folder / f"answer{number}").write_text(text)
+    put_program(folder / "mapf", ANSWERS)
+    return folder
+
+
+def not_one_run(harness: Harness) -> Iterator[Outcome]:
+    """Tapes that aren't of one run, in a single look and in looks behind one another."""
+    words = (*PATIENT, "--program", "./mapf")
+    for faults in ((PARTED,), (TURNED,), (EARLY,), (PARTED, EARLY, TURNED)):
+        folder = answering(harness, ("2", *(line for line, _ in faults)))
+        ended = harness.run(words_of(harness, *words), folder=folder)
+        lines = [it for it in ended.out.decode().splitlines() if it.startswith("ALARM")]
+        due = (1, sorted(told for _, told in faults), b"")
+        yield compared(f"{faults}, once", ONCE, (ended.status, sorted(lines), ended.err), due)
+    for line, told in (PARTED, TURNED):
+        folder = answering(harness, ("2",), ("2", line))
+        ended = harness.run(words_of(harness, *words, "--live", *QUICK, "--alarm-ends"), folder=folder)
+        wrote = (ended.status, told.encode() in ended.out, (folder / "count").read_bytes())
+        yield compared(f"{line}, at once", LIVE, wrote, (1, True, b"1\n"))
+
+
+def read_early(harness: Harness) -> Iterator[Outcome]:
+    """An agent whose tape was read before that of one that moved on meanwhile is no alarm."""
+    line, told = EARLY
+    looks = (("2", line), ("3",), ("2", line), ("2", line), ("3",))
+    folder = answering(harness, *looks)
+    with Watched(harness, folder, *PATIENT, "--program", "./mapf") as watched:
+        over = watched.next("over: ALARM: agent")
+    found = [it for it in watched.lines if "ALARM: agent" in it]
+    places = [it[:28] for it in watched.lines if it.startswith("root 0") or it == told]
+    root = "root 0 keeps 1: ready at {} 0"
+    due = [root.format(it) for it in (2, 3, 2)] + [told[:28], root.format(3)]
+    yield compared("a tape that was read early", LIVE, (found, over), ([told, over], f"over: {told}"))
+    yield compared("the looks until then", LIVE, places[:4], due[:4])
 
 
 def blocked(harness: Harness) -> Iterator[Outcome]:
@@ -229,19 +331,19 @@ def replaced(harness: Harness) -> Iterator[Outcome]:
         wrote.append(watched.next("root 0 keeps 2: ready at 3 0, done 1 of 3")[:42])
         acts = held_until(lambda: acts_in(folder / "page.html"), 9 * b"e")
     root = "root 0 keeps 2: ready at 3 0, done 1 of "
-    due = [f"{root}2,", " now mapf: OpenFailed", f"{root}3,"]
+    due = [f"{root}2,", f" now p: {NO_FILE}", f"{root}3,"]
     yield compared("a plan that is replaced", LIVE, wrote, due)
     yield compared("the plan of its page then", f"{LIVE} --page page.html", acts, 9 * b"e")
 
 
-NO_FILE = "No such file or directory"
 # Calls that end with one line on standard error: what is done to the files, more words, the line,
 # and the status.
 REFUSED: tuple[tuple[Mapping[str, Optional[str]], Sequence[str], str, int], ...] = (
     ({"m": SHORT}, (), "mapf: ShortRow 6", 1),
     ({"p": "x\n"}, (), "mapf: BadHeader 1", 1),
     ({"p": plan("0 0 e", "1 0 w")}, ("--live",), "mapf: Swap 0 1 0", 1),
-    ({"p": None}, ("--live",), "mapf: OpenFailed", 3),
+    ({"p": None}, ("--live",), f"p: {NO_FILE}", 3),
+    ({"m": None}, (), f"m: {NO_FILE}", 3),
     ({}, ("--program", "no/mapf"), f"no/mapf can't be started: {NO_FILE}", 3),
     ({}, ("--page", "no/page"), f"no/page can't be written: {NO_FILE}", 3),
 )
@@ -269,6 +371,10 @@ PARTS = (
     going,
     alarms,
     blocked,
+    stuck,
+    gone,
+    not_one_run,
+    read_early,
     older,
     since_a_look,
     silent,

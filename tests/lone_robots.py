@@ -1,4 +1,5 @@
 """One robot of examples/fleet by itself: in a copy of its folder, as a service with a drive of its own, and what it says of others on its network."""
+import contextlib
 import functools
 import hashlib
 import json
@@ -12,8 +13,9 @@ import signal
 import socket
 import subprocess
 import sys
+import tempfile
 import time
-from typing import Callable, Iterator, Sequence
+from typing import Callable, Iterator, Optional, Sequence
 
 import boxes
 import watching
@@ -23,6 +25,7 @@ from processes import children, processes_of, wait_until
 FLEET = ROOT / "examples" / "fleet"
 SYSTEMD = FLEET / "systemd"
 UNIT, SETTINGS = SYSTEMD / "mapf-robot@.service", SYSTEMD / "robot.conf"
+DRIVE_UNIT = SYSTEMD / "mapf-drive.service"
 MAP, PLAN = ROOT / "examples" / "plain.map", ROOT / "examples" / "behind.plan"
 # Where each robot of the plan starts, and what its tape says when it has arrived.
 STARTS, ENDS = ("1 0", "0 0"), (b"at 2 0 done 1\n", b"at 1 0 done 1\n")
@@ -73,9 +76,9 @@ class Copied:
         return (self.folder / "said").read_text(encoding="utf-8", errors="replace")
 
 
-def unit() -> dict[str, str]:
-    """The lines of the unit, each by its name."""
-    pairs = [line.partition("=") for line in UNIT.read_text(encoding="ascii").splitlines() if line[:1].isalpha()]
+def unit(file: pathlib.Path = UNIT) -> dict[str, str]:
+    """The lines of a unit, each by its name."""
+    pairs = [line.partition("=") for line in file.read_text(encoding="ascii").splitlines() if line[:1].isalpha()]
     return {name: value for name, _, value in pairs}
 
 
@@ -120,16 +123,73 @@ def of_services(harness: Harness, ports: Callable[[], int]) -> list[Outcome]:
 def of_the_unit(harness: Harness) -> list[Outcome]:
     """What a unit for robots must have, and must not."""
     lines = unit()
-    due = {"StartLimitIntervalSec": "0", "Restart": "always", "RestartPreventExitStatus": "1 2", "LimitFSIZE": "infinity"}
+    due = {"StartLimitIntervalSec": "0", "Restart": "always", "RestartPreventExitStatus": "1 2", "LimitFSIZE": "infinity", "UMask": "0007"}
+    # The folder of the tape, which may be a disk of its own.
+    due["RequiresMountsFor"] = f"/var/lib/{lines['StateDirectory']}"
     found = {name: lines.get(name) for name in due}
     outcomes = [compared("the unit's lines", UNIT.name, (found, "ExecStartPre" in lines, int(lines["WatchdogSec"]) > 30), (due, False, True))]
-    if shutil.which("systemd-analyze"):
-        folder = harness.folder({"mapf-robot@.service": UNIT.read_bytes().replace(b"/usr/bin/python3", sys.executable.encode())})
-        words = ["systemd-analyze", "verify", "--man=no", "mapf-robot@1.service"]
-        ended = harness.run(words, folder=folder, more={"SYSTEMD_UNIT_PATH": f"{folder}:"})
-        told = [line for line in ended.err.decode().splitlines() if "mapf-robot" in line]
-        outcomes.append(compared("the unit, as systemd reads it", "systemd-analyze verify", told, []))
+    for file, name in ((UNIT, "mapf-robot@1.service"), (DRIVE_UNIT, DRIVE_UNIT.name)):
+        if shutil.which("systemd-analyze"):
+            folder = harness.folder({file.name: file.read_bytes().replace(b"/usr/bin/python3", sys.executable.encode())})
+            ended = harness.run(["systemd-analyze", "verify", "--man=no", name], folder=folder, more={"SYSTEMD_UNIT_PATH": f"{folder}:"})
+            told = [line for line in ended.err.decode().splitlines() if file.stem[:9] in line]
+            outcomes.append(compared(f"{file.name}, as systemd reads it", "systemd-analyze verify", told, []))
     return outcomes
+
+
+# Users that are nobody else's: of the robot, of the drive, and the group that they share.
+ROBOT_USER, DRIVE_USER, SHARED = 64_101, 64_102, 64_103
+PYTHON = "/usr/bin/python3"
+
+
+@contextlib.contextmanager
+def users_room(harness: Harness) -> Iterator[Optional[pathlib.Path]]:
+    """A folder in which other users find the robot and the program, where this machine has such users."""
+    with tempfile.TemporaryDirectory(prefix="mapf-users-") as name:
+        folder = pathlib.Path(name)
+        folder.chmod(0o755)
+        shutil.copytree(FLEET, folder / "fleet", ignore=shutil.ignore_patterns("__pycache__"))
+        for file in (harness.program, MAP, PLAN):
+            shutil.copy(file, folder / file.name)
+        try:
+            is_new = [PYTHON, "-c", "import sys; sys.exit(sys.version_info < (3, 9))"]
+            subprocess.run(is_new, user=ROBOT_USER, group=SHARED, extra_groups=[], check=True)
+        except (OSError, subprocess.SubprocessError):
+            folder = None
+        yield folder
+
+
+def of_two_users(harness: Harness, ports: Callable[[], int]) -> list[Outcome]:
+    """A drive that runs as another user reaches the robot by the group and the mask of the two units; without the group the socket is named."""
+    with users_room(harness) as folder:
+        if not folder:
+            return [Outcome("a drive of another user", lacks="other user to run as")]
+        run, tapes, socket_path = folder / "run", folder / "tapes", str(folder / "run" / "socket")
+        run.mkdir()
+        tapes.mkdir()
+        os.chown(run, DRIVE_USER, SHARED)
+        run.chmod(int(unit(DRIVE_UNIT)["RuntimeDirectoryMode"], 8))
+        os.chown(tapes, ROBOT_USER, SHARED)
+        as_robot = {"user": ROBOT_USER, "extra_groups": [], "umask": int(unit()["UMask"], 8), "cwd": tapes}
+        program, files = str(folder / "mapf"), [str(folder / MAP.name), str(folder / PLAN.name), "0", "tape"]
+        nowhere = {"stdin": subprocess.DEVNULL, "stdout": subprocess.DEVNULL}
+        subprocess.run([program, "agent", *files, "--tape", "new"], check=True, group=SHARED, **nowhere, **as_robot)
+        words = [PYTHON, str(folder / "fleet" / "robot.py"), *files, "--drive", socket_path, "--wait", "0", "--program", program]
+        words += ["--listen", f"127.0.0.1:{ports()}", "--peers", ""]
+        drive_words = [PYTHON, str(folder / "fleet" / "own_drive.py"), socket_path, *STARTS[0].split()]
+        as_drive = {"user": DRIVE_USER, "group": SHARED, "extra_groups": [], "umask": int(unit(DRIVE_UNIT)["UMask"], 8)}
+        with subprocess.Popen(drive_words, cwd=folder, **as_drive) as drive, contextlib.ExitStack() as ends:
+            ends.callback(drive.kill)
+            wait_until(lambda: os.path.exists(socket_path))
+            alone = subprocess.run(words, stdin=subprocess.DEVNULL, stderr=subprocess.PIPE, group=ROBOT_USER, check=False, timeout=60, **as_robot)
+            with subprocess.Popen(words, stdin=subprocess.DEVNULL, stderr=subprocess.PIPE, group=SHARED, **as_robot) as robot:
+                tape = [program, "tape", *files]
+                has_come = wait_until(lambda: subprocess.run(tape, cwd=tapes, stdout=subprocess.PIPE, check=False).stdout.startswith(ENDS[0]))
+                robot.terminate()
+                told = robot.communicate()[1]
+    wrote = (has_come, told, alone.returncode, alone.stderr.decode())
+    due = (True, b"", 3, f"robot 0: {socket_path}.0: Permission denied\n")
+    return [compared("a drive of another user", shown(words), wrote, due)]
 
 
 class Alone:
@@ -284,7 +344,7 @@ def of_one_text(_: Harness) -> list[Outcome]:
 
 
 def tests(harness: Harness, ports: Callable[[], int]) -> Iterator[Callable[[], Sequence[Outcome]]]:
-    for with_ports in (of_services, of_signs_of_life, of_another_plan, of_a_robot_elsewhere, of_a_renamed_plan):
+    for with_ports in (of_services, of_signs_of_life, of_another_plan, of_a_robot_elsewhere, of_a_renamed_plan, of_two_users):
         yield functools.partial(with_ports, harness, ports)
     for test in (of_one_number, of_the_unit, of_a_lone_broker, of_one_text):
         yield functools.partial(test, harness)

@@ -25,6 +25,7 @@ import continuations
 import converting
 import devices
 import documents
+import drawn_numbers
 import endings
 import explaining
 import faults
@@ -92,6 +93,7 @@ PARTS: dict[str, tuple[str, Callable[[Harness], Iterator[Outcome]]]] = {
     "python": ("the Python package of tools/mapf, beside plain models", calling_python.outcomes),
     "convert": ("plans of other formats, converted and back", converting.outcomes),
     "judge": ("many plans, judged as one table", judging.outcomes),
+    "numbers": ("numbers of plans, which each tool that writes one draws", drawn_numbers.outcomes),
     "repair": ("plans in which agents rotate, planned anew", repairing.outcomes),
     "replan": ("what is to be planned anew for a fleet that was stopped", replanning.outcomes),
     "rows": ("many scenarios, certified as one table", tabling.outcomes),

@@ -165,7 +165,7 @@ TEXTS = [
 
 # Texts without a format's name.
 UNKNOWN = [
-    ("mapf-plan 1\nnumber 7\nagents 0\n", 1, "the text is a plan already"),
+    ("mapf-plan 1\nnumber 7\nagents 0\n", 3, "the text has no agent"),
     ("hello\n", 1, "no format is known by this beginning"),
     ("\n", 1, "no format is known by this beginning"),
     ("", 1, "the file is empty"),

@@ -127,7 +127,7 @@ CASES = (
     Case("", LANE, BEHIND, (MOVING, b""), 0, "cut at 1\n", ""),
     Case("", LANE, plan(), (), 0, "cut at 0\n", ""),
     Case("--without 0", LANE, plan("1 0 e"), (MOVING,), 0, f"freed 1 0 2 0\n{DRIVEN}", ""),
-    Case("--without 0 --number new", LANE, BEHIND, (MOVING + STANDING, b""), 0, f"freed 2 0\nagent 0 was 1\n{DRIVEN}", ""),
+    Case("--without 0", LANE, BEHIND, (MOVING + STANDING, b""), 0, f"freed 2 0\nagent 0 was 1\n{DRIVEN}", ""),
     Case("--without 1", LANE, BEHIND, (MOVING, b"\x51" * 10), 0, f"freed unknown Damaged 0\n{DRIVEN}", ""),
     Case("--without 1", SQUARE, TURN, (b"",) * 4, 0, f"freed 1 0\nagent 1 was 2\nagent 2 was 3\n{DRIVEN}", ""),
     Case("", LANE, BEHIND, (MOVING, None), 1, "", "handover: 1.tape: NoTape\n"),
@@ -141,7 +141,10 @@ CASES = (
     Case("", "no map", BEHIND, BOTH, 1, "", "handover: M: mapf: BadHeader 1\n"),
 )
 # Words that are no call.
-BAD_LINES = ("--number 8", "--number new --without", "--without -1", "--without 65536", "--without x", "--without 0 --number 4294967296", "--without 0 --number -1", f"--without 0 --number {0:020}4294967296")
+BAD_LINES = (
+    *("--number 8", "--number 8 --without", "--without 0 --number new", "--without -1", "--without 65536", "--without x"),
+    *("--without 0 --number 4294967296", "--without 0 --number -1", f"--without 0 --number {0:020}4294967296"),
+)
 
 
 def by_hand(harness: Harness) -> Iterator[Outcome]:
@@ -184,17 +187,15 @@ def bad_lines(harness: Harness) -> Iterator[Outcome]:
 
 
 def in_use(harness: Harness) -> Iterator[Outcome]:
-    """Nothing is made without an agent while another one, or itself, may still store."""
+    """Nothing is made while an agent may still store."""
     folder = harness.folder({"M": LANE.encode(), "P": BEHIND.encode(), "0.tape": b"", "1.tape": b""})
     words = [str(harness.program), "agent", "M", "P", "1", "1.tape"]
     with subprocess.Popen(words, cwd=folder, stdin=subprocess.PIPE, stdout=subprocess.PIPE) as process:
         process.stdout.readline()
-        for gone in ("0", "1"):
-            it = handed(harness, folder, "--without", gone)
+        for words in ((), ("--without", "0"), ("--without", "1")):
+            it = handed(harness, folder, *words)
             due = (1, "", "handover: 1.tape: it is in use, and all agents have to be stopped\n", {})
-            yield compared(f"without {gone} while agent 1 lives", it.ran, (it.status, it.out, it.err, it.files), due)
-        it = handed(harness, folder)
-        yield compared("a cut while agent 1 lives", it.ran, (it.status, it.out, it.err, sorted(it.files)), (0, "cut at 0\n", "", sorted(CUT)))
+            yield compared(f"{' '.join(words) or 'a cut'} while agent 1 lives", it.ran, (it.status, it.out, it.err, it.files), due)
         process.stdin.close()
     it = handed(harness, folder, "--without", "0")
     yield compared("when it has ended", it.ran, (it.status, it.out), (0, f"freed 1 0\nagent 0 was 1\n{DRIVEN}"))

@@ -18,6 +18,7 @@ import boxes
 import campaign
 import lone_robots
 import networking
+import robot_faults
 import watching
 from failing_agents import Chances, failing_program
 from harness import LONGEST, ROOT, Ended, Harness, Outcome, compared, shown, side_by_side
@@ -364,8 +365,8 @@ def bad_calls(harness: Harness, taken: int) -> Iterator[tuple[str, list[str], in
         ("no link", robot(), 2, "either --listen or --broker is wanted"),
         ("no peers", robot("--listen", "127.0.0.1:9"), 2, "--listen goes with either --peers or --group"),
         ("no address", robot("--listen", "127.0.0.1", "--peers", ""), 2, "is no HOST:PORT"),
-        ("no folder for its box", robot(*free, "--box", "no/box"), 3, "robot 0: no/box: No such file or directory"),
-        ("a box on a full disk", robot(*free, "--box", "/dev/full"), 3, "robot 0: /dev/full: No space left on device"),
+        ("no size of a box", robot(*free, "--box-size", "999"), 2, "'999' is no number of bytes from 1000 on"),
+        ("a size of no box", robot(*free, "--box-size", "1000"), 2, "--box-size goes with --box"),
         ("no program", [*robot(*free), "--program", "./no"], 3, "robot 0: ./no: No such file or directory"),
         ("no agent", [word if word != "0" else "2" for word in robot(*free)], 1, "robot 2: its agent doesn't start (status 1)"),
         ("a tape that is none", [word if word != "tape" else "torn" for word in robot(*free)], 1, "robot 0: its agent doesn't start (status 1)"),
@@ -376,7 +377,7 @@ def bad_calls(harness: Harness, taken: int) -> Iterator[tuple[str, list[str], in
         ("more robots than agents", [*robots, "--robots", "13"], 3, "there are 12 agents, and 13 were due"),
         ("no such link", [*robots, "--link", "post"], 2, "invalid choice: 'post'"),
         ("no cables", [*robots, "--cuts", "1"], 2, "there are no cables here"),
-        ("no number of a plan", [*robots, "--number", f"{0:020}4294967296"], 2, "a number below 4294967296 is wanted"),
+        ("no number of a plan", [*robots, "--number", f"{0:020}4294967296"], 2, "is no number up to 4294967295"),
     )
     python = with_paho()
     if python:
@@ -450,7 +451,7 @@ def outcomes(harness: Harness) -> Iterator[Outcome]:
     numbers = (signal.SIGTERM, signal.SIGINT, signal.SIGHUP) if harness.is_long else (signal.SIGTERM,)
     signals = [functools.partial(of_a_signal, harness, number) for number in numbers]
     lone = lone_robots.tests(harness, free_port)
-    others = [*lone, *networking.tests(harness), *watching.tests(harness), *boxes.tests(harness)]
+    others = [*lone, *robot_faults.tests(harness, free_port), *networking.tests(harness), *watching.tests(harness), *boxes.tests(harness)]
     tests = [*of_udp(harness), *of_mqtt(harness), *alone, *signals, *others]
     # Robots wait most of their time, so twice as many of these tests as of others run at once.
     yield from side_by_side(functools.partial(collected, tests[place::2]) for place in (0, 1))

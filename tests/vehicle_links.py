@@ -6,6 +6,7 @@ from typing import Any, Iterator, Optional
 
 from harness import Harness, Outcome, compared
 from vehicle_rules import HEAD, IDENTITY, Message
+from alarms import Alarms
 from assignment import Assignment, Refused
 from contact import Contact
 from frame import Frame, Point
@@ -102,6 +103,13 @@ class Body:
         return {**HEAD, **named, **moves, "nodeStates": order.nodes, "edgeStates": order.edges}
 
 
+class Unheard(Alarms):
+    """Nobody is told."""
+
+    def say(self, what: str) -> None:
+        pass
+
+
 class World:
     """Between the two is a broker: what one has sent is on its way to it, and then from it to the other."""
 
@@ -118,7 +126,7 @@ class World:
         route = Route(self.cells, FRAME, "map", 7, 3)
         link: Any = self
         tape: Any = self.tape
-        return Pilot(route, tape, Contact(IDENTITY, link, lambda _: None), (AHEAD, HORIZON), lambda _: None)
+        return Pilot(route, tape, Contact(IDENTITY, link, lambda _: None), (AHEAD, HORIZON), Unheard("vehicle"))
 
     def publish(self, post: Post, **_: Any) -> None:
         self.to_broker.append((post.topic.split("/")[-1], post.payload))

@@ -1,5 +1,6 @@
 """Master controls of examples/vda5050 with few vehicles on a row of cells: an operator's commands, several masters, and vehicles that may not drive."""
 import functools
+import json
 import os
 import signal
 import subprocess
@@ -7,8 +8,9 @@ import sys
 from typing import Any, Callable, Iterator, Sequence
 
 import vehicle_messages
-from harness import ROOT, Harness, Outcome, compared
+from harness import ROOT, Harness, Outcome, compared, put_program
 from processes import wait_until
+from robot_faults import FULL, RESTS
 from robots import Broker
 
 VDA = ROOT / "examples" / "vda5050"
@@ -120,7 +122,8 @@ def of_commands(stage: Stage) -> list[Outcome]:
 
 
 def of_a_renamed_plan(stage: Stage) -> list[Outcome]:
-    """The plan is given out in two pieces: vehicles that drive by the first one go on by the whole, with the orders that they have."""
+    """The plan is given out in two pieces: vehicles that drive by the first one go on by the whole, with the orders that they have. Bad plans that
+    come between are told of, and stop nobody."""
     plan, whole = stage.folder / "run.plan", stage.folder / "whole.plan"
     plan.rename(whole)
     first = stage.harness.mapf(["cut", "row.map", "whole.plan", "4"], folder=stage.folder).out
@@ -131,12 +134,16 @@ def of_a_renamed_plan(stage: Stage) -> list[Outcome]:
     # So none has an order up to the end of the first piece before the second one is there.
     stage.master("fleet", "--ahead", "0")
     found: list[object] = [wait_until(lambda: all(stage.orders(agent) for agent in (0, 1)))]
+    for count, text in enumerate((first[:-9], first.replace(b"number 5050", b"number 5051"), PLAN.replace(b"0 0 eeeeeee", b"0 0 -eeeeeee")), 1):
+        (stage.folder / "bad.plan").write_bytes(text)
+        (stage.folder / "bad.plan").rename(plan)
+        found.append(wait_until(lambda: stage.said("fleet").count("isn't taken, and the plan before it goes on: ") == count))
     whole.rename(plan)
     found.append(wait_until(lambda: [it["lastNodeId"] for it in stage.states()] == ["8-0", "7-0"], 30))
     found.append(stage.have_arrived("fleet"))
     found.append([len({it["orderId"] for it in stage.orders(agent)}) for agent in (0, 1)])
     ran = f"a plan in two pieces; the master said {stage.said('fleet')[-600:]!r}"
-    return [compared("a plan in two pieces", ran, found, [True, True, True, [1, 1]]), *stage.judged("a plan in two pieces", "first.plan")]
+    return [compared("a plan in two pieces", ran, found, [True] * 6 + [[1, 1]]), *stage.judged("a plan in two pieces", "first.plan")]
 
 
 def of_two_masters(stage: Stage) -> list[Outcome]:
@@ -178,6 +185,86 @@ def of_a_large_vehicle(stage: Stage) -> list[Outcome]:
     return [compared("a vehicle in small cells", ran, (told, went), (True, False))]
 
 
+# A vehicle that fails whatever it is asked, and says the state and the connection that its input has, a line of JSON each.
+ODD = """
+import json, sys
+import paho.mqtt.client as mqtt
+port, name = int(sys.argv[1]), sys.argv[2]
+client = mqtt.Client(*([mqtt.CallbackAPIVersion.VERSION2] if hasattr(mqtt, "CallbackAPIVersion") else []))
+head = {"headerId": 0, "timestamp": "2026-01-01T00:00:00.000Z", "version": "2.0.0", "manufacturer": "maker", "serialNumber": name}
+state = {"orderId": "", "orderUpdateId": 0, "lastNodeId": "", "lastNodeSequenceId": 0, "nodeStates": [], "edgeStates": [], "actionStates": [],
+         "driving": False, "batteryState": {"batteryCharge": 80.0, "charging": False}, "operatingMode": "AUTOMATIC", "errors": [], "information": [],
+         "safetyState": {"eStop": "NONE", "fieldViolation": False},
+         "agvPosition": {"x": 0.5, "y": 0.5, "theta": 0.0, "mapId": "row", "positionInitialized": True}}
+def say(kind, message):
+    client.publish(f"uagv/v2/maker/{name}/{kind}", json.dumps({**head, **message}), qos=1, retain=kind == "connection").wait_for_publish()
+def take(client, data, message):
+    for it in json.loads(message.payload)["actions"]:
+        state["actionStates"].append({"actionId": it["actionId"], "actionType": it["actionType"], "actionStatus": "FAILED"})
+    client.publish(f"uagv/v2/maker/{name}/state", json.dumps({**head, **state}))
+client.on_message = take
+client.connect("127.0.0.1", port)
+client.subscribe(f"uagv/v2/maker/{name}/instantActions")
+client.loop_start()
+for line in sys.stdin:
+    given = json.loads(line)
+    if "connectionState" in given:
+        say("connection", given)
+    else:
+        state.update(given)
+        say("state", state)
+"""
+
+
+def of_a_vehicle_that_stands(stage: Stage) -> list[Outcome]:
+    """Why a vehicle stands is told when it begins, each time, whether more could be released or not."""
+    command = [stage.python, "-c", ODD, str(stage.broker.port), "v1"]
+    stage.running["odd"] = subprocess.Popen(command, cwd=stage.folder, stdin=subprocess.PIPE, stderr=subprocess.DEVNULL)
+    stage.vehicle(0)
+    stage.master()
+    wrote: list[object] = []
+
+    def tell(what: dict[str, Any], alarm: str, count: int = 1) -> None:
+        """The alarm comes once more."""
+        stage.running["odd"].stdin.write(f"{json.dumps(what)}\n".encode())
+        stage.running["odd"].stdin.flush()
+        wrote.append(wait_until(lambda: stage.said("fleet").count(f"master: vehicle 1: {alarm}\n") == count))
+
+    tell({"connectionState": "ONLINE"}, "it answers stateRequest with FAILED")
+    stops, runs = ({"safetyState": {"eStop": it, "fieldViolation": False}} for it in ("MANUAL", "NONE"))
+    tell(stops, "its emergency stop is pressed")
+    tell({**runs, "operatingMode": "MANUAL"}, "its mode is MANUAL")
+    tell({"connectionState": "CONNECTIONBROKEN"}, "it is offline")
+    tell({"connectionState": "ONLINE"}, "its mode is MANUAL", 2)
+    tell({**stops, "operatingMode": "AUTOMATIC"}, "its emergency stop is pressed", 2)
+    lines = [line for line in stage.said("fleet").splitlines() if "vehicle 1" in line]
+    return [compared("a vehicle that stands", f"the master said {stage.said('fleet')[-900:]!r}", (wrote, len(lines)), ([True] * 6, 6))]
+
+
+def of_a_full_disk(stage: Stage) -> list[Outcome]:
+    """Records that can't be stored are told of once, and tried again behind longer and longer rests."""
+    full, program = stage.folder / "full", stage.folder / "mapf"
+    full.touch()
+    put_program(program, FULL.format(python=sys.executable, program=stage.program, full=str(full)))
+    stage.program = str(program)
+    for agent in (0, 1):
+        stage.vehicle(agent)
+    stage.master()
+    box = stage.folder / "0.box"
+
+    def times(word: str) -> list[float]:
+        lines = box.read_text(encoding="ascii").splitlines() if box.exists() else []
+        return [line["clock"] for line in map(json.loads, lines) if word in line]
+
+    wait_until(lambda: len(times("started")) > len(RESTS))
+    rests = [start - end >= least for end, start, least in zip(times("ended"), times("started")[1:], RESTS)]
+    full.unlink()
+    told = stage.said("fleet").count("vehicle 0: its tape can't be stored (refused StoreFailed); it stands, and tries again\n")
+    found = (rests, told, stage.have_arrived("fleet"))
+    ran = f"a full disk, of which the master said {stage.said('fleet')[-600:]!r}"
+    return [compared("a master's full disk", ran, found, ([True] * len(RESTS), 1, True)), *stage.judged("a master's full disk")]
+
+
 def of_a_stage(harness: Harness, test: Callable[[Stage], list[Outcome]], python: str, program: str) -> list[Outcome]:
     stage = Stage(harness, python, program)
     try:
@@ -187,5 +274,5 @@ def of_a_stage(harness: Harness, test: Callable[[Stage], list[Outcome]], python:
 
 
 def tests(harness: Harness, python: str, program: str) -> Iterator[Callable[[], Sequence[Outcome]]]:
-    for test in (of_commands, of_a_renamed_plan, of_two_masters, of_a_vehicle_elsewhere, of_a_large_vehicle):
+    for test in (of_commands, of_a_renamed_plan, of_two_masters, of_a_vehicle_elsewhere, of_a_large_vehicle, of_a_vehicle_that_stands, of_a_full_disk):
         yield functools.partial(of_a_stage, harness, test, python, program)

@@ -1,8 +1,9 @@
 #!/usr/bin/env python3
 """Converts what planners write to a plan, `mapf-plan 1`, and back. docs/CONVERTING.md says more.
 
-Usage: convert.py FILE [-o PLAN] [--from FORMAT] [--map MAP] [--scen SCEN] [--number N|new]
+Usage: convert.py FILE [-o PLAN] [--from FORMAT] [--map MAP] [--scen SCEN] [--number N]
                        [--fill-waits]
+       convert.py PLAN [-o PLAN] [--map MAP] [--scen SCEN] [--number N]
        convert.py PLAN --to FORMAT [-o FILE] [--map MAP] [--scen SCEN]
        convert.py MAP [-o MAP]
        convert.py --help-format FORMAT
@@ -13,6 +14,9 @@ plan, and never passes off another one. With --scen, starts have to be those of 
 row k is of agent k. What a planner did wrong, as a goal that is missed or a cell off the map, is
 converted and said: `mapf check` rejects it.
 
+A plan without --to is the same plan under another number. Each number is drawn, unless --number
+fixes it: a plan that robots drive needs one that no run had before.
+
 A map of the League of Robot Runners becomes one of MovingAI: its emitters and stations (E, S) are
 free cells.
 
@@ -22,7 +26,6 @@ Status 0: done. 1: a text has a fault, told in one line as `FILE:LINE: what is w
 import argparse
 import contextlib
 import pathlib
-import secrets
 import shutil
 import sys
 from typing import Optional, Sequence
@@ -30,19 +33,18 @@ from typing import Optional, Sequence
 sys.dont_write_bytecode = True
 import canonical  # noqa: E402
 import path_check  # noqa: E402
-from given import number_in  # noqa: E402
+from given import plan_number  # noqa: E402
 from leaving import heed_signals  # noqa: E402
 from mapf.faults import Failed  # noqa: E402
+from mapf.numbers import drawn_number  # noqa: E402
 from mapf.program import Program, usual_program  # noqa: E402
 from plan_formats import HEAD, Format, formats, guess, league_map, mapf_plan, page_of  # noqa: E402
 from plan_formats.texts import text_of  # noqa: E402
-from plan_formats.walks import MOST_NUMBER, Fault, Found, Given, Task, Walk, difference, moved, padded  # noqa: E402
+from plan_formats.walks import Fault, Found, Given, Task, Walk, difference, moved, padded  # noqa: E402
 from refused import Refused  # noqa: E402
 from whole_file import Draft, draft  # noqa: E402
 
 REFUSED, BAD_LINE, FAILED = 1, 2, 3
-# In place of a number: one that nobody had before.
-NEW = "new"
 
 
 class BadLine(Exception):
@@ -59,15 +61,6 @@ def tell(line: str) -> None:
 
 def say(text: str) -> None:
     tell(f"convert: {text}")
-
-
-def number(word: str) -> int:
-    if word == NEW:
-        return secrets.randbelow(MOST_NUMBER + 1)
-    found = number_in(word, MOST_NUMBER)
-    if found is None:
-        raise argparse.ArgumentTypeError(f"a number from 0 to {MOST_NUMBER} or '{NEW}' is wanted, and '{word[:40]}' is neither")
-    return found
 
 
 class FormatHelp(argparse.Action):
@@ -95,13 +88,13 @@ class FormatHelp(argparse.Action):
 def read_words(words: Sequence[str]) -> argparse.Namespace:
     names = list(formats())
     parser = argparse.ArgumentParser(prog="convert.py", description=__doc__, formatter_class=argparse.RawDescriptionHelpFormatter)
-    parser.add_argument("file", metavar="FILE", help="what a planner wrote, or with --to a plan")
+    parser.add_argument("file", metavar="FILE", help="what a planner wrote, or a plan")
     parser.add_argument("-o", "--output", type=pathlib.Path, metavar="FILE", help="where the text goes (standard output)")
     parser.add_argument("--from", dest="source", choices=names, metavar="FORMAT", help=f"what FILE is: {', '.join(names)} (guessed by its beginning)")
     parser.add_argument("--to", choices=names, metavar="FORMAT", help="converts a plan to this format")
     parser.add_argument("--map", metavar="MAP", help="the map of the plan; what it doesn't allow is said")
     parser.add_argument("--scen", metavar="SCEN", help="the scenario that the plan is to solve")
-    parser.add_argument("--number", type=number, metavar="N", help=f"the plan's number, or {NEW}: one that is drawn, for a plan to drive (CRC-32 of its text with number 0)")
+    parser.add_argument("--number", type=plan_number, metavar="N", help="the plan's number (one that is drawn)")
     parser.add_argument("--fill-waits", action="store_true", help="an agent waits at times that a schedule leaves out")
     parser.add_argument("--program", type=pathlib.Path, default=usual_program(), metavar="PATH", help="the program mapf (that of this checkout)")
     page = "shows what is to be known of a format, and ends"
@@ -186,8 +179,6 @@ def format_of(given: argparse.Namespace, text: bytes, context: Given) -> Format:
 
 def to_plan(given: argparse.Namespace, data: bytes, context: Given) -> None:
     text = text_of(data)
-    if mapf_plan.begins(text[:HEAD]) and not given.source:
-        raise Fault(1, "the text is a plan already, another format was due, or --to")
     chosen = format_of(given, text, context)
     walks = chosen.read(text, context)
     hold_tasks(given, walks, context.tasks)
@@ -200,12 +191,27 @@ def to_plan(given: argparse.Namespace, data: bytes, context: Given) -> None:
     say(f"{len(walks)} agents, {sum(len(walk.acts) for walk in walks)} acts")
 
 
-def from_plan(given: argparse.Namespace, data: bytes, context: Given) -> None:
-    chosen = formats()[given.to]
+def read_plan(given: argparse.Namespace, data: bytes, context: Given) -> list[Walk]:
     # A plan has one spelling: no line end but LF.
     text_of(data)
     walks = mapf_plan.read(data, context)
     hold_tasks(given, walks, context.tasks)
+    return walks
+
+
+def renumber(given: argparse.Namespace, data: bytes, context: Given) -> None:
+    """Writes a plan under another number."""
+    walks = read_plan(given, data, context)
+    number = drawn_number() if given.number is None else given.number
+    with draft(mapf_plan.write(walks, number), given.output) as made:
+        hold_plan(given, str(made.path), walks)
+        give(made, given.output)
+    say(f"{given.file} is a plan, and has the number {number} now")
+
+
+def from_plan(given: argparse.Namespace, data: bytes, context: Given) -> None:
+    chosen = formats()[given.to]
+    walks = read_plan(given, data, context)
     # What was read is held against the cells, whatever becomes of the file meanwhile.
     with draft([data.decode()], None) as copy:
         hold_plan(given, str(copy.path), walks)
@@ -238,7 +244,8 @@ def convert(given: argparse.Namespace) -> None:
     size = canonical.map_size(program, given.map) if given.map is not None else ()
     tasks = canonical.tasks(program, given.scen) if given.scen is not None else None
     context = Given(*size, has_map=bool(size), tasks=tasks, fills_waits=given.fill_waits)
-    (from_plan if given.to else to_plan)(given, data, context)
+    is_plan = not given.source and not given.fill_waits and mapf_plan.begins(data[:HEAD])
+    (from_plan if given.to else renumber if is_plan else to_plan)(given, data, context)
 
 
 def main(words: Sequence[str]) -> int:

@@ -2,6 +2,9 @@
 import argparse
 from typing import Optional
 
+# How many numbers a plan may have.
+NUMBERS = 1 << 32
+
 
 def number_in(word: str, most: int) -> Optional[int]:
     """The number that digits alone give, with any leading zeros; None where a word is no such number, or one above the most."""
@@ -18,3 +21,8 @@ def number_up_to(word: str, most: int) -> int:
     if found is None:
         raise argparse.ArgumentTypeError(f"{word[:40]!r} is no number up to {most}")
     return found
+
+
+def plan_number(word: str) -> int:
+    """The number of a plan."""
+    return number_up_to(word, NUMBERS - 1)

@@ -2,17 +2,17 @@
 """Writes what is to be planned anew for a fleet that was stopped, by the tapes of its agents.
 
 Usage: handover.py MAP PLAN TAPES FOLDER [--program PATH]
-       handover.py MAP PLAN TAPES FOLDER --without I [--number N|new] [--program PATH]
+       handover.py MAP PLAN TAPES FOLDER --without I [--number N] [--program PATH]
 
-TAPES is the name of the agents' tapes, with % for an agent's number, as for `mapf status`. In FOLDER,
-which is made where it isn't there, are then:
+TAPES is the name of the agents' tapes, with % for an agent's number, as for `mapf status`. All agents
+have to be stopped: a tape that is in use is refused. In FOLDER, which is made where it isn't there,
+are then:
 
   cut.plan    the plan behind which all that was begun has ended, by `mapf handover`: agents go on by
               it, and then by any plan that goes on from it
   cut.scen    a row for each agent, from where the cut leaves it to where the plan ends
 
-With --without agent I is taken off the floor, and its tape may be lost. All agents have to be
-stopped: a tape that is in use is refused. In FOLDER are then:
+With --without agent I is taken off the floor, and its tape may be lost. In FOLDER are then:
 
   others.plan what is left of the plan for the others, by `mapf anew`, under a new number
   others.scen a row for each of them, from where it stands to where the plan ends
@@ -31,17 +31,15 @@ import decimal
 import fcntl
 import os
 import pathlib
-import secrets
 import sys
 import tempfile
-from typing import Iterator, Optional, Sequence
+from typing import Iterator, Sequence
 
 sys.dont_write_bytecode = True
 import mapf  # noqa: E402
-from given import number_up_to  # noqa: E402
+from given import number_up_to, plan_number  # noqa: E402
 from leaving import heed_signals  # noqa: E402
 from mapf.program import Program, files, usual_program  # noqa: E402
-from plan_formats.walks import MOST_NUMBER  # noqa: E402
 from refused import Refused  # noqa: E402
 from showing.program import copied  # noqa: E402
 from whole_file import Draft, draft  # noqa: E402
@@ -50,15 +48,8 @@ Cell = tuple[int, int]
 # A start and a goal.
 Task = tuple[Cell, Cell]
 MOST_AGENT = 65_535
-# In place of a number: one that nobody had before.
-NEW = "new"
 # How a listed length is written.
 DECIMALS = 8
-
-
-def number(word: str) -> Optional[int]:
-    """A number, or none for one that is to be drawn."""
-    return None if word == NEW else number_up_to(word, MOST_NUMBER)
 
 
 def agent(word: str) -> int:
@@ -72,7 +63,7 @@ def read_words(words: Sequence[str]) -> argparse.Namespace:
     parser.add_argument("tapes", metavar="TAPES", help="the files of their tapes, with %% for an agent's number")
     parser.add_argument("folder", type=pathlib.Path, metavar="FOLDER", help="where the files go")
     parser.add_argument("--without", type=agent, metavar="I", help="this agent is taken off the floor")
-    parser.add_argument("--number", type=number, metavar="N", help=f"the number of the plan of the others, or {NEW}: one that is drawn (new)")
+    parser.add_argument("--number", type=plan_number, metavar="N", help="the number of the plan of the others (one that is drawn)")
     parser.add_argument("--program", type=pathlib.Path, default=usual_program(), metavar="PATH", help="the program mapf (that of this checkout)")
     given = parser.parse_args(words)
     if given.number is not None and given.without is None:
@@ -123,16 +114,8 @@ class Stopped:
 
     def others(self) -> str:
         """The plan of all but one."""
-        own = self.given.number
         with self.blamed():
-            while True:
-                number = secrets.randbelow(MOST_NUMBER + 1) if own is None else own
-                try:
-                    return mapf.anew(self.map, self.plan, self.given.tapes, number, without=self.given.without, program=self.program)
-                except mapf.Fault as fault:
-                    # One that is drawn may be that of the plan.
-                    if own is not None or fault.name != "SameNumber":
-                        raise
+            return mapf.anew(self.map, self.plan, self.given.tapes, self.given.number, without=self.given.without, program=self.program)
 
     def hold_stopped(self, agents: int) -> None:
         """Refuses a tape that an agent holds: by what it stores next all that is written would be false."""
@@ -199,6 +182,7 @@ def tasks_of(plan: str) -> list[Task]:
 def hand_over(fleet: Stopped, folder: pathlib.Path) -> list[str]:
     """The cut, and what is left of it to be planned."""
     cut = fleet.cut()
+    fleet.hold_stopped(len(tasks_of(cut)))
     ends = tasks_of(pathlib.Path(fleet.plan).read_text(encoding="ascii"))
     tasks = [(start, end) for (_, start), (_, end) in zip(tasks_of(cut), ends)]
     folder.mkdir(exist_ok=True)

@@ -1,7 +1,7 @@
 #!/usr/bin/env python3
 """Plans the first agents of a scenario at the least sum of costs, and writes why no valid plan costs less.
 
-Usage: prove.py MAP SCEN AGENTS -o PLAN PROOF [--seconds N] [--disjoint]
+Usage: prove.py MAP SCEN AGENTS -o PLAN PROOF [--seconds N] [--disjoint] [--number N]
 
 A conflict-based search: each agent's walk is the least under what is asked of it, and where two walks conflict, the search goes on twice,
 and asks one of the two agents for something else each time. With `--disjoint` it asks one agent to be there, or not to be. What it tried is
@@ -25,6 +25,7 @@ from typing import Iterator, NamedTuple, Optional, Sequence
 
 sys.dont_write_bytecode = True
 sys.path.append(str(pathlib.Path(__file__).resolve().parent.parent / "examples" / "fleet"))
+from given import plan_number  # noqa: E402
 from ground import BadMap, Cell, Ground, Walk, at, traced  # noqa: E402
 from plan_formats import mapf_plan  # noqa: E402
 from plan_formats.walks import walk_of  # noqa: E402
@@ -281,6 +282,7 @@ def main(words: Sequence[str]) -> int:
     parser.add_argument("-o", dest="out", nargs=2, type=pathlib.Path, metavar=("PLAN", "PROOF"), required=True, help="where plan and proof go")
     parser.add_argument("--seconds", type=float, default=60.0, metavar="N", help="how long it is searched (60)")
     parser.add_argument("--disjoint", action="store_true", help="asks one agent to be somewhere, or not to be")
+    parser.add_argument("--number", type=plan_number, metavar="N", help="the number of the plan (one that is drawn)")
     given = parser.parse_args(words)
     try:
         ground = Ground(given.map.read_text(encoding="latin-1"))
@@ -292,7 +294,7 @@ def main(words: Sequence[str]) -> int:
     plan, proof = given.out
     proof.write_text(planning.proof(), encoding="ascii")
     if walks:
-        plan.write_text("".join(mapf_plan.write([walk_of(walk) for walk in walks])), encoding="ascii")
+        plan.write_text("".join(mapf_plan.write([walk_of(walk) for walk in walks], given.number)), encoding="ascii")
     is_best = walks is not None and cost_of(walks) == planning.bound()
     cost = f" cost {cost_of(walks)}" if walks else ""
     print(f"{'optimal' if is_best else f'bound {planning.bound()}'}{cost} nodes {planning.count}")

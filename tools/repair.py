@@ -7,7 +7,7 @@ In a rotation some agents go round in one step, each into the cell that the next
 that wait for each other never begin it. Agents of a rotation are planned anew among the others: one
 or two, whichever costs least more, or all of them with some that are near, in the first order in
 which all find a walk; until there is no rotation. The result is written once `mapf check --no-rotation` has
-accepted it for the same starts and ends, never else. Its number is `--number`, or made of the plan.
+accepted it for the same starts and ends, never else. Its number is `--number`, or one that is drawn.
 
 Status 0: written. 1: the plan has a fault, told in the line of `mapf`; or no plan without a rotation
 was found within the time, or there is none, as all moves were tried. 2: a bad command line. 3: a
@@ -21,13 +21,13 @@ import time
 from typing import Sequence
 
 sys.dont_write_bytecode = True
-from given import number_up_to  # noqa: E402
+from given import plan_number  # noqa: E402
 from ground import Ground  # noqa: E402
 from leaving import heed_signals  # noqa: E402
 from mapf.faults import Failed  # noqa: E402
 from mapf.program import Program, usual_program  # noqa: E402
 from plan_formats import mapf_plan  # noqa: E402
-from plan_formats.walks import MOST_NUMBER, Given, Walk, walk_of  # noqa: E402
+from plan_formats.walks import Given, Walk, walk_of  # noqa: E402
 from progress import Progress  # noqa: E402
 from refused import Refused  # noqa: E402
 from repairing.exhausting import is_there_none  # noqa: E402
@@ -37,10 +37,6 @@ from showing.program import answer, copied, refuse  # noqa: E402
 from whole_file import draft  # noqa: E402
 
 
-def number(word: str) -> int:
-    return number_up_to(word, MOST_NUMBER)
-
-
 def read_words(words: Sequence[str]) -> argparse.Namespace:
     parser = argparse.ArgumentParser(prog="repair.py", description=__doc__, formatter_class=argparse.RawDescriptionHelpFormatter)
     parser.add_argument("map", metavar="MAP", help="the map of the plan")
@@ -48,7 +44,7 @@ def read_words(words: Sequence[str]) -> argparse.Namespace:
     parser.add_argument("-o", "--output", type=pathlib.Path, metavar="PLAN", required=True, help="where the plan goes")
     parser.add_argument("--seconds", type=float, default=60.0, metavar="N", help="how long it is tried (60)")
     parser.add_argument("--seed", type=int, default=0, metavar="N", help="another one may find other walks (0)")
-    parser.add_argument("--number", type=number, metavar="N", help="the number of the plan")
+    parser.add_argument("--number", type=plan_number, metavar="N", help="the number of the plan (one that is drawn)")
     parser.add_argument("--program", type=pathlib.Path, default=usual_program(), metavar="PATH", help="the program mapf (that of this checkout)")
     return parser.parse_args(words)
 

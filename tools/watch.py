@@ -7,11 +7,13 @@ TAPES is the name of the tapes, with `%` for the agent's number, as `mapf status
 asked once, or with --live again and again, until all have arrived. On a terminal what is told is
 drawn anew in place; else each line is written once, behind the time of day, until it changes.
 
-An alarm is a rotation that blocks, a tape that has fewer records than it had, and that nothing
-moves for --alarm SECONDS while not all have arrived. BOXES, with `%` too, are the black boxes of
-robots (`robot.py --box`): who hasn't written there for --silent SECONDS is told. --page FILE is a
-page for a browser, which shows where all are and who waits for whom, and comes anew by itself. With
---metrics this machine can ask http://127.0.0.1:PORT/metrics for the same as gauges of Prometheus.
+An alarm is a rotation that blocks, a tape that has fewer records than it had or has disappeared,
+and tapes that aren't of one run or whose plans don't go on from one another. It is an alarm too that
+for --alarm SECONDS nothing moves while not all have arrived, or a root doesn't move. BOXES, with `%`
+too, are the black boxes of robots (`robot.py --box`): who hasn't written there for --silent SECONDS
+is told. --page FILE is a page for a browser, which shows where all are and who waits for whom, and
+comes anew by itself. With --metrics this machine can ask http://127.0.0.1:PORT/metrics for the same
+as gauges of Prometheus.
 
 Status 0: all have arrived, or without --live nothing is wrong. 1: there is an alarm, which ends it
 without --live or with --alarm-ends; or without --live a tape that can't be taken; or the map or the
@@ -83,7 +85,7 @@ def read_words(words: Sequence[str]) -> argparse.Namespace:
     parser.add_argument("--alarm-ends", action="store_true", help="ends at an alarm, with status 1")
     for name, usual, about in (
         ("every", 1.0, "looks each so many seconds"),
-        ("alarm", 30.0, "it is an alarm that nothing moves for so long"),
+        ("alarm", 30.0, "it is an alarm that nothing moves, or a root, for so long"),
         ("silent", 10.0, "tells who hasn't reported for so long"),
     ):
         parser.add_argument(
@@ -121,7 +123,7 @@ class Watch:
         files = Files(given.map, given.plan, given.tapes, given.boxes)
         program, title = Program(given.program), f"{given.map} {given.plan}"
         self.given, self.limits = given, Limits(given.alarm, given.silent)
-        self.looks, self.screen = Looks(files, program), screen_of(given.live, title)
+        self.looks, self.screen = Looks(files, program, given.live), screen_of(given.live, title)
         self.page = Page(given.page, files, program, given.every) if given.page else None
 
     def run(self) -> int:

@@ -1,5 +1,6 @@
 """A robot's agent: the process `mapf agent` on the robot's tape."""
 import fcntl
+import os
 import subprocess
 import sys
 import time
@@ -17,12 +18,23 @@ class Ended(Exception):
     """The process has ended, by whatever, and may be started again."""
 
 
-class Unfit(Exception):
-    """The process doesn't start, and has said why. The status is its own."""
+class Unstored(Ended):
+    """A record couldn't be stored, as on a full disk."""
 
-    def __init__(self, status: int):
+    def __init__(self) -> None:
+        super().__init__(STORE_FAILED)
+
+
+class Unfit(Exception):
+    """The process doesn't start. The status is its own, and what it told says why."""
+
+    def __init__(self, status: int, told: str):
         super().__init__(f"its agent doesn't start (status {status})")
-        self.status = status
+        self.status, self.told = status, told
+
+    @property
+    def fault(self) -> str:
+        return self.told.partition("\n")[0] or str(self)
 
 
 class Stale(Exception):
@@ -57,23 +69,23 @@ class Lock:
 class Agent:
     """The process, which answers each line by one. What it is asked, and what it answers, is noted first."""
 
-    def __init__(self, words: Sequence[str], lock: Lock, note: Note = nowhere):
+    def __init__(self, words: Sequence[str], files: Sequence[int], note: Note = nowhere):
+        """The files are those that it inherits: its lock, and what its words name."""
         self.note = note
+        # What it tells when nobody reads its answers any more is of no use to anybody.
+        self.told = os.memfd_create("told")
         # It ignores the signal of a file that grows past its limit, as Python does: it is to answer that its record wasn't stored.
-        how = {"stdin": subprocess.PIPE, "stdout": subprocess.PIPE, "pass_fds": [lock.fileno()], "restore_signals": False}
+        how = {"stdin": subprocess.PIPE, "stdout": subprocess.PIPE, "stderr": self.told, "pass_fds": files, "restore_signals": False}
         self.process = subprocess.Popen(words, **how)
         try:
             note("started", self.process.pid)
             self.first = self._line()
         except Ended:
-            status = self.end()
-            if status > 0:
-                raise Unfit(status) from None
-            raise
-        except OSError:
-            # What can't be noted isn't done.
-            self.process.kill()
-            self.process.wait()
+            with open(os.dup(self.told), encoding="utf-8", errors="replace") as told:
+                status = self.end()
+                told.seek(0)
+                if status > 0:
+                    raise Unfit(status, told.read()) from None
             raise
 
     def _line(self) -> str:
@@ -106,5 +118,6 @@ class Agent:
             pass
         self.process.stdout.close()
         status = self.process.wait(seconds)
+        os.close(self.told)
         self.note("ended", status)
         return status

@@ -3,10 +3,11 @@
 
 Usage: check_boxes.py MAP PLAN BOX.. [--earlier PLAN..] [--agent N [--last N]] [--events FILE] [--program PATH]
 
-A BOX is what `robot.py --box` wrote; MAP and PLAN are the files by which the fleet was driven, with tapes that were new. All that was asked
-and answered becomes one list of events, which `mapf run` answers, and these answers have to be the agents' own. With --agent stands before
-that what one agent was asked last, what it answered, and what it held then by the rules. Where plans went on from one another, PLAN is the
-last one, and the others stand behind --earlier. By these an agent may refuse what it may do by the last one: such answers are left out.
+A BOX is what `robot.py --box` wrote; its earlier files, BOX.1, BOX.2 and so on, are read where they lie beside it. MAP and PLAN are the files by
+which the fleet was driven, with tapes that were new. All that was asked and answered becomes one list of events, which `mapf run` answers, and these
+answers have to be the agents' own. With --agent stands before that what one agent was asked last, what it answered, and what it held then by the
+rules. Where plans went on from one another, PLAN is the last one, and the others stand behind --earlier. By these an agent may refuse what it may do
+by the last one: such answers are left out.
 
 Status 0: they agree, in one line. 1: they don't; the first difference is shown whole. 2: a bad command line; or boxes that can't be read,
 don't go together, or don't fit the map and the plan. 3: another file or the program failed.
@@ -155,12 +156,12 @@ def judged(rules: Rules, history: History) -> Iterator[Judged]:
 
 
 def hold_boxes(given: argparse.Namespace, boxes: Sequence[Box], agents: int) -> None:
-    """They have to be of this map and these plans, of which not all processes have the last one."""
+    """They have to be of this map and these plans, of which not all processes have the last one. What an agent didn't take counts for nothing."""
     due = {"map": [digest(given.map)], "plan": [*map(digest, [given.plan, *given.earlier])]}
     for box in boxes:
         if box.agent >= agents:
             raise BadBox(f"{box.path}: it is of agent {box.agent}, and {given.plan} has {agents} agents")
-        for process in box.processes:
+        for process in box.opened:
             for name, values in due.items():
                 if process.about.get(name, values[0]) not in values:
                     raise BadBox(f"{box.path}: its agent was given another {name} than {getattr(given, name)}")
@@ -186,13 +187,13 @@ def shown(text: Optional[str]) -> str:
     return "no answer" if text is None else text if text.isascii() and text.isprintable() else ascii(text)
 
 
-def difference(it: Judged, path: str) -> Iterator[str]:
+def difference(it: Judged, box: Box) -> Iterator[str]:
     step, turn = it.step, it.step.turn
     if step.fault:
         yield f"agent {turn.agent} heard at {clock(turn.at)} {step.fault}: {step.digits}"
-        yield f"line {turn.line} of {path}"
+        yield box.place(turn.line)
         return
-    yield f"agent {turn.agent} differs at {clock(turn.at)}, line {turn.line} of {path}"
+    yield f"agent {turn.agent} differs at {clock(turn.at)}, {box.place(turn.line)}"
     yield f"asked      {shown(turn.asked) if turn.asked != OPENED else '(its first line)'}"
     yield f"answered   {shown(step.answer)}"
     yield f"the rules  {it.rules}"
@@ -281,7 +282,7 @@ def check(given: argparse.Namespace, folder: str) -> int:
     if not wrong:
         print(summary(boxes, agents, history))
         return 0
-    print("\n".join(difference(wrong[0], by_agent[wrong[0].step.turn.agent].path)))
+    print("\n".join(difference(wrong[0], by_agent[wrong[0].step.turn.agent])))
     if len(wrong) > 1:
         print(f"and {len(wrong) - 1} more")
     return DIFFER

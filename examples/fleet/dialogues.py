@@ -4,11 +4,13 @@ import json
 import sys
 from typing import Any, Iterator, NamedTuple, Optional, Sequence
 
+from black_box import FOLLOWS, LONGEST_HEAD, LOST, before
+
 # What the first line of a process answers.
 OPENED = ""
 # In the year 5138.
 LATEST = 1e11
-WORDS = {"started": dict, "asked": str, "answered": str, "ended": int}
+WORDS = {"started": dict, "asked": str, "answered": str, "ended": int, FOLLOWS: int, LOST: int}
 
 
 class BadBox(Exception):
@@ -30,7 +32,7 @@ class Turn:
     asked: str
     # When the answer came, or else when the line was asked.
     at: Moment
-    # The line of the box that says so.
+    # The line of the box that says so, counted through all its files.
     line: int
     answer: Optional[str] = None
     # The message that it said all the same where the answer never came, as others heard.
@@ -60,11 +62,18 @@ class Box:
     path: str
     agent: int
     processes: list[Process]
+    # Each of its files, behind so many lines of those before.
+    files: list[tuple[int, str]] = dataclasses.field(default_factory=list)
 
     @property
     def opened(self) -> list[Process]:
         """The processes that have opened the tape."""
         return [it for it in self.processes if it.first is not None]
+
+    def place(self, line: int) -> str:
+        """Where a line stands."""
+        behind, path = next(it for it in reversed(self.files) if it[0] < line)
+        return f"line {line - behind} of {path}"
 
     @property
     def calls(self) -> Iterator[Turn]:
@@ -107,12 +116,18 @@ class Reader:
         self.box: Optional[Box] = None
         # The line that is none, if the last one is.
         self.torn = 0
+        self.files: list[tuple[int, str]] = []
 
     def fault(self, line: int, what: str) -> BadBox:
-        return BadBox(f"{self.path}: line {line} {what}")
+        behind, path = next(it for it in reversed(self.files) if it[0] < line)
+        return BadBox(f"{path}: line {line - behind} {what}")
 
     def take(self, number: int, text: bytes) -> None:
         line = line_of(number, text)
+        if line and line.word == LOST:
+            raise self.fault(number, f"says that {line.value} lines before it couldn't be written")
+        if line and line.word == FOLLOWS:
+            return
         if self.torn and (line is None or line.word != "started"):
             raise self.fault(self.torn, "is no line of a box")
         # Who wrote it was killed, before anything was done with what it says: then nothing follows, or another start.
@@ -121,7 +136,7 @@ class Reader:
             self.add(line)
 
     def add(self, line: Line) -> None:
-        self.box = self.box or Box(self.path, line.agent, [])
+        self.box = self.box or Box(self.path, line.agent, [], self.files)
         if line.agent != self.box.agent:
             raise self.fault(line.number, f"is of agent {line.agent}, and those before of agent {self.box.agent}")
         if line.word == "started":
@@ -146,15 +161,24 @@ class Reader:
             last.answer, last.at, last.line = sys.intern(line.value), line.at, line.number
 
 
+def files_of(path: str) -> list[str]:
+    """The files of a box in order, by the first line of the last one."""
+    with open(path, "rb") as file:
+        count = before(file.read(LONGEST_HEAD))
+    return [*(f"{path}.{number}" for number in range(1, count + 1)), path]
+
+
 def read_box(path: str) -> Optional[Box]:
     """None of a robot that was killed before it started an agent."""
-    reader = Reader(path)
+    reader, number = Reader(path), 0
     try:
-        with open(path, "rb") as lines:
-            for number, text in enumerate(lines, 1):
-                reader.take(number, text)
+        for file in files_of(path):
+            reader.files.append((number, file))
+            with open(file, "rb") as lines:
+                for number, text in enumerate(lines, number + 1):
+                    reader.take(number, text)
     except OSError as fault:
-        raise BadBox(f"{path}: {fault.strerror}") from None
+        raise BadBox(f"{fault.filename}: {fault.strerror}") from None
     if reader.torn and not reader.box:
         raise BadBox(f"{path}: there is no line of a box")
     return reader.box

@@ -6,15 +6,23 @@ import contextlib
 import errno
 import os
 import random
+import re
 import select
 import socket
+import time
 from typing import Iterator, Optional, Protocol
+
+from alarms import Alarm
 
 Cell = tuple[int, int]
 # How long a move takes beside the drive's mean.
 FASTEST, SLOWEST = 0.7, 1.3
-# Seconds within which a drive says where it is.
-PATIENCE = 30
+# Seconds within which a drive says where it is, and after which it is asked or told again.
+PATIENCE, AGAIN = 30, 0.5
+# What a drive says: in which cell it stands, or between which two it is.
+SAID = re.compile(r"stands( \d{1,5}){2}|(goes|slipped)( \d{1,5}){4}", re.ASCII)
+# So much of what isn't understood is told.
+SHOWN = 40
 
 
 class NoDrive(Exception):
@@ -65,42 +73,62 @@ class Drive:
         self.floor.has_left(self.robot, left)
 
 
+@contextlib.contextmanager
+def naming(path: str) -> Iterator[None]:
+    """A fault of a socket names no file by itself."""
+    try:
+        yield
+    except OSError as fault:
+        raise OSError(fault.errno, fault.strerror or str(fault), path) from None
+
+
 class Wire:
     """A robot's end: it tells the watcher what its agent answered, and the drive where to go. All that robots tell comes in one queue, so
     what one says before it sends a message stands before what another says that has heard it."""
 
-    def __init__(self, path: str, robot: int):
-        self.path, self.robot, self.own = path, robot, f"{path}.{robot}"
+    def __init__(self, path: str, robot: int, alarm: Alarm):
+        self.path, self.robot, self.own, self.alarm = path, robot, f"{path}.{robot}", alarm
         self.socket = socket.socket(socket.AF_UNIX, socket.SOCK_DGRAM)
-        with contextlib.suppress(FileNotFoundError):
-            os.unlink(self.own)
-        self.socket.bind(self.own)
+        with naming(self.own):
+            with contextlib.suppress(FileNotFoundError):
+                os.unlink(self.own)
+            self.socket.bind(self.own)
 
     def fileno(self) -> int:
         return self.socket.fileno()
 
     def tell(self, text: str) -> None:
         """Comes back once it stands in the queue; nothing is lost."""
-        try:
-            self.socket.sendto(f"{self.robot} {text}".encode("ascii"), self.path)
-        except OSError as fault:
-            if fault.errno in (errno.ENOENT, errno.ECONNREFUSED, errno.ECONNRESET):
-                raise NoDrive(f"no drive is at {self.path}") from None
-            raise
+        with naming(self.path):
+            try:
+                self.socket.sendto(f"{self.robot} {text}".encode("ascii"), self.path)
+            except OSError as fault:
+                if fault.errno in (errno.ENOENT, errno.ECONNREFUSED, errno.ECONNRESET):
+                    raise NoDrive(f"no drive is at {self.path}") from None
+                raise
 
     def told(self) -> Iterator[list[str]]:
-        """What the drive has said meanwhile."""
+        """What the drive has said meanwhile. What isn't understood is no answer."""
         while True:
             try:
-                yield self.socket.recv(4096, socket.MSG_DONTWAIT).decode("ascii").split()
+                said = self.socket.recv(4096, socket.MSG_DONTWAIT)
             except BlockingIOError:
                 return
+            words = said.decode("ascii", "replace").split()
+            if SAID.fullmatch(" ".join(words)):
+                yield words
+            else:
+                self.alarm(f"the drive at {self.path} says {said[:SHOWN]!r}, which isn't understood")
 
     def where(self) -> list[str]:
-        """Asks the drive where it is. What it said before is older than its answer."""
+        """Asks the drive where it is, until that is understood. What it said before is older than its answer."""
         for _ in self.told():
             pass
         self.tell("where")
-        if not select.select([self.socket], [], [], PATIENCE)[0]:
-            raise NoDrive(f"the drive at {self.path} doesn't answer")
-        return next(self.told())
+        last = time.monotonic() + PATIENCE
+        while (left := last - time.monotonic()) > 0 and select.select([self.socket], [], [], left)[0]:
+            for words in self.told():
+                return words
+            time.sleep(AGAIN)
+            self.tell("where")
+        raise NoDrive(f"the drive at {self.path} doesn't say where it is: is it one that may write to {self.own}?")

@@ -33,7 +33,7 @@ from typing import Optional, Sequence, Union
 sys.dont_write_bytecode = True
 from black_box import note_of  # noqa: E402
 from carried_off import CarriedOff, NoNewPlan, Unanswered, plan_of_others  # noqa: E402
-from given import number_in, number_up_to  # noqa: E402
+from given import NUMBERS, number_in, number_up_to  # noqa: E402
 from lossy_link import Link  # noqa: E402
 from orders import NoPlan, Orders  # noqa: E402
 from planning import Cell  # noqa: E402
@@ -43,8 +43,6 @@ from simulated_robot import FAILED, Robot, Unfit, cell_of  # noqa: E402
 HERE = pathlib.Path(__file__).resolve().parent
 STEP_OF = {"n": (0, -1), "s": (0, 1), "e": (1, 0), "w": (-1, 0), "-": (0, 0)}
 NAMES = "0123456789abcdefghijklmnopqrstuvwxyz"
-# How many numbers a plan may have.
-NUMBERS = 1 << 32
 # The greatest number of an agent, and of orders.
 MOST = 65_535
 SAY_EACH = 5

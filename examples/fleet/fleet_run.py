@@ -112,7 +112,8 @@ class Run:
     def words_of(self, robot: int) -> list[str]:
         settings, place = self.settings, self.place
         words = [settings.python, HERE / "robot.py", settings.map, self.plan_of(robot), robot, self.tape(robot), "--drive", self.socket]
-        words += ["--every", settings.every, "--program", settings.program, *(["--tell"] if settings.tells else [])]
+        # Its tape was made for this run, and is no older one.
+        words += ["--wait", 0, "--every", settings.every, "--program", settings.program, *(["--tell"] if settings.tells else [])]
         words += ["--box", settings.boxes / f"{robot}.box"] if settings.boxes else []
         words += ["--keys", settings.keys] if settings.keys else []
         if settings.link == "mqtt":

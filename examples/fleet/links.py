@@ -2,14 +2,15 @@
 import argparse
 
 from count_file import Count
+from given import NUMBERS
 from keys import read_keys
 from letters import Link
 from link_mqtt import MqttLink
 from link_udp import UdpLink
 from signing import SignedLink, Signer, Verifier
 
-# A number of a plan has at most so many digits, and is below this one.
-DIGITS, NUMBERS = 10, 1 << 32
+# A number of a plan has at most so many digits.
+DIGITS = 10
 
 
 def number_of(plan: str) -> int:

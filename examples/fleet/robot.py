@@ -7,41 +7,50 @@ Usage: robot.py MAP PLAN ID TAPE --drive SOCKET --listen HOST:PORT (--peers HOST
 It knows its own agent, its own drive and a link on which it says what it has finished and hears what others say; it may be killed at any moment
 and started again. Its tape was made before, once, by `mapf agent MAP PLAN ID TAPE --tape new`. What arrives on the link is given to the agent alone:
 bytes that are no message of the plan are dropped, and the tenth of a kind is told, the hundredth and so on. With --keys it signs what it says, and
-drops what isn't signed. Where another plan, one that goes on from the one before, is put in the place of PLAN (by a rename), it goes over to that between
-two questions. As a service of systemd it says that it lives.
+drops what isn't signed. Before its first move it listens for a while (--wait): the others may know that its tape is an older one. As a service of
+systemd it says that it lives.
 
-Status 1: the map, the plan, the tape, the keys or the count has a fault. 2: a bad command line. 3: a file, a socket or a program failed. It ends when
-it is asked to.
+Where another plan, one that goes on from the one before, is put in the place of PLAN (by a rename), it goes over to that between two questions. Of a
+plan that its agent doesn't take it tells, and goes on with the one that it has. On a full disk it stands, and tries again.
+
+Status 1: the map, the plan, the tape, the keys or the count has a fault, or the tape is an older one. 2: a bad command line. 3: a file, a socket or a
+program failed. It ends when it is asked to.
 """
 import argparse
 import contextlib
 import dataclasses
-import os
 import random
 import selectors
 import sys
 import time
-from typing import Optional, Sequence
+from typing import Iterator, Optional, Sequence
 
 sys.dont_write_bytecode = True
 from addresses import address, addresses  # noqa: E402
-from agent import STALE_TAPE, STORE_FAILED, Agent, Ended, Lock, Stale, Unfit  # noqa: E402
+from alarms import Alarms  # noqa: E402
+from agent import STALE_TAPE, STORE_FAILED, Agent, Ended, Lock, Stale, Unfit, Unstored  # noqa: E402
 from black_box import note_of  # noqa: E402
 from count_file import BadCount  # noqa: E402
-from drive import Cell, NoDrive, Wire  # noqa: E402
+from drive import AGAIN, Cell, NoDrive, Wire  # noqa: E402
+from given import number_in  # noqa: E402
 from keys import BadKeys  # noqa: E402
 from leaving import heed_signals  # noqa: E402
 from letters import Dropped, Letter, Link  # noqa: E402
 from link_mqtt import BadCertificate, NoBroker, NoClient, Tls  # noqa: E402
 from links import link_of  # noqa: E402
+from plan_file import PlanFile  # noqa: E402
 from program import usual_program  # noqa: E402
 from service import Supervisor  # noqa: E402
 
 UNFIT, FAILED = 1, 3
+# How long the file of a black box may have to be.
+LEAST_OF_BOX, MOST_OF_BOX = 1000, 1 << 60
 # A longer message has more digits than a line of the agent may have.
 LONGEST_MESSAGE = 65_533
-# Seconds after which the drive is told again where to go, and after which an agent that has ended is started again.
-AGAIN, PAUSE = 0.5, 0.05
+# Seconds after which an agent that has ended is started again. Where its tape can't be stored they double, up to these.
+PAUSE, LONGEST_PAUSE = 0.05, 30.0
+# For so many messages of each other robot it listens before its first move: of ten one comes through, also where most are lost.
+ROUNDS = 10
 
 
 class Misplaced(Exception):
@@ -53,6 +62,13 @@ def seconds(word: str) -> float:
         if 0 <= float(word) < 1e6:
             return float(word)
     raise argparse.ArgumentTypeError(f"a number of seconds is wanted, and '{word[:40]}' is none")
+
+
+def box_size(word: str) -> int:
+    found = number_in(word, MOST_OF_BOX)
+    if found is None or found < LEAST_OF_BOX:
+        raise argparse.ArgumentTypeError(f"{word[:40]!r} is no number of bytes from {LEAST_OF_BOX} on")
+    return found
 
 
 def read_words(words: Sequence[str]) -> argparse.Namespace:
@@ -71,7 +87,9 @@ def read_words(words: Sequence[str]) -> argparse.Namespace:
     parser.add_argument("--keys", metavar="FILE", help="the keys of the fleet: signs all that it says, and hears nothing else (none)")
     parser.add_argument("--tell", action="store_true", help="says all that it knows, and not only what it has finished")
     parser.add_argument("--every", type=seconds, default=0.2, metavar="S", help="says so again after so many seconds (%(default)g)")
-    parser.add_argument("--box", default="", metavar="FILE", help="its black box; it ends where that can't be written (none)")
+    parser.add_argument("--wait", type=seconds, metavar="S", help=f"listens for so many seconds before its first move ({ROUNDS} times --every)")
+    parser.add_argument("--box", default="", metavar="FILE", help="its black box (none)")
+    parser.add_argument("--box-size", type=box_size, default=0, metavar="BYTES", help="goes on in another file where its box would get longer (never)")
     parser.add_argument("--program", default=usual_program(), metavar="PATH", help="the program mapf (%(default)s)")
     given = parser.parse_args(words)
     if (given.broker is None) == (given.listen is None):
@@ -80,7 +98,10 @@ def read_words(words: Sequence[str]) -> argparse.Namespace:
         parser.error("--listen goes with either --peers or --group")
     if given.tls and not given.broker:
         parser.error("--tls goes with --broker")
+    if given.box_size and not given.box:
+        parser.error("--box-size goes with --box")
     given.tls = given.tls and Tls(*given.tls)
+    given.wait = ROUNDS * given.every if given.wait is None else given.wait
     return given
 
 
@@ -88,28 +109,7 @@ def cell_of(words: Sequence[str]) -> Cell:
     return int(words[0]), int(words[1])
 
 
-class PlanFile:
-    """The file of the plan, and whether there is another one in its place since an agent was started."""
-
-    def __init__(self, path: str):
-        self.path = path
-        self.last = self._look()
-
-    def _look(self) -> tuple[int, int, int]:
-        found = os.stat(self.path)
-        return found.st_dev, found.st_ino, found.st_mtime_ns
-
-    def take(self) -> None:
-        self.last = self._look()
-
-    def is_another(self) -> bool:
-        # While it is being replaced in some other way there may be none.
-        with contextlib.suppress(FileNotFoundError):
-            return self._look() != self.last
-        return False
-
-
-@dataclasses.dataclass(frozen=True)
+@dataclasses.dataclass
 class World:
     """What a robot keeps while one agent ends and the next is started."""
 
@@ -118,6 +118,9 @@ class World:
     supervisor: Supervisor
     dropped: Dropped
     plan: PlanFile
+    # For how many seconds it still has to listen before its first move.
+    wait: float
+    pause: float = PAUSE
 
 
 class Robot:
@@ -125,19 +128,19 @@ class Robot:
 
     def __init__(self, given: argparse.Namespace, world: World, agent: Agent):
         self.link, self.wire, self.supervisor, self.dropped, self.agent = world.link, world.wire, world.supervisor, world.dropped, agent
-        self.plan = world.plan
+        self.plan, self.world = world.plan, world
         self.question, self.every = "tell" if given.tell else "say", given.every
         # Where the drive is to go, and whether something has changed since a start was refused.
         self.target: Optional[Cell] = None
         self.may_start = True
-        self.says_at = self.goes_at = 0.0
+        self.says_at = self.goes_at = self.moves_at = 0.0
 
     def ask(self, line: str) -> list[str]:
         """The words of an answer, which is reported. An agent whose tape failed has ended."""
         answer = self.agent.ask(line)
         self.wire.tell(f"{line} {answer}")
         if answer == STORE_FAILED:
-            raise Ended
+            raise Unstored
         return answer.split()
 
     def begin(self) -> None:
@@ -150,6 +153,7 @@ class Robot:
             cells.add(self.target)
         if not {cell_of(drive[at : at + 2]) for at in range(1, len(drive), 2)} <= cells:
             raise Misplaced(f"the drive {' '.join(drive)}, and the tape says {self.agent.first}")
+        self.moves_at = time.monotonic() + self.world.wait
         self.say()
 
     def say(self) -> None:
@@ -177,12 +181,12 @@ class Robot:
         self.may_start = False
         answer = self.ask("start")
         if answer[0] == "moving":
-            self.target = cell_of(answer[1:3])
+            self.target, self.world.pause = cell_of(answer[1:3]), PAUSE
             self.goes_at = 0.0
 
     def finish(self) -> None:
         if self.ask("finish")[0] == "arrived":
-            self.target, self.may_start = None, True
+            self.target, self.may_start, self.world.pause = None, True, PAUSE
             self.say()
 
     def heed_drive(self) -> None:
@@ -192,15 +196,17 @@ class Robot:
             elif words[0] == "stands" and self.target == cell_of(words[1:3]):
                 self.finish()
 
-    def do_what_is_due(self) -> None:
+    def move(self) -> None:
         if self.target is None and self.may_start:
             self.start()
         now = time.monotonic()
         if self.target is not None and now >= self.goes_at:
             self.wire.tell(f"go {self.target[0]} {self.target[1]}")
             self.goes_at = now + AGAIN
-        if now >= self.says_at:
-            self.say()
+
+    def due(self) -> float:
+        """When something is to be done, whatever comes."""
+        return min(self.says_at, self.moves_at if self.world.wait else self.says_at if self.target is None else self.goes_at)
 
     def live(self) -> None:
         """Until the agent ends, there is another plan, or the robot is asked to end."""
@@ -209,10 +215,13 @@ class Robot:
             for source in (self.agent, self.link, self.wire):
                 selector.register(source.fileno(), selectors.EVENT_READ, source)
             while not self.plan.is_another():
-                self.do_what_is_due()
+                now = time.monotonic()
+                if not self.world.wait:
+                    self.move()
+                if now >= self.says_at:
+                    self.say()
                 self.supervisor.lives()
-                due = self.says_at if self.target is None else min(self.says_at, self.goes_at)
-                for key, _ in selector.select(max(0.0, due - time.monotonic())):
+                for key, _ in selector.select(max(0.0, self.due() - time.monotonic())):
                     if key.data is self.agent:
                         raise Ended
                     elif key.data is self.wire:
@@ -220,25 +229,63 @@ class Robot:
                     else:
                         for letter in self.link.received():
                             self.hear(letter)
+                # What was there when the time was over has been heard.
+                if now >= self.moves_at:
+                    self.world.wait = 0.0
 
 
 def drive(given: argparse.Namespace) -> None:
     """One agent after another, each started when the one before has ended."""
     supervisor = Supervisor()
     lock = Lock(f"{given.tape}.lock", f"robot {given.id}: waits until the robot before it and its agent have ended", supervisor.lives)
-    note = note_of(given.box, given.id, (given.map, given.plan))
-    words = [given.program, "agent", given.map, given.plan, str(given.id)]
+    alarms, plan = Alarms(f"robot {given.id}"), PlanFile(given.plan)
+    note = note_of(given.box, given.id, (given.map, plan.copy), given.box_size)
+    words = [given.program, "agent", given.map, plan.copy, str(given.id), given.tape, "--tape", "kept", "--explain"]
     with contextlib.closing(link_of(given)) as link:
-        world = World(link, Wire(given.drive, given.id), supervisor, Dropped(given.id), PlanFile(given.plan))
+        world = World(link, Wire(given.drive, given.id, alarms.tell), supervisor, Dropped(given.id), plan, given.wait)
         while True:
-            world.plan.take()
-            with contextlib.suppress(Ended):
-                agent = Agent([*words, given.tape, "--tape", "kept", "--explain"], lock, note)
+            with contextlib.suppress(Ended), of_a_full_disk(world, alarms), of_another_plan(plan, alarms):
+                read_another(plan, alarms)
+                agent = Agent(words, [lock.fileno(), plan.file], note)
                 try:
+                    plan.take()
                     Robot(given, world, agent).live()
                 finally:
                     agent.end()
-            time.sleep(PAUSE)
+            time.sleep(world.pause)
+
+
+@contextlib.contextmanager
+def of_a_full_disk(world: World, alarms: Alarms) -> Iterator[None]:
+    """That a record isn't stored is told of once, and it rests longer before each try, until one is stored."""
+    try:
+        yield
+    except Unstored as fault:
+        if world.pause == PAUSE:
+            alarms.say(f"its tape can't be stored ({fault}); it stands, and tries again")
+        world.pause = min(2 * world.pause, LONGEST_PAUSE)
+        raise
+
+
+def read_another(plan: PlanFile, alarms: Alarms) -> None:
+    """Reads the plan that has come into the place of the one before, where one has."""
+    try:
+        if plan.is_another():
+            plan.read()
+    except OSError as fault:
+        alarms.say(f"{plan.path} can't be read, and the plan before it goes on: {fault.strerror}")
+
+
+@contextlib.contextmanager
+def of_another_plan(plan: PlanFile, alarms: Alarms) -> Iterator[None]:
+    """A plan that the agent doesn't take is told of, and the one before it goes on. Where there is none before it, the robot ends."""
+    try:
+        yield
+    except Unfit as fault:
+        fault.told = fault.told.replace(plan.copy, plan.path)
+        if fault.status != UNFIT or not plan.go_back():
+            raise
+        alarms.say(f"{plan.path} isn't taken, and the plan before it goes on: {fault.fault}")
 
 
 def main(words: Sequence[str]) -> int:
@@ -246,10 +293,11 @@ def main(words: Sequence[str]) -> int:
     try:
         drive(given)
     except Unfit as fault:
+        sys.stderr.write(fault.told)
         why, status = str(fault), fault.status
-    except (BadKeys, BadCount) as fault:
+    except (BadKeys, BadCount, Stale) as fault:
         why, status = str(fault), UNFIT
-    except (NoClient, NoBroker, BadCertificate, NoDrive, Misplaced, Stale) as fault:
+    except (NoClient, NoBroker, BadCertificate, NoDrive, Misplaced) as fault:
         why, status = str(fault), FAILED
     except OSError as fault:
         where = fault.filename or (given.listen and "{}:{}".format(*given.listen)) or given.tape

@@ -34,7 +34,7 @@ import cables as cable_kinds  # noqa: E402
 from addresses import Address, address  # noqa: E402
 from broker import Broker, NoBroker  # noqa: E402
 from fleet_run import Failed, Run, Settings, Wrong  # noqa: E402
-from given import number_in  # noqa: E402
+from given import NUMBERS, plan_number  # noqa: E402
 from keys import BadKeys, make_or_keep  # noqa: E402
 from ordered_run import OrderedRun  # noqa: E402
 from orders import NoPlan, Orders  # noqa: E402
@@ -47,8 +47,6 @@ WRONG, FAILED = 1, 3
 DEBIAN_PYTHON = "/usr/bin/python3"
 # Seconds within which a broker answers.
 PATIENCE = 5
-# How many numbers a plan may have.
-NUMBERS = 1 << 32
 
 
 def amount(word: str) -> float:
@@ -56,13 +54,6 @@ def amount(word: str) -> float:
         if 0 <= float(word) < 1e6:
             return float(word)
     raise argparse.ArgumentTypeError(f"a number from 0 on is wanted, and '{word[:40]}' is none")
-
-
-def plan_number(word: str) -> int:
-    found = number_in(word, NUMBERS - 1)
-    if found is None:
-        raise argparse.ArgumentTypeError(f"a number below {NUMBERS} is wanted, and '{word[:40]}' is none")
-    return found
 
 
 def read_words(words: Sequence[str]) -> argparse.Namespace:

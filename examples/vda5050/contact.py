@@ -8,7 +8,7 @@ import secrets
 from typing import Callable, Optional
 
 from bus import Bus, Post
-from standard import CONNECTION, FACTSHEET, FACTSHEET_REQUEST, FINISHED, INSTANT_ACTIONS, ONLINE, ORDER, STATE, STATE_REQUEST
+from standard import CONNECTION, FACTSHEET, FACTSHEET_REQUEST, FAILED, FINISHED, INSTANT_ACTIONS, ONLINE, ORDER, STATE, STATE_REQUEST
 from standard import Heads, Identity, Message, read, written
 from well_formed import fault_of_factsheet, fault_of_state
 
@@ -21,6 +21,8 @@ class Contact:
         self.identity, self.bus, self.alarm = identity, bus, alarm
         self.heads = Heads(identity)
         self.is_online = False
+        # Whether it has ever said so.
+        self.is_known = False
         self.state: Optional[Message] = None
         self.factsheet: Optional[Message] = None
         # Whether nothing is on its way of which it isn't known what becomes of it.
@@ -48,7 +50,7 @@ class Contact:
         if message is None:
             self.alarm(f"its {kind} is no object of JSON")
         elif kind == CONNECTION:
-            self.is_online = message.get("connectionState") == ONLINE
+            self.is_known, self.is_online = True, message.get("connectionState") == ONLINE
             self.unsettle()
             if self.is_online and not self.factsheet:
                 self.act(FACTSHEET_REQUEST)
@@ -68,7 +70,10 @@ class Contact:
             self.alarm(f"its state can't be understood: {fault}")
             return False
         self.state = state
-        is_answered = any((it["actionId"], it["actionStatus"]) == (self.question, FINISHED) for it in state["actionStates"])
+        answers = {it["actionStatus"] for it in state["actionStates"] if it["actionId"] == self.question}
+        is_answered = FINISHED in answers
+        if FAILED in answers:
+            self.alarm(f"it answers {STATE_REQUEST} with {FAILED}")
         if is_answered:
             self.is_settled, self.question = True, ""
         if is_answered or self.sent == (state["orderId"], state["orderUpdateId"]):

@@ -14,7 +14,6 @@ another plan, one that goes on from the one before, is put in the place of PLAN 
 Status 1: the map or the plan has a fault. 2: a bad command line. 3: a file, a socket or a program failed. It ends when it is asked to.
 """
 import argparse
-import collections
 import os
 import pathlib
 import sys
@@ -24,7 +23,8 @@ from typing import Callable, Iterator, Sequence
 sys.dont_write_bytecode = True
 import beside  # noqa: E402, F401
 from addresses import address  # noqa: E402
-from agent import Lock  # noqa: E402
+from alarms import Alarms  # noqa: E402
+from agent import Lock, Unfit  # noqa: E402
 from black_box import note_of  # noqa: E402
 from bus import Bus, Post  # noqa: E402
 from check_boxes import number  # noqa: E402
@@ -35,9 +35,10 @@ from leaving import heed_signals  # noqa: E402
 from letters import sender_of  # noqa: E402
 from link_mqtt import NoBroker, NoClient, topic_of  # noqa: E402
 from pilot import Pilot  # noqa: E402
+from plan_file import PlanFile  # noqa: E402
 from program import usual_program  # noqa: E402
 from links import number_of  # noqa: E402
-from robot import PlanFile, seconds  # noqa: E402
+from robot import box_size, seconds  # noqa: E402
 from route import NoPath, Route, path_of  # noqa: E402
 from service import Supervisor  # noqa: E402
 from standard import CONNECTION, FACTSHEET, STATE, Identity, kind_of  # noqa: E402
@@ -68,6 +69,7 @@ def read_words(words: Sequence[str]) -> argparse.Namespace:
     parser.add_argument("--horizon", type=number, default=4, metavar="N", help="shows so many more (%(default)s)")
     parser.add_argument("--every", type=seconds, default=1.0, metavar="S", help="tells other masters again after so many seconds (%(default)g)")
     parser.add_argument("--patience", type=seconds, default=10.0, metavar="S", help="how long a broker may be away at first (%(default)g)")
+    parser.add_argument("--box-size", type=box_size, default=0, metavar="BYTES", help="goes on in another file where a box would get longer (never)")
     parser.add_argument("--program", default=usual_program(), metavar="PATH", help="the program mapf (%(default)s)")
     return parser.parse_args(words)
 
@@ -88,19 +90,6 @@ def read_fleet(path: str) -> dict[int, Identity]:
     return fleet
 
 
-class Alarms:
-    """What is wrong with a vehicle is told once, until something else is."""
-
-    def __init__(self, agent: int):
-        self.agent = agent
-        self.told: collections.deque[str] = collections.deque(maxlen=8)
-
-    def tell(self, what: str) -> None:
-        if what not in self.told:
-            self.told.append(what)
-            print(f"master: vehicle {self.agent}: {what}", file=sys.stderr, flush=True)
-
-
 class Master:
     """All pilots, and the messages between their agents."""
 
@@ -114,9 +103,10 @@ class Master:
         self.plan, self.frame = PlanFile(given.plan), read_frame(given.frame, given.map)
         self.pilots: dict[int, Pilot] = {}
         for agent, identity in fleet.items():
-            alarm = Alarms(agent).tell
-            contact = Contact(identity, self.bus, alarm)
-            self.pilots[agent] = Pilot(self._route(agent), self._teller(agent, alarm), contact, (given.ahead, given.horizon), alarm)
+            alarms = Alarms(f"master: vehicle {agent}")
+            contact, teller = Contact(identity, self.bus, alarms.tell), self._teller(agent, alarms.tell)
+            self.pilots[agent] = Pilot(self._route(agent), teller, contact, (given.ahead, given.horizon), alarms)
+        self.plan.take()
         # What agents of others have said last.
         self.elsewhere: dict[int, bytes] = {}
         self.tells_at = 0.0
@@ -124,20 +114,31 @@ class Master:
 
     def _route(self, agent: int) -> Route:
         given = self.given
-        cells = path_of(given.program, (given.map, given.plan), agent)
+        cells = path_of(given.program, (given.map, self.plan.copy), agent, [self.plan.file])
         return Route(cells, self.frame, given.map_id or pathlib.Path(given.map).stem, self.run, agent)
 
     def _teller(self, agent: int, alarm: Callable[[str], None]) -> Teller:
         given, tape = self.given, self.given.folder / f"{agent}.tape"
         lock = Lock(f"{tape}.lock", f"master: vehicle {agent}: waits until the agent before has ended", self.supervisor.lives)
-        words = [given.program, "agent", given.map, given.plan, str(agent), str(tape), "--tape", "kept", "--explain"]
-        return Teller(words, lock, note_of(str(given.folder / f"{agent}.box"), agent, (given.map, given.plan)), alarm)
+        words = [given.program, "agent", given.map, self.plan.copy, str(agent), str(tape), "--tape", "kept", "--explain"]
+        note = note_of(str(given.folder / f"{agent}.box"), agent, (given.map, self.plan.copy), given.box_size, alarm)
+        return Teller(words, [lock.fileno(), self.plan.file], note, alarm)
 
     def _go_over(self) -> None:
-        """All go on by the plan that has come into the place of the one before. The vehicles keep their orders."""
+        """All go on by the plan that has come into the place of the one before, if all agents take it. The vehicles keep their orders."""
+        try:
+            self.plan.read()
+            routes = {agent: self._route(agent) for agent in self.pilots}
+            for pilot in self.pilots.values():
+                pilot.teller.try_plan()
+        except (Unfit, NoPath, OSError) as fault:
+            why = fault.fault if isinstance(fault, Unfit) else fault
+            self.plan.go_back()
+            print(f"master: {self.plan.path} isn't taken, and the plan before it goes on: {why}", file=sys.stderr, flush=True)
+            return
         self.plan.take()
         for agent, pilot in self.pilots.items():
-            pilot.go_over(self._route(agent))
+            pilot.go_over(routes[agent])
         self.has_arrived = False
 
     # Messages between agents

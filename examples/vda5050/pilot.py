@@ -1,7 +1,9 @@
 """Leads one vehicle along its agent's path: what it has done is stored first, and then it is let go as far as the agent allows."""
 import math
-from typing import Callable, Optional
+from typing import Optional
 
+import beside  # noqa: F401
+from alarms import Alarms
 from contact import AGAIN, Contact
 from frame import Frame
 from route import Astray, Place, Route
@@ -27,8 +29,8 @@ def is_too_large(factsheet: Optional[Message], frame: Frame) -> bool:
 
 
 class Pilot:
-    def __init__(self, route: Route, teller: Teller, contact: Contact, far: tuple[int, int], alarm: Callable[[str], None]):
-        self.route, self.teller, self.contact, self.alarm = route, teller, contact, alarm
+    def __init__(self, route: Route, teller: Teller, contact: Contact, far: tuple[int, int], alarms: Alarms):
+        self.route, self.teller, self.contact, self.alarms = route, teller, contact, alarms
         # So many moves are released behind the one that is begun, where they are allowed, and so many more are shown.
         self.ahead, self.horizon = far
         self.place: Optional[Place] = None
@@ -36,6 +38,8 @@ class Pilot:
         # What the operator wants.
         self.is_held = self.wants_pause = False
         self.acts_at = 0.0
+        # Why the vehicle stands, if it does by what is known.
+        self.bar = ""
 
     @property
     def has_arrived(self) -> bool:
@@ -57,6 +61,7 @@ class Pilot:
 
     def turn(self, now: float) -> bool:
         """Does what is due, and answers whether its agent has something to say, or to hear again."""
+        self._look_at_bar()
         is_opened, before = self.teller.keep(now), self.teller.said
         if not self.teller.agent:
             return False
@@ -66,18 +71,27 @@ class Pilot:
         if self.place:
             self._follow(self.place)
         if self.place and self.contact.state:
-            self._give(self.place, self.contact.state, now)
+            self._give(self.place, now)
             self._act(self.contact.state, now)
         return is_opened or self.teller.said != before
+
+    def _look_at_bar(self) -> None:
+        """Tells why the vehicle stands, whenever that begins, whether there is more to release or not."""
+        contact, before = self.contact, self.bar
+        self.bar = bar_of(contact.state) if contact.state else ""
+        if contact.is_known and not contact.is_online:
+            self.bar = "it is offline"
+        if self.bar not in ("", before):
+            self.alarms.say(self.bar)
 
     def _look(self, state: Message) -> None:
         self.has_news, self.place = False, None
         for error in state["errors"]:
-            self.alarm(f"{error['errorType']}: {error.get('errorDescription', '')}")
+            self.alarms.tell(f"{error['errorType']}: {error.get('errorDescription', '')}")
         try:
             self.place = self.route.locate(state, self.teller.done, self.teller.farthest(self.ahead))
         except Astray as fault:
-            self.alarm(str(fault))
+            self.alarms.tell(str(fault))
 
     def _follow(self, place: Place) -> None:
         """Has the agent store each move that the vehicle has done, and begin the next one. What it was let go to by what was heard once has to be
@@ -88,7 +102,7 @@ class Pilot:
         if teller.done == place.index < self.route.last and not self.is_held:
             teller.start()
 
-    def _give(self, place: Place, state: Message, now: float) -> None:
+    def _give(self, place: Place, now: float) -> None:
         """Sends the vehicle an order, or an update of the one that it has, where it may go further."""
         if not self.contact.is_ready or self.is_held or self.wants_pause:
             return
@@ -96,9 +110,10 @@ class Pilot:
         # Who has an order goes on from the end of its base; who has none, as after a restart, from where it stands, once that is stored.
         if end <= place.end or (not place.order and self.teller.done < place.index):
             return
-        bar = "it is too large for its cells" if is_too_large(self.contact.factsheet, self.route.frame) else bar_of(state)
-        if bar:
-            self.alarm(bar)
+        if is_too_large(self.contact.factsheet, self.route.frame):
+            self.alarms.tell("it is too large for its cells")
+            return
+        if self.bar:
             return
         order = place.order.following() if place.order else self.route.new_order(place)
         self.contact.give(self.route.message(order, place, end, self.horizon), now)

@@ -51,9 +51,10 @@ class Place:
     order: Optional[Order] = None
 
 
-def path_of(program: str, files: Sequence[str], agent: int) -> list[Cell]:
-    """The cells of an agent's path, one behind the other, without the waits."""
-    ended = subprocess.run([program, "path", *files, "--agent", str(agent)], stdin=subprocess.DEVNULL, capture_output=True, text=True, check=False)
+def path_of(program: str, files: Sequence[str], agent: int, inherited: Sequence[int] = ()) -> list[Cell]:
+    """The cells of an agent's path, one behind the other, without the waits. The files may name some that the program inherits."""
+    words = [program, "path", *files, "--agent", str(agent)]
+    ended = subprocess.run(words, stdin=subprocess.DEVNULL, capture_output=True, text=True, pass_fds=inherited, check=False)
     if ended.returncode:
         raise NoPath(f"`mapf path` says of agent {agent} '{ended.stderr.strip()}'")
     cells: list[Cell] = []

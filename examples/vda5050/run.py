@@ -26,11 +26,12 @@ from drive import Cell  # noqa: E402
 from fleet_run import Failed, Wrong  # noqa: E402
 from frame import BadFrame  # noqa: E402
 from judge import Met  # noqa: E402
+from given import plan_number  # noqa: E402
 from leaving import heed_signals  # noqa: E402
 from orders import NoPlan, Orders  # noqa: E402
 from places import Loopback, NoRoom  # noqa: E402
 from program import usual_program  # noqa: E402
-from robots import amount, check_plan, courses_of, fresh_numbers, plan_number, with_paho  # noqa: E402
+from robots import amount, check_plan, courses_of, fresh_numbers, with_paho  # noqa: E402
 from route import NoPath  # noqa: E402
 from vehicles_run import Run  # noqa: E402
 

@@ -1,14 +1,16 @@
 """The agent of a vehicle: asked and told by the master control, and started again whenever it ends."""
 import contextlib
 import time
-from typing import Callable, Optional, Sequence
+from typing import Optional, Sequence
 
 import beside  # noqa: F401
-from agent import STALE_TAPE, STORE_FAILED, Agent, Ended, Lock, Unfit
+from agent import STALE_TAPE, STORE_FAILED, Agent, Ended, Unfit
+from alarms import Alarm
 from black_box import Note
 
-# Seconds after which an agent that has ended is started again, and one that didn't start for a fault that may pass.
-PAUSE, LATER = 0.05, 1.0
+# Seconds after which an agent that has ended is started again, and one that didn't start for a fault that may pass. Where its tape can't be stored the
+# first double, up to these.
+PAUSE, LATER, LONGEST_PAUSE = 0.05, 1.0, 30.0
 # The status of a fault of files and devices; no start mends those below.
 OF_FILES = 3
 # What is taken for the answer of an agent that has ended.
@@ -18,10 +20,10 @@ GONE = "refused Gone"
 class Teller:
     """What its agent has stored: how many moves it has finished, and whether it has begun one more."""
 
-    def __init__(self, words: Sequence[str], lock: Lock, note: Note, alarm: Callable[[str], None]):
-        self.words, self.lock, self.note, self.alarm = words, lock, note, alarm
+    def __init__(self, words: Sequence[str], files: Sequence[int], note: Note, alarm: Alarm):
+        self.words, self.files, self.note, self.alarm = words, files, note, alarm
         self.agent: Optional[Agent] = None
-        self.starts_at = 0.0
+        self.starts_at, self.pause = 0.0, PAUSE
         self.done, self.is_between, self.is_over = 0, False, False
         # How many moves behind the one that is begun would be allowed too, as far as that was asked.
         self.more: Optional[int] = None
@@ -37,12 +39,12 @@ class Teller:
         if self.agent or self.is_over or now < self.starts_at:
             return False
         try:
-            self.agent = Agent(self.words, self.lock, self.note)
+            self.agent = Agent(self.words, self.files, self.note)
         except Ended:
             self.starts_at = now + PAUSE
             return False
         except Unfit as fault:
-            self.alarm(str(fault))
+            self.alarm(f"{fault}: {fault.fault}")
             self.is_over, self.starts_at = fault.status != OF_FILES, now + LATER
             return False
         first = self.agent.first.split()
@@ -56,7 +58,13 @@ class Teller:
         if self.agent:
             agent, self.agent = self.agent, None
             agent.end()
-            self.starts_at = time.monotonic() + PAUSE
+            self.starts_at = time.monotonic() + self.pause
+
+    def try_plan(self) -> None:
+        """Raises `Unfit` where its agent doesn't take the plan that is there now."""
+        self.end()
+        with contextlib.suppress(Ended):
+            Agent(self.words, self.files, self.note).end()
 
     def go_over(self) -> None:
         """Has an agent started by another plan, whatever was wrong with the one before."""
@@ -72,6 +80,9 @@ class Teller:
             if answer.startswith(STALE_TAPE):
                 self.alarm(f"its tape is an older one ({answer})")
                 self.is_over = True
+            if answer == STORE_FAILED:
+                self.alarm(f"its tape can't be stored ({answer}); it stands, and tries again")
+                self.pause = min(2 * self.pause, LONGEST_PAUSE)
             if self.is_over or answer in (GONE, STORE_FAILED):
                 self.end()
         return answer.split()
@@ -80,6 +91,7 @@ class Teller:
         """Whether a move is begun now."""
         if not self.is_between and self.may_start:
             self.is_between = self.ask("start")[0] == "moving"
+            self.pause = PAUSE if self.is_between else self.pause
             self.may_start, self.more = False, None
         return self.is_between
 
@@ -88,6 +100,7 @@ class Teller:
         if not self.is_between or self.ask("finish")[0] != "arrived":
             return False
         self.done, self.is_between, self.may_start, self.more = self.done + 1, False, True, None
+        self.pause = PAUSE
         self.say()
         return True
 

@@ -88,12 +88,12 @@ def put_robots(tree: Tree) -> None:
 
 
 def put_units(tree: Tree, folder: pathlib.Path) -> None:
-    """The units of services, and what they read, with the places where things are in the package."""
+    """The unit of robots; and what it reads, and a drive's unit to begin from, as examples. All name the places of the package."""
     for file in sorted(folder.iterdir()):
         text = file.read_text(encoding="utf-8")
         for was, now in PLACES:
             text = text.replace(was, now)
-        tree.put_text(f"{DOC}/examples/{file.name}" if file.suffix == ".conf" else f"usr/lib/systemd/system/{file.name}", text)
+        tree.put_text(f"usr/lib/systemd/system/{file.name}" if "@" in file.name else f"{DOC}/examples/{file.name}", text)
 
 
 def put_documents(tree: Tree) -> None:

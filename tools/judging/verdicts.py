@@ -102,7 +102,7 @@ class Judging(Work):
 
     def checked_walks(self, job: PlanJob, walks: Sequence[Walk]) -> Verdict:
         """What the checker says of the plan of these cells, which is held against each of them."""
-        with draft(mapf_plan.write(walks, None), None) as plan:
+        with draft(mapf_plan.write(walks, 0), None) as plan:
             hold_on_open_map(self.program, str(plan.path), walks)
             return self.checked(job, str(plan.path))
 

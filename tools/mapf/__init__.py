@@ -16,14 +16,14 @@ from mapf.fleets import AgentStatus, Status, status
 from mapf.handovers import anew, handover
 from mapf.plans import Continuation, Dependencies, Need, Rotation, Visit, continues, cut, deps, path, visits
 from mapf.program import Program, usual_program
-from mapf.replies import Armed, Arrived, At, Between, Heard, Moving, Refused, Reply, Said, State
+from mapf.replies import Armed, Arrived, At, Between, Heard, May, Moving, Refused, Reply, Said, State
 from mapf.runs import Ending, complete, run
 from mapf.scenarios import Row, Rows, row, rows
 from mapf.verdicts import Bound, Bounds, Optimality, Verdict, bound, check, optimal
 
 __all__ = [
     *("Agent", "AgentStatus", "Armed", "Arrived", "At", "Between", "Bound", "Bounds", "Continuation"),
-    *("Dependencies", "Ending", "Failed", "Fault", "FaultWords", "Heard", "Moving", "Need", "Optimality"),
+    *("Dependencies", "Ending", "Failed", "Fault", "FaultWords", "Heard", "May", "Moving", "Need", "Optimality"),
     *("Program", "Refused", "Reply", "Rotation", "Row", "Rows", "Said", "StaleTape", "State", "Status"),
     *("StoreFailed", "Tape", "Verdict", "Visit", "anew", "bound", "check", "complete", "continues", "cut"),
     *("deps", "handover", "optimal", "path", "row", "rows", "run", "status", "tape", "usual_program", "visits"),

@@ -7,7 +7,7 @@ from typing import IO, Optional, TypeVar, Union
 
 from mapf.faults import Failed, StaleTape, StoreFailed
 from mapf.program import AnyProgram, File, Process, files, hold, option, program_at, told_in
-from mapf.replies import Arrived, At, Between, Heard, Moving, Refused, Reply, Said, State, read_reply, read_state
+from mapf.replies import Arrived, At, Between, Heard, May, Moving, Refused, Reply, Said, State, read_reply, read_state
 
 One = TypeVar("One")
 Other = TypeVar("Other")
@@ -129,6 +129,10 @@ class Agent:
     def hear(self, message: bytes) -> Union[Heard, Refused]:
         """Gives it a message of another agent."""
         return either(self.ask(f"hear {message.hex()}"), Heard, Refused)
+
+    def may(self, moves: int) -> int:
+        """How many of so many next moves, behind the one that it has begun, need nobody any more: the drive may be given these cells too."""
+        return either(self.ask(f"may {moves}"), May, May).moves
 
     def held(self) -> State:
         """Where the robot is by what is stored."""

@@ -16,6 +16,12 @@ STANDS = re.compile(
 MOVES = re.compile(rf"between {NUMBER} {NUMBER} {NUMBER} {NUMBER} done {NUMBER} of {NUMBER}")
 FAULT = re.compile(r"[A-Z]\w*(?: [0-9]+)*")
 KEEPS = re.compile(rf"(root|rotation) {NUMBER} keeps {NUMBER}")
+# What is wrong with tapes together. Of two agents' plans: the time from which on they differ. Of a
+# begun move: for whom it has to wait, and how many moves that one has to finish; or its rotation.
+PLANS_PART, NOT_ONE_RUN = "PlansPart", "NotOneRun"
+TOGETHER = re.compile(
+    rf"{PLANS_PART}(?: {NUMBER}){{3}}|{NOT_ONE_RUN} {NUMBER}(?: {NUMBER} {NUMBER})?"
+)
 
 
 @dataclasses.dataclass(frozen=True)
@@ -34,12 +40,14 @@ class AgentStatus:
 
 @dataclasses.dataclass(frozen=True)
 class Status:
-    """All agents of a plan; who waits for nobody and has so many others wait for it; and the
-    rotations that block, by their numbers in `deps`, each with how many wait in it or for it."""
+    """All agents of a plan; who waits for nobody and has so many others wait for it; the rotations
+    that block, by their numbers in `deps`, each with how many wait in it or for it; and why the
+    tapes aren't of one run: `PlansPart I J TIME`, `NotOneRun I J C` or `NotOneRun R`."""
 
     agents: tuple[AgentStatus, ...]
     roots: dict[int, int]
     rotations: dict[int, int]
+    faults: tuple[FaultWords, ...] = ()
 
     def count(self, keeping: str) -> int:
         """How many agents this keeps."""
@@ -76,8 +84,11 @@ def read_status(text: str) -> Status:
     """What `mapf status` writes, read."""
     lines = text.split("\n")[:-1]
     end = next((at for at, line in enumerate(lines) if not line[:1].isdigit()), len(lines))
-    fleet = Status(tuple(read_agents(lines[:end])), {}, {})
+    faults = tuple(read_words(line) for line in lines[end:] if TOGETHER.fullmatch(line))
+    fleet = Status(tuple(read_agents(lines[:end])), {}, {}, faults)
     for line in lines[end:]:
+        if TOGETHER.fullmatch(line):
+            continue
         found = KEEPS.fullmatch(line)
         if not found:
             raise Failed(f"'{line[:80]}' is no answer of mapf")

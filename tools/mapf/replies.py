@@ -38,6 +38,13 @@ class Heard:
 
 
 @dataclasses.dataclass(frozen=True)
+class May:
+    """So many of the agent's next moves need nobody any more."""
+
+    moves: int
+
+
+@dataclasses.dataclass(frozen=True)
 class At:
     """The agent stands in this cell, and has finished so many moves."""
 
@@ -70,7 +77,7 @@ class Refused:
 
 
 State = Union[At, Between]
-Reply = Union[Moving, Arrived, Said, Heard, At, Between, Armed, Refused]
+Reply = Union[Moving, Arrived, Said, Heard, May, At, Between, Armed, Refused]
 
 
 def said(*words: str) -> Said:
@@ -87,6 +94,7 @@ READERS: dict[str, Callable[..., Reply]] = {
     "arrived": lambda x, y: Arrived(int(x), int(y)),
     "said": said,
     "heard": lambda agent, moves: Heard(int(agent), int(moves)),
+    "may": lambda moves: May(int(moves)),
     "at": lambda x, y, _, done: At(int(x), int(y), int(done)),
     "between": between,
     "armed": Armed,

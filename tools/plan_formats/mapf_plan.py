@@ -1,14 +1,13 @@
 """The text of a plan, `mapf-plan 1`: its one spelling of walks, and the walks that a text spells."""
 import re
-import zlib
 from typing import Iterator, Optional, Sequence
 
+from mapf.numbers import MOST_NUMBER, drawn_number
 from plan_formats.texts import lines_of, refuse_a_cut
 from plan_formats.walks import (
     MOST_ACTS,
     MOST_ACTS_IN_ALL,
     MOST_AGENTS,
-    MOST_NUMBER,
     MOST_SIDE,
     STEPS,
     Fault,
@@ -39,16 +38,9 @@ def pieces(walks: Sequence[Walk], number: int) -> Iterator[str]:
         yield f"agent {x} {y} {walk.acts or NO_ACTS}\n"
 
 
-def number_of(walks: Sequence[Walk]) -> int:
-    """The number that tells plans apart: CRC-32 of the text in which it is 0."""
-    sum = 0
-    for piece in pieces(walks, 0):
-        sum = zlib.crc32(piece.encode(), sum)
-    return sum
-
-
 def write(walks: Sequence[Walk], number: Optional[int] = None) -> Iterator[str]:
-    return pieces(walks, number_of(walks) if number is None else number)
+    """The text of the plan under this number, or under one that is drawn."""
+    return pieces(walks, drawn_number() if number is None else number)
 
 
 def read_head(data: bytes) -> int:

@@ -9,11 +9,12 @@ from itertools import accumulate, islice
 from operator import sub
 from typing import Callable, Iterable, Optional, Sequence
 
+from mapf.numbers import MOST_NUMBER
+
 # What a plan and a map may have.
 MOST_AGENTS = 10_000
 MOST_ACTS = 65_535
 MOST_ACTS_IN_ALL = 16_777_216
-MOST_NUMBER = 4_294_967_295
 MOST_SIDE = 65_535
 MOST_CELLS = 4_194_304
 

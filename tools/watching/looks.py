@@ -2,16 +2,18 @@
 import contextlib
 import dataclasses
 import os
-from typing import Mapping, Optional
+from typing import Mapping, Optional, Union
 
-from mapf.faults import Failed, Fault
-from mapf.fleets import ARRIVED, MOVING, AgentStatus, Status, status
+from mapf.faults import Failed, Fault, FaultWords
+from mapf.fleets import ARRIVED, MOVING, NOT_ONE_RUN, READY, AgentStatus, Status, status
 from mapf.plans import deps
 from mapf.program import Program
 from watching.boxes import Report, read_report
 from watching.times import Lasting, Moment, changed, now
 
 HOLE = "%"
+# Faults that the program tells of a file that it can't open, and of a tape that isn't there.
+OPEN_FAILED, NO_TAPE = "OpenFailed", "NoTape"
 # No line with a number is as long.
 MOST_LINE = 64
 
@@ -50,6 +52,12 @@ class Look:
     turning: Mapping[int, tuple[int, ...]]
     # Whose tape has fewer records than it had, each with both numbers.
     older: Mapping[int, tuple[int, int]]
+    # Since when each root has neither moved nor waited for anybody, as far as it is known.
+    standing: Mapping[int, Moment]
+    # Whose tape was there, and isn't any more.
+    gone: frozenset[int]
+    # Why the tapes aren't of one run, as far as that is sure.
+    faults: tuple[FaultWords, ...]
     trouble: str = ""
 
     @property
@@ -87,14 +95,18 @@ def number_line(plan: str) -> Optional[bytes]:
 class Looks:
     """Looks at one fleet, and remembers the one before."""
 
-    def __init__(self, files: Files, program: Program) -> None:
-        self.files, self.program = files, program
+    def __init__(self, files: Files, program: Program, has_more: bool) -> None:
+        self.files, self.program, self.has_more = files, program, has_more
         self.last: Optional[Look] = None
         self.count = 0
         # The most records that each tape of the plan was seen to have, and who had fewer lately.
         self.number: Optional[bytes] = None
         self.most: dict[int, int] = {}
         self.fewer: dict[int, tuple[int, int]] = {}
+        # Whose tape wasn't there at the look before.
+        self.missing: frozenset[int] = frozenset()
+        # Who moved too early by the look before.
+        self.early: list[FaultWords] = []
 
     def take(self) -> Look:
         """A look. Only the first one raises what is wrong with the map, the plan or the program:
@@ -105,19 +117,34 @@ class Looks:
             found = status(self.files.map, self.files.plan, self.files.tapes, program=self.program)
             turning = self.turning(found)
         except (Fault, Failed) as fault:
+            trouble = self.closed_file(fault) or fault.line
             if not self.last:
-                raise
-            self.last = dataclasses.replace(self.last, at=at, trouble=fault.line)
+                raise Failed(trouble) if trouble != fault.line else fault
+            self.last = dataclasses.replace(self.last, at=at, trouble=trouble)
             return self.last
         robots = tuple(self.robot(agent, it, at) for agent, it in enumerate(found.agents))
-        older = self.older(found)
-        self.last = Look(at, at, found, robots, self.progress(robots, at), turning, older)
+        older, gone = self.older(found), self.gone(found)
+        standing = self.standing(found, robots, at)
+        progress = self.progress(robots, at)
+        faults = self.faults(found)
+        self.last = Look(at, at, found, robots, progress, turning, older, standing, gone, faults)
         return self.last
+
+    def closed_file(self, fault: Union[Fault, Failed]) -> str:
+        """Which of the two files can't be opened, and why: the program doesn't say it."""
+        if fault.name == OPEN_FAILED:
+            for file in (self.files.map, self.files.plan):
+                try:
+                    open(file, "rb").close()
+                except OSError as error:
+                    return f"{file}: {error.strerror}"
+        return ""
 
     def heed_number(self, number: Optional[bytes]) -> None:
         """A plan with another number is another run, whose tapes begin anew."""
         if number not in (None, self.number):
             self.number, self.most, self.fewer = number, {}, {}
+            self.missing, self.early = frozenset(), []
 
     def robot(self, agent: int, found: AgentStatus, at: Moment) -> Robot:
         before = self.last.robots[agent] if self.last and agent < len(self.last.robots) else None
@@ -157,6 +184,36 @@ class Looks:
                 moments.append(robot.tape.since)
         return max(moments, key=lambda it: it.clock, default=at)
 
+    def standing(
+        self, found: Status, robots: tuple[Robot, ...], at: Moment
+    ) -> Mapping[int, Moment]:
+        """Since when the roots stand. One that may go may have waited until just now."""
+        before = self.last.standing if self.last else {}
+        moments = {}
+        for root in found.roots:
+            tape = robots[root].tape
+            is_free = tape.value.keeping == READY
+            earliest = before.get(root, at) if is_free else tape.since
+            moments[root] = max(earliest, tape.since, key=lambda it: it.clock)
+        return moments
+
+    def gone(self, found: Status) -> frozenset[int]:
+        """Whose tape was there, and wasn't at two looks: one that is copied may be replaced."""
+        before, agents = self.missing, enumerate(found.agents)
+        self.missing = frozenset(
+            agent for agent, it in agents if str(it.fault) == NO_TAPE and agent in self.most
+        )
+        return before & self.missing
+
+    def faults(self, found: Status) -> tuple[FaultWords, ...]:
+        """Why the tapes aren't of one run. They are read one after another while agents go on: that
+        one moves too early is sure where the one for which it had to wait lacks the moves at the
+        next look too, if there is one."""
+        before, self.early = self.early, [it for it in found.faults if is_early(it)]
+        sure = [it for it in found.faults if not is_early(it)]
+        late = [it for it in before if lacks_moves(found, *it.numbers[1:])]
+        return (*sure, *(late if self.has_more else self.early))
+
     def turning(self, found: Status) -> Mapping[int, tuple[int, ...]]:
         """The agents of the rotations that block, which the plan is asked for once."""
         if not found.rotations:
@@ -176,6 +233,17 @@ class Looks:
         most = {agent: self.most.get(agent, 0) for agent in counts}
         self.fewer = {it: (most[it], counts[it]) for it in counts if counts[it] < most[it]}
         return {agent: it for agent, it in self.fewer.items() if agent in before}
+
+
+def is_early(fault: FaultWords) -> bool:
+    """Whether it says that an agent has begun a move before another one has finished enough."""
+    return fault.name == NOT_ONE_RUN and len(fault.numbers) > 1
+
+
+def lacks_moves(found: Status, agent: int, until: int) -> bool:
+    """Whether an agent has finished fewer moves than so many, as far as its tape can be taken."""
+    state = found.agents[agent].state if agent < len(found.agents) else None
+    return state is not None and state.done < until
 
 
 def is_as_before(one: AgentStatus, other: AgentStatus) -> bool:

@@ -2,7 +2,8 @@
 import dataclasses
 from typing import Iterator, Optional, Sequence
 
-from mapf.fleets import ARRIVED, MOVING, READY, UNKNOWN, WAITS
+from mapf.faults import FaultWords
+from mapf.fleets import ARRIVED, MOVING, PLANS_PART, READY, UNKNOWN, WAITS
 from mapf.replies import Between
 from watching.looks import Look, Robot
 from watching.times import Moment, shown_seconds, shown_since, shown_time
@@ -63,8 +64,9 @@ def by_count(counts: dict[int, int]) -> list[int]:
 
 
 def alarms_of(look: Look, limits: Limits) -> list[Line]:
-    """What is an alarm: a rotation that blocks and a tape that is an older one at once, that
-    nothing moves or that tapes can't be read after a time."""
+    """What is an alarm: a rotation that blocks, tapes that aren't of one run, and one that is older
+    or has disappeared, at once; that nothing moves, that a root stands or that tapes can't be read,
+    after a time."""
     lines = []
     if look.trouble and look.at.clock - look.asked.clock >= limits.alarm:
         lines.append(since(f"{ALARM}the tapes can't be read, {look.trouble},", look.asked, look.at))
@@ -73,12 +75,34 @@ def alarms_of(look: Look, limits: Limits) -> list[Line]:
         lines.append(
             Line(f"{ALARM}rotation {it} blocks: agents {agents} wait for one another for ever")
         )
+    lines += few([Line(f"{ALARM}{words_of(it)}") for it in look.faults], "faults of all tapes")
     for agent, (had, has) in look.older.items():
         told = f"{ALARM}tape {agent} is an older one: it had {had} records, and has {has},"
         lines.append(since(told, look.since(agent), look.at, agent))
+    for agent in sorted(look.gone):
+        told = f"{ALARM}tape {agent} has disappeared,"
+        lines.append(since(told, look.since(agent), look.at, agent))
     if not look.has_arrived and look.at.clock - look.progress.clock >= limits.alarm:
         lines.append(since(f"{ALARM}nothing has moved", look.progress, look.at))
-    return lines
+    return lines + few(list(standing_lines(look, limits)), "roots that haven't moved")
+
+
+def words_of(fault: FaultWords) -> str:
+    """Why tapes aren't of one run, in words."""
+    if fault.name == PLANS_PART:
+        return "the plans of agents {} and {} part at time {}".format(*fault.numbers)
+    if len(fault.numbers) == 1:
+        return f"an agent has begun its move in rotation {fault.numbers[0]}, which no run does"
+    agent, other, until = fault.numbers
+    return f"agent {agent} has begun a move that waits until agent {other} has done {until}"
+
+
+def standing_lines(look: Look, limits: Limits) -> Iterator[Line]:
+    """The roots that have stood for long, those that keep most first."""
+    for root in by_count(look.status.roots):
+        if look.at.clock - look.standing[root].clock >= limits.alarm:
+            told = f"{ALARM}root {root} hasn't moved: {place_of(look, root)},"
+            yield since(told, look.standing[root], look.at, root)
 
 
 def summary(look: Look) -> Line:
