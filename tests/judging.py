@@ -9,7 +9,7 @@ from typing import Iterator, Sequence
 import judging_again
 import judging_costs
 from harness import VERSION, Harness, Outcome, compared, shown, side_by_side
-from job_rooms import Room, on_a_cluster
+from job_rooms import Room
 from judge_jobs import ACCEPTED, CLAIMED, COLUMNS, JOBS, TASKS, TEXTS, csv_of, differing, json_of, judge_room, verdicts
 from texts import BEHIND, LANE
 
@@ -225,16 +225,6 @@ def of_summaries(room: Room) -> Iterator[Outcome]:
     yield compared("numbers on the right", "judge.py planners.csv --page page.html", numbers, ["1.0000", "1.0000"])
 
 
-def of_a_cluster(room: Room) -> Iterator[Outcome]:
-    found = on_a_cluster(room, ["jobs.csv", "-o", "cluster.csv"])
-    if not found:
-        yield Outcome("a cluster", lacks="python3-distributed")
-        return
-    ran, ended = found
-    wrote = (ended.status, differing(room.rows("cluster.csv"), JOBS), ended.err[-300:] if ended.status else b"")
-    yield compared("a cluster of two workers", ran, wrote, (0, [], b""))
-
-
 def outcomes(harness: Harness) -> Iterator[Outcome]:
     room = judge_room(harness)
     yield from of_each_verdict(room)
@@ -246,5 +236,3 @@ def outcomes(harness: Harness) -> Iterator[Outcome]:
     yield from of_gaps(room)
     yield from judging_costs.outcomes(room)
     yield from judging_again.outcomes(room)
-    if harness.is_long:
-        yield from of_a_cluster(room)

@@ -135,9 +135,25 @@ def of_stops_anew(room: Room) -> Iterator[Outcome]:
     yield compared("judged to its end", "judge.py many.csv", sorted((row["plan"], row["verdict"]) for row in room.rows("anew.csv")), sorted(due.items()))
 
 
+def of_failures(room: Room) -> Iterator[Outcome]:
+    """What has failed stands until it is asked for again."""
+    jobs = [("lane.map", "", "behind.plan", ""), ("lane.map", "", "swap.plan", "")]
+    room.file("failing.csv", csv_of(jobs))
+    room.file("broken", b"")
+    program = room.script("failing", f'test "$1" = check && test -e broken && exit 5\nexec {shlex.quote(str(room.harness.program))} "$@"')
+    calls = (([], ["failed", "failed"]), ([], ["failed", "failed"]), (["--retry", "failed"], ["accepted", "rejected"]), (["--retry", "failed"], ["accepted", "rejected"]))
+    for number, (words, due) in enumerate(calls):
+        ended = room.run("failing.csv", "-o", "failing.out.csv", *words, program=program)
+        (room.folder / "broken").unlink(missing_ok=True)
+        found = sorted(row["verdict"] for row in room.rows("failing.out.csv"))
+        told = (b"behind.plan: to be judged again" in ended.err, b"2 of 2 jobs have a result" in ended.err)
+        yield compared(f"call {number} after a failure, {words}", f"judge.py failing.csv {words}", (ended.status, found, told), (0, due, (number == 2, number in (1, 3))))
+
+
 def outcomes(room: Room) -> Iterator[Outcome]:
     yield from of_stops(room)
     yield from of_changes(room)
     yield from of_sums(room)
     yield from of_columns(room)
     yield from of_stops_anew(room)
+    yield from of_failures(room)

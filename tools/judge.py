@@ -14,7 +14,7 @@ fault) or `failed` (a file, a process or a tool failed, or the time was over). B
 whether it can be run; with --all, how many faults others have. A judge that was stopped goes on behind what stands. A result whose plan, map,
 scenario, program, readers or options are others since is made anew.
 
-Status 0: every job has a result. 1: the list of jobs has a fault. 2: a bad command line. 3: the results can't be written.
+Status 0: every job has a result. 1: the list of jobs has a fault. 2: a bad command line. 3: the results can't be written, or the cluster failed.
 """
 import argparse
 import pathlib
@@ -52,7 +52,7 @@ class Judge(Tool):
         parser.add_argument("--all", action="store_true", help="counts all faults of the plans that are rejected")
         add_options(parser)
         given = parser.parse_args(words)
-        if given.one:
+        if given.told:
             return given
         if not given.files or (given.maps is None and len(given.files) > 1):
             parser.error("one list of jobs is wanted, or --maps and plans")

@@ -25,9 +25,11 @@ class BadResults(Exception):
 class Results:
     """The open file, CSV or JSON lines by its name."""
 
-    def __init__(self, path: pathlib.Path, table: Table, more: Sequence[str]):
+    def __init__(self, path: pathlib.Path, table: Table, more: Sequence[str], retried: Optional[str] = None):
         self.path = path
         self.table = table
+        # Results with this verdict hold no more.
+        self.retried = retried
         self.is_json = path.suffix in (".json", ".jsonl", ".ndjson")
         self.file = locked(path)
         # All columns: those of each table, and behind them those that jobs have beside.
@@ -130,7 +132,7 @@ class Results:
             return "stale since a call before"
         if job is not None and is_due:
             differs = what_differs(row, marker.of(job))
-            return f"another {differs} since" if differs else ""
+            return f"another {differs} since" if differs else "to be judged again" if row["verdict"] == self.retried else ""
         return "the list says something else of it" if not is_due and self._name_of(row) in names else ""
 
     def _name_of(self, columns: Row) -> Name:
