@@ -8,6 +8,7 @@ from typing import Iterator, Sequence
 
 import judging_again
 import judging_costs
+import judging_planners
 from harness import VERSION, Harness, Outcome, compared, shown, side_by_side
 from job_rooms import Room
 from judge_jobs import ACCEPTED, CLAIMED, COLUMNS, JOBS, TASKS, TEXTS, csv_of, differing, json_of, judge_room, verdicts
@@ -215,6 +216,7 @@ def of_summaries(room: Room) -> Iterator[Outcome]:
         "map square.map: 1 accepted; cost 4 of 4",
         "planner <b>: 1 rejected; cost 0 of 0",
         "planner PIBT: 2 accepted; cost 6 of 6",
+        "planner PIBT, accepted: 2 agents 1 of 1 (100 %), 4 agents 1 of 1 (100 %)",
     ]
     yield compared("the summary", "judge.py planners.csv", ended.err.decode(), "".join(f"judge: {line}\n" for line in due))
     text = (room.folder / "page.html").read_text(encoding="utf-8")
@@ -236,3 +238,4 @@ def outcomes(harness: Harness) -> Iterator[Outcome]:
     yield from of_gaps(room)
     yield from judging_costs.outcomes(room)
     yield from judging_again.outcomes(room)
+    yield from judging_planners.outcomes(room)

@@ -1,9 +1,10 @@
 """The table of judge.py: what stands in a result."""
 from typing import Sequence
 
+from judging.comparing import ACCEPTED, comparisons
 from tabling.tables import FAILED, UNREADABLE, Row, Table
 
-ACCEPTED, COST_DIFFERS, REJECTED, UNSOLVED = "accepted", "CostDiffers", "rejected", "unsolved"
+COST_DIFFERS, REJECTED, UNSOLVED = "CostDiffers", "rejected", "unsolved"
 FILES = ("map", "scenario", "plan")
 FOUND = (
     *("cost", "cost_bound", "ratio", "claimed", "makespan", "makespan_bound", "runs", "agents_found"),
@@ -32,5 +33,6 @@ TABLE = Table(
     numbers=("agents", *(name for name in FOUND if name not in WORDS), "seconds"),
     verdicts=(ACCEPTED, COST_DIFFERS, REJECTED, UNSOLVED, UNREADABLE, FAILED),
     total=costs,
+    comparisons=comparisons,
     older=OLDER,
 )

@@ -39,6 +39,8 @@ class Judging(Work):
     fills_waits: bool
     # Whether all faults are asked for.
     has_all: bool
+    # Whether a planner that wrote no plan found none.
+    is_missing_unsolved: bool
 
     tool = pathlib.Path(__file__).resolve().parent.parent / "judge.py"
     table = TABLE
@@ -47,7 +49,8 @@ class Judging(Work):
     @property
     def options(self) -> list[str]:
         source = ["--from", self.source] if self.source else []
-        return [*source, *(["--fill-waits"] if self.fills_waits else []), *(["--all"] if self.has_all else [])]
+        missing = ["--missing", UNSOLVED] if self.is_missing_unsolved else []
+        return [*source, *(["--fill-waits"] if self.fills_waits else []), *(["--all"] if self.has_all else []), *missing]
 
     def found(self, job: PlanJob) -> Row:
         return self.verdict_on(job).columns
@@ -67,7 +70,10 @@ class Judging(Work):
         except Refused as fault:
             return Verdict(UNREADABLE, str(fault))
         except OSError as fault:
-            return Verdict(FAILED, f"{job.plan if fault.filename == job.file(job.plan) else fault.filename or job.plan}: {fault.strerror or fault}")
+            is_plan = fault.filename == job.file(job.plan)
+            is_missing = is_plan and isinstance(fault, FileNotFoundError) and self.is_missing_unsolved
+            named = job.plan if is_plan else fault.filename or job.plan
+            return Verdict(UNSOLVED if is_missing else FAILED, f"{named}: {fault.strerror or fault}")
 
     def of_a_row(self, job: PlanJob) -> Verdict:
         """The verdict on the plan in a row of the tracker's table, whose cost the row claims."""

@@ -156,6 +156,8 @@ class Tool(abc.ABC):
     def do_all(self, given: argparse.Namespace) -> None:
         k, n = given.shard
         program = program_of(given.program)
+        if given.dask:
+            clusters.begin_import()
         listed = self.jobs_of(given, program)
         jobs, work = listed[k - 1 :: n], self.work_of(given, program)
         self.say(f"{version_of(program)} {self.does} {len(jobs)} {self.things}")
@@ -170,6 +172,9 @@ class Tool(abc.ABC):
             results.close()
         for line in summary(work.table, results.rows):
             self.say(line.text)
+        for comparison in work.table.comparisons(results.rows):
+            for text in comparison.texts:
+                self.say(text)
         if given.page:
             with draft(page(work.table, results.rows, f"Results of {results.path.name}"), given.page) as made:
                 made.put()

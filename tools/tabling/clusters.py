@@ -4,10 +4,13 @@ A worker gets jobs in batches, and keeps one Python for all batches of a call. W
 import asyncio
 import collections
 import concurrent.futures
+import contextlib
+import importlib
 import itertools
 import json
 import logging
 import sys
+import threading
 import uuid
 from typing import Any, Callable, Deque, Iterator, Optional, Sequence
 
@@ -139,6 +142,17 @@ class Cluster:
             self.given_up.append(left.pop(0))
         self.waiting.extendleft(reversed(left))
         yield from rows
+
+
+def begin_import() -> None:
+    """Dask takes a second to be imported: jobs are looked for meanwhile."""
+
+    def imported() -> None:
+        # Whatever is wrong with it is said where it is used.
+        with contextlib.suppress(Exception):
+            importlib.import_module("distributed")
+
+    threading.Thread(target=imported).start()
 
 
 def on_a_cluster(jobs: Sequence[Job], work: Work, address: str) -> Iterator[Row]:

@@ -3,7 +3,7 @@ import html
 from typing import Iterator, Sequence
 
 from tabling.summary import summary
-from tabling.tables import STALE, Row, Table
+from tabling.tables import STALE, Comparison, Row, Table
 
 STYLE = """body { font: 15px/1.4 sans-serif; margin: 2em; color: #222; background: #fff }
 table { border-collapse: collapse; margin: 1em 0 }
@@ -36,6 +36,11 @@ def summary_rows(table: Table, rows: Sequence[Row], verdicts: Sequence[str]) -> 
         yield f"<tr>{cell(what)}{counts}{cell(line.total, 'number')}</tr>\n"
 
 
+def compared(comparison: Comparison) -> Iterator[str]:
+    yield f"<h2>{html.escape(comparison.about)}</h2>\n"
+    yield from table_of(comparison.heading, (f"<tr>{cell(line[0])}{''.join(cell(it, 'number') for it in line[1:])}</tr>\n" for line in comparison.lines))
+
+
 def result_rows(table: Table, rows: Sequence[Row], columns: Sequence[str]) -> Iterator[str]:
     for row in rows:
         yield f'<tr class="{row["verdict"]}">'
@@ -56,6 +61,7 @@ def page(table: Table, rows: Sequence[Row], title: str) -> Iterator[bytes]:
         f"<style>\n{STYLE}</style>\n</head>\n",
         f"<body>\n<h1>{html.escape(title)}</h1>\n",
         *table_of(["", *verdicts, "together"], summary_rows(table, rows, verdicts)),
+        *(piece for comparison in table.comparisons(rows) for piece in compared(comparison)),
         *table_of(columns, result_rows(table, rows, columns)),
         "</body>\n</html>\n",
     ]
