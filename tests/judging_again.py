@@ -108,6 +108,13 @@ def of_columns(room: Room) -> Iterator[Outcome]:
         ended = room.run(jobs, "-o", output)
         yield compared(f"{jobs} once more", f"judge.py {jobs}", (b"1 of 1 jobs have" in ended.err, (room.folder / output).read_bytes() == before), (True, True))
     yield compared("the lines of other lists stay", "looked at counts.csv", short(room.rows("counts.csv")), [due[0], ("swap.plan", "", "rejected")])
+    ended = room.run("swap.csv", "-o", "counts.csv", "--prune")
+    wrote = (short(room.rows("counts.csv")), b"judge: 1 results are dropped, since their jobs are gone\n" in ended.err)
+    yield compared("but where the list is all that there is", "judge.py swap.csv --prune", wrote, ([("swap.plan", "", "rejected")], True))
+    room.file("halves.csv", f"{heading}\n{job},2\nlane.map,,swap.plan,\n".encode())
+    room.run("halves.csv", "-o", "counts.csv")
+    room.run("halves.csv", "-o", "counts.csv", "--prune", "--shard", "1/2")
+    yield compared("jobs of another part aren't gone", "judge.py halves.csv --prune --shard 1/2", short(room.rows("counts.csv")), [due[0], ("swap.plan", "", "rejected")])
 
 
 def of_stops_anew(room: Room) -> Iterator[Outcome]:

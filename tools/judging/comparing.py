@@ -2,6 +2,7 @@
 import collections
 from typing import Iterator, Sequence
 
+from judging.proofs import BOUND_VERDICTS, PROOF_VERDICTS
 from tabling.tables import FAILED, STALE, Comparison, Row
 
 ACCEPTED, PLANNER = "accepted", "planner"
@@ -12,9 +13,21 @@ Instance = tuple[str, str, str]
 
 
 def comparisons(rows: Sequence[Row]) -> Sequence[Comparison]:
-    """What is to be said where jobs name their planners."""
+    """What is to be said of proofs and bounds, and, where jobs name their planners, of these."""
     named = [row for row in rows if row.get(PLANNER)]
-    return [*success_rates(named), *costs_of_all(named)]
+    return [
+        *counts(rows, "proofs", "proof_verdict", PROOF_VERDICTS),
+        *counts(rows, "claimed bounds", "bound_verdict", BOUND_VERDICTS),
+        *success_rates(named),
+        *costs_of_all(named),
+    ]
+
+
+def counts(rows: Sequence[Row], about: str, column: str, kinds: Sequence[str]) -> Iterator[Comparison]:
+    """How many results have which word in a column."""
+    found = collections.Counter(row[column] for row in rows if row[column])
+    if found:
+        yield Comparison(about, ("all", *kinds), (("results", *(str(found[kind] or "") for kind in kinds)),))
 
 
 def success_rates(rows: Sequence[Row]) -> Iterator[Comparison]:

@@ -59,6 +59,7 @@ def add_options(parser: argparse.ArgumentParser) -> None:
     parser.add_argument("--dask", metavar="ADDRESS", help="hands the jobs to the Dask cluster with this scheduler")
     parser.add_argument("--page", type=pathlib.Path, metavar="FILE.html", help="writes the results as a page too")
     parser.add_argument("--program", type=pathlib.Path, metavar="PATH", help="the program mapf (that of dist/, or else that of this checkout)")
+    parser.add_argument("--prune", action="store_true", help="drops the results whose jobs are gone")
     parser.add_argument("--retry", choices=[FAILED], help="judges these results again")
     parser.add_argument("--told", action="store_true", help=argparse.SUPPRESS)
 
@@ -166,6 +167,8 @@ class Tool(abc.ABC):
             self.say(warning)
         results = Results(given.output, work.table, more_columns(listed), given.retry)
         try:
+            if given.prune:
+                self.say(f"{results.prune(listed)} results are dropped, since their jobs are gone")
             left = self.still_to_do(jobs, listed, results, work)
             self.do(left, work, results, given)
         finally:

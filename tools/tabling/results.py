@@ -98,6 +98,15 @@ class Results:
         except (ValueError, csv.Error, StopIteration, RecursionError):
             return None
 
+    def prune(self, listed: Sequence[Job]) -> int:
+        """Drops the results of jobs that no list has any more, and says how many there were."""
+        due = set(map(self._key_of_job, listed))
+        kept = [row for row in self.rows if self._key_of(row) in due]
+        dropped = len(self.rows) - len(kept)
+        if dropped:
+            self._write_anew(kept)
+        return dropped
+
     def left(self, jobs: Sequence[Job], listed: Sequence[Job], marker: Marker) -> tuple[list[Job], list[str]]:
         """The jobs without a result that still fits, and why others don't. What fits no more is marked as stale until its job is done anew:
         so whoever is stopped meanwhile has lost nothing. Lines of other lists and of other parts of this one stay."""
