@@ -8,6 +8,7 @@ from typing import Iterator, Sequence
 
 import judging_again
 import judging_costs
+import judging_pages
 import judging_planners
 import judging_proofs
 from harness import VERSION, Harness, Outcome, compared, shown, side_by_side
@@ -251,3 +252,4 @@ def outcomes(harness: Harness) -> Iterator[Outcome]:
     yield from judging_again.outcomes(room)
     yield from judging_planners.outcomes(room)
     yield from judging_proofs.outcomes(room)
+    yield from judging_pages.outcomes(room)
