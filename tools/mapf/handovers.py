@@ -2,6 +2,7 @@
 from typing import Optional
 
 from mapf.program import AnyProgram, File, files, option, program_at
+from mapf.program import number as as_word
 
 
 def handover(map: File, plan: File, tapes: File, *, program: AnyProgram = None) -> str:
@@ -13,4 +14,4 @@ def handover(map: File, plan: File, tapes: File, *, program: AnyProgram = None) 
 def anew(map: File, plan: File, tapes: File, number: int, *, without: Optional[int] = None, program: AnyProgram = None) -> str:
     """The text of a plan with this number of what is left of another one by the tapes, by `mapf anew`: from the cells in which the begun moves end,
     perhaps without one agent."""
-    return program_at(program).answer("anew", *option("without", without), *files(map, plan, tapes, str(number)))
+    return program_at(program).answer("anew", *option("without", without), *files(map, plan, tapes, as_word(number)))

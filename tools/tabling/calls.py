@@ -9,8 +9,7 @@ import sys
 import time
 from typing import ClassVar, Iterator, Optional, Sequence
 
-from mapf.program import BESIDE, Program, usual_program
-from product import SHIPPED
+from mapf.program import Program, usual_program
 from tabling import clusters, workers
 from tabling.clusters import BadCluster
 from tabling.jobs import BadJobs, Job
@@ -58,7 +57,7 @@ def add_options(parser: argparse.ArgumentParser) -> None:
     parser.add_argument("--shard", type=shard, default=(1, 1), metavar="K/N", help="takes every N-th job from the K-th on")
     parser.add_argument("--dask", metavar="ADDRESS", help="hands the jobs to the Dask cluster with this scheduler")
     parser.add_argument("--page", type=pathlib.Path, metavar="FILE.html", help="writes the results as a page too")
-    parser.add_argument("--program", type=pathlib.Path, metavar="PATH", help="the program mapf (that of dist/, or else that of this checkout)")
+    parser.add_argument("--program", type=pathlib.Path, default=usual_program(), metavar="PATH", help="another program mapf than the usual one")
     parser.add_argument("--prune", action="store_true", help="drops the results whose jobs are gone")
     parser.add_argument("--retry", choices=[FAILED], help="judges these results again")
     parser.add_argument("--told", action="store_true", help=argparse.SUPPRESS)
@@ -70,12 +69,6 @@ def hold_options(parser: argparse.ArgumentParser, given: argparse.Namespace) -> 
         parser.error("-o RESULTS is wanted")
     if given.processes < 1:
         parser.error("--jobs: a number above 0 is wanted")
-
-
-def program_of(named: Optional[pathlib.Path]) -> Program:
-    """The program that is named, else the usual one: of a checkout that of dist/ itself, as its launcher would cost each job a third more."""
-    chosen, shipped = Program(named or usual_program()), Program(SHIPPED)
-    return shipped if not named and chosen.path == BESIDE and shipped.version() else chosen
 
 
 def lines_told() -> Iterator[str]:
@@ -148,7 +141,7 @@ class Tool(abc.ABC):
 
     def do_as_told(self, given: argparse.Namespace) -> None:
         """For a worker of a cluster: a line a job on standard input, and each time a line with its result on standard output."""
-        work = self.work_of(given, program_of(given.program))
+        work = self.work_of(given, Program(given.program))
         # Found here once, and not by each job's process.
         _ = work.judge
         for row in workers.on_this_machine(map(self.kind.unpacked, lines_told()), work, 1):
@@ -156,7 +149,7 @@ class Tool(abc.ABC):
 
     def do_all(self, given: argparse.Namespace) -> None:
         k, n = given.shard
-        program = program_of(given.program)
+        program = Program(given.program)
         if given.dask:
             clusters.begin_import()
         listed = self.jobs_of(given, program)
