@@ -49,7 +49,7 @@ def outcomes(root: pathlib.Path, helps: Mapping[str, str]) -> Iterator[Outcome]:
     texts.update((path.name, manual(path)) for path in sorted((root / MANUALS).iterdir()))
     texts.update(helps)
     for name, text in texts.items():
-        lines = [line for line in text.splitlines() if ABSENT.search(line) or (TOOLS.search(line) and not name.endswith("--help"))]
+        lines = [line for line in text.splitlines() if ABSENT.search(line) or TOOLS.search(line)]
         yield compared(f"what {name} speaks of", "a search", lines, [])
     program = manual(root / MANUALS / "mapf.1.gz")
     named = {path.name.removesuffix(".1.gz") for path in (root / MANUALS).iterdir()} & set(re.findall(r"^\.B (mapf-\w+)$", program, re.MULTILINE))

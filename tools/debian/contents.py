@@ -74,6 +74,8 @@ def put_tools(tree: Tree) -> None:
     tree.put(f"{OWN}/mapf", "../../bin/mapf")
     for name, file in TOOLS.items():
         tree.put(f"usr/bin/{name}", f"../lib/mapf/tools/{file}")
+        # What a tool says of itself and of others, in help and elsewhere.
+        tree.put_text(f"{OWN}/tools/{file}", of_package(tree.files[f"{OWN}/tools/{file}"].decode()))
     tree.put("usr/lib/python3/dist-packages/mapf", "../../mapf/tools/mapf")
 
 
@@ -147,4 +149,9 @@ def help_of_tool(tool: pathlib.Path) -> str:
     ended = subprocess.run(words, env=variables, stdin=subprocess.DEVNULL, capture_output=True, text=True, encoding="utf-8", check=False)
     if ended.returncode:
         raise Failed(f"{tool} --help ended with status {ended.returncode}")
-    return documents.with_names(DOCUMENT.sub(f"/{DOC}/docs/", ended.stdout), TOOLS)
+    return of_package(ended.stdout)
+
+
+def of_package(text: str) -> str:
+    """A text with the names that documents and tools have in the package."""
+    return documents.with_names(DOCUMENT.sub(f"/{DOC}/docs/", text), TOOLS)
