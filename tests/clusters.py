@@ -143,6 +143,18 @@ def of_a_killed_python(harness: Harness, two: Cluster) -> Iterator[Outcome]:
     yield compared("a job that gets no answer", ran, wrote, (3, [it for it in DUE if it[0] != "scens/7.scen"], 2, [why.encode()]))
 
 
+def of_kept_pythons(harness: Harness, two: Cluster) -> Iterator[Outcome]:
+    """Each of the two workers does all its jobs with one Python: a program sees it as what started the process that started it."""
+    room, _ = slow_room(harness)
+    told = room.folder / "pythons"
+    see = f'test "$1" = rows && case "$*" in */scens/*) sed -n "s/^PPid:[^0-9]*//p" /proc/$PPID/status >>{shlex.quote(str(told))};; esac'
+    program = room.script("seeing", f'{see}\nexec {shlex.quote(str(harness.program))} "$@"')
+    ran, process = two.run(room, "--maps", "maps", "scens", "-o", "kept.csv", program=program)
+    wrote = (ended(process).status, found_in(room, "kept.csv"))
+    seen = told.read_text().split() if told.exists() else []
+    yield compared("how many Pythons two workers need", ran, (*wrote, len(seen), len(set(seen)) <= 2), (0, DUE, len(DUE), True))
+
+
 def of_a_killed_worker(harness: Harness, two: Cluster) -> Iterator[Outcome]:
     room, program = slow_room(harness)
     ran, process = two.run(room, "--maps", "maps", "scens", "-o", "worker.csv", program=program)
@@ -181,6 +193,7 @@ def outcomes(harness: Harness) -> Iterator[Outcome]:
         return
     with cluster(harness, python) as two:
         yield from of_verdicts(harness, two)
+        yield from of_kept_pythons(harness, two)
         yield from of_a_killed_python(harness, two)
         yield from of_a_killed_worker(harness, two)
         yield from of_a_killed_scheduler(harness, two)
