@@ -24,7 +24,8 @@ MOST_OF_A_BATCH, PATIENCE, AHEAD = 32, 0.5, 2
 TRIES, MOST_SILENT = 3, 20
 # How long a cluster without a worker is waited for.
 WITHOUT_WORKERS = 30.0
-CANCELLED = (asyncio.CancelledError, concurrent.futures.CancelledError)
+# What a client raises whose scheduler has gone: of batches that it waits for, and of what it asks then.
+GONE = (asyncio.CancelledError, concurrent.futures.CancelledError, OSError)
 
 
 class BadCluster(Exception):
@@ -163,9 +164,10 @@ def on_a_cluster(jobs: Sequence[Job], work: Work, address: str) -> Iterator[Row]
     logging.disable(logging.CRITICAL)
     try:
         with Client(address) as client:
-            yield from Cluster(client, jobs, work).results()
-    except CANCELLED:
-        raise BadCluster("its scheduler is gone") from None
+            try:
+                yield from Cluster(client, jobs, work).results()
+            except GONE:
+                raise BadCluster("its scheduler is gone") from None
     except BadCluster:
         raise
     # Whatever a cluster fails of, its results are kept.
