@@ -11,10 +11,15 @@ random-32-32-20-even-3.scen on random-32-32-20.map.
 RESULTS, CSV or JSON lines by its name, has a line a job, in the order in which they are judged. The verdict is `accepted`, `CostDiffers` (the plan
 would be accepted, but its text states other costs), `rejected`, `unsolved` (the text says that its planner found no plan), `unreadable` (a text has a
 fault) or `failed` (a file, a process or a tool failed, or the time was over). Beside it stands what an accepted plan costs, and at least costs, and
-whether it can be run; with --all, how many faults others have. A planner that finds no plan often writes no file: `--missing unsolved` counts such a
-plan as unsolved, and not as a file that failed. Where jobs have a column planner, the last lines on standard error say how many jobs of each planner
-were accepted, by number of agents, and compare costs on the instances that all of them solved. A judge that was stopped goes on behind what stands. A result whose plan, map,
-scenario, program, readers or options are others since is made anew.
+whether it can be run; with --all, how many faults others have. A list may also name a `proof`, a `bound` that the planner claims, and its
+`solution cost`: what `mapf optimal` says of them stands there too.
+
+A planner that finds no plan often writes no file: `--missing unsolved` counts such a plan as unsolved, and not as a file that failed. Where jobs
+have a column planner, the last lines on standard error say how many jobs of each planner were accepted, by number of agents, and compare costs on
+the instances that all of them solved.
+
+A judge that was stopped goes on behind what stands. A result whose plan, map, scenario, proof, program, readers or options are others since is made
+anew.
 
 Status 0: every job has a result. 1: the list of jobs has a fault. 2: a bad command line. 3: the results can't be written, or the cluster failed.
 """

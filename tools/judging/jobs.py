@@ -20,7 +20,10 @@ MOST_AGENTS = 10_000
 # A table may have whole plans in its fields.
 MOST_IN_A_FIELD = 1 << 30
 # What a field of a name may be.
-FIELDS = {"planner": r"(?P<planner>[^/]+?)", "map": r"(?P<map>[^/]+)", "scen": r"(?P<scen>[A-Za-z]+)", "number": r"(?P<number>[0-9]+)", "agents": r"(?P<agents>[0-9]+)"}
+FIELDS = {
+    **{"planner": r"(?P<planner>[^/]+?)", "map": r"(?P<map>[^/]+)"},
+    **{"scen": r"(?P<scen>[A-Za-z]+)", "number": r"(?P<number>[0-9]+)", "agents": r"(?P<agents>[0-9]+)"},
+}
 
 
 @dataclasses.dataclass(frozen=True)
