@@ -321,10 +321,55 @@ def faults(harness: Harness) -> Iterator[Test]:
     except mapf.Fault as fault:
         found = (fault.words, fault.numbers, fault.answer)
     yield "events with a fault", found, (words("BadEvent 4"), (4,), "refused Waits 0 1\nmoving 2 0\n")
-    told = raised(lambda: mapf.check(folder / "m", folder / "p", agents=-1, **program))
-    yield "a number that is none", (told[0], told[3]), ("Failed", 2)
+    yield from unopened(folder, program)
+    for name, call in NO_NUMBERS.items():
+        yield f"no number: {name}", refused(functools.partial(call, *(folder / it for it in "mpe"), **program)), "ValueError"
     for text, due in (("BadMove 3 4", words("BadMove 3 4")), ("mapf: AtEnd", words("AtEnd")), ("of another kind", mapf.FaultWords("of another kind"))):
         yield f"the words {text}", read_words(text), due
+
+
+# Calls with numbers that are none, on a map, a plan and a third file.
+NO_NUMBERS: dict[str, Callable[..., object]] = {
+    "agents -1": lambda m, p, _, **it: mapf.check(m, p, agents=-1, **it),
+    "all 0": lambda m, p, _, **it: mapf.check(m, p, all=0, **it),
+    "all -1": lambda m, p, _, **it: mapf.check(m, p, all=-1, **it),
+    "agent -1": lambda m, p, _, **it: mapf.path(m, p, agent=-1, **it),
+    "x -1": lambda m, p, _, **it: mapf.visits(m, p, -1, 0, **it),
+    "time 1.5": lambda m, p, _, **it: mapf.cut(m, p, 1.5, **it),
+    "number -1": lambda m, _, s, **it: mapf.row(m, s, -1, **it),
+    "first -1": lambda m, _, s, **it: mapf.rows(m, s, first=-1, **it),
+    "without -1": lambda m, p, t, **it: mapf.anew(m, p, t, 9, without=-1, **it),
+    "an agent that is None": lambda m, p, t, **it: mapf.tape(m, p, None, t, **it),
+    "an agent -1": lambda m, p, t, **it: mapf.Agent(m, p, -1, t, **it).__enter__(),
+}
+
+
+def refused(call: Callable[[], object]) -> str:
+    try:
+        call()
+    except (ValueError, mapf.Failed) as fault:
+        return type(fault).__name__
+    return "nothing"
+
+
+def unopened(folder: pathlib.Path, program: dict[str, Any]) -> Iterator[Test]:
+    """A file that can't be opened is named."""
+    why = "No such file or directory"
+    calls = {
+        "map": (folder / "no", lambda it: mapf.check(it, folder / "p", **program)),
+        "plan": (folder / "none", lambda it: mapf.path(folder / "m", it, **program)),
+        "scenario": (folder / "no.scen", lambda it: mapf.check(folder / "m", folder / "p", scen=it, **program)),
+        "events": (folder / "no.events", lambda it: mapf.run(folder / "m", folder / "p", it, **program)),
+        "agent's plan": (folder / "gone", lambda it: mapf.Agent(folder / "m", it, 0, folder / "t", **program).__enter__()),
+        "row's map": (folder / "lost", lambda it: mapf.row(it, folder / "p", 0, **program)),
+    }
+    for name, (file, call) in calls.items():
+        try:
+            call(file)
+            found: tuple[object, ...] = ("nothing",)
+        except mapf.Failed as fault:
+            found = (fault.name, fault.file, str(fault))
+        yield f"a file that can't be opened, the {name}", found, ("OpenFailed", str(file), f"mapf: OpenFailed {file}: {why}")
 
 
 # Programs in place of mapf: what they do, and what is raised.
@@ -357,11 +402,50 @@ def failing(harness: Harness) -> Iterator[Test]:
     yield "a program that isn't there", gone[:2], ("Failed", f"{folder / 'no'} can't be started: No such file or directory")
 
 
+# What `mapf deps` and `mapf path` may not answer.
+TORN = (
+    ("deps", "agents 1 moves 2 needs 1 rotations 0"),
+    ("deps", "agents 1 moves 2 needs 1 rotations 0\nneed 0 0 1"),
+    ("deps", "agents 1 moves 2 needs 2 rotations 0\nneed 0 0 1 1"),
+    ("deps", "agents 1 moves 2 needs 0 rotations 1\nneed 0 0 1 1"),
+    ("deps", "agents 1 moves 2 needs 1 rotations 0\nseed 0 0 1 1"),
+    ("path", "0 0 1\n1 0"),
+    ("path", "0 0 1\n1 0 -1"),
+)
+
+
+def torn(harness: Harness) -> Iterator[Test]:
+    """An answer of another form is none, also where its lines are looked at one by one."""
+    folder = harness.folder()
+    for number, (name, text) in enumerate(TORN):
+        program = folder / str(number)
+        put_program(program, f"#!/bin/sh\nprintf '%b\\n' '{text}'\n")
+
+        def read() -> object:
+            found = getattr(mapf, name)("m", "p", program=program)
+            return [*found] if name == "path" else [*found.needs, *found.rotations]
+
+        yield f"an answer that is none: {text!r}", raised(read)[0], "Failed"
+    corner = mapf.path(example("corner.map"), example("corner.plan"), program=harness.program)
+    yield "a time of a path", (corner[-1], corner[0:2], len(corner)), (((1, 0), (2, 0)), (((0, 1), (0, 0)), ((0, 0), (1, 0))), 3)
+
+
 def checkout(harness: Harness) -> pathlib.Path:
     """A folder with a copy of the package, where a checkout has it."""
     folder = harness.folder()
     shutil.copytree(TOOLS / "mapf", folder / "tools" / "mapf", ignore=shutil.ignore_patterns("__pycache__"))
     return folder
+
+
+def started(folder: pathlib.Path, script: str, harness: Harness) -> Iterator[Test]:
+    """A call starts the program of a checkout once."""
+    shipped, told = folder / "dist" / "x86_64-linux" / "mapf", folder / "told"
+    shipped.parent.mkdir(parents=True)
+    shutil.copy(ROOT / "mapf", folder)
+    answer = '{"cost":4,"cost_bound":3,"makespan":2,"makespan_bound":2}'
+    put_program(shipped, f"#!/bin/sh\necho $1 >>{told}\ntest $1 = bound && echo '{answer}' || echo mapf 0\n")
+    ended = harness.run([sys.executable, "-c", script, str(folder / "tools")])
+    yield "how often calls start the program", (ended.out, told.read_text().split()), (b"[4, 4, 4]\n", ["bound"] * 3)
 
 
 def finding(harness: Harness) -> Iterator[Test]:
@@ -371,12 +455,13 @@ def finding(harness: Harness) -> Iterator[Test]:
     beside, other = folder / "mapf", elsewhere / "mapf"
 
     def found(named: str = "") -> str:
-        variables = {"PATH": f"{elsewhere}:/usr/bin:/bin", "MAPF": named}
+        variables = {"PATH": str(elsewhere), "MAPF": named}
         return harness.run([sys.executable, "-c", script, str(folder / "tools")], more=variables).out.decode().strip()
 
     yield "no program anywhere", found(), str(beside)
     os.symlink(harness.program, other)
     yield "the program on the path", found(), str(other)
+    yield from started(checkout(harness), script.replace("mapf.usual_program()", "[mapf.bound('m', 'p').cost.cost for _ in range(3)]"), harness)
     os.symlink(harness.program, beside)
     yield "the program beside the tools", found(), str(beside)
     yield "the program of the environment", found("/opt/mapf"), "/opt/mapf"
@@ -388,7 +473,7 @@ def tested(part: Callable[[Harness], Iterator[Test]], harness: Harness) -> list[
 
 def outcomes(harness: Harness) -> Iterator[Outcome]:
     seeds: Sequence[int] = LONG_SEEDS if harness.is_long else SHORT_SEEDS
-    parts = (shown, dialogue, stopped, ends, faults, failing, finding)
+    parts = (shown, dialogue, stopped, ends, faults, failing, torn, finding)
     tests = [functools.partial(tested, part, harness) for part in parts]
     tests.append(lambda: list(of_faulty_fleets(harness)))
     yield from side_by_side([*tests, *(functools.partial(of, harness, seed) for of in (of_plans, of_scenarios, of_fleets) for seed in seeds)])

@@ -1,20 +1,17 @@
 """Folders of jobs, and calls of a tool that makes one table of them: tools/judge.py, or tools/rows.py."""
-import contextlib
 import csv
 import io
 import json
 import os
 import random
-import shutil
 import signal
-import socket
 import subprocess
 import sys
 import time
-from typing import Iterator, Mapping, Optional, Sequence
+from typing import Mapping, Sequence
 
 import converting
-from harness import ROOT, Ended, Harness, put_program, shown
+from harness import ROOT, Ended, Harness, put_program
 
 # How often a call is stopped.
 STOPS = 8
@@ -75,43 +72,3 @@ def stopped(room: Room, words: Sequence[str], output: str, torn: bytes) -> tuple
             with open(path, "ab") as file:
                 file.write(torn)
     return turn + 1, stops
-
-
-def with_distributed() -> Optional[str]:
-    """A Python that has Dask's cluster."""
-    for python in (sys.executable, "/usr/bin/python3"):
-        if subprocess.run([python, "-c", "import distributed"], stderr=subprocess.DEVNULL, check=False).returncode == 0:
-            return python
-    return None
-
-
-@contextlib.contextmanager
-def cluster(room: Room) -> Iterator[Optional[tuple[str, str]]]:
-    """A scheduler and two workers of a Dask cluster on this machine, started by their own commands: the Python that has it, and its address."""
-    python = with_distributed()
-    if not python or not shutil.which("dask-scheduler") or not shutil.which("dask-worker"):
-        yield None
-        return
-    with socket.socket() as free:
-        free.bind(("127.0.0.1", 0))
-        port = free.getsockname()[1]
-    address = f"tcp://127.0.0.1:{port}"
-    worker = ["dask-worker", address, "--nthreads", "1", "--no-dashboard", "--no-nanny", "--local-directory", str(room.folder)]
-    commands = [["dask-scheduler", "--host", "127.0.0.1", "--port", str(port), "--no-dashboard"], worker, worker]
-    started = [subprocess.Popen(it, cwd=room.folder, stdout=subprocess.DEVNULL, stderr=subprocess.DEVNULL, start_new_session=True) for it in commands]
-    try:
-        yield python, address
-    finally:
-        for process in started:
-            os.killpg(process.pid, signal.SIGKILL)
-            process.wait()
-
-
-def on_a_cluster(room: Room, words: Sequence[str]) -> Optional[tuple[str, Ended]]:
-    """Runs a room's tool on a cluster: the command as one would type it, and what it did. None where there is no cluster."""
-    with cluster(room) as found:
-        if not found:
-            return None
-        python, address = found
-        command = [python, *room.words(*words, "--dask", address)[1:]]
-        return shown(command), room.harness.run(command, folder=room.folder)

@@ -9,7 +9,9 @@ from texts import BEHIND, LANE, SHORT, SQUARE, SWAP, TURN, VERTEX
 
 COLUMNS = ["map", "scenario", "plan", "agents", "verdict", "fault"]
 COLUMNS += ["cost", "cost_bound", "ratio", "claimed", "makespan", "makespan_bound", "runs", "agents_found"]
-COLUMNS += ["vertex_faults", "swap_faults", "colliding_pairs", "faults_cut", "seconds", "map_sha256", "scenario_sha256", "plan_sha256", "judge"]
+COLUMNS += ["vertex_faults", "swap_faults", "colliding_pairs", "faults_cut"]
+COLUMNS += ["proof_verdict", "proof_fault", "proved_cost_bound", "proved_makespan_bound", "bound_verdict"]
+COLUMNS += ["seconds", "map_sha256", "scenario_sha256", "plan_sha256", "proof_sha256", "judge"]
 # The columns that say what was due.
 JUDGED = ["map", "scenario", "plan", "verdict", "fault", "cost", "makespan"]
 # Two agents that go one cell east behind one another on the map LANE, and what they are to solve.

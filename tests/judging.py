@@ -8,16 +8,21 @@ from typing import Iterator, Sequence
 
 import judging_again
 import judging_costs
+import judging_pages
+import judging_planners
+import judging_proofs
 from harness import VERSION, Harness, Outcome, compared, shown, side_by_side
-from job_rooms import Room, on_a_cluster
+from job_rooms import Room
 from judge_jobs import ACCEPTED, CLAIMED, COLUMNS, JOBS, TASKS, TEXTS, csv_of, differing, json_of, judge_room, verdicts
 from texts import BEHIND, LANE
 
-# Results of former judges: of one that kept no sums, and of one that asked for no bounds.
+# Results of former judges: of one that kept no sums, of one that asked for no bounds, and of one that read no proofs.
 OLDER = "map,scenario,plan,agents,verdict,fault,cost,makespan,seconds\nlane.map,,behind.plan,,accepted,,2,1,0.1\n"
 FORMER_HEADING = "map,scenario,plan,agents,verdict,fault,cost,claimed,makespan,agents_found,seconds,map_sha256,scenario_sha256,plan_sha256,judge"
 FORMER = f"{FORMER_HEADING},planner\nlane.map,,behind.plan,,accepted,,2,,1,2,0.1,a,,b,mapf 0.1.0,PIBT\n"
-FORMERS = {"older": OLDER, "former": FORMER}
+WITHOUT_PROOFS = ",".join(it for it in COLUMNS if not it.startswith(("proof", "proved", "bound")))
+UNPROVED = f"{WITHOUT_PROOFS}\nlane.map,,behind.plan,,accepted,,2,2,1.0000,,1,1,yes,2,,,,,0.1,a,,b,mapf 0.1.0\n"
+FORMERS = {"older": OLDER, "former": FORMER, "unproved": UNPROVED}
 # Lists of jobs that are none.
 BAD_LISTS = {
     "empty.csv": b"",
@@ -35,6 +40,7 @@ BAD_LISTS = {
     "no.jsonl": b"map\n",
     "list.jsonl": b'["lane.map"]\n',
     "deep.jsonl": b'{"map":{},"plan":"p"}\n',
+    "bound.csv": b"map,plan,bound\nlane.map,behind.plan,low\n",
     "half.jsonl": b'{"map":"lane.map"}\n',
 }
 # The time that a job has where that is tested: far more than any of them needs.
@@ -67,7 +73,7 @@ def of_each_verdict(room: Room) -> Iterator[Outcome]:
 
 def of_names(room: Room) -> Iterator[Outcome]:
     """Plans that are judged by their names."""
-    for folder, names in (("maps", {"hall-1.map": LANE}), ("scens", {"hall-1-even-3.scen": TASKS}), ("plans", {})):
+    for folder, names in (("maps", {"hall-1.map": LANE}), ("scens", {"hall-1-even-3.scen": TASKS}), ("plans", {}), ("MAPF-LNS2", {})):
         (room.folder / folder).mkdir()
         for name, text in names.items():
             room.file(f"{folder}/{name}", text.encode())
@@ -87,6 +93,13 @@ def of_names(room: Room) -> Iterator[Outcome]:
     own = room.file("plans/2@hall-1", BEHIND.encode())
     words = ["--maps", "maps", "--pattern", "{agents}@{map}", own]
     yield judged(room, "names of another kind", words, "own.csv", [((files[0], "", own, "2"), ACCEPTED)])
+    room.file("MAPF-LNS2/hall-1-even-3-2.txt", BEHIND.encode())
+    words = ["--maps", "maps", "--pattern", "{planner}/{map}-{scen}-{number}-{agents}*", "MAPF-LNS2/hall-1-even-3-2.txt"]
+    yield judged(room, "plans in folders of planners", words, "planners.csv", [((files[0], "", words[-1], "2"), ACCEPTED)])
+    yield compared("their planners", "looked at planners.csv", [row["planner"] for row in room.rows("planners.csv")], ["MAPF-LNS2"])
+    words = ["--maps", "maps", "--pattern", "{planner}-{map}-{scen}-{number}-{agents}*", room.file("PIBT-hall-1-even-3-2", BEHIND.encode())]
+    yield judged(room, "plans by the names of planners", words, "begun.csv", [((files[0], "", words[-1], "2"), ACCEPTED)])
+    yield compared("these planners", "looked at begun.csv", [row["planner"] for row in room.rows("begun.csv")], ["PIBT"])
     ended = room.run("--maps", "maps", "behind.plan", "-o", "none.csv")
     yield compared("a name of no such kind", "judge.py --maps maps behind.plan", (ended.status, b"behind.plan" in ended.err, ended.out), (1, True, b""))
 
@@ -215,6 +228,7 @@ def of_summaries(room: Room) -> Iterator[Outcome]:
         "map square.map: 1 accepted; cost 4 of 4",
         "planner <b>: 1 rejected; cost 0 of 0",
         "planner PIBT: 2 accepted; cost 6 of 6",
+        "planner PIBT, accepted: 2 agents 1 of 1 (100 %), 4 agents 1 of 1 (100 %)",
     ]
     yield compared("the summary", "judge.py planners.csv", ended.err.decode(), "".join(f"judge: {line}\n" for line in due))
     text = (room.folder / "page.html").read_text(encoding="utf-8")
@@ -223,16 +237,6 @@ def of_summaries(room: Room) -> Iterator[Outcome]:
     yield compared("a page of the results", "judge.py planners.csv --page page.html", wrote, (True, True, False, False, False, 2))
     numbers = re.findall(r'<td class="number">(1\.0000|Rotation [^<]*)</td>', text)
     yield compared("numbers on the right", "judge.py planners.csv --page page.html", numbers, ["1.0000", "1.0000"])
-
-
-def of_a_cluster(room: Room) -> Iterator[Outcome]:
-    found = on_a_cluster(room, ["jobs.csv", "-o", "cluster.csv"])
-    if not found:
-        yield Outcome("a cluster", lacks="python3-distributed")
-        return
-    ran, ended = found
-    wrote = (ended.status, differing(room.rows("cluster.csv"), JOBS), ended.err[-300:] if ended.status else b"")
-    yield compared("a cluster of two workers", ran, wrote, (0, [], b""))
 
 
 def outcomes(harness: Harness) -> Iterator[Outcome]:
@@ -246,5 +250,6 @@ def outcomes(harness: Harness) -> Iterator[Outcome]:
     yield from of_gaps(room)
     yield from judging_costs.outcomes(room)
     yield from judging_again.outcomes(room)
-    if harness.is_long:
-        yield from of_a_cluster(room)
+    yield from judging_planners.outcomes(room)
+    yield from judging_proofs.outcomes(room)
+    yield from judging_pages.outcomes(room)

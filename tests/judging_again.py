@@ -108,6 +108,13 @@ def of_columns(room: Room) -> Iterator[Outcome]:
         ended = room.run(jobs, "-o", output)
         yield compared(f"{jobs} once more", f"judge.py {jobs}", (b"1 of 1 jobs have" in ended.err, (room.folder / output).read_bytes() == before), (True, True))
     yield compared("the lines of other lists stay", "looked at counts.csv", short(room.rows("counts.csv")), [due[0], ("swap.plan", "", "rejected")])
+    ended = room.run("swap.csv", "-o", "counts.csv", "--prune")
+    wrote = (short(room.rows("counts.csv")), b"judge: 1 results are dropped, since their jobs are gone\n" in ended.err)
+    yield compared("but where the list is all that there is", "judge.py swap.csv --prune", wrote, ([("swap.plan", "", "rejected")], True))
+    room.file("halves.csv", f"{heading}\n{job},2\nlane.map,,swap.plan,\n".encode())
+    room.run("halves.csv", "-o", "counts.csv")
+    room.run("halves.csv", "-o", "counts.csv", "--prune", "--shard", "1/2")
+    yield compared("jobs of another part aren't gone", "judge.py halves.csv --prune --shard 1/2", short(room.rows("counts.csv")), [due[0], ("swap.plan", "", "rejected")])
 
 
 def of_stops_anew(room: Room) -> Iterator[Outcome]:
@@ -135,9 +142,25 @@ def of_stops_anew(room: Room) -> Iterator[Outcome]:
     yield compared("judged to its end", "judge.py many.csv", sorted((row["plan"], row["verdict"]) for row in room.rows("anew.csv")), sorted(due.items()))
 
 
+def of_failures(room: Room) -> Iterator[Outcome]:
+    """What has failed stands until it is asked for again."""
+    jobs = [("lane.map", "", "behind.plan", ""), ("lane.map", "", "swap.plan", "")]
+    room.file("failing.csv", csv_of(jobs))
+    room.file("broken", b"")
+    program = room.script("failing", f'test "$1" = check && test -e broken && exit 5\nexec {shlex.quote(str(room.harness.program))} "$@"')
+    calls = (([], ["failed", "failed"]), ([], ["failed", "failed"]), (["--retry", "failed"], ["accepted", "rejected"]), (["--retry", "failed"], ["accepted", "rejected"]))
+    for number, (words, due) in enumerate(calls):
+        ended = room.run("failing.csv", "-o", "failing.out.csv", *words, program=program)
+        (room.folder / "broken").unlink(missing_ok=True)
+        found = sorted(row["verdict"] for row in room.rows("failing.out.csv"))
+        told = (b"behind.plan: to be judged again" in ended.err, b"2 of 2 jobs have a result" in ended.err)
+        yield compared(f"call {number} after a failure, {words}", f"judge.py failing.csv {words}", (ended.status, found, told), (0, due, (number == 2, number in (1, 3))))
+
+
 def outcomes(room: Room) -> Iterator[Outcome]:
     yield from of_stops(room)
     yield from of_changes(room)
     yield from of_sums(room)
     yield from of_columns(room)
     yield from of_stops_anew(room)
+    yield from of_failures(room)

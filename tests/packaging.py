@@ -9,6 +9,7 @@ import shutil
 import sys
 from typing import Iterator, Optional, Sequence
 
+import packaged_pages
 from documents import BLOCK, turns_of
 from harness import ROOT, SHIPPED, Ended, Harness, Outcome, compared, side_by_side
 
@@ -167,8 +168,9 @@ def shown(root: Root) -> Iterator[Outcome]:
             folder = root.harness.folder()
             shutil.copytree(root.at("usr/share/doc/mapf/examples"), folder / "examples")
             for command, due in turns_of(block):
-                words = re.sub(r"python3 tools/(\w+)\.py", lambda found: root.tool(found[1]), command).replace("./mapf ", f"{root.at('usr/bin/mapf')} ")
-                ended = root.harness.run(["sh", "-c", f"{{ {words}\n}} 2>&1"], folder=folder)
+                words = re.sub(rf"\bmapf-({'|'.join(TOOLS)})\b", lambda found: root.tool(found[1]), command)
+                path = {"PATH": f"{root.at('usr/bin')}:{os.environ['PATH']}"}
+                ended = root.harness.run(["sh", "-c", f"{{ {words}\n}} 2>&1"], folder=folder, more=path)
                 yield compared(f"{name}: {command}", words, ended.out.decode(errors="replace"), due)
 
 
@@ -194,6 +196,16 @@ def programs(root: Root) -> Iterator[Outcome]:
         python = [] if os.access(PYTHON, os.X_OK) else [sys.executable]
         ended = root.harness.run([*python, str(root.at(name)), "--help"])
         yield compared(f"/{name} --help", f"/{name} --help", (ended.status, ended.out[:6], ended.err), (0, b"usage:", b""))
+
+
+def programs_of(root: Root) -> dict[str, list[str]]:
+    """All that can be called: the program, its commands, the tools, and the programs among the examples."""
+    program = str(root.at("usr/bin/mapf"))
+    commands = re.findall(r"^  (\w+)  ", root.harness.run([program, "help"]).out.decode().partition("Options:")[0], re.MULTILINE)
+    found = {"mapf": [program], **{f"mapf {name}": [program, name] for name in commands if name != "help"}}
+    examples = (it for it in root.at("usr/lib/mapf/examples").rglob("*.py") if os.access(it, os.X_OK))
+    scripts = [*(root.at(f"usr/bin/mapf-{name}") for name in TOOLS), *sorted(examples)]
+    return {**found, **{path.name: [sys.executable, str(path)] for path in scripts}}
 
 
 def manuals(root: Root) -> Iterator[Outcome]:
@@ -228,7 +240,8 @@ def on_a_root(harness: Harness, deb: pathlib.Path) -> list[Outcome]:
         return [Outcome("installed", f"dpkg ended with {root.installed}")]
     same = root.at("usr/bin/mapf").read_bytes() == (ROOT / SHIPPED).read_bytes()
     outcomes.append(compared("the program", "the bytes of usr/bin/mapf", same, True))
-    outcomes += [*shown(root), *from_python(root), *programs(root), *manuals(root)]
+    helps = {f"{name} --help": root.harness.run([*words, "--help"]).out.decode() for name, words in programs_of(root).items()}
+    outcomes += [*shown(root), *packaged_pages.outcomes(root.folder, helps), *from_python(root), *programs(root), *manuals(root)]
     removed = root.dpkg("-r", "mapf")
     left = [str(it.relative_to(root.folder)) for it in root.folder.rglob("*") if "var" not in it.relative_to(root.folder).parts[:1]]
     outcomes.append(compared("removed", "dpkg -r mapf", (removed.status, left), (0, [])))

@@ -19,6 +19,7 @@ import beginnings
 import calling_python
 import changing
 import claims
+import clusters
 import command_lines
 import completions
 import continuations
@@ -94,6 +95,7 @@ PARTS: dict[str, tuple[str, Callable[[Harness], Iterator[Outcome]]]] = {
     "convert": ("plans of other formats, converted and back", converting.outcomes),
     "judge": ("many plans, judged as one table", judging.outcomes),
     "numbers": ("numbers of plans, which each tool that writes one draws", drawn_numbers.outcomes),
+    "dask": ("jobs on a Dask cluster, whose workers and scheduler are killed", clusters.outcomes),
     "repair": ("plans in which agents rotate, planned anew", repairing.outcomes),
     "replan": ("what is to be planned anew for a fleet that was stopped", replanning.outcomes),
     "rows": ("many scenarios, certified as one table", tabling.outcomes),

@@ -9,12 +9,14 @@ import heapq
 import itertools
 import json
 import random
+import re
+import shutil
 import sys
 from typing import Iterator, Optional, Sequence
 
 import optimal_model as model
 from answers import answer
-from harness import ROOT, Ended, Harness, Outcome, ended_as, side_by_side
+from harness import ROOT, Ended, Harness, Outcome, compared, ended_as, side_by_side
 from optimal_model import Distinctions, Task
 from path_model import Cell, Fault
 from plain_formats import plan_text
@@ -294,7 +296,7 @@ def of_planner(harness: Harness, seed: int) -> list[Outcome]:
     rng = random.Random(f"planned {seed}")
     instance = greater_instance(rng)
     folder = harness.folder({"m": instance.map_text().encode(), "s": scenario_text(instance).encode()})
-    words = ["m", "s", str(len(instance.tasks)), "-o", "p", "t", "--seconds", str(SECONDS), *rng.choice(([], ["--disjoint"]))]
+    words = ["m", "s", str(len(instance.tasks)), "-o", "p", "t", "--seconds", str(SECONDS), *rng.choice(([], ["--no-disjoint"]))]
     wrote = harness.run([sys.executable, str(TOOL), *words], folder=folder)
     due_status = 0 if wrote.out.startswith(b"optimal ") else 1
     ran = f"prove.py {' '.join(words)}  with seed {seed}"
@@ -304,7 +306,67 @@ def of_planner(harness: Harness, seed: int) -> list[Outcome]:
     ]
 
 
+def row_text(*ends: int) -> str:
+    return "\t".join(map(str, (0, "m", 4, 4, *ends, 0))) + "\n"
+
+
+def of_short_proofs(harness: Harness) -> Iterator[Outcome]:
+    """Three agents cross a room and none has to leave its shortest walk: 6 steps each. So one leaf is enough, whatever was tried."""
+    room = f"type octile\nheight 4\nwidth 4\nmap\n{'....' + chr(10)}".replace("....\n", "....\n" * 4)
+    rows = row_text(0, 0, 3, 3) + row_text(0, 3, 3, 0) + row_text(3, 0, 0, 3)
+    folder = harness.folder({"m": room.encode(), "s": f"version 1\n{rows}".encode()})
+    for words in ([], ["--no-disjoint"]):
+        wrote = harness.run([sys.executable, str(TOOL), "m", "s", "3", "-o", "p", "t", *words], folder=folder)
+        yield ended_as(f"one leaf is enough, {words}", f"prove.py {words}", wrote, Ended(0, b"optimal cost 18 nodes 1\n", b""))
+        proof = (folder / "t").read_text()
+        yield compared(f"the proof, {words}", f"prove.py {words}", proof, "mapf-proof 1\nobjective cost\nbound 18\nleaf\n")
+
+
+# A tree as planners keep it: a node costs as much as the bound and was split all the same, and the other one was never split.
+SAMPLE = """
+class Node:
+    def __init__(self, cost, split="", children=()):
+        self.cost, self.split, self.children = cost, split, children
+
+pruned = Node(7, "vertex 0 1 2 1 0", (Node(7), Node(8)))
+write_proof(Node(5, "vertex 0 1 1 1 0", (pruned, Node(6, "at 1 1 0 0", (Node(7), Node(9))))), 7, sys.stdout)
+"""
+SAMPLE_WROTE = b"mapf-proof 1\nobjective cost\nbound 7\nvertex 0 1 1 1 0\nleaf\nat 1 1 0 0\nleaf\nleaf\n"
+IN_CPP = """
+int main() {
+    auto leaf = [](unsigned cost) { auto it = std::make_unique<Node>(); it->cost = cost; return it; };
+    auto split = [](unsigned cost, const char* line, std::unique_ptr<Node> one, std::unique_ptr<Node> other) {
+        auto it = std::make_unique<Node>();
+        it->cost = cost, it->split = line, it->children[0] = std::move(one), it->children[1] = std::move(other);
+        return it;
+    };
+    auto pruned = split(7, "vertex 0 1 2 1 0", leaf(7), leaf(8));
+    auto last = split(6, "at 1 1 0 0", leaf(7), leaf(9));
+    write_proof(*split(5, "vertex 0 1 1 1 0", std::move(pruned), std::move(last)), 7, std::cout);
+}
+"""
+
+
+def of_samples(harness: Harness) -> Iterator[Outcome]:
+    """The writers of the page make a leaf of each node that costs as much as the bound."""
+    page = (ROOT / "docs" / "PROVING.md").read_text(encoding="utf-8")
+    python, cpp = (re.search(rf"^```{name}\n(.*?)^```", page, re.DOTALL | re.MULTILINE)[1] for name in ("python", "cpp"))
+    ended = harness.run([sys.executable, "-c", f"import sys\n{python}{SAMPLE}"])
+    yield ended_as("the writer in Python", "looked at PROVING.md", ended, Ended(0, SAMPLE_WROTE, b""))
+    if not shutil.which("g++"):
+        yield Outcome("the writer in C++", lacks="g++")
+        return
+    writer = cpp.partition("void split_at")[0]
+    heads = "".join(f"#include <{it}>\n" for it in ("array", "iostream", "memory", "string", "utility", "vector"))
+    folder = harness.folder({"sample.cpp": f"{heads}{writer}{IN_CPP}".encode()})
+    built = harness.run(["g++", "-std=c++17", "sample.cpp", "-o", "sample"], folder=folder)
+    ended = harness.run([str(folder / "sample")]) if built.status == 0 else built
+    yield ended_as("the writer in C++", "looked at PROVING.md", ended, Ended(0, SAMPLE_WROTE, b""))
+
+
 def outcomes(harness: Harness) -> Iterator[Outcome]:
+    yield from of_short_proofs(harness)
+    yield from of_samples(harness)
     seeds = LONG_SEEDS if harness.is_long else SHORT_SEEDS
     yield from side_by_side([functools.partial(outcomes_of, harness, calls, seed) for seed in seeds])
     planned = LONG_PLANNED if harness.is_long else SHORT_PLANNED

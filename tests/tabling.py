@@ -5,7 +5,7 @@ import shlex
 from typing import Iterator, Sequence
 
 from harness import VERSION, Harness, Outcome, compared, shown, side_by_side
-from job_rooms import Room, on_a_cluster, stopped
+from job_rooms import Room, stopped
 from scenarios import Ground, Row, due_of_rows, random_ground, random_row
 from texts import LANE, SHORT, scen
 
@@ -209,18 +209,6 @@ def of_bad_lines(room: Room) -> Iterator[Outcome]:
     yield compared("nothing is written", "looked for none.csv", (room.folder / "none.csv").exists(), False)
 
 
-def of_a_cluster(room: Room) -> Iterator[Outcome]:
-    words = ["--maps", "maps", "scens", "many", "--straight", "-o"]
-    found = on_a_cluster(room, [*words, "cluster.csv"])
-    if not found:
-        yield Outcome("a cluster", lacks="python3-distributed")
-        return
-    ran, ended = found
-    room.run(*words, "here.csv")
-    wrote = (ended.status, found_in(room, "cluster.csv"))
-    yield compared("a cluster of two workers", ran, wrote, (0, found_in(room, "here.csv")))
-
-
 def outcomes(harness: Harness) -> Iterator[Outcome]:
     room = rows_room(harness)
     yield from of_folders(room)
@@ -230,5 +218,3 @@ def outcomes(harness: Harness) -> Iterator[Outcome]:
     yield from of_programs(room)
     yield from of_stops(room)
     yield from of_bad_lines(room)
-    if harness.is_long:
-        yield from of_a_cluster(room)

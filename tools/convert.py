@@ -96,7 +96,7 @@ def read_words(words: Sequence[str]) -> argparse.Namespace:
     parser.add_argument("--scen", metavar="SCEN", help="the scenario that the plan is to solve")
     parser.add_argument("--number", type=plan_number, metavar="N", help="the plan's number (one that is drawn)")
     parser.add_argument("--fill-waits", action="store_true", help="an agent waits at times that a schedule leaves out")
-    parser.add_argument("--program", type=pathlib.Path, default=usual_program(), metavar="PATH", help="the program mapf (that of this checkout)")
+    parser.add_argument("--program", type=pathlib.Path, default=usual_program(), metavar="PATH", help="another program mapf than the usual one")
     page = "shows what is to be known of a format, and ends"
     parser.add_argument("--help-format", action=FormatHelp, metavar="FORMAT", help=page)
     given = parser.parse_args(words)

@@ -64,7 +64,7 @@ def read_words(words: Sequence[str]) -> argparse.Namespace:
     parser.add_argument("folder", type=pathlib.Path, metavar="FOLDER", help="where the files go")
     parser.add_argument("--without", type=agent, metavar="I", help="this agent is taken off the floor")
     parser.add_argument("--number", type=plan_number, metavar="N", help="the number of the plan of the others (one that is drawn)")
-    parser.add_argument("--program", type=pathlib.Path, default=usual_program(), metavar="PATH", help="the program mapf (that of this checkout)")
+    parser.add_argument("--program", type=pathlib.Path, default=usual_program(), metavar="PATH", help="another program mapf than the usual one")
     given = parser.parse_args(words)
     if given.number is not None and given.without is None:
         parser.error("--number goes with --without: a cut keeps the number of its plan")

@@ -1,12 +1,12 @@
 #!/usr/bin/env python3
 """Plans the first agents of a scenario at the least sum of costs, and writes why no valid plan costs less.
 
-Usage: prove.py MAP SCEN AGENTS -o PLAN PROOF [--seconds N] [--disjoint] [--number N]
+Usage: prove.py MAP SCEN AGENTS -o PLAN PROOF [--seconds N] [--no-disjoint] [--number N]
 
-A conflict-based search: each agent's walk is the least under what is asked of it, and where two walks conflict, the search goes on twice,
-and asks one of the two agents for something else each time. With `--disjoint` it asks one agent to be there, or not to be. What it tried is
-the tree of the proof: `mapf optimal MAP PLAN PROOF` reads it, and believes nothing of this search. It is no rival of planners: it shows
-how such proofs are written.
+A conflict-based search: each agent's walk is the least under what is asked of it, and where two walks conflict, the search goes on twice:
+it asks one agent to be there, or not to be. With `--no-disjoint` it asks one of the two agents for something else each time, and often needs
+many more nodes. What it tried is the tree of the proof, up to the nodes that cost as much as the bound: `mapf optimal MAP PLAN PROOF` reads it,
+and believes nothing of this search. It is no rival of planners: it shows how such proofs are written.
 
 Where the time is over, the proof is of the best bound so far, and the plan is the best of some that let agent after agent choose: there may
 be none, and then none is written.
@@ -34,6 +34,8 @@ from progress import Progress  # noqa: E402
 
 # Of so many conflicts of a node the one is taken that makes both children cost most.
 COMPARED = 6
+# What stands above the first node of a proof.
+LINES_OF_HEAD = 3
 # So many orders of the agents are tried for a plan where the time is over.
 ORDERS = 20
 
@@ -248,8 +250,10 @@ class Search:
         lines, left = ["mapf-proof 1", "objective cost", f"bound {self.bound()}"], [self.root]
         while left:
             node = left.pop()
-            lines.append(node.line or "leaf")
-            left += reversed(node.children)
+            # One that costs as much as the bound stands by itself, whatever was tried below it.
+            is_split = node.children and node.cost() < self.bound()
+            lines.append(node.line if is_split else "leaf")
+            left += reversed(node.children if is_split else ())
         return "\n".join([*lines, ""])
 
 
@@ -281,7 +285,8 @@ def main(words: Sequence[str]) -> int:
     parser.add_argument("agents", type=int, metavar="AGENTS", help="how many agents, from the first row on")
     parser.add_argument("-o", dest="out", nargs=2, type=pathlib.Path, metavar=("PLAN", "PROOF"), required=True, help="where plan and proof go")
     parser.add_argument("--seconds", type=float, default=60.0, metavar="N", help="how long it is searched (60)")
-    parser.add_argument("--disjoint", action="store_true", help="asks one agent to be somewhere, or not to be")
+    about = "asks one agent to be somewhere, or not to be; else one of two for something else (--disjoint)"
+    parser.add_argument("--disjoint", action=argparse.BooleanOptionalAction, default=True, help=about)
     parser.add_argument("--number", type=plan_number, metavar="N", help="the number of the plan (one that is drawn)")
     given = parser.parse_args(words)
     try:
@@ -292,12 +297,13 @@ def main(words: Sequence[str]) -> int:
         print(f"prove: {fault}", file=sys.stderr)
         return 2
     plan, proof = given.out
-    proof.write_text(planning.proof(), encoding="ascii")
+    text = planning.proof()
+    proof.write_text(text, encoding="ascii")
     if walks:
         plan.write_text("".join(mapf_plan.write([walk_of(walk) for walk in walks], given.number)), encoding="ascii")
     is_best = walks is not None and cost_of(walks) == planning.bound()
     cost = f" cost {cost_of(walks)}" if walks else ""
-    print(f"{'optimal' if is_best else f'bound {planning.bound()}'}{cost} nodes {planning.count}")
+    print(f"{'optimal' if is_best else f'bound {planning.bound()}'}{cost} nodes {text.count(chr(10)) - LINES_OF_HEAD}")
     return 0 if is_best else 1
 
 

@@ -45,7 +45,7 @@ def read_words(words: Sequence[str]) -> argparse.Namespace:
     parser.add_argument("--seconds", type=float, default=60.0, metavar="N", help="how long it is tried (60)")
     parser.add_argument("--seed", type=int, default=0, metavar="N", help="another one may find other walks (0)")
     parser.add_argument("--number", type=plan_number, metavar="N", help="the number of the plan (one that is drawn)")
-    parser.add_argument("--program", type=pathlib.Path, default=usual_program(), metavar="PATH", help="the program mapf (that of this checkout)")
+    parser.add_argument("--program", type=pathlib.Path, default=usual_program(), metavar="PATH", help="another program mapf than the usual one")
     return parser.parse_args(words)
 
 

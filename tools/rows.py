@@ -12,7 +12,7 @@ agree, is unreachable, or of another size: the first one is named), `unreadable`
 process or a tool failed, or the time was over). A call that was stopped goes on behind what stands. A result whose map, scenario or program are
 others since is made anew.
 
-Status 0: every scenario has a result. 1: a folder has no scenario. 2: a bad command line. 3: the results can't be written.
+Status 0: every scenario has a result. 1: a folder has no scenario. 2: a bad command line. 3: the results can't be written, or the cluster failed.
 """
 import argparse
 import pathlib
@@ -40,7 +40,7 @@ class Rows(Tool):
         parser.add_argument("--straight", action="store_true", help="least numbers of straight steps, and not the listed lengths")
         add_options(parser)
         given = parser.parse_args(words)
-        if given.one:
+        if given.told:
             return given
         if given.maps is None and len(given.files) != 2:
             parser.error("a map and a scenario are wanted, or --maps and scenarios")

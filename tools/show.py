@@ -76,7 +76,7 @@ def read_words(words: Sequence[str]) -> argparse.Namespace:
     parser.add_argument("--dark", action="store_true", help="the picture is dark")
     parser.add_argument("--width", type=int, default=pictures.WIDTH, metavar="PIXELS", help=f"the most pixels that a picture is wide ({pictures.WIDTH})")
     parser.add_argument("--browser", metavar="PATH", help="the browser that draws pictures (a Chromium on the path)")
-    parser.add_argument("--program", type=pathlib.Path, default=usual_program(), metavar="PATH", help="the program mapf (that of this checkout)")
+    parser.add_argument("--program", type=pathlib.Path, default=usual_program(), metavar="PATH", help="another program mapf than the usual one")
     given = parser.parse_args(words)
     given.is_picture = given.png is not None or given.gif is not None
     if given.is_picture and not given.output:

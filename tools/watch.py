@@ -91,7 +91,7 @@ def read_words(words: Sequence[str]) -> argparse.Namespace:
         parser.add_argument(
             f"--{name}", type=seconds, default=usual, metavar="SECONDS", help=f"{about} ({usual:g})"
         )
-    about = "the program mapf (that of this checkout)"
+    about = "another program mapf than the usual one"
     parser.add_argument(
         "--program", type=pathlib.Path, default=usual_program(), metavar="PATH", help=about
     )

@@ -1,11 +1,12 @@
 """Manual pages, made of what help says."""
 import dataclasses
 import re
-from typing import Iterator, Sequence
+from typing import Iterable, Iterator, Sequence
 
+COMMANDS, TOOLS = "COMMANDS", "TOOLS"
 # Headings of help, and of its manual.
 HEADINGS = {
-    "Commands": "COMMANDS",
+    "Commands": COMMANDS,
     "Arguments": "ARGUMENTS",
     "positional arguments": "ARGUMENTS",
     "Options": "OPTIONS",
@@ -17,7 +18,7 @@ HEADINGS = {
 }
 DESCRIPTION, STATUSES, EXAMPLES = "DESCRIPTION", "EXIT STATUS", "EXAMPLES"
 # In which order they stand.
-ORDER = (DESCRIPTION, "COMMANDS", "ARGUMENTS", "OPTIONS", STATUSES, EXAMPLES)
+ORDER = (DESCRIPTION, COMMANDS, TOOLS, "ARGUMENTS", "OPTIONS", STATUSES, EXAMPLES)
 HEADING = re.compile(r"([A-Za-z][a-z ]*):$")
 # `  -o FILE, --output FILE  where it goes`, and its lines behind the first.
 ENTRY = re.compile(r" {2,6}(\S.*?)(?: {2,}(.*))?$")
@@ -152,6 +153,13 @@ def of_tool(name: str, text: str) -> Manual:
     usage = [line[len(USAGE) :] if line.startswith((USAGE, " " * len(USAGE))) else line for line in lines[begin:end]]
     first = re.split(r"(?<=\w)\.(?: |$)", about)[0]
     return Manual(name, lowered(first), usage, sections_of([*lines[:begin], *lines[end:]]))
+
+
+def with_tools(manual: Manual, tools: Iterable[Manual]) -> Manual:
+    """The manual of the program with the tools beside it, each of which has a manual of its own."""
+    lines = [f"  {tool.name}  {tool.about}" for tool in tools]
+    place = next(place for place, (heading, _) in enumerate(manual.sections, 1) if heading == COMMANDS)
+    return dataclasses.replace(manual, sections=[*manual.sections[:place], (TOOLS, lines), *manual.sections[place:]])
 
 
 def with_command(manual: Manual, text: str) -> Manual:

@@ -40,6 +40,12 @@ class Verdict:
     swap_faults: str = ""
     colliding_pairs: str = ""
     faults_cut: str = ""
+    # Of a proof and of a claimed bound.
+    proof_verdict: str = ""
+    proof_fault: str = ""
+    proved_cost_bound: str = ""
+    proved_makespan_bound: str = ""
+    bound_verdict: str = ""
 
     @property
     def ratio(self) -> str:

@@ -6,18 +6,24 @@ import pathlib
 import re
 from typing import Any, Iterator, Optional, Sequence
 
+from judging.proofs import BOUND, bound_of
 from judging.table import TABLE
 from tabling.jobs import NEVER_NAMED, BadJobs, Job
 
 # The columns of a list of jobs that say what is to be judged; those behind the first two may be missing or empty. Other columns go through.
 COLUMNS = ("map", "plan", "scenario", "agents")
 REQUIRED = ("map", "plan")
+# The columns that have the cost which a planner or a table states.
+COSTS = ("solution_cost", "solution cost")
 # The most agents that a plan has; no number of a job needs more digits.
 MOST_AGENTS = 10_000
 # A table may have whole plans in its fields.
 MOST_IN_A_FIELD = 1 << 30
 # What a field of a name may be.
-FIELDS = {"map": r"(?P<map>.+)", "scen": r"(?P<scen>[A-Za-z]+)", "number": r"(?P<number>[0-9]+)", "agents": r"(?P<agents>[0-9]+)"}
+FIELDS = {
+    **{"planner": r"(?P<planner>[^/]+?)", "map": r"(?P<map>[^/]+)"},
+    **{"scen": r"(?P<scen>[A-Za-z]+)", "number": r"(?P<number>[0-9]+)", "agents": r"(?P<agents>[0-9]+)"},
+}
 
 
 @dataclasses.dataclass(frozen=True)
@@ -39,7 +45,7 @@ class PlanJob(Job):
         return {} if self.text is None else {"plan": self.text}
 
 
-def job_of(fields: dict[str, Any], folder: pathlib.Path, where: str, text: Optional[str] = None, claim: str = "") -> PlanJob:
+def job_of(fields: dict[str, Any], folder: pathlib.Path, where: str, text: Optional[str] = None) -> PlanJob:
     """The job with these fields."""
     for name in fields:
         if name in TABLE.own or not name.strip():
@@ -54,6 +60,9 @@ def job_of(fields: dict[str, Any], folder: pathlib.Path, where: str, text: Optio
     agents = words["agents"]
     if agents and not (agents.isascii() and agents.isdigit() and len(agents) < 6 and int(agents) <= MOST_AGENTS):
         raise BadJobs(f"{where}: '{agents[:40]}' agents, a number from 0 to {MOST_AGENTS} was due")
+    if words.get(BOUND) and bound_of(words[BOUND]) is None:
+        raise BadJobs(f"{where}: '{words[BOUND][:40]}' as {BOUND}, a number from 0 on was due")
+    claim = next((words[name] for name in COSTS if words.get(name)), "")
     more = tuple((name, word) for name, word in words.items() if name not in COLUMNS)
     return PlanJob(words["map"], words["scenario"], more, folder, words["plan"], str(int(agents)) if agents else "", text, claim)
 
@@ -131,7 +140,9 @@ def by_names(plans: Sequence[str], maps: pathlib.Path, scens: Optional[pathlib.P
     pattern = pattern_of(template)
     jobs = []
     for plan in plans:
-        found = pattern.fullmatch(pathlib.PurePath(plan).name)
+        # A pattern with folders is held against as many of them.
+        end = "/".join(pathlib.PurePath(plan).parts[-1 - template.count("/") :])
+        found = pattern.fullmatch(end)
         if not found:
             raise BadJobs(f"{plan}: the name is not like '{template}'")
         fields = found.groupdict()
@@ -139,5 +150,6 @@ def by_names(plans: Sequence[str], maps: pathlib.Path, scens: Optional[pathlib.P
             scenario = str(scens / scen_template.format(**fields)) if scens else ""
         except (KeyError, IndexError, ValueError):
             raise BadJobs(f"the name of a scenario can't be made by '{scen_template}' of a plan's that is like '{template}'") from None
-        jobs.append(job_of({"map": str(maps / f"{fields['map']}.map"), "plan": plan, "scenario": scenario, "agents": fields.get("agents")}, pathlib.Path(), plan))
+        named = {name: fields[name] for name in ("agents", "planner") if name in fields}
+        jobs.append(job_of({"map": str(maps / f"{fields['map']}.map"), "plan": plan, "scenario": scenario, **named}, pathlib.Path(), plan))
     return jobs

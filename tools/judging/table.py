@@ -1,20 +1,26 @@
 """The table of judge.py: what stands in a result."""
 from typing import Sequence
 
+from judging.comparing import ACCEPTED, comparisons
+from judging.proofs import PROOF
 from tabling.tables import FAILED, UNREADABLE, Row, Table
 
-ACCEPTED, COST_DIFFERS, REJECTED, UNSOLVED = "accepted", "CostDiffers", "rejected", "unsolved"
-FILES = ("map", "scenario", "plan")
+COST_DIFFERS, REJECTED, UNSOLVED = "CostDiffers", "rejected", "unsolved"
+NAMES = ("map", "scenario", "plan")
+OF_COSTS = ("cost", "cost_bound", "ratio", "claimed", "makespan", "makespan_bound", "runs", "agents_found")
+OF_FAULTS = ("vertex_faults", "swap_faults", "colliding_pairs", "faults_cut")
 FOUND = (
-    *("cost", "cost_bound", "ratio", "claimed", "makespan", "makespan_bound", "runs", "agents_found"),
-    *("vertex_faults", "swap_faults", "colliding_pairs", "faults_cut"),
+    *OF_COSTS,
+    *OF_FAULTS,
+    *("proof_verdict", "proof_fault", "proved_cost_bound", "proved_makespan_bound", "bound_verdict"),
 )
-WORDS = ("runs", "faults_cut")
-GIVEN = (*FILES, "agents")
+WORDS = ("runs", "faults_cut", "proof_verdict", "proof_fault", "bound_verdict")
+GIVEN = (*NAMES, "agents")
 # Tables of former judges, and what these don't say.
 OLDER = {
     (*GIVEN, "verdict", "fault", "cost", "makespan", "seconds"): "which files were judged",
     (*GIVEN, "verdict", "fault", "cost", "claimed", "makespan", "agents_found", "seconds"): "what plans cost at least",
+    (*GIVEN, "verdict", "fault", *OF_COSTS, *OF_FAULTS, "seconds"): "what proofs show",
 }
 
 
@@ -26,11 +32,12 @@ def costs(rows: Sequence[Row]) -> str:
 
 TABLE = Table(
     given=GIVEN,
-    files=FILES,
-    names=FILES,
+    files=(*NAMES, PROOF),
+    names=NAMES,
     found=FOUND,
     numbers=("agents", *(name for name in FOUND if name not in WORDS), "seconds"),
     verdicts=(ACCEPTED, COST_DIFFERS, REJECTED, UNSOLVED, UNREADABLE, FAILED),
     total=costs,
+    comparisons=comparisons,
     older=OLDER,
 )

@@ -8,7 +8,7 @@ from tabling.jobs import BadJobs
 
 # The columns that name a map and a row's scenario, and the one that has the plan.
 NAMES = ("map_name", "scen_type", "type_id", "agents")
-PLAN, COST = "solution_plan", "solution_cost"
+PLAN = "solution_plan"
 
 
 def is_upload(path: pathlib.Path) -> bool:
@@ -40,5 +40,4 @@ def read_upload(path: pathlib.Path, maps: Optional[pathlib.Path], scens: Optiona
             where,
             # Some programs write the line ends of a cell as two characters.
             text=fields[PLAN].replace("\\n", "\n"),
-            claim=fields.get(COST, ""),
         )

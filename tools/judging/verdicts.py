@@ -6,6 +6,7 @@ from typing import Optional, Sequence
 import canonical
 from judging.checker import Checker, Verdict
 from judging.jobs import PlanJob
+from judging.proofs import BOUND, PROOF, judged_bound, judged_proof
 from judging.table import ACCEPTED, COST_DIFFERS, REJECTED, TABLE, UNSOLVED
 from path_check import hold_on_open_map
 from plan_formats import HEAD, Format, formats, guess, mapf_plan
@@ -29,6 +30,12 @@ def claimed(verdict: Verdict, claims: Sequence[Claim]) -> Verdict:
     return dataclasses.replace(verdict, claimed=cost)
 
 
+def beside_list(verdict: Verdict, claim: str) -> Verdict:
+    """The verdict beside the cost that a list claims for the plan."""
+    counted = int(verdict.cost) if verdict.verdict == ACCEPTED else 0
+    return claimed(verdict, [Claim(1, "solution_cost", claim, counted, is_cost=True)]) if claim else verdict
+
+
 @dataclasses.dataclass(frozen=True)
 class Judging(Work):
     """What judge.py does with a plan: it converts it where that is needed, and asks the checker."""
@@ -39,27 +46,25 @@ class Judging(Work):
     fills_waits: bool
     # Whether all faults are asked for.
     has_all: bool
+    # Whether a planner that wrote no plan found none.
+    is_missing_unsolved: bool
 
     tool = pathlib.Path(__file__).resolve().parent.parent / "judge.py"
     table = TABLE
-    readers = ("canonical.py", "path_check.py", "mapf/*.py", "plan_formats/*.py", "judging/verdicts.py", "judging/checker.py")
+    readers = ("canonical.py", "path_check.py", "mapf/*.py", "plan_formats/*.py", "judging/verdicts.py", "judging/checker.py", "judging/proofs.py")
 
     @property
     def options(self) -> list[str]:
         source = ["--from", self.source] if self.source else []
-        return [*source, *(["--fill-waits"] if self.fills_waits else []), *(["--all"] if self.has_all else [])]
+        missing = ["--missing", UNSOLVED] if self.is_missing_unsolved else []
+        return [*source, *(["--fill-waits"] if self.fills_waits else []), *(["--all"] if self.has_all else []), *missing]
 
     def found(self, job: PlanJob) -> Row:
         return self.verdict_on(job).columns
 
     def verdict_on(self, job: PlanJob) -> Verdict:
         try:
-            if job.text is not None:
-                return self.of_a_row(job)
-            data = pathlib.Path(job.file(job.plan)).read_bytes()
-            if not self.source and mapf_plan.begins(data[:HEAD]):
-                return self.checked(job, job.file(job.plan))
-            return self.converted(job, self.source, data)
+            return self.of_a_row(job) if job.text is not None else self.of_a_file(job)
         except Unsolved as fault:
             return Verdict(UNSOLVED, f"{job.plan}:{fault.line}: {fault.what}")
         except Fault as fault:
@@ -67,16 +72,24 @@ class Judging(Work):
         except Refused as fault:
             return Verdict(UNREADABLE, str(fault))
         except OSError as fault:
-            return Verdict(FAILED, f"{job.plan if fault.filename == job.file(job.plan) else fault.filename or job.plan}: {fault.strerror or fault}")
+            is_plan = fault.filename == job.file(job.plan)
+            is_missing = is_plan and isinstance(fault, FileNotFoundError) and self.is_missing_unsolved
+            named = job.plan if is_plan else fault.filename or job.plan
+            return Verdict(UNSOLVED if is_missing else FAILED, f"{named}: {fault.strerror or fault}")
+
+    def of_a_file(self, job: PlanJob) -> Verdict:
+        """The verdict on the plan in a file, whose cost the list may claim."""
+        data = pathlib.Path(job.file(job.plan)).read_bytes()
+        is_plan = not self.source and mapf_plan.begins(data[:HEAD])
+        verdict = self.checked(job, job.file(job.plan)) if is_plan else self.converted(job, self.source, data)
+        return beside_list(verdict, job.claim)
 
     def of_a_row(self, job: PlanJob) -> Verdict:
         """The verdict on the plan in a row of the tracker's table, whose cost the row claims."""
         if not job.text.strip():
             return Verdict(UNSOLVED, f"{job.plan}: the row has no plan: the planner found none, one was due", claimed=job.claim)
         # The lines of a cell have line ends between them, and perhaps behind the last: how many agents are due settles it.
-        verdict = self.converted(job, TRACKER, f"{job.text}\n".encode())
-        counted = int(verdict.cost) if verdict.verdict == ACCEPTED else 0
-        return claimed(verdict, [Claim(1, "solution_cost", job.claim, counted, is_cost=True)] if job.claim else [])
+        return beside_list(self.converted(job, TRACKER, f"{job.text}\n".encode()), job.claim)
 
     def converted(self, job: PlanJob, source: Optional[str], data: bytes) -> Verdict:
         """The verdict on a text of another format."""
@@ -110,4 +123,15 @@ class Judging(Work):
         """What the checker says of a plan in a file."""
         scenario = ["--scen", job.file(job.scenario)] if job.scenario else []
         agents = ["--agents", job.agents] if job.agents else []
-        return Checker(self.program, (*scenario, *agents), job.file(job.map), self.has_all).check(plan)
+        verdict = Checker(self.program, (*scenario, *agents), job.file(job.map), self.has_all).check(plan)
+        return self.beside_proofs(job, plan, verdict) if verdict.verdict == ACCEPTED else verdict
+
+    def beside_proofs(self, job: PlanJob, plan: str, verdict: Verdict) -> Verdict:
+        """The verdict on an accepted plan with what its proof shows, and with what is to be said of the bound that is claimed."""
+        proof, claim = (dict(job.more).get(name, "") for name in (PROOF, BOUND))
+        if proof:
+            verdict = dataclasses.replace(verdict, **judged_proof(self.program, job.file(job.map), plan, job.file(proof)))
+        if claim:
+            certified = max(int(it or 0) for it in (verdict.cost_bound, verdict.proved_cost_bound))
+            verdict = dataclasses.replace(verdict, bound_verdict=judged_bound(claim, int(verdict.cost), certified))
+        return verdict

@@ -6,7 +6,7 @@ import tempfile
 from typing import IO, Optional, TypeVar, Union
 
 from mapf.faults import Failed, StaleTape, StoreFailed
-from mapf.program import AnyProgram, File, Process, files, hold, option, program_at, told_in
+from mapf.program import AnyProgram, File, Process, files, hold, number, option, program_at, told_in
 from mapf.replies import Arrived, At, Between, Heard, May, Moving, Refused, Reply, Said, State, read_reply, read_state
 
 One = TypeVar("One")
@@ -25,7 +25,7 @@ class Tape:
 
 def tape(map: File, plan: File, agent: int, tape: File, *, program: AnyProgram = None) -> Tape:
     """What the tape of an agent keeps, by `mapf tape`. It may be asked beside the agent."""
-    answer = program_at(program).answer("tape", *files(map, plan, str(agent), tape))
+    answer = program_at(program).answer("tape", *files(map, plan, number(agent), tape))
     state, _, rest = answer.partition("\n")
     found = RECORDS.fullmatch(rest.rstrip("\n"))
     if not found:
@@ -51,16 +51,17 @@ class Agent:
     tape: File
     kind: Optional[str] = None
     program: AnyProgram = None
+    words: list[str] = dataclasses.field(init=False, repr=False)
     state: State = dataclasses.field(init=False)
     process: Process = dataclasses.field(init=False, repr=False)
     err: IO[bytes] = dataclasses.field(init=False, repr=False)
 
     def __enter__(self) -> "Agent":
-        words = ["agent", *option("tape", self.kind), *files(self.map, self.plan, str(self.agent), self.tape)]
+        self.words = ["agent", *option("tape", self.kind), *files(self.map, self.plan, number(self.agent), self.tape)]
         self.err = tempfile.TemporaryFile()
         try:
             # It ignores the signal of a file that grows past its limit, as Python does: it is to answer that its record wasn't stored.
-            self.process = program_at(self.program).start(words, self.err, stdin=subprocess.PIPE, restore_signals=False)
+            self.process = program_at(self.program).start(self.words, self.err, stdin=subprocess.PIPE, restore_signals=False)
         except BaseException:
             self.err.close()
             raise
@@ -86,7 +87,7 @@ class Agent:
         line = self.process.stdout.readline() if self.process.stdout else b""
         if not line.endswith(b"\n"):
             status = self.process.wait()
-            hold("mapf agent", status, told_in(self.err))
+            hold(self.words, status, told_in(self.err))
             raise Failed(f"`mapf agent` ended with status {status}, and without an answer", status)
         return line[:-1].decode("ascii", errors="replace")
 

@@ -42,11 +42,12 @@ class Fault(Exception):
 
 
 class Failed(Exception):
-    """A file, a device, memory or the program itself failed: the line as it was told, or what happened, and the status, where there is one."""
+    """A file, a device, memory or the program itself failed: the line as it was told, or what happened, and the status, where there is one. Of
+    `OpenFailed` the file is named, where it still can't be opened, and why."""
 
-    def __init__(self, line: str, status: int = 3) -> None:
-        super().__init__(line)
-        self.line, self.words, self.status = line, read_words(line), status
+    def __init__(self, line: str, status: int = 3, file: str = "", why: str = "") -> None:
+        super().__init__(f"{line} {file}: {why}" if file else line)
+        self.line, self.words, self.status, self.file = line, read_words(line), status, file
 
     @property
     def name(self) -> str:

@@ -4,6 +4,7 @@ from typing import Optional
 from mapf.faults import Fault
 from mapf.numbers import drawn_number
 from mapf.program import AnyProgram, File, files, option, program_at
+from mapf.program import number as as_word
 
 
 def handover(map: File, plan: File, tapes: File, *, program: AnyProgram = None) -> str:
@@ -18,7 +19,7 @@ def anew(map: File, plan: File, tapes: File, number: Optional[int] = None, *, wi
     while True:
         new = drawn_number() if number is None else number
         try:
-            return program_at(program).answer("anew", *option("without", without), *files(map, plan, tapes, str(new)))
+            return program_at(program).answer("anew", *option("without", without), *files(map, plan, tapes, as_word(new)))
         except Fault as fault:
             # The number that is drawn may be that of the plan.
             if number is not None or fault.name != "SameNumber":

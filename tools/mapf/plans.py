@@ -1,22 +1,22 @@
 """What a plan says: where its agents are, who waits for whom, its beginning, and whether it goes on from another."""
 import dataclasses
 import re
-from typing import Optional
+from typing import NamedTuple, Optional, Sequence
 
 from mapf.faults import Failed, Fault, FaultWords
-from mapf.program import AnyProgram, File, files, option, program_at
+from mapf.lines import Lines, no_answer
+from mapf.program import AnyProgram, File, files, number, option, program_at
 
 Cell = tuple[int, int]
 # What a plan may have that can be read, but not be walked on its map.
 OF_AN_AGENT = ("BadStart", "BadMove")
 # What keeps a valid plan from being one that goes on from another.
 DEPARTURES = ("OtherNumber", "OtherCount", "Departs")
-HEAD = re.compile(r"agents ([0-9]+) moves ([0-9]+) needs ([0-9]+) rotations ([0-9]+)")
+HEAD = re.compile(rb"agents ([0-9]+) moves ([0-9]+) needs ([0-9]+) rotations ([0-9]+)\n")
 CONTINUES = re.compile(r"continues from ([0-9]+), adds ([0-9]+) moves\n")
 
 
-@dataclasses.dataclass(frozen=True)
-class Need:
+class Need(NamedTuple):
     """Move `move` of an agent waits until another one has finished so many moves."""
 
     agent: int
@@ -39,12 +39,11 @@ class Dependencies:
 
     agents: int
     moves: int
-    needs: tuple[Need, ...]
-    rotations: tuple[Rotation, ...]
+    needs: Sequence[Need]
+    rotations: Sequence[Rotation]
 
 
-@dataclasses.dataclass(frozen=True)
-class Visit:
+class Visit(NamedTuple):
     """An agent comes into a cell at a time, as this cell of its path."""
 
     agent: int
@@ -62,46 +61,48 @@ class Continuation:
     fault: Optional[FaultWords] = None
 
 
-def numbers_of(line: str, word: str) -> tuple[int, ...]:
-    """The numbers of a line that begins with this word."""
-    first, *rest = line.split(" ")
-    if first != word or not all(it.isdigit() for it in rest):
-        raise Failed(f"'{line[:80]}' is no answer of mapf")
-    return tuple(map(int, rest))
-
-
 def deps(map: File, plan: File, *, program: AnyProgram = None) -> Dependencies:
     """Which move waits for which, by `mapf deps`."""
-    first, *lines = program_at(program).answer("deps", *files(map, plan)).split("\n")[:-1]
-    head = HEAD.fullmatch(first)
+    answer = program_at(program).answer_bytes("deps", *files(map, plan))
+    head = HEAD.match(answer)
     if not head:
-        raise Failed(f"'{first[:80]}' is no answer of mapf")
-    agents, moves, needs, _ = (int(it) for it in head.groups())
-    rotations = (numbers_of(line, "rotation") for line in lines[needs:])
-    return Dependencies(
+        raise no_answer(answer)
+    agents, moves, needs, rotations = (int(it) for it in head.groups())
+    # The rotations stand last, and are few.
+    end = answer.find(b"\nrotation ") + 1 or len(answer)
+    found = Dependencies(
         agents,
         moves,
-        tuple(Need(*numbers_of(line, "need")) for line in lines[:needs]),
-        tuple(Rotation(step, tuple(own)) for step, *own in rotations),
+        Lines(answer[head.end() : end], b"need ", Need._make, len(Need._fields)),
+        Lines(answer[end:], b"rotation ", lambda it: Rotation(it[0], it[1:])),
     )
+    if (len(found.needs), len(found.rotations)) != (needs, rotations):
+        raise no_answer(answer)
+    return found
 
 
-def visits(map: File, plan: File, x: int, y: int, *, program: AnyProgram = None) -> tuple[Visit, ...]:
+def visits(map: File, plan: File, x: int, y: int, *, program: AnyProgram = None) -> Sequence[Visit]:
     """Who comes into a cell and when, by `mapf deps --cell`."""
-    lines = program_at(program).answer("deps", "--cell", str(x), str(y), *files(map, plan)).split("\n")[:-1]
-    return tuple(Visit(*numbers_of(line, "visit")) for line in lines)
+    words = ["deps", "--cell", number(x), number(y), *files(map, plan)]
+    return Lines(program_at(program).answer_bytes(*words), b"visit ", Visit._make, len(Visit._fields))
 
 
-def path(map: File, plan: File, *, agent: Optional[int] = None, program: AnyProgram = None) -> tuple[tuple[Cell, ...], ...]:
+def path(map: File, plan: File, *, agent: Optional[int] = None, program: AnyProgram = None) -> Sequence[tuple[Cell, ...]]:
     """Where each agent is, or one alone, at each time, by `mapf path`: the cells at time 0, then those at time 1, and so on."""
-    lines = program_at(program).answer("path", *option("agent", agent), *files(map, plan)).split("\n")[:-1]
-    numbers = ([int(it) for it in line.split(" ")] for line in lines)
-    return tuple(tuple(zip(row[1::2], row[2::2])) for row in numbers)
+    return Lines(program_at(program).answer_bytes("path", *option("agent", agent), *files(map, plan)), b"", cells_of)
+
+
+def cells_of(numbers: tuple[int, ...]) -> tuple[Cell, ...]:
+    """The cells that stand behind a time."""
+    columns, rows = numbers[1::2], numbers[2::2]
+    if len(columns) != len(rows):
+        raise ValueError
+    return tuple(zip(columns, rows))
 
 
 def cut(map: File, plan: File, time: int, *, program: AnyProgram = None) -> str:
     """The text of a plan without its acts from a time on, by `mapf cut`."""
-    return program_at(program).answer("cut", *files(map, plan, str(time)))
+    return program_at(program).answer("cut", *files(map, plan, number(time)))
 
 
 def continues(map: File, old: File, new: File, *, program: AnyProgram = None) -> Continuation:

@@ -4,9 +4,11 @@ import dataclasses
 import functools
 import os
 import pathlib
+import platform
 import re
 import shutil
 import subprocess
+import sys
 import tempfile
 from typing import IO, Callable, Generic, Iterator, Optional, Sequence, TypeVar, Union
 
@@ -16,12 +18,17 @@ File = Union[str, os.PathLike[str]]
 Process = subprocess.Popen[bytes]
 # It lies so where this folder does, in a checkout and where Debian's package puts it.
 BESIDE = pathlib.Path(__file__).resolve().parent.parent.parent / "mapf"
+# What it is in a checkout starts this one, after a look whether it can be started.
+SHIPPED = BESIDE.parent / "dist" / "x86_64-linux" / "mapf"
+BUILD = "MAPF_BUILD"
 # The variable of the environment that names another one.
 VARIABLE = "MAPF"
 # No fault, and a fault or an answer that is no.
 DONE, FAULT = 0, 1
 # The most of a line on standard error that is passed on.
 MOST_TOLD = 400
+# How the line ends that says that a file can't be opened, but not which; and what stands before the files of a command line.
+OPEN_FAILED, BEFORE_FILES = "OpenFailed", "--"
 VERSION = re.compile(rb"mapf [\w.+-]+")
 # A program that hasn't said its version by then is asked no more.
 SECONDS = 10
@@ -34,8 +41,13 @@ def usual_program() -> pathlib.Path:
     if named:
         return pathlib.Path(named)
     if BESIDE.is_file() and os.access(BESIDE, os.X_OK):
-        return BESIDE
+        return SHIPPED if is_shipped_usual() else BESIDE
     return pathlib.Path(shutil.which("mapf") or BESIDE)
+
+
+def is_shipped_usual() -> bool:
+    """Whether a checkout's own program can be started here, and no other build is asked for."""
+    return platform.machine() == "x86_64" and sys.platform == "linux" and os.access(SHIPPED, os.X_OK) and os.environ.get(BUILD) != "1"
 
 
 @dataclasses.dataclass
@@ -98,10 +110,15 @@ class Program:
 
     def answer(self, *words: str) -> str:
         """All that a call writes, or the fault that it tells in place of an answer or behind one."""
-        said = self.ask(words, b"".join)
-        text = said.answer.decode(errors="surrogateescape")
-        hold(f"mapf {words[0]}", said.status, said.told, text)
-        return text
+        return self.answer_bytes(*words).decode(errors="surrogateescape")
+
+    def answer_bytes(self, *words: str) -> bytes:
+        """The same as bytes: a long answer is read in one piece."""
+        with tempfile.TemporaryFile() as err, self.start(words, err) as process:
+            answer = process.stdout.read() if process.stdout else b""
+            status, told = process.wait(), told_in(err)
+        hold(words, status, told, answer)
+        return answer
 
     def version(self) -> str:
         """What it says of itself, as `mapf 0.1.0`, and nothing where it says nothing of the kind."""
@@ -120,12 +137,27 @@ def told_in(err: IO[bytes]) -> str:
     return err.read(MOST_TOLD).decode(errors="replace").partition("\n")[0]
 
 
-def hold(command: str, status: int, told: str, answer: str = "") -> None:
+def hold(words: Sequence[str], status: int, told: str, answer: bytes = b"") -> None:
     """Raises what a call told, or how it ended in place of an answer."""
     if status == FAULT and told:
-        raise Fault(told, status, answer)
+        raise Fault(told, status, answer.decode(errors="surrogateescape"))
+    if told.endswith(OPEN_FAILED):
+        raise Failed(told, status, *unopened(words))
     if status not in (DONE, FAULT) or told:
-        raise Failed(told or f"`{command}` ended with status {status}, and without a word", status)
+        raise Failed(told or f"`mapf {words[0]}` ended with status {status}, and without a word", status)
+
+
+def unopened(words: Sequence[str]) -> tuple[str, ...]:
+    """The first file of a command line that can't be opened, and what the system says of it."""
+    files_last = words[words.index(BEFORE_FILES) + 1 :]
+    for name in [*files_last, *(word.partition("=")[2] for word in words if word.startswith("--scen="))]:
+        try:
+            os.close(os.open(name, os.O_RDONLY | os.O_NONBLOCK))
+        except OSError as error:
+            # Numbers stand among the files, and a name that stands for many tapes.
+            if not name.isdigit() and "%" not in name:
+                return name, error.strerror
+    return ()
 
 
 @functools.lru_cache(maxsize=None)
@@ -152,7 +184,14 @@ def program_at(named: AnyProgram) -> Program:
 
 def option(name: str, value: Optional[object]) -> list[str]:
     """An option that has a value, where there is one."""
-    return [] if value is None else [f"--{name}={value}"]
+    return [] if value is None else [f"--{name}={number(value) if isinstance(value, int) else value}"]
+
+
+def number(value: int, least: int = 0) -> str:
+    """A number as a word of a command line."""
+    if isinstance(value, bool) or not isinstance(value, int) or value < least:
+        raise ValueError(f"{value!r}: a whole number from {least} on was due")
+    return str(value)
 
 
 def flag(name: str, is_set: bool) -> list[str]:
@@ -162,4 +201,4 @@ def flag(name: str, is_set: bool) -> list[str]:
 
 def files(*names: File) -> list[str]:
     """Files as words of a command line, none of which is taken for an option."""
-    return ["--", *(os.fspath(name) for name in names)]
+    return [BEFORE_FILES, *(os.fspath(name) for name in names)]

@@ -5,6 +5,7 @@ from typing import Iterator, Optional
 
 from mapf.faults import Failed
 from mapf.program import AnyProgram, File, files, flag, option, program_at
+from mapf.program import number as as_word
 
 # What is said of a row.
 AGREES, DIFFERS, LEAST, UNREACHABLE, SIZE_DIFFERS = "agrees", "differs", "least", "unreachable", "SizeDiffers"
@@ -46,7 +47,7 @@ def read_row(line: str) -> Row:
 
 def row(map: File, scen: File, number: int, *, program: AnyProgram = None) -> Row:
     """The verdict of `mapf row` on the length that a row lists."""
-    return read_row(program_at(program).answer("row", *files(map, scen, str(number))).rstrip("\n"))
+    return read_row(program_at(program).answer("row", *files(map, scen, as_word(number))).rstrip("\n"))
 
 
 def rows(map: File, scen: File, *, first: int = 0, end: Optional[int] = None, straight: bool = False, program: AnyProgram = None) -> Rows:

@@ -5,7 +5,7 @@ import json
 from typing import Any, Mapping, Optional, Union
 
 from mapf.faults import Failed, FaultWords, read_words
-from mapf.program import AnyProgram, File, files, flag, option, program_at
+from mapf.program import AnyProgram, File, files, flag, number, option, program_at
 
 
 @dataclasses.dataclass(frozen=True)
@@ -97,7 +97,7 @@ def check(
 ) -> Verdict:
     """What `mapf check` says of a plan: perhaps that it has so many agents and solves a scenario, what such plans cost at least, that it has no
     rotation, and all its faults, or so many. A plan that is rejected is a verdict, and a text that is none a `Fault`."""
-    listed = flag("all", True) if all is True else option("all", all or None)
+    listed = flag("all", all is True) if all is None or isinstance(all, bool) else option("all", int(number(all, 1)))
     words = [*option("scen", scen), *option("agents", agents), *flag("bound", bound), *flag("no-rotation", no_rotation), *listed]
     return verdict_of(read_object(program_at(program).answer("check", "--json", *words, *files(map, plan))))
 

@@ -4,13 +4,13 @@ import dataclasses
 import functools
 import html
 import itertools
-import json
 import pathlib
 import string
 import zlib
 from array import array
 from typing import Iterator, Optional, Sequence
 
+from in_scripts import as_json
 from showing.live import Live
 from showing.sides import Side
 from showing.verdicts import Ground, in_words
@@ -105,11 +105,6 @@ def packed(parts: tuple[tuple[str, bytes], ...]) -> str:
     whole = b"".join(part + bytes(-len(part) % 4) for _, part in parts)
     press = zlib.compressobj(9, zlib.DEFLATED, -zlib.MAX_WBITS)
     return base64.b64encode(press.compress(whole) + press.flush()).decode()
-
-
-def as_json(value: object) -> str:
-    """JSON that can stand in a script: no `<` begins anything there."""
-    return json.dumps(value, separators=(",", ":")).replace("<", "\\u003c")
 
 
 def read_part(name: str) -> str:

@@ -4,24 +4,28 @@ import argparse
 import json
 import os
 import pathlib
+import select
 import sys
 import time
-from typing import ClassVar, Optional, Sequence
+from typing import ClassVar, Iterator, Optional, Sequence
 
-from mapf.program import BESIDE, Program, usual_program
-from product import SHIPPED
-from tabling import workers
+from mapf.program import Program, usual_program
+from tabling import clusters, workers
+from tabling.clusters import BadCluster
 from tabling.jobs import BadJobs, Job
 from tabling.marks import Marker, version_of
 from tabling.page import page
 from tabling.results import BadResults, Results
 from tabling.summary import summary
+from tabling.tables import FAILED
 from tabling.work import Work
 from whole_file import draft
 
-REFUSED, BAD_LINE, NOT_WRITTEN = 1, 2, 3
+REFUSED, BAD_LINE, NOT_DONE = 1, 2, 3
 SECONDS = 600.0
 BAR = 30
+# For how long a worker's Python waits for another job.
+IDLE = 60
 # How many results that don't fit any more are named.
 MOST_REASONS = 10
 
@@ -53,8 +57,10 @@ def add_options(parser: argparse.ArgumentParser) -> None:
     parser.add_argument("--shard", type=shard, default=(1, 1), metavar="K/N", help="takes every N-th job from the K-th on")
     parser.add_argument("--dask", metavar="ADDRESS", help="hands the jobs to the Dask cluster with this scheduler")
     parser.add_argument("--page", type=pathlib.Path, metavar="FILE.html", help="writes the results as a page too")
-    parser.add_argument("--program", type=pathlib.Path, metavar="PATH", help="the program mapf (that of dist/, or else that of this checkout)")
-    parser.add_argument("--one", action="store_true", help=argparse.SUPPRESS)
+    parser.add_argument("--program", type=pathlib.Path, default=usual_program(), metavar="PATH", help="another program mapf than the usual one")
+    parser.add_argument("--prune", action="store_true", help="drops the results whose jobs are gone")
+    parser.add_argument("--retry", choices=[FAILED], help="judges these results again")
+    parser.add_argument("--told", action="store_true", help=argparse.SUPPRESS)
 
 
 def hold_options(parser: argparse.ArgumentParser, given: argparse.Namespace) -> None:
@@ -65,10 +71,10 @@ def hold_options(parser: argparse.ArgumentParser, given: argparse.Namespace) -> 
         parser.error("--jobs: a number above 0 is wanted")
 
 
-def program_of(named: Optional[pathlib.Path]) -> Program:
-    """The program that is named, else the usual one: of a checkout that of dist/ itself, as its launcher would cost each job a third more."""
-    chosen, shipped = Program(named or usual_program()), Program(SHIPPED)
-    return shipped if not named and chosen.path == BESIDE and shipped.version() else chosen
+def lines_told() -> Iterator[str]:
+    """The lines of standard input. Who tells one waits for what is answered, so no line lies in between unseen."""
+    while select.select([sys.stdin], [], [], IDLE)[0] and (line := sys.stdin.readline()):
+        yield line
 
 
 def show_bar(done: int, count: int, begun: float) -> None:
@@ -115,7 +121,7 @@ class Tool(abc.ABC):
         """A call, and its status."""
         given = self.read_words(words)
         try:
-            (self.do_one if given.one else self.do_all)(given)
+            (self.do_as_told if given.told else self.do_all)(given)
         except (BadJobs, UnicodeError) as fault:
             self.say(str(fault))
             return REFUSED
@@ -124,35 +130,47 @@ class Tool(abc.ABC):
             return BAD_LINE
         except BadResults as fault:
             self.say(str(fault))
-            return NOT_WRITTEN
+            return NOT_DONE
+        except BadCluster as fault:
+            self.say(f"the Dask cluster {given.dask} failed, {fault}; the same call judges what is left")
+            return NOT_DONE
         except OSError as fault:
             self.say(f"{fault.filename or given.output}: {fault.strerror or fault}")
-            return NOT_WRITTEN
+            return NOT_DONE
         return 0
 
-    def do_one(self, given: argparse.Namespace) -> None:
-        """For a worker of a cluster: a job on standard input, and its result on standard output."""
-        work = self.work_of(given, program_of(given.program))
-        for row in workers.on_this_machine([self.kind.unpacked(sys.stdin.read())], work, 1):
-            json.dump(row, sys.stdout)
+    def do_as_told(self, given: argparse.Namespace) -> None:
+        """For a worker of a cluster: a line a job on standard input, and each time a line with its result on standard output."""
+        work = self.work_of(given, Program(given.program))
+        # Found here once, and not by each job's process.
+        _ = work.judge
+        for row in workers.on_this_machine(map(self.kind.unpacked, lines_told()), work, 1):
+            print(json.dumps(row), flush=True)
 
     def do_all(self, given: argparse.Namespace) -> None:
         k, n = given.shard
-        program = program_of(given.program)
+        program = Program(given.program)
+        if given.dask:
+            clusters.begin_import()
         listed = self.jobs_of(given, program)
         jobs, work = listed[k - 1 :: n], self.work_of(given, program)
         self.say(f"{version_of(program)} {self.does} {len(jobs)} {self.things}")
         warning = self.warning(jobs)
         if warning:
             self.say(warning)
-        results = Results(given.output, work.table, more_columns(listed))
+        results = Results(given.output, work.table, more_columns(listed), given.retry)
         try:
+            if given.prune:
+                self.say(f"{results.prune(listed)} results are dropped, since their jobs are gone")
             left = self.still_to_do(jobs, listed, results, work)
             self.do(left, work, results, given)
         finally:
             results.close()
         for line in summary(work.table, results.rows):
             self.say(line.text)
+        for comparison in work.table.comparisons(results.rows):
+            for text in comparison.texts:
+                self.say(text)
         if given.page:
             with draft(page(work.table, results.rows, f"Results of {results.path.name}"), given.page) as made:
                 made.put()
@@ -173,7 +191,7 @@ class Tool(abc.ABC):
     def do(self, jobs: Sequence[Job], work: Work, results: Results, given: argparse.Namespace) -> None:
         """Works on jobs, and puts down each result as soon as it is there."""
         begun, is_shown = time.monotonic(), sys.stderr.isatty()
-        answers = workers.on_a_cluster(jobs, work, given.dask) if given.dask else workers.on_this_machine(jobs, work, given.processes)
+        answers = clusters.on_a_cluster(jobs, work, given.dask) if given.dask else workers.on_this_machine(jobs, work, given.processes)
         for done, row in enumerate(answers, 1):
             results.put(row)
             if is_shown:

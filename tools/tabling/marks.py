@@ -66,7 +66,7 @@ class Marker:
         """The sum of what a column of a job names."""
         if name in job.texts:
             return hashlib.sha256(job.texts[name].encode()).hexdigest()
-        word = job.columns[name]
+        word = job.columns.get(name, "")
         return self.sum_of(job.file(word)) if word else ""
 
 

@@ -25,9 +25,11 @@ class BadResults(Exception):
 class Results:
     """The open file, CSV or JSON lines by its name."""
 
-    def __init__(self, path: pathlib.Path, table: Table, more: Sequence[str]):
+    def __init__(self, path: pathlib.Path, table: Table, more: Sequence[str], retried: Optional[str] = None):
         self.path = path
         self.table = table
+        # Results with this verdict hold no more.
+        self.retried = retried
         self.is_json = path.suffix in (".json", ".jsonl", ".ndjson")
         self.file = locked(path)
         # All columns: those of each table, and behind them those that jobs have beside.
@@ -96,6 +98,15 @@ class Results:
         except (ValueError, csv.Error, StopIteration, RecursionError):
             return None
 
+    def prune(self, listed: Sequence[Job]) -> int:
+        """Drops the results of jobs that no list has any more, and says how many there were."""
+        due = set(map(self._key_of_job, listed))
+        kept = [row for row in self.rows if self._key_of(row) in due]
+        dropped = len(self.rows) - len(kept)
+        if dropped:
+            self._write_anew(kept)
+        return dropped
+
     def left(self, jobs: Sequence[Job], listed: Sequence[Job], marker: Marker) -> tuple[list[Job], list[str]]:
         """The jobs without a result that still fits, and why others don't. What fits no more is marked as stale until its job is done anew:
         so whoever is stopped meanwhile has lost nothing. Lines of other lists and of other parts of this one stay."""
@@ -130,7 +141,7 @@ class Results:
             return "stale since a call before"
         if job is not None and is_due:
             differs = what_differs(row, marker.of(job))
-            return f"another {differs} since" if differs else ""
+            return f"another {differs} since" if differs else "to be judged again" if row["verdict"] == self.retried else ""
         return "the list says something else of it" if not is_due and self._name_of(row) in names else ""
 
     def _name_of(self, columns: Row) -> Name:

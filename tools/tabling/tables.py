@@ -14,6 +14,21 @@ JUDGE = "judge"
 
 
 @dataclasses.dataclass(frozen=True)
+class Comparison:
+    """What results say of planners beside one another: what of them, a heading, and a line for each."""
+
+    about: str
+    heading: tuple[str, ...]
+    lines: tuple[tuple[str, ...], ...]
+
+    @property
+    def texts(self) -> list[str]:
+        """A text for each line. What is empty is left out."""
+        cells = (", ".join(f"{name} {cell}" for name, cell in zip(self.heading[1:], line[1:]) if cell) for line in self.lines)
+        return [f"{self.heading[0]} {line[0]}, {self.about}: {text}" for line, text in zip(self.lines, cells)]
+
+
+@dataclasses.dataclass(frozen=True)
 class Table:
     """The results of a tool."""
 
@@ -28,6 +43,8 @@ class Table:
     verdicts: tuple[str, ...]
     # What results come to together.
     total: Callable[[Sequence[Row]], str]
+    # How those compare who are named by a column of the jobs.
+    comparisons: Callable[[Sequence[Row]], Sequence[Comparison]] = lambda _: ()
     # The columns of former tables, and what these don't say.
     older: Mapping[tuple[str, ...], str] = dataclasses.field(default_factory=dict)
 

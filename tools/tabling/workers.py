@@ -1,15 +1,13 @@
-"""Who works on jobs: processes of this machine, one a job, or the workers of a Dask cluster.
+"""Processes of this machine that work on jobs, one a job.
 
 A job that crashes, is killed or takes too long harms no other: its process is gone, and that is its result."""
 import dataclasses
-import json
 import os
 import signal
-import subprocess
 import sys
 import time
 from multiprocessing import connection
-from typing import Iterator, Sequence
+from typing import Iterable, Iterator
 
 from leaving import SIGNALS
 from tabling.jobs import Job
@@ -18,8 +16,6 @@ from tabling.work import Work
 
 # No process of this tool opens more files.
 MOST_FILES = 1024
-# How many jobs a cluster gets ahead, for each of its threads.
-AHEAD = 4
 
 
 @dataclasses.dataclass
@@ -87,7 +83,7 @@ def ended(running: Running, work: Work) -> Row:
     return work.failed(running.job, fault or died, time.monotonic() - running.begun)
 
 
-def on_this_machine(jobs: Sequence[Job], work: Work, processes: int) -> Iterator[Row]:
+def on_this_machine(jobs: Iterable[Job], work: Work, processes: int) -> Iterator[Row]:
     """The results of jobs, each as soon as it is there."""
     waiting, running = iter(jobs), []
     try:
@@ -106,39 +102,3 @@ def on_this_machine(jobs: Sequence[Job], work: Work, processes: int) -> Iterator
         for it in running:
             kill(it)
             os.waitpid(it.process, 0)
-
-
-def on_a_cluster(jobs: Sequence[Job], work: Work, address: str) -> Iterator[Row]:
-    """The results of jobs that a Dask cluster works on. Its workers find this tool, the program and all files under the same names as this
-    process does."""
-    from distributed import Client, as_completed  # only here: nothing else needs it
-
-    program = str(work.program.path.resolve())
-    words = [sys.executable, str(work.tool), "--one", "--program", program, "--seconds", str(work.seconds), *work.options]
-    with Client(address) as client:
-        ahead = AHEAD * max(1, sum(client.nthreads().values()))
-        waiting = iter(jobs)
-        tasks = as_completed()
-        known = {}
-
-        def hand_on() -> None:
-            job = next(waiting, None)
-            if job is not None:
-                task = client.submit(subprocess.run, words, input=job.packed(), stdout=subprocess.PIPE, text=True, pure=False)
-                known[task.key] = job, time.monotonic()
-                tasks.add(task)
-
-        for _ in range(ahead):
-            hand_on()
-        for task in tasks:
-            job, begun = known.pop(task.key)
-            hand_on()
-            yield from_cluster(task, job, work, time.monotonic() - begun)
-
-
-def from_cluster(task, job: Job, work: Work, seconds: float) -> Row:
-    """What a worker said of a job, or that it died of it."""
-    try:
-        return json.loads(task.result().stdout)
-    except Exception as fault:  # whatever a cluster fails of is the result of this job
-        return work.failed(job, f"no worker of the cluster answered: {type(fault).__name__}", seconds)
