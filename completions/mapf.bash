@@ -6,14 +6,15 @@ _mapf() {
     local command='' offers='' at
     local commands='map scen row rows check bound deps path cut continues optimal run agent tape status handover anew help'
     local faults='AgentCount AlreadyMoving AtEnd BadAct BadAgent BadEntry BadEvent BadHeader
-        BadLength BadLine BadMagic BadMove BadNode BadNumber BadStart BadTable BadTape BadTear
-        BadTerrain BadVersion BadWalk Broken Damaged Departs FieldCount GoalDiffers LeafTooLow
-        LineTooLong LongRow MissingRows NoHeader NoRoom NoSuchAgent NoSuchMessage NoSuchRow NoTape
-        NoVersion NotMoving NotOneRun NotTight OffMap OpenFailed OtherCount OtherNumber OtherPlan
-        OutOfGrid OutOfMemory OutOfRange PlanDamaged ReadFailed Rotation SameNumber ShortRow
-        SizeDiffers StaleTape StartDiffers StoreFailed Swap TapeEmptied TapeExists TapeFailed
-        TapeInUse TextAfter TooFewRows TooLarge TooLong TooMany Unfinished Vertex Waits WriteFailed
-        WrongAgent WrongPlan'
+        BadLength BadLine BadMagic BadMove BadNode BadNumber BadStart BadTable BadTag BadTape
+        BadTear BadTerrain BadVersion BadWalk Broken Damaged Departs FieldCount GoalDiffers
+        LeafTooLow LineTooLong LongRow MissingRows NoHeader NoRoom NoSuchAgent NoSuchMessage
+        NoSuchRow NoTape NoVersion NotItsSender NotItsTopic NotMoving NotNewer NotOneRun NotSigned
+        NotTight OffMap OpenFailed OtherCount OtherNumber OtherPlan OtherRun OutOfGrid OutOfMemory
+        OutOfRange PlanDamaged PlansPart ReadFailed Rotation SameNumber ShortRow SizeDiffers
+        StaleTape StartDiffers StoreFailed Swap TapeEmptied TapeExists TapeFailed TapeInUse
+        TextAfter TooFewRows TooLarge TooLong TooMany Unfinished UnknownSender Vertex Waits
+        WriteFailed WrongAgent WrongPlan'
     COMPREPLY=()
     # bash takes the = of --name=VALUE for a word of its own.
     if [[ $word == = ]]; then

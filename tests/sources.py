@@ -86,7 +86,7 @@ MADE = {
     "text_io/out_of_memory.rt: From<AllocError> for OutOfMemory: from": NAMED_ANEW,
 }
 # In how many places a function says it, where that is more than one.
-PLACES = {"command_line/command_line.rt: refused": 2, "command_line/words.rt: no_number": 2, "fleet_commands/status_command.rt: tell": 2}
+PLACES = {"command_line/command_line.rt: refused": 2, "command_line/words.rt: no_number": 2}
 
 # Lines of a body, each with how many such values it makes.
 FORMS = [

@@ -28,8 +28,8 @@ is_fault (Circle number keeps) = false
 is_fault _ = true
 
 -- the answer is no where a line tells a fault
-abbrev pub status_of : List StatusLine → Status
-status_of lines = if list_any is_fault lines then status.Fault else status.Done
+abbrev pub status_by : List StatusLine → Status
+status_by lines = if list_any is_fault lines then status.Fault else status.Done
 
 -- The lines say what the tapes have, what shows that these are not of one run, and what the plans beside them come to.
 abbrev pub AreAllLines : {F : Type 0} → (F → Option (List ℕ)) → Timetable → List StatusLine → Type 0
@@ -42,7 +42,7 @@ AreAllLines file_left tt lines =
 abbrev pub EndsByTapes : {F W : Type 0} → (F → Option (List ℕ)) → (W → Option (List ℕ)) → (json : Bool) → Timetable → Counted W → Counted W → End → Type 0
 EndsByTapes file_left contents json tt old new end =
     ((lines : List StatusLine) × AreAllLines file_left tt lines
-    × EndsWriting contents old new (answered_with (status_of lines)) end (flat_map (status_line json) lines))
+    × EndsWriting contents old new (answered_with (status_by lines)) end (flat_map (status_line json) lines))
     ⊎ ((end ≡ gave_up (failed failure.OutOfMemory)) × (new ≡ old))
 
 abbrev pub EndsByStatus : {F W : Type 0} → (F → Option (List ℕ)) → (W → Option (List ℕ)) → (json : Bool) → Counted W → Counted W → End → Result Timetable PlannedFault → Type 0

@@ -3,7 +3,7 @@ ghost use Rattle.std.specs.Prelude.{◌≡◌, is_ok, IfOk, MatchResult};
 ghost use Rattle.std.specs.List.{list_any};
 ghost use Rattle.model.specs.Timetable.{Timetable};
 ghost use Rattle.text_commands.specs.Ending.{EndsAndTells, end_of};
-ghost use Rattle.fleet_commands.specs.StatusCommand.{AnswersStatus, AreAllLines, EndsByTapes, is_fault, status_of};
+ghost use Rattle.fleet_commands.specs.StatusCommand.{AnswersStatus, AreAllLines, EndsByTapes, is_fault, status_by};
 
 use crate::found_tapes::read_tapes;
 use crate::one_run::push_run_lines;
@@ -70,7 +70,7 @@ fn tell<R: Files + AllocGlobal, W: Write>(
         return Ending::gave_up(Failure::OutOfMemory.words());
     };
     let written = write_lines(&lines, json, out);
-    finish(written, Ending::answered_with(status_of(&lines)), out)
+    finish(written, Ending::answered_with(status_by(&lines)), out)
 }
 
 /// Reads the tapes and the plans beside them: the lines of what they have.
@@ -90,8 +90,8 @@ fn all_lines<R: Files + AllocGlobal>(
 }
 
 /// The answer is no where a line tells a fault.
-fn status_of(lines: &[StatusLine]) -> Status
-    ensures { result ≡ status_of lines.now }
+fn status_by(lines: &[StatusLine]) -> Status
+    ensures { result ≡ status_by lines.now }
 {
     if has_fault(lines) {
         Status::Fault

@@ -4,12 +4,14 @@ ghost use Rattle.std.specs.Prelude.{◌≡◌, IfSome};
 use agent::Tape;
 use grid::Counted;
 use mapf_cmd::{
-    Asked, CheckTerms, LineFault, LockFile, TalkFault, Talker, Verdict, agent_cmd, check_cmd,
-    check_fit_cmd, deps_cmd, line, map_cmd, row_cmd, run_cmd, scen_cmd, talk, verdict_json,
+    Asked, LineFault, TalkFault, Talker, Verdict, deps_cmd, line, map_cmd, scen_cmd, talk,
+    verdict_json,
 };
 use std::alloc::{AllocError, Global};
 use std::io::{Read, Write};
-use std::rt::Files;
+
+// These take more than a call here should have.
+pub use mapf_cmd::{agent_cmd, check_cmd, check_fit_cmd, row_cmd, run_cmd};
 
 pub fn line_of(alloc: Global, words: &[String]) -> Result<Asked, LineFault> {
     line(alloc, words)
@@ -58,40 +60,6 @@ pub fn scen_status<R: Read, W: Write, E: Write>(
     scen_cmd(alloc, scen, out, err)
 }
 
-pub fn row_status<R: Read, S: Read, W: Write, E: Write>(
-    alloc: Global,
-    map: &mut Counted<R>,
-    scen: &mut Counted<S>,
-    row: u32,
-    out: &mut Counted<W>,
-    err: &mut Counted<E>,
-) -> u8 {
-    row_cmd(alloc, map, scen, row, out, err)
-}
-
-pub fn check_status<M: Read, P: Read, W: Write, E: Write>(
-    alloc: Global,
-    map: &mut Counted<M>,
-    plan: &mut Counted<P>,
-    terms: &CheckTerms,
-    out: &mut Counted<W>,
-    err: &mut Counted<E>,
-) -> u8 {
-    check_cmd(alloc, map, plan, terms, out, err)
-}
-
-pub fn fit_status<M: Read, P: Read, S: Read, W: Write, E: Write>(
-    alloc: Global,
-    map: &mut Counted<M>,
-    plan: &mut Counted<P>,
-    scen: &mut Counted<S>,
-    terms: &CheckTerms,
-    out: &mut Counted<W>,
-    err: &mut Counted<E>,
-) -> u8 {
-    check_fit_cmd(alloc, map, plan, scen, terms, out, err)
-}
-
 pub fn deps_status<M: Read, P: Read, W: Write, E: Write>(
     alloc: Global,
     map: &mut Counted<M>,
@@ -100,32 +68,4 @@ pub fn deps_status<M: Read, P: Read, W: Write, E: Write>(
     err: &mut Counted<E>,
 ) -> u8 {
     deps_cmd(alloc, map, plan, out, err)
-}
-
-pub fn run_status<M: Read, P: Read, V: Read, W: Write, E: Write>(
-    alloc: Global,
-    map: &mut Counted<M>,
-    plan: &mut Counted<P>,
-    events: &mut Counted<V>,
-    complete: bool,
-    out: &mut Counted<W>,
-    err: &mut Counted<E>,
-) -> u8 {
-    run_cmd(alloc, map, plan, events, complete, out, err)
-}
-
-pub fn agent_status<R: Files + AllocGlobal, M: Read, P: Read, I: Read, W: Write, E: Write>(
-    rt: &R,
-    map: &mut Counted<M>,
-    plan: &mut Counted<P>,
-    id: u16,
-    path: &str,
-    input: &mut Counted<I>,
-    out: &mut Counted<W>,
-    err: &mut Counted<E>,
-) -> u8
-where
-    R::File: LockFile,
-{
-    agent_cmd(rt, map, plan, id, path, input, out, err)
 }

@@ -14,8 +14,8 @@ pub use agents::{
     answers_of, arms, heard_by, letter, opened, requests, taken_back, tape_of, tape_with,
 };
 pub use commands::{
-    agent_status, check_status, deps_status, dialogue, fit_status, line_of, map_status, row_status,
-    run_status, scen_status, verdict_text,
+    agent_cmd, check_cmd, check_fit_cmd, deps_status, dialogue, line_of, map_status, row_cmd,
+    run_cmd, scen_status, verdict_text,
 };
 pub use dependencies::{counts, graph_of, need_of, rotations_of, visits_of};
 pub use lengths::{

@@ -7,7 +7,7 @@ use Rattle.text_io.specs.Writing.{WritesText}
 use Rattle.text_commands.specs.Ending.{End, answered_with, end_of}
 use Rattle.text_commands.specs.Finishing.{FinishesWriting}
 use Rattle.text_commands.specs.Laws.Ending.{ends_writing}
-use Rattle.fleet_commands.specs.StatusCommand.{status_of}
+use Rattle.fleet_commands.specs.StatusCommand.{status_by}
 use Rattle.fleet_commands.specs.StatusText.{status_line}
 use Rattle.fleet_commands.proofs.status_command.tell.Goals as goal
 
@@ -18,7 +18,7 @@ returns g c =
     (failures_of c.args.out.now) (failures_of c.write_lines-written.new.writer) text in
     let Finished : End → Type 0 = λ success. FinishesWriting g.W.Write.contents (is_ok c.write_lines-written.result) success c.write_lines-written.new.writer c.finish.new.out (end_of c.finish.result) in
     let wrote = subst Wrote (ap (flat_map (status_line c.args.json)) c.deref.ensures.value) c.write_lines-written.ensures in
-    let success : end_of c.answered_with.result ≡ answered_with (status_of lines) = c.answered_with.ensures ∙ ap answered_with (c.status_of.ensures ∙ ap status_of c.deref-2.ensures.value) in
+    let success : end_of c.answered_with.result ≡ answered_with (status_by lines) = c.answered_with.ensures ∙ ap answered_with (c.status_by.ensures ∙ ap status_by c.deref-2.ensures.value) in
     inl (
       lines,
       c.in-Ok.ensures,
