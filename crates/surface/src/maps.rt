@@ -3,7 +3,7 @@ use grid::{Cell, Counted, Map, MapFault, Terrain, WriteFault, read_map, step4, s
 use std::alloc::Global;
 use std::io::{Read, Write};
 
-pub fn read_text<R: Read>(alloc: Global, inner: R) -> Result<Map, MapFault> {
+pub fn read_text<R: Read + Drop>(alloc: Global, inner: R) -> Result<Map, MapFault> {
     read_map(alloc, &mut Counted::new(inner))
 }
 
