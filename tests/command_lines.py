@@ -189,12 +189,12 @@ COMMANDS = [
     ("status M P J% --explain", STATES),
     ("status --explain -- M P J%", STATES),
     ("status M --json P J%", STATES_JSON),
-    ("status M O K", ""),
+    ("status M O K%", ""),
     ("handover M P J%", CUT_AT_1),
     ("handover M P J% --explain", CUT_AT_1),
     ("handover --explain -- M P J%", CUT_AT_1),
     ("handover M -- --json J%", CUT_AT_1),
-    ("handover M O N", FILES["O"].decode()),
+    ("handover M O N%", FILES["O"].decode()),
     ("anew M P J% 8", LEFT),
     ("anew M P J% 0008 --explain", LEFT),
     ("anew --explain -- M P J% 8", LEFT),
@@ -204,7 +204,7 @@ COMMANDS = [
     ("anew M P J% 8 --without 0", LEFT_WITHOUT_0),
     ("anew M --without=1 P J% 8", LEFT_WITHOUT_1),
     ("anew --without 0001 -- M P J% 8", LEFT_WITHOUT_1),
-    ("anew M O N 8", FILES["O"].decode().replace("7", "8")),
+    ("anew M O N% 8", FILES["O"].decode().replace("7", "8")),
 ]
 
 # Files in another order than the command has them, or one that is not there, and the fault that shows which was read as what.

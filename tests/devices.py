@@ -90,7 +90,7 @@ FAULTY = [
     ("run M X E --complete", "mapf: Swap 0 1 0\n"),
     ("agent M P 2 T", "mapf: NoSuchAgent\n"),
     ("status M X J%", "mapf: Swap 0 1 0\n"),
-    ("handover M P J0", "mapf: BadTape 1\n"),
+    ("handover M P J0%", "mapf: BadTape 0\n"),
     ("anew M P J% 7", "mapf: SameNumber\n"),
     ("anew M P J% 8 --without 2", "mapf: NoSuchAgent\n"),
     ("anew M P no% 8", "mapf: BadTape 0\n"),

@@ -9,7 +9,8 @@ from wrong_inputs import FILES, INPUTS, Wrong
 
 # An explanation is short.
 MOST_LINES, MOST_COLUMNS = 20, 140
-FORMATS = ROOT / "docs" / "FORMATS.md"
+# The pages that have tables of faults, and the heads of the columns in which these stand.
+FAULT_TABLES = {ROOT / "docs" / "FORMATS.md": ("Fault", "Name"), ROOT / "docs" / "OPERATING.md": ("A robot drops",)}
 # Where colour begins, for what is wrong and for what frames it, and where it ends.
 MARKED, FRAMED, ENDED = b"\x1b[1;31m", b"\x1b[1;34m", b"\x1b[0m"
 # Variables of the environment, and whether there is colour on a terminal.
@@ -104,14 +105,19 @@ def colours(harness: Harness) -> Iterator[Outcome]:
 
 
 def documented() -> set[str]:
-    """The names of faults and refusals in the tables of docs/FORMATS.md."""
+    """The names of faults and refusals in the tables of the docs."""
+    return set().union(*(faults_of(page.read_text(encoding="utf-8"), heads) for page, heads in FAULT_TABLES.items()))
+
+
+def faults_of(page: str, heads: Sequence[str]) -> set[str]:
+    """The names in the first columns of the tables that have one of these heads."""
     names: set[str] = set()
     column = None
-    for line in FORMATS.read_text(encoding="utf-8").splitlines():
+    for line in page.splitlines():
         cells = [cell.strip() for cell in line.strip("|").split("|")] if line.startswith("|") else []
         if not cells:
             column = None
-        elif cells[0] in ("Fault", "Name"):
+        elif cells[0] in heads:
             column = 0
         elif column == 0:
             names.update(re.findall(r"`([A-Z]\w+)[^`]*`", cells[0]))

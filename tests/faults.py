@@ -350,6 +350,32 @@ def is_told_of_tapes(case: Case, failed: list[int], name: str, ended: Ended) -> 
     return ended == (answer(1, f"BadTape {blamed[0]}") if blamed else case.due)
 
 
+def is_told_of_looks(case: Case, ended: Ended) -> bool:
+    """Whether a command that reads tapes tells that some can't be opened, or plans beside them: which of them was looked at nobody knows."""
+    command = case.words.split()[0]
+    if command == "agent":
+        return False
+    if command == "tape":
+        return is_fault(ended, "OpenFailed") and not ended.out
+    some = ([], [0], [1], [0, 1])
+    if any(failed and is_told_of_tapes(case, failed, "OpenFailed", ended) for failed in some):
+        return True
+    plans = ("".join(f"beside {agent} OpenFailed\n" for agent in failed).encode() for failed in some if failed)
+    return command == "status" and any(ended.out.endswith(told) and is_status_of(case, ended, len(told)) for told in plans)
+
+
+def is_status_of(case: Case, ended: Ended, more: int) -> bool:
+    """Whether all but the last bytes is what is due, or tells of tapes that can't be opened."""
+    rest = Ended(ended.status, ended.out[:-more], ended.err)
+    failed = ([0], [1], [0, 1])
+    return rest == Ended(1, case.due.out, b"") or any(is_told_of_tapes(case, agents, "OpenFailed", rest) for agents in failed)
+
+
+def is_first_look(case: Case, call: str, met: str, at: int) -> bool:
+    """Whether the call asks whether there is a new tape already, which is found out again when it is made."""
+    return (call, met, at) == ("look", BY_NAME, 1) and case.words.endswith(NEW)
+
+
 def is_allowed(case: Case, call: str, kind: str, met: str, ended: Ended) -> bool:
     """Whether a command did what it may do where this call failed, of the file or stream that was met."""
     due = case.due
@@ -358,7 +384,7 @@ def is_allowed(case: Case, call: str, kind: str, met: str, ended: Ended) -> bool
     if call == "alloc":
         return ended == due or (is_fault(ended, "OutOfMemory") and begins(case.early, ended.out)) or is_refused_once(case, ended)
     if met == BY_NAME:
-        return is_store_failed(case, ended)
+        return is_store_failed(case, ended) or is_told_of_looks(case, ended)
     if met in TAPES:
         # From a failure that goes on the tapes of later agents fail too.
         failed = [agent for tape, agent in TAPES.items() if tape == met or (kind == "on" and agent > TAPES[met])]
@@ -409,7 +435,8 @@ def calls_of(library: Library, case: Case, call: str, kind: str) -> list[Outcome
     # That single bytes pass is also asked of all calls at once.
     for at in range(0 if kind == "short" else 1, MOST):
         ended, met = library.run(case, folder, call, kind, at)
-        fault = "" if is_allowed(case, call, kind, met, ended) else f"{ended}, which is not what it may do where it does {case.due} else"
+        is_right = is_allowed(case, call, kind, met, ended) or (is_first_look(case, call, met, at) and ended == case.due)
+        fault = "" if is_right else f"{ended}, which is not what it may do where it does {case.due} else"
         if case.tape is not None and not fault:
             fault = judged_tape(library, case, folder, ended.out, seen)
         ran = f"{shown(['mapf', *case.words.split()], case.given)}  where {call} {at} meets {kind}, of {met or 'nothing'}"

@@ -245,7 +245,7 @@ CASES = (
     Case(ON_BOTH[0], BEHIND, (0, 0), 0, plan("1 0 =", "0 0 =")),
     Case(ON_BOTH[0], BEHIND, (1, 0), 0, plan("1 0 e", "0 0 e")),
     Case(ON_BOTH[0], ONWARD, (2, 2), 0, plan("1 0 e", "0 0 e")),
-    Case(ON_BOTH[0], ONWARD, (4, 3), 0, ONWARD),
+    Case(ON_BOTH[0], ONWARD, (3, 4), 0, ONWARD),
     Case(ON_BOTH[0], PASSING, (1, 0), 0, plan("1 0 e", "0 0 -")),
     Case(ON_BOTH[0], PASSING, (2, 1), 0, plan("1 0 e-", "0 0 -e")),
     Case(ON_BOTH[0], NOBODY, (), 0, NOBODY),
