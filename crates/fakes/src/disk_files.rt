@@ -86,8 +86,8 @@ impl<'a> Files for DiskFiles<'a> {
 
     fn metadata(&self, path: &str) -> io::Result<Metadata> {
         match self.disk(path) {
-            Some(disk) if disk.is_tape() => disk.look_up(),
-            _ => Err(self.unexpected(path)),
+            Some(disk) => disk.look_up(),
+            None => Err(self.unexpected(path)),
         }
     }
 

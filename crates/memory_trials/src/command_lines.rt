@@ -37,9 +37,9 @@ static LINES: [(&str, u8, &str); 28] = [
     ("optimal M P Z", 0, PROVED),
     ("run M P E", 0, REPLIES),
     ("run M P E --complete", 0, COMPLETED),
-    ("status M P L --json", 0, STATUS_JSON),
-    ("handover M P L", 0, HANDED_OVER),
-    ("anew M P L 8 --without 1", 0, LEFT),
+    ("status M P L% --json", 0, STATUS_JSON),
+    ("handover M P L%", 0, HANDED_OVER),
+    ("anew M P L% 8 --without 1", 0, LEFT),
     ("agent M P 0 T", 0, ANSWERED),
     ("agent M P 0 N --tape new", 0, ANSWERED),
     ("agent M P 0 K --tape kept", 0, ANSWERED),
@@ -51,7 +51,7 @@ static LINES: [(&str, u8, &str); 28] = [
 ];
 
 /// The files that they read.
-static TEXTS: [(&str, &str); 9] = [
+static TEXTS: [(&str, &str); 10] = [
     ("C", CORNER),
     ("S", ROW),
     ("M", LANE),
@@ -60,11 +60,14 @@ static TEXTS: [(&str, &str); 9] = [
     ("F", TASKS),
     ("E", EVENTS),
     ("Z", PROOF),
-    ("L", NO_RECORD),
+    ("L0", NO_RECORD),
+    ("L1", NO_RECORD),
 ];
 
-/// The tapes, of which the last was kept, and what is beside them.
-static TAPES: [&str; 7] = [
+/// What isn't beside the tapes of a fleet, and tapes, of which the last was kept, with what is beside them.
+static TAPES: [&str; 9] = [
+    "L0.plan",
+    "L1.plan",
     "T",
     "N",
     "N.plan",
@@ -81,6 +84,9 @@ fn disks_of(alloc: Global) -> Result<Vec<FakeDisk>, AllocError> {
         disks.push(FakeDisk::of_text(alloc, text)?)?;
     }
     let kept = [b"mapf-tape 1 -\n".as_slice(), CUT.as_bytes()].concat(alloc)?;
+    for _ in 0..2 {
+        disks.push(FakeDisk::beside(alloc, None)?)?;
+    }
     disks.push(FakeDisk::new(alloc, b"")?)?;
     for beside in [None, Some(kept.as_slice())] {
         disks.push(FakeDisk::new(alloc, b"")?)?;
