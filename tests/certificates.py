@@ -138,7 +138,7 @@ def of_robots(harness: Harness, python: str) -> list[Outcome]:
 def of_a_fleet(harness: Harness) -> list[Outcome]:
     """A fleet that signs, over TLS, whose robots are killed and whose broker is stopped. What a broker has kept may be heard twice, and is dropped."""
     tls = made(harness)
-    words = ["--link", "mqtt", "--tls", str(tls), "--keys", "fleet.keys", "--robots", "3", "--moves", "0.2", "--kills", "2", "--stops", "0.5", "--seed", "4"]
+    words = ["--link", "mqtt", "--tls", str(tls), "--keys", "fleet.keys", "--robots", "3", "--moves", "0.2", "--kills", "5", "--stops", "0.5", "--seed", "4"]
     fleet = robots.Fleet(harness, words)
     ended = fleet.run()
     counted = fleet.counted(ended)

@@ -28,7 +28,9 @@ FLEET = ROOT / "examples" / "fleet"
 ROBOTS, ROBOT = FLEET / "robots.py", FLEET / "robot.py"
 WAREHOUSE = [str(FLEET / "warehouse.map"), str(FLEET / "warehouse.plan")]
 TWO = ["--map", str(ROOT / "examples" / "plain.map"), "--plan", str(ROOT / "examples" / "behind.plan")]
-PORTS, NUMBERS = iter(range(10_000 + os.getpid() % 40 * 200, 20_000, 20)), itertools.count(100)
+# Parts that run side by side have near process numbers, and begin far from one another: a port is free while a killed robot is not started again yet.
+PORTS = iter([10_000 + 20 * ((137 * os.getpid() + turn) % 500) for turn in range(500)])
+NUMBERS = itertools.count(100)
 # The seeds of a long test with all robots.
 LONG = range(1, 7)
 # So many seconds orders may take.
