@@ -8,13 +8,13 @@ import shutil
 import signal
 import socket
 import subprocess
-import sys
 import time
-from typing import Iterator, Optional
+from typing import Iterator
 
 from harness import Ended, Harness, Outcome, compared, shown
 from job_rooms import Room
 from judge_jobs import JOBS, csv_of, differing, judge_room
+from pythons import python_with
 from tabling import LANE_RIGHT, RIGHT
 from texts import LANE
 
@@ -24,15 +24,6 @@ LONGEST = 100
 SCENARIOS, BEFORE = 40, 3
 # How long a call waits for a scheduler.
 WAITS = {"DASK_DISTRIBUTED__COMM__TIMEOUTS__CONNECT": "3s"}
-
-
-def with_distributed() -> Optional[str]:
-    """A Python that has Dask's cluster."""
-    for python in (sys.executable, "/usr/bin/python3"):
-        with contextlib.suppress(OSError):
-            if subprocess.run([python, "-c", "import distributed"], stderr=subprocess.DEVNULL, check=False).returncode == 0:
-                return python
-    return None
 
 
 @dataclasses.dataclass
@@ -187,7 +178,7 @@ def of_a_killed_scheduler(harness: Harness, two: Cluster) -> Iterator[Outcome]:
 
 
 def outcomes(harness: Harness) -> Iterator[Outcome]:
-    python = with_distributed()
+    python = python_with("distributed")
     if not python or not shutil.which("dask-scheduler") or not shutil.which("dask-worker"):
         yield Outcome("a cluster", lacks="python3-distributed")
         return

@@ -5,6 +5,7 @@ import functools
 import pathlib
 import random
 import re
+import shlex
 import subprocess
 import sys
 from typing import Iterator, NamedTuple, Optional, Sequence
@@ -201,6 +202,31 @@ def in_use(harness: Harness) -> Iterator[Outcome]:
     yield compared("when it has ended", it.ran, (it.status, it.out), (0, f"freed 1 0\nagent 0 was 1\n{DRIVEN}"))
 
 
+# Answers as the program does, and then ends a process that holds a tape.
+ENDS_ONE = """#!/bin/sh
+{program} "$@"
+status=$?
+case $1 in handover|anew) kill -9 {process}; flock 1.tape true;; esac
+exit $status
+"""
+
+
+def in_use_before(harness: Harness) -> Iterator[Outcome]:
+    """What an agent stores behind what was read of its tape counts too, where it has ended by the end of the call."""
+    for words in ((), ("--without", "0")):
+        folder = harness.folder({"M": LANE.encode(), "P": BEHIND.encode(), "0.tape": b"", "1.tape": b""})
+        agent = [str(harness.program), "agent", "M", "P", "1", "1.tape"]
+        with subprocess.Popen(agent, cwd=folder, stdin=subprocess.PIPE, stdout=subprocess.PIPE) as process:
+            process.stdout.readline()
+            program = folder / "ends_one"
+            program.write_text(ENDS_ONE.format(program=shlex.quote(str(harness.program)), process=process.pid))
+            program.chmod(0o755)
+            it = handed(harness, folder, *words, "--program", str(program))
+            process.kill()
+        due = (1, "", "handover: 1.tape: it is in use, and all agents have to be stopped\n", {})
+        yield compared(f"{' '.join(words) or 'a cut'} while agent 1 ends", it.ran, (it.status, it.out, it.err, it.files), due)
+
+
 def of_files(harness: Harness) -> Iterator[Outcome]:
     """Files that are there are replaced, others are left alone, and what fails leaves all as it was."""
     files = {"M": LANE.encode(), "P": BEHIND.encode(), "0.tape": MOVING, "1.tape": b""}
@@ -239,6 +265,7 @@ def outcomes(harness: Harness) -> Iterator[Outcome]:
     yield from of_lengths(harness)
     yield from bad_lines(harness)
     yield from in_use(harness)
+    yield from in_use_before(harness)
     yield from of_files(harness)
     yield from of_names(harness)
     seeds = LONG_SEEDS if harness.is_long else SHORT_SEEDS

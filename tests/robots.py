@@ -23,6 +23,7 @@ import watching
 from failing_agents import Chances, failing_program
 from harness import LONGEST, ROOT, Ended, Harness, Outcome, compared, shown, side_by_side
 from processes import children, heeding, left_in, processes_of, wait_until
+from pythons import python_with
 
 FLEET = ROOT / "examples" / "fleet"
 ROBOTS, ROBOT = FLEET / "robots.py", FLEET / "robot.py"
@@ -202,11 +203,7 @@ def of_strangers(harness: Harness) -> list[Outcome]:
 
 def with_paho() -> Optional[str]:
     """A Python that has a client of MQTT."""
-    for python in (sys.executable, "/usr/bin/python3"):
-        with contextlib.suppress(OSError):
-            if subprocess.run([python, "-c", "import paho.mqtt.client"], stderr=subprocess.DEVNULL, check=False).returncode == 0:
-                return python
-    return None
+    return python_with("paho.mqtt.client")
 
 
 def mosquitto() -> Optional[str]:

@@ -229,15 +229,16 @@ def plans_beside(harness: Harness) -> Iterator[Outcome]:
 
 
 def third_plan(harness: Harness) -> Iterator[Outcome]:
-    """Of three plans the one that goes furthest so far is the one with which the next is compared."""
+    """Of three plans the one that goes furthest so far, and last where several do, is the one with which the next is compared."""
     start = plan("0 0 =", "1 0 =", "0 1 =")
-    plans = [start, plan("0 0 =", "1 0 =", "0 1 e"), plan("0 0 =", "1 0 s", "0 1 =")]
-    fleet = with_records(start, 0, 0, 0)
-    files = {"M": SQUARE.encode(), "P": start.encode(), **tapes_of(fleet)}
-    files.update({f"{agent}.tape.plan": beside("-", text) for agent, text in enumerate(plans)})
-    called = ["status", "M", "P", "%.tape"]
-    due = Ended(1, f"{fleet.text()}PlansPart 1 2 1\n".encode(), b"")
-    yield compared("three plans beside tapes", shown_words(["mapf", *called]), harness.mapf(called, folder=harness.folder(files)), due)
+    further, other = plan("0 0 =", "1 0 =", "0 1 e"), plan("0 0 =", "1 0 s", "0 1 =")
+    for name, first in (("that goes further", start), ("and the same again", further)):
+        fleet = with_records(start, 0, 0, 0)
+        files = {"M": SQUARE.encode(), "P": start.encode(), **tapes_of(fleet)}
+        files.update({f"{agent}.tape.plan": beside("-", text) for agent, text in enumerate((first, further, other))})
+        called = ["status", "M", "P", "%.tape"]
+        due = Ended(1, f"{fleet.text()}PlansPart 1 2 1\n".encode(), b"")
+        yield compared(f"three plans beside tapes, one {name}", shown_words(["mapf", *called]), harness.mapf(called, folder=harness.folder(files)), due)
 
 
 def no_files(harness: Harness) -> Iterator[Outcome]:

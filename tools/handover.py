@@ -109,16 +109,24 @@ class Stopped:
         return mapf.status(self.map, self.plan, self.given.tapes, program=self.program).agents[agent]
 
     def cut(self) -> str:
-        with self.blamed():
+        with self.blamed(), self.held_stopped():
             return mapf.handover(self.map, self.plan, self.given.tapes, program=self.program)
 
     def others(self) -> str:
         """The plan of all but one."""
-        with self.blamed():
+        with self.blamed(), self.held_stopped():
             return mapf.anew(self.map, self.plan, self.given.tapes, self.given.number, without=self.given.without, program=self.program)
 
+    @contextlib.contextmanager
+    def held_stopped(self) -> Iterator[None]:
+        """Refuses a tape that an agent holds before tapes are read, or behind it: by what it stores meanwhile, or next, all that is written would
+        be false."""
+        agents = mapf.check(self.map, self.plan, program=self.program).agents or 0
+        self.hold_stopped(agents)
+        yield
+        self.hold_stopped(agents)
+
     def hold_stopped(self, agents: int) -> None:
-        """Refuses a tape that an agent holds: by what it stores next all that is written would be false."""
         for agent in range(agents):
             tape = self.given.tapes.replace("%", str(agent))
             if is_in_use(tape):
@@ -182,7 +190,6 @@ def tasks_of(plan: str) -> list[Task]:
 def hand_over(fleet: Stopped, folder: pathlib.Path) -> list[str]:
     """The cut, and what is left of it to be planned."""
     cut = fleet.cut()
-    fleet.hold_stopped(len(tasks_of(cut)))
     ends = tasks_of(pathlib.Path(fleet.plan).read_text(encoding="ascii"))
     tasks = [(start, end) for (_, start), (_, end) in zip(tasks_of(cut), ends)]
     folder.mkdir(exist_ok=True)
@@ -197,7 +204,6 @@ def go_on_without(fleet: Stopped, gone: int, folder: pathlib.Path) -> list[str]:
     """The plan of the others, and what is left of it to be planned."""
     others = fleet.others()
     tasks = tasks_of(others)
-    fleet.hold_stopped(len(tasks) + 1)
     lines = [freed(fleet.status_of(gone)), *(f"agent {agent} was {agent + 1}" for agent in range(gone, len(tasks)))]
     folder.mkdir(exist_ok=True)
     with draft([others], folder / "others.plan") as plan, fleet.scenario_draft(tasks, folder / "others.scen") as scenario:

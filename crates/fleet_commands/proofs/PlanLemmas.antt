@@ -18,7 +18,7 @@ behind-front front i (Ok (Some p)) None after earlier lines comes = (earlier, (c
 behind-front front i (Ok (Some p)) (Some first) after earlier lines comes = elim comes.2 [
   | inl goes ↦ (earlier, (comes.0, comes.1, inl (goes.0, goes.1, refl)), goes.2)
   | inr other ↦ (elim other [
-    | inl stays ↦ (earlier, (comes.0, comes.1, inr (inl (stays.0, stays.1, refl))), stays.2)
+    | inl stays ↦ (earlier, (comes.0, comes.1, inr (inl (stays.0, stays.1, stays.2, stays.3, refl))), stays.4)
     | inr parts ↦
         (let line = Parted first.agent i (parting_time parts.0) ∷ [] in
         (earlier ++ line, (comes.0, comes.1, inr (inr (parts.0, parts.1, parts.2, parts.3, parts.4, refl))), parts.5 ∙ append_assoc front earlier line))

@@ -17,11 +17,12 @@ parting_time OtherNumber = 0
 parting_time OtherCount = 0
 parting_time (Departs agent time) = time
 
--- Of two plans, which goes on from the other. Where neither does, the first one is kept, and a line says from which time on they differ.
+-- Of two plans, which goes on from the other: the next one where each does. Where neither does, the first one is kept, and a line says from which time
+-- on they differ.
 abbrev pub GoesFurther : (first next : Foremost) → (after : Foremost) → (earlier lines : List StatusLine) → Type 0
 GoesFurther first next after earlier lines =
     (Continues first.plan next.plan × (after ≡ next) × (lines ≡ earlier))
-    ⊎ ((Continues next.plan first.plan × (after ≡ first) × (lines ≡ earlier))
+    ⊎ (((fault : ContinueFault) × IsContinueFault first.plan next.plan fault × Continues next.plan first.plan × (after ≡ first) × (lines ≡ earlier))
     ⊎ ((fault : ContinueFault) × (back : ContinueFault) × IsContinueFault first.plan next.plan fault × IsContinueFault next.plan first.plan back
     × (after ≡ first) × (lines ≡ earlier ++ Parted first.agent next.agent (parting_time fault) ∷ [])))
 

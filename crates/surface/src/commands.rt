@@ -10,7 +10,7 @@ use mapf_cmd::{
 use std::alloc::{AllocError, Global};
 use std::io::{Read, Write};
 
-// These take more than a call here should have.
+// These take more arguments than a function of ours should have.
 pub use mapf_cmd::{agent_cmd, check_cmd, check_fit_cmd, row_cmd, run_cmd};
 
 pub fn line_of(alloc: Global, words: &[String]) -> Result<Asked, LineFault> {

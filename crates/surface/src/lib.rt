@@ -24,6 +24,6 @@ pub use lengths::{
 pub use maps::{failed_calls, legal_steps, map_text, read_text, size, terrain_at};
 pub use plans::{checked, costs, place_of, plan_of, solves, text_of, with_agent};
 pub use runs::{
-    all_replies, begun, completed, event_list, held_by, replies, replies_of_texts, simulated_tape,
-    stepped, write_all,
+    all_replies, begun, completed, events_of, held_by, replies_of_texts, simulated_tape, stepped,
+    version_and_events, write_all,
 };

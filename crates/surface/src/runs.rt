@@ -37,11 +37,14 @@ pub fn all_replies(
     run(alloc, graph, events)
 }
 
-pub fn replies<R: Read>(alloc: Global, reader: &mut Counted<R>) -> Result<Vec<Event>, EventFault> {
+pub fn events_of<R: Read>(
+    alloc: Global,
+    reader: &mut Counted<R>,
+) -> Result<Vec<Event>, EventFault> {
     read_events(alloc, reader)
 }
 
-pub fn event_list<R: Read>(
+pub fn version_and_events<R: Read>(
     alloc: Global,
     reader: &mut Counted<R>,
 ) -> Result<(Version, Vec<Event>), EventFault> {
