@@ -7,7 +7,7 @@ ghost use Rattle.agent.specs.FaultWords.{tape_make_fault_words};
 use crate::tape::{RECORD_SIZE, Tape, TapeError};
 use std::alloc::Global;
 use std::fmt;
-use text_io::{Failure, FaultWords, OutOfMemory};
+use text_io::{Failure, FaultName, FaultWords, OutOfMemory};
 use thiserror::Error;
 
 /// Why no tape was made.
@@ -24,7 +24,7 @@ impl TapeMakeFault {
         ensures { words_of result ≡ tape_make_fault_words self }
     {
         match self {
-            TapeMakeFault::TooLong => FaultWords::new("TooLong", &[]),
+            TapeMakeFault::TooLong => FaultWords::new(FaultName::TooLong, &[]),
             TapeMakeFault::OutOfMemory => Failure::OutOfMemory.words(),
         }
     }

@@ -8,7 +8,7 @@ ghost use Rattle.agent.specs.declared.refusal.TellFault.TheVariants.{OutOfMemory
 use model::MsgFault;
 use std::alloc::AllocError;
 use std::fmt;
-use text_io::{Failure, FaultWords};
+use text_io::{Failure, FaultName, FaultWords};
 use thiserror::Error;
 
 /// Why a tape is not opened. Records are counted from 0.
@@ -32,13 +32,19 @@ impl OpenFault {
         ensures { words_of result ≡ open_fault_words self }
     {
         match self {
-            OpenFault::NoSuchAgent => FaultWords::new("NoSuchAgent", &[]),
-            OpenFault::Damaged(record) => FaultWords::new("Damaged", &[u64::from(record)]),
-            OpenFault::WrongPlan(record) => FaultWords::new("WrongPlan", &[u64::from(record)]),
-            OpenFault::TooLong => FaultWords::new("TooLong", &[]),
+            OpenFault::NoSuchAgent => FaultWords::new(FaultName::NoSuchAgent, &[]),
+            OpenFault::Damaged(record) => FaultWords::new(FaultName::Damaged, &[u64::from(record)]),
+            OpenFault::WrongPlan(record) => FaultWords::new(
+                FaultName::WrongPlan,
+                &[u64::from(record)],
+            ),
+            OpenFault::TooLong => FaultWords::new(FaultName::TooLong, &[]),
             OpenFault::TapeFailed => Failure::TapeFailed.words(),
-            OpenFault::WrongAgent(record) => FaultWords::new("WrongAgent", &[u64::from(record)]),
-            OpenFault::NoRoom => FaultWords::new("NoRoom", &[]),
+            OpenFault::WrongAgent(record) => FaultWords::new(
+                FaultName::WrongAgent,
+                &[u64::from(record)],
+            ),
+            OpenFault::NoRoom => FaultWords::new(FaultName::NoRoom, &[]),
         }
     }
 }
@@ -70,14 +76,14 @@ impl Refusal {
         ensures { words_of result ≡ refusal_words self }
     {
         match self {
-            Refusal::Broken => FaultWords::new("Broken", &[]),
-            Refusal::AlreadyMoving => FaultWords::new("AlreadyMoving", &[]),
-            Refusal::AtEnd => FaultWords::new("AtEnd", &[]),
+            Refusal::Broken => FaultWords::new(FaultName::Broken, &[]),
+            Refusal::AlreadyMoving => FaultWords::new(FaultName::AlreadyMoving, &[]),
+            Refusal::AtEnd => FaultWords::new(FaultName::AtEnd, &[]),
             Refusal::Waits { agent, count } => FaultWords::new(
-                "Waits",
+                FaultName::Waits,
                 &[u64::from(agent), u64::from(count)],
             ),
-            Refusal::NotMoving => FaultWords::new("NotMoving", &[]),
+            Refusal::NotMoving => FaultWords::new(FaultName::NotMoving, &[]),
             Refusal::StoreFailed => Failure::StoreFailed.words(),
         }
     }
@@ -110,10 +116,10 @@ impl HearFault {
     {
         match self {
             HearFault::Message(fault) => fault.words(),
-            HearFault::WrongPlan => FaultWords::new("WrongPlan", &[]),
-            HearFault::NoSuchAgent => FaultWords::new("NoSuchAgent", &[]),
-            HearFault::TooMany => FaultWords::new("TooMany", &[]),
-            HearFault::Broken => FaultWords::new("Broken", &[]),
+            HearFault::WrongPlan => FaultWords::new(FaultName::WrongPlan, &[]),
+            HearFault::NoSuchAgent => FaultWords::new(FaultName::NoSuchAgent, &[]),
+            HearFault::TooMany => FaultWords::new(FaultName::TooMany, &[]),
+            HearFault::Broken => FaultWords::new(FaultName::Broken, &[]),
             HearFault::OutOfMemory => Failure::OutOfMemory.words(),
         }
     }
@@ -140,7 +146,7 @@ impl TellFault {
         ensures { words_of result ≡ tell_fault_words self }
     {
         match self {
-            TellFault::Broken => FaultWords::new("Broken", &[]),
+            TellFault::Broken => FaultWords::new(FaultName::Broken, &[]),
             TellFault::OutOfMemory => Failure::OutOfMemory.words(),
         }
     }

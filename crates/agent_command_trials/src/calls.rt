@@ -1,10 +1,10 @@
 //! Calls of `mapf agent` over a disk, that the tests share.
 use agent_commands::{Seat, agent_cmd, agent_command};
+use ending::conclude;
 use fakes::{BEHIND, DiskFiles, FakeDisk, Keeper, LANE};
 use std::alloc::{AllocError, Global};
 use std::io::Write;
 use tape_claim::TapeClaim;
-use text_commands::conclude;
 use text_io::Counted;
 
 /// The name of the tape file.

@@ -20,8 +20,8 @@ use Rattle.planned.specs.declared.planned_fault.PlannedFault.{PlannedFault}
 use Rattle.planned.specs.declared.reading.PlanAtHand.{PlanAtHand}
 use Rattle.tape_claim.specs.declared.TapeClaim.{TapeClaim}
 use Rattle.tape_claim.specs.declared.TapeClaim.TheVariants.{Any, New, Kept}
-use Rattle.text_commands.specs.declared.status.Status.TheVariants.{Done, Failure}
-use Rattle.text_commands.specs.Ending.{End, answered_with, gave_up}
+use Rattle.ending.specs.declared.status.Status.TheVariants.{Done, Failure}
+use Rattle.ending.specs.Ending.{End, answered_with, gave_up}
 use Rattle.agent_commands.specs.FaultWords.{agent_fault_words}
 use Rattle.agent_commands.specs.KeptPlan.{HasMark, HasNoPlan, IsAkin, IsKeptIn, IsOtherPlan}
 use Rattle.agent_commands.specs.declared.agent_fault.AgentFault.{AgentFault}

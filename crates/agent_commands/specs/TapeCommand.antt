@@ -17,9 +17,9 @@ use Rattle.robot.specs.Turns.{state_line}
 use Rattle.robot.specs.declared.file_tape.FileTapeFault.TheVariants.{TooLong, TapeFailed, OutOfMemory}
 use Rattle.planned.specs.Planned.{ReadsTimetable}
 use Rattle.planned.specs.declared.planned_fault.PlannedFault.{PlannedFault}
-use Rattle.text_commands.specs.declared.status.Status.TheVariants.{Done}
-use Rattle.text_commands.specs.Ending.{End, answered_with, gave_up}
-use Rattle.text_commands.specs.Rewriting.{EndsWriting}
+use Rattle.ending.specs.declared.status.Status.TheVariants.{Done}
+use Rattle.ending.specs.Ending.{End, answered_with, gave_up}
+use Rattle.ending.specs.Rewriting.{EndsWriting}
 use Rattle.agent_commands.specs.AgentCommand.{HasAgent, room_of}
 use Rattle.agent_commands.specs.FaultWords.{agent_fault_words}
 use Rattle.agent_commands.specs.declared.agent_fault.AgentFault.{AgentFault}

@@ -3,7 +3,7 @@ ghost use Rattle.std.specs.Prelude.{◌≡◌, is_some, IfSome};
 ghost use Rattle.model.specs.Plan.{Plan};
 ghost use Rattle.model.specs.Timetable.{Timetable};
 ghost use Rattle.depgraph.specs.AgentParts.{IsPartOf};
-ghost use Rattle.text_commands.specs.Ending.{EndsAndTells, end_of};
+ghost use Rattle.ending.specs.Ending.{EndsAndTells, end_of};
 ghost use Rattle.agent_commands.specs.AgentCommand.{AnswersAgent, Converses, Serves, heeds};
 ghost use Rattle.agent_commands.specs.Code.Plans.{IsTermsFor, claim_of};
 
@@ -12,11 +12,11 @@ use crate::agent_part::{PartAndTerms, read_part_and_terms};
 use crate::opening::open_agent;
 use agent::OpenFault;
 use depgraph::{OwnPart, Part};
+use ending::{Ending, Status, conclude};
 use robot::{TalkFault, Talker, talk};
 use std::io::{Read, Write};
 use std::rt::Files;
 use tape_claim::{LockFile, TapeClaim};
-use text_commands::{Ending, Status, conclude};
 use text_io::Counted;
 
 /// As `perform` on any tape, with a fault's line on `err`. The answer is the exit status, which stays

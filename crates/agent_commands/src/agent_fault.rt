@@ -10,7 +10,7 @@ use planned::PlannedFault;
 use robot::{FileTapeFault, TalkFault};
 use std::alloc::AllocError;
 use std::fmt;
-use text_io::{Failure, FaultWords};
+use text_io::{Failure, FaultName, FaultWords, Origin};
 use thiserror::Error;
 
 /// Why an agent does not answer its input to the end.
@@ -38,6 +38,13 @@ pub enum AgentFault {
     Dialogue(TalkFault),
 }
 
+/// A fault of a tape, which has no numbers.
+fn of_tape(name: FaultName) -> FaultWords
+    ensures { words_of result ≡ text_fault (fault_name name) [] }
+{
+    FaultWords::new(name, &[]).of(Origin::Tape)
+}
+
 impl AgentFault {
     /// The words in which it is told.
     pub fn words(self) -> FaultWords
@@ -45,14 +52,15 @@ impl AgentFault {
     {
         match self {
             AgentFault::Planned(fault) => fault.words(),
-            AgentFault::OpenFailed => Failure::OpenFailed.words(),
-            AgentFault::TapeExists => FaultWords::new("TapeExists", &[]),
-            AgentFault::NoTape => FaultWords::new("NoTape", &[]),
-            AgentFault::PlanDamaged => FaultWords::new("PlanDamaged", &[]),
-            AgentFault::TapeEmptied => FaultWords::new("TapeEmptied", &[]),
-            AgentFault::OtherPlan => FaultWords::new("OtherPlan", &[]),
+            AgentFault::OpenFailed => Failure::OpenFailed.words().of(Origin::Tape),
+            AgentFault::TapeExists => of_tape(FaultName::TapeExists),
+            AgentFault::NoTape => of_tape(FaultName::NoTape),
+            AgentFault::PlanDamaged => of_tape(FaultName::PlanDamaged),
+            AgentFault::TapeEmptied => of_tape(FaultName::TapeEmptied),
+            AgentFault::OtherPlan => of_tape(FaultName::OtherPlan),
             AgentFault::File(fault) => fault.words(),
-            AgentFault::Tape(fault) => fault.words(),
+            AgentFault::Tape(OpenFault::NoSuchAgent) => OpenFault::NoSuchAgent.words(),
+            AgentFault::Tape(fault) => fault.words().of(Origin::Tape),
             AgentFault::Dialogue(fault) => fault.words(),
         }
     }

@@ -11,8 +11,7 @@ use crate::plan_file::{
 use crate::tape_files::{is_absent, keep_name, open_file, open_to_read};
 use crate::terms::Terms;
 use continuing::continues;
-use plan::Plan;
-use plan_text::Course;
+use plan_text::{Course, Plan};
 use robot::FileTapeFault;
 use std::rt::Files;
 use tape_claim::TapeClaim;

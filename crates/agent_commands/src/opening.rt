@@ -21,7 +21,7 @@ use crate::tape_guard::TapeGuard;
 use crate::terms::Terms;
 use agent::{Agent, RECORD_LENGTH, Tape};
 use depgraph::Part;
-use plan::Plan;
+use plan_text::Plan;
 use robot::{FileTape, FileTapeFault, GuardedTape};
 use std::alloc::AllocError;
 use std::fs::OpenFile;

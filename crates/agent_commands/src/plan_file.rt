@@ -8,7 +8,7 @@ ghost use Rattle.agent_commands.specs.Code.Plans.{IsNotRead, ReadsMark, blame_of
 use crate::agent_fault::AgentFault;
 use crate::tape_files::keep_name;
 use crate::tape_report::read_up_to;
-use plan::{Plan, PlanTextFault, read_plan, write_plan};
+use plan_text::{Plan, PlanTextFault, read_plan, write_plan};
 use robot::FileTapeFault;
 use std::alloc::{AllocError, Global};
 use std::fs::{self, OpenFile, OpenOptions};

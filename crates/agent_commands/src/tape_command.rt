@@ -1,6 +1,6 @@
 //! `mapf tape`: says what the tape of an agent keeps.
 ghost use Rattle.std.specs.Prelude.{◌≡◌, MatchResult};
-ghost use Rattle.text_commands.specs.Ending.{EndsAndTells, end_of};
+ghost use Rattle.ending.specs.Ending.{EndsAndTells, end_of};
 ghost use Rattle.agent_commands.specs.TapeCommand.{AnswersTape, EndsByTape, EndsWithoutTape, Inspects};
 ghost use Rattle.agent_commands.specs.Code.Reports.{IsReported, outcome_of};
 
@@ -8,9 +8,9 @@ use crate::agent_fault::AgentFault;
 use crate::agent_part::read_part;
 use crate::tape_report::{TapeReport, read_report, write_report};
 use agent::OpenFault;
+use ending::{Ending, Status, conclude, finish};
 use std::alloc::Global;
 use std::io::{Read, Write};
-use text_commands::{Ending, Status, conclude, finish};
 use text_io::Counted;
 
 /// As `perform`, with a fault's line on `err`. The answer is the exit status, which stays where

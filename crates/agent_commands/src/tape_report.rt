@@ -15,11 +15,11 @@ use crate::agent_fault::AgentFault;
 use agent::replies::reply_to_restart;
 use agent::{Agent, Held, MemTape, RECORD_LENGTH, RECORD_SIZE, Tape};
 use depgraph::Part;
+use ending::put_number;
 use event_text::put_reply;
 use robot::FileTapeFault;
 use std::alloc::Global;
 use std::io::{Read, Write};
-use text_commands::put_number;
 use text_io::{Counted, Sink, WriteFault};
 
 /// How many bytes at the most stand behind the whole records of a file.

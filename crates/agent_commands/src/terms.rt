@@ -2,7 +2,7 @@
 ghost use Rattle.std.specs.Prelude.{◌≡◌};
 ghost use Rattle.agent_commands.specs.Code.Plans.{IsTermsFor, claim_of};
 
-use plan::Plan;
+use plan_text::Plan;
 use tape_claim::TapeClaim;
 
 /// What a tape has to be, with the plan that is to be kept beside it.

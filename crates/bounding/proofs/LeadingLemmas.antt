@@ -17,8 +17,8 @@ use Rattle.model.specs.Laws.Places.{same_place}
 use Rattle.model.specs.Laws.Tracks.{cell_at-start}
 use Rattle.model.specs.Plan.{Course, IsPassable, IsTrackOf, IsValid, Plan, moved, position_at, position_of}
 use Rattle.model.specs.Timetable.{Track, cell_at}
-use Rattle.plan.specs.Laws.Walking.{bad-moved, bad_at, moved-place, position-stays, position_at-start, step_from_legal}
-use Rattle.scen.specs.Walk.{IsOn, IsWalk}
+use Rattle.checker.specs.Laws.Walking.{bad-moved, bad_at, moved-place, position-stays, position_at-start, step_from_legal}
+use Rattle.walks.specs.Walk.{IsOn, IsWalk}
 use Rattle.bounding.specs.Bounding.{last_cell}
 
 next : (n : ℕ) → suc n ≡ n + 1

@@ -3,9 +3,9 @@ ghost use Rattle.std.specs.Prelude.{◌≡◌, ◌++◌, ◌∷◌, [], IfOk};
 ghost use Rattle.bounding.specs.Bounding.{AreBounds, BoundsAll};
 ghost use Rattle.bounding.specs.Code.Searching.{IsBoundAt};
 
+use checker::CheckedPlan;
 use grid::Map;
 use least_steps::{StepFault, StepSearch};
-use plan::CheckedPlan;
 use std::alloc::{AllocError, Global};
 
 /// What each agent of the plan needs at least by itself, agent 0 first; the plan is to be one that

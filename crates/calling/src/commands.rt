@@ -1,6 +1,6 @@
 //! Calling `mapf_cmd`: a command over readers and writers of the caller's own.
 ghost use Rattle.std.specs.Prelude.{None, false};
-ghost use Rattle.text_commands.specs.Ending.{EndsAndTells};
+ghost use Rattle.ending.specs.Ending.{EndsAndTells};
 ghost use Rattle.check_commands.specs.CheckCommand.{AnswersCheck};
 
 use mapf_cmd::{CheckTerms, check_cmd};

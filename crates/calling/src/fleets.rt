@@ -1,11 +1,11 @@
 //! Calling `fleet_commands`: how far a plan may be cut, by the tapes of a fleet.
-ghost use Rattle.text_commands.specs.Ending.{end_of};
+ghost use Rattle.ending.specs.Ending.{end_of};
 ghost use Rattle.fleet_commands.specs.HandoverCommand.{AnswersHandover};
 
+use ending::Ending;
 use fleet_commands::handover_command;
 use std::io::{Read, Write};
 use std::rt::Files;
-use text_commands::Ending;
 use text_io::Counted;
 
 /// Writes the plan as far as its agents have begun it, by the tapes `0.tape`, `1.tape` and so on.

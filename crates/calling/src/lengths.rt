@@ -1,6 +1,6 @@
 //! Calling `scen`, which passes `rows` on: any search proposes a length, and `certify` proves it.
 ghost use Rattle.std.specs.Prelude.{IfSome};
-ghost use Rattle.scen.specs.Certificate.{IsLeast};
+ghost use Rattle.walks.specs.Certificate.{IsLeast};
 
 use grid::{Cell, Map};
 use scen::{Length, certify, search};

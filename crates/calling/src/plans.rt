@@ -1,6 +1,6 @@
 //! Calling `plan`, which passes `plan_text` on: a plan is checked, or comes back with its fault.
 ghost use Rattle.std.specs.Prelude.{IfOk, IfErr};
-ghost use Rattle.plan.specs.Checking.{IsCheckOf, IsRefusedFor};
+ghost use Rattle.checker.specs.Checking.{IsCheckOf, IsRefusedFor};
 
 use grid::Map;
 use plan::{CheckedPlan, Plan, PlanFault, check};

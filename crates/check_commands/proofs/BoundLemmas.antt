@@ -7,12 +7,12 @@ use Rattle.std.proofs.lemmas.Option.{get_or_from_slice_get, same_Some, slice_get
 use Rattle.model.specs.Costs.{cost}
 use Rattle.model.specs.Timetable.{Track}
 use Rattle.bounding.specs.Bounding.{greatest_bound}
-use Rattle.text_commands.specs.declared.pieces.Piece.{Piece}
-use Rattle.text_commands.specs.Pieces.{pieces_of, pieces_text}
+use Rattle.ending.specs.declared.pieces.Piece.{Piece}
+use Rattle.ending.specs.Pieces.{pieces_of, pieces_text}
 use Rattle.check_commands.specs.BoundCommand.{agent_bound_json, costs_and_bounds, sums_json}
 use Rattle.check_commands.specs.Code.Bounds.{object_text, objects_left}
 use Rattle.check_commands.specs.VerdictText.{bounded_line}
-use Rattle.text_commands.specs.Laws.Pieces.{SaysPiece}
+use Rattle.ending.specs.Laws.Pieces.{SaysPiece}
 
 pub greatest_more : (bounds : List ℕ) (bound : ℕ) → greatest_bound (bounds ++ bound ∷ []) ≡ max bound (greatest_bound bounds)
 greatest_more [] bound = refl

@@ -9,10 +9,10 @@ use Rattle.model.specs.FaultWords.{plan_fault_words}
 use Rattle.model.specs.Plan.{Plan}
 use Rattle.model.specs.declared.plan_fault.PlanFault.{PlanFault}
 use Rattle.model.specs.declared.plan_fault.PlanFault.TheVariants.{BadStart, BadMove, Vertex, Swap, OutOfMemory}
-use Rattle.text_commands.specs.Ending.{End, rejected}
-use Rattle.text_commands.specs.Finishing.{FinishesWriting}
-use Rattle.text_commands.specs.Rewriting.{EndsByLine, EndsWriting}
-use Rattle.text_commands.specs.Laws.Ending.{ends_writing}
+use Rattle.ending.specs.Ending.{End, rejected}
+use Rattle.ending.specs.Finishing.{FinishesWriting}
+use Rattle.ending.specs.Rewriting.{EndsByLine, EndsWriting}
+use Rattle.ending.specs.Laws.Ending.{ends_writing}
 use Rattle.check_commands.specs.CheckCommand.{EndsByRefusal}
 use Rattle.check_commands.specs.VerdictText.{rejected_line}
 

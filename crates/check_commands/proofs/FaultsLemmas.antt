@@ -4,13 +4,13 @@ use Rattle.std.specs.Prelude.{codes, if◌then◌else◌}
 use Rattle.std.proofs.lemmas.List.{length-map}
 use Rattle.depgraph.specs.Rotations.{Turn}
 use Rattle.model.specs.declared.plan_fault.PlanFault.{PlanFault}
-use Rattle.text_commands.specs.declared.pieces.Piece.{Piece}
-use Rattle.text_commands.specs.Pieces.{pieces_of, pieces_text}
+use Rattle.ending.specs.declared.pieces.Piece.{Piece}
+use Rattle.ending.specs.Pieces.{pieces_of, pieces_text}
 use Rattle.text_io.specs.Text.{spaced_numbers}
 use Rattle.check_commands.specs.Code.Listing.{end_text, head_text, items_text, other_text, told_text}
 use Rattle.check_commands.specs.FaultsText.{Told, comma, faults_text, of_plan}
 use Rattle.check_commands.specs.VerdictText.{rejected_line, turn_text}
-use Rattle.text_commands.specs.Laws.Pieces.{SaysPiece}
+use Rattle.ending.specs.Laws.Pieces.{SaysPiece}
 
 pub text-parts : (json : Bool) (told : List Told) (agents : ℕ) (more : Bool)
     → head_text json ++ (items_text json told ++ (end_text json (length told) agents more ++ [])) ≡ faults_text json told agents more

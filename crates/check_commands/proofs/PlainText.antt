@@ -15,13 +15,13 @@ use Rattle.serde_json.specs.Data.{Data}
 use Rattle.serde_json.specs.Written.{compact_text, has_float}
 use Rattle.model.specs.declared.plan_fault.PlanFault.{PlanFault}
 use Rattle.model.specs.declared.plan_fault.PlanFault.TheVariants.{BadStart, BadMove, Vertex, Swap, OutOfMemory}
-use Rattle.plan.specs.declared.fit_fault.FitFault.{FitFault}
-use Rattle.plan.specs.declared.fit_fault.FitFault.TheVariants.{TooFewRows, AgentCount, StartDiffers, GoalDiffers, SizeDiffers}
+use Rattle.fitting.specs.declared.fit_fault.FitFault.{FitFault}
+use Rattle.fitting.specs.declared.fit_fault.FitFault.TheVariants.{TooFewRows, AgentCount, StartDiffers, GoalDiffers, SizeDiffers}
 use Rattle.planned.specs.declared.planned_fault.PlannedFault.TheVariants as planned_fault
 use Rattle.check_commands.specs.declared.check_fault.CheckFault.{CheckFault}
 use Rattle.check_commands.specs.declared.check_fault.CheckFault.TheVariants.{Planned, Scen, Unfit}
 use Rattle.model.specs.FaultWords.{plan_fault_words}
-use Rattle.plan.specs.FaultWords.{fit_fault_words}
+use Rattle.fitting.specs.FaultWords.{fit_fault_words}
 use Rattle.text_io.specs.FaultWords.{words_text}
 use Rattle.check_commands.specs.FaultWords.{check_fault_words}
 use Rattle.check_commands.specs.Code.Verdicts.{is_rejection, rejected_data}

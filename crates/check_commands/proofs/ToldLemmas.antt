@@ -6,11 +6,11 @@ use Rattle.grid.specs.declared.cell.Cell.{Cell}
 use Rattle.depgraph.specs.Rotations.{Turn}
 use Rattle.model.specs.declared.plan_fault.PlanFault.{PlanFault}
 use Rattle.model.specs.declared.plan_fault.PlanFault.TheVariants.{BadStart, BadMove, Vertex, Swap}
-use Rattle.plan.specs.declared.fit_fault.FitFault.{FitFault}
-use Rattle.plan.specs.declared.fit_fault.FitFault.TheVariants.{StartDiffers, GoalDiffers, SizeDiffers}
-use Rattle.text_commands.specs.declared.pieces.Piece.{Piece}
-use Rattle.text_commands.specs.Laws.Pieces.{SaysPiece}
-use Rattle.text_commands.specs.Pieces.{pieces_of, pieces_text}
+use Rattle.fitting.specs.declared.fit_fault.FitFault.{FitFault}
+use Rattle.fitting.specs.declared.fit_fault.FitFault.TheVariants.{StartDiffers, GoalDiffers, SizeDiffers}
+use Rattle.ending.specs.declared.pieces.Piece.{Piece}
+use Rattle.ending.specs.Laws.Pieces.{SaysPiece}
+use Rattle.ending.specs.Pieces.{pieces_of, pieces_text}
 use Rattle.check_commands.specs.FaultsText.{fit_fault_json, listed_numbers, of_turn, plan_fault_json, told_json}
 
 -- ---- the faults as JSON

@@ -9,17 +9,17 @@ use Rattle.model.specs.Plan.{Plan}
 use Rattle.model.specs.Timetable.{Track}
 use Rattle.model.specs.declared.plan_fault.PlanFault.{PlanFault}
 use Rattle.plan_text.specs.PlanTextFault.{ReadsMapAndPlan}
-use Rattle.plan.specs.Checking.{Checked, IsRefusedFor}
+use Rattle.checker.specs.Checking.{Checked, IsRefusedFor}
 use Rattle.bounding.specs.Bounding.{AreBounds, BoundsAll, greatest_bound}
 use Rattle.least_steps.specs.FaultWords.{step_fault_words}
 use Rattle.least_steps.specs.declared.step_fault.StepFault.{StepFault}
 use Rattle.planned.specs.FaultWords.{planned_fault_words}
 use Rattle.planned.specs.declared.planned_fault.PlannedFault.{PlannedFault}
 use Rattle.planned.specs.declared.planned_fault.PlannedFault.TheVariants as planned_fault
-use Rattle.text_commands.specs.declared.status.Status.TheVariants.{Done}
-use Rattle.text_commands.specs.Ending.{End, answered_with, gave_up}
-use Rattle.text_commands.specs.Pieces.{pieces_text}
-use Rattle.text_commands.specs.Rewriting.{EndsWriting}
+use Rattle.ending.specs.declared.status.Status.TheVariants.{Done}
+use Rattle.ending.specs.Ending.{End, answered_with, gave_up}
+use Rattle.ending.specs.Pieces.{pieces_text}
+use Rattle.ending.specs.Rewriting.{EndsWriting}
 use Rattle.check_commands.specs.CheckCommand.{ReadsNot, ReadsValid}
 use Rattle.check_commands.specs.FaultsText.{comma}
 

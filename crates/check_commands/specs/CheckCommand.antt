@@ -11,11 +11,11 @@ use Rattle.model.specs.Plan.{Plan}
 use Rattle.model.specs.declared.plan_fault.PlanFault.{PlanFault}
 use Rattle.model.specs.declared.plan_fault.PlanFault.TheVariants.{OutOfMemory}
 use Rattle.plan_text.specs.PlanTextFault.{ReadsPlan, ReadsMapAndPlan}
-use Rattle.plan.specs.Checking.{Checked, IsCheckOf, IsRefusedFor}
-use Rattle.plan.specs.FaultWords.{fit_fault_words}
-use Rattle.plan.specs.Fitting.{AnswersFit}
-use Rattle.plan.specs.declared.fit_fault.FitFault.{FitFault}
-use Rattle.plan.specs.declared.fit_fault.FitFault.TheVariants.{TooFewRows, AgentCount, StartDiffers, GoalDiffers, SizeDiffers}
+use Rattle.checker.specs.Checking.{Checked, IsCheckOf, IsRefusedFor}
+use Rattle.fitting.specs.FaultWords.{fit_fault_words}
+use Rattle.fitting.specs.Fitting.{AnswersFit}
+use Rattle.fitting.specs.declared.fit_fault.FitFault.{FitFault}
+use Rattle.fitting.specs.declared.fit_fault.FitFault.TheVariants.{TooFewRows, AgentCount, StartDiffers, GoalDiffers, SizeDiffers}
 use Rattle.all_faults.specs.AllFaults.{AreFirstFaults}
 use Rattle.bounding.specs.Bounding.{AreBounds, BoundsAll, greatest_bound}
 use Rattle.depgraph.specs.Rotations.{AreRotations, Turn}
@@ -23,11 +23,11 @@ use Rattle.least_steps.specs.FaultWords.{step_fault_words}
 use Rattle.least_steps.specs.declared.step_fault.StepFault.{StepFault}
 use Rattle.planned.specs.declared.planned_fault.PlannedFault.{PlannedFault}
 use Rattle.planned.specs.declared.planned_fault.PlannedFault.TheVariants as planned_fault
-use Rattle.rows.specs.Query.{Query}
-use Rattle.rows.specs.ScenFault.{ReadsScen}
-use Rattle.text_commands.specs.declared.status.Status.TheVariants.{Done}
-use Rattle.text_commands.specs.Ending.{End, answered_with, gave_up, rejected}
-use Rattle.text_commands.specs.Rewriting.{EndsByLine, EndsWriting}
+use Rattle.scenario.specs.Query.{Query}
+use Rattle.scenario.specs.ScenFault.{ReadsScen}
+use Rattle.ending.specs.declared.status.Status.TheVariants.{Done}
+use Rattle.ending.specs.Ending.{End, answered_with, gave_up, rejected}
+use Rattle.ending.specs.Rewriting.{EndsByLine, EndsWriting}
 use Rattle.check_commands.specs.FaultWords.{check_fault_words, turn_words}
 use Rattle.check_commands.specs.FaultsText.{Told, of_fit, of_plan, of_turn, faults_text}
 use Rattle.check_commands.specs.VerdictText.{accepted_line, bounded_line, rejected_line, turn_text}

@@ -2,9 +2,9 @@
 use Rattle.std.specs.Prelude.{◌∷◌, [], codes}
 use Rattle.text_io.specs.FaultWords.{Words, text_fault}
 use Rattle.depgraph.specs.Rotations.{Turn}
-use Rattle.plan.specs.FaultWords.{fit_fault_words}
+use Rattle.fitting.specs.FaultWords.{fit_fault_words}
 use Rattle.planned.specs.FaultWords.{planned_fault_words}
-use Rattle.rows.specs.FaultWords.{scen_fault_words}
+use Rattle.scenario.specs.FaultWords.{scen_fault_words}
 use Rattle.check_commands.specs.declared.check_fault.CheckFault.{CheckFault}
 use Rattle.check_commands.specs.declared.check_fault.CheckFault.TheVariants as check_fault
 

@@ -6,11 +6,11 @@ use Rattle.depgraph.specs.Rotations.{Turn}
 use Rattle.model.specs.FaultWords.{plan_fault_words}
 use Rattle.model.specs.declared.plan_fault.PlanFault.{PlanFault}
 use Rattle.model.specs.declared.plan_fault.PlanFault.TheVariants.{BadStart, BadMove, Vertex, Swap, OutOfMemory}
-use Rattle.plan.specs.FaultWords.{fit_fault_words}
-use Rattle.plan.specs.declared.fit_fault.FitFault.{FitFault}
-use Rattle.plan.specs.declared.fit_fault.FitFault.TheVariants.{TooFewRows, AgentCount, StartDiffers, GoalDiffers, SizeDiffers}
-use Rattle.text_commands.specs.Pieces.{pieces_text}
-use Rattle.text_commands.specs.Telling.{headed_line}
+use Rattle.fitting.specs.FaultWords.{fit_fault_words}
+use Rattle.fitting.specs.declared.fit_fault.FitFault.{FitFault}
+use Rattle.fitting.specs.declared.fit_fault.FitFault.TheVariants.{TooFewRows, AgentCount, StartDiffers, GoalDiffers, SizeDiffers}
+use Rattle.ending.specs.Pieces.{pieces_text}
+use Rattle.ending.specs.Telling.{headed_line}
 
 abbrev pub comma : ℕ
 comma = 44

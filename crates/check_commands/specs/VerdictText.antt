@@ -4,7 +4,7 @@ use Rattle.std.specs.Char.{is_ascii_alphanumeric}
 use Rattle.std.specs.List.{list_all}
 use Rattle.text_io.specs.Text.{space, line_feed, spaced_numbers}
 use Rattle.depgraph.specs.Rotations.{Turn}
-use Rattle.text_commands.specs.Pieces.{pieces_text}
+use Rattle.ending.specs.Pieces.{pieces_text}
 use Rattle.check_commands.specs.declared.verdict.Verdict.{Verdict}
 use Rattle.check_commands.specs.declared.verdict.Verdict.TheVariants.{Accepted, Rejected}
 

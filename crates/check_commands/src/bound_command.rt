@@ -1,15 +1,15 @@
 //! `mapf bound`: says what a plan costs, and what such plans cost at least.
-ghost use Rattle.text_commands.specs.Ending.{EndsAndTells, end_of};
+ghost use Rattle.ending.specs.Ending.{EndsAndTells, end_of};
 ghost use Rattle.check_commands.specs.BoundCommand.{AnswersBound, EndsBounded};
 
 use crate::bound_text::{BoundForm, write_bounds};
 use crate::on_map::{OnMap, read_on_map};
 use bounding::bounds_of;
+use checker::CheckedPlan;
+use ending::{Ending, Status, conclude, finish};
 use grid::Map;
-use plan::CheckedPlan;
 use std::alloc::Global;
 use std::io::{Read, Write};
-use text_commands::{Ending, Status, conclude, finish};
 use text_io::Counted;
 
 /// As `perform`, with a fault's line on `err`. The answer is the exit status, which stays where

@@ -10,9 +10,9 @@ ghost use Rattle.check_commands.specs.Code.Bounds.{comma_if, object_text};
 ghost use Rattle.check_commands.specs.VerdictText.{bounded_line};
 
 use crate::totals::{greatest_of, sum_of};
-use plan::CheckedPlan;
+use checker::CheckedPlan;
+use ending::{Piece, put_ended};
 use std::io::Write;
-use text_commands::{Piece, put_ended};
 use text_io::{Counted, Sink, WriteFault};
 
 /// Writes that a plan is accepted, and what such plans cost at least. The writer is not flushed.

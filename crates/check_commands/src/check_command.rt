@@ -1,19 +1,20 @@
 //! `mapf check`: checks a plan on a map, and whether it has what is asked for.
 ghost use Rattle.std.specs.Prelude.{◌≡◌, Err, MatchResult};
-ghost use Rattle.text_commands.specs.Ending.{EndsAndTells, end_of};
-ghost use Rattle.plan.specs.declared.fit_fault.FitFault.TheVariants.{AgentCount};
+ghost use Rattle.ending.specs.Ending.{EndsAndTells, end_of};
+ghost use Rattle.fitting.specs.declared.fit_fault.FitFault.TheVariants.{AgentCount};
 ghost use Rattle.check_commands.specs.CheckCommand.{AnswersCheck, AnswersCheckFit, HasCount, ReadsAndFits};
-ghost use Rattle.rows.specs.ScenFault.{ReadsScen};
+ghost use Rattle.scenario.specs.ScenFault.{ReadsScen};
 
 use crate::check_fault::CheckFault;
 use crate::check_terms::CheckTerms;
 use crate::on_map::{OnMap, read_on_map};
 use crate::verdicts::{accept, differ, refuse};
-use plan::{CheckedPlan, FitFault, fits};
-use scen::{ScenFault, read_scen};
+use checker::CheckedPlan;
+use ending::{Ending, conclude};
+use fitting::{FitFault, fits};
+use scenario::{ScenFault, read_scen};
 use std::alloc::Global;
 use std::io::{Read, Write};
-use text_commands::{Ending, conclude};
 use text_io::Counted;
 
 /// As `perform`, with a fault's line on `err`. The answer is the exit status, which stays where

@@ -6,9 +6,9 @@ ghost use Rattle.check_commands.specs.Code.Verdicts.{is_rejection};
 ghost use Rattle.check_commands.specs.VerdictText.{IsPlainText};
 ghost use Rattle.check_commands.specs.declared.check_fault.CheckFault.TheVariants as check_fault;
 
-use plan::FitFault;
+use fitting::FitFault;
 use planned::PlannedFault;
-use scen::ScenFault;
+use scenario::ScenFault;
 use std::alloc::{AllocError, Global};
 use std::fmt;
 use text_io::FaultWords;

@@ -11,9 +11,9 @@ ghost use Rattle.check_commands.specs.FaultsText.{comma, faults_text, of_plan};
 use crate::told::{Against, put_told, put_turn};
 use all_faults::Faults;
 use depgraph::Rotation;
-use plan::PlanFault;
+use ending::{Piece, put_ended};
+use model::PlanFault;
 use std::io::Write;
-use text_commands::{Piece, put_ended};
 use text_io::{Counted, Sink, WriteFault};
 
 /// How many faults were listed, how many different agents are named in them, and whether there are more.

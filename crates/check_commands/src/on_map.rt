@@ -3,8 +3,9 @@ ghost use Rattle.std.specs.Prelude.{MatchResult, ◌≡◌};
 ghost use Rattle.check_commands.specs.CheckCommand.{ReadsNot};
 ghost use Rattle.check_commands.specs.Code.OnMap.{ReadsOn};
 
+use checker::{CheckedPlan, Rejected, check};
 use grid::{Map, read_map};
-use plan::{CheckedPlan, Rejected, check, read_plan};
+use plan_text::read_plan;
 use planned::PlannedFault;
 use std::alloc::Global;
 use std::io::Read;

@@ -7,9 +7,10 @@ ghost use Rattle.check_commands.specs.Code.Listing.{told_against, told_text};
 ghost use Rattle.check_commands.specs.FaultsText.{fit_fault_json, listed_numbers, of_turn, plan_fault_json, told_json, line_of_told};
 
 use depgraph::Rotation;
-use plan::{FitFault, PlanFault};
+use ending::{Piece, put_ended, put_fault_line, put_pieces};
+use fitting::FitFault;
+use model::PlanFault;
 use std::io::Write;
-use text_commands::{Piece, put_ended, put_fault_line, put_pieces};
 use text_io::{Sink, WriteFault};
 
 /// What a plan has against it.

@@ -5,7 +5,7 @@ ghost use Rattle.serde_json.specs.View.{view};
 ghost use Rattle.check_commands.specs.Code.Verdicts.{accepted_data, rejected_data, verdict_line};
 ghost use Rattle.check_commands.specs.VerdictText.{IsPlain, IsPlainText, accepted_json, rejected_json, verdict_json_text};
 
-use plan::CheckedPlan;
+use checker::CheckedPlan;
 use serde_json::{Value, json};
 use std::alloc::{AllocError, Global};
 

@@ -1,7 +1,7 @@
 //! What is written of a plan that was checked.
 ghost use Rattle.std.specs.Prelude.{◌≡◌, length, true};
-ghost use Rattle.text_commands.specs.Ending.{end_of, rejected};
-ghost use Rattle.text_commands.specs.Rewriting.{EndsByLine};
+ghost use Rattle.ending.specs.Ending.{end_of, rejected};
+ghost use Rattle.ending.specs.Rewriting.{EndsByLine};
 ghost use Rattle.text_io.specs.FaultWords.{words_text};
 ghost use Rattle.depgraph.specs.Rotations.{turn_of};
 ghost use Rattle.check_commands.specs.CheckCommand.{EndsAccepted, EndsByFaults, EndsByRefusal, EndsRejected, EndsValid, named_by};
@@ -10,7 +10,7 @@ ghost use Rattle.check_commands.specs.FaultWords.{check_fault_words, turn_words}
 ghost use Rattle.check_commands.specs.FaultsText.{of_fit, of_turn};
 ghost use Rattle.check_commands.specs.VerdictText.{IsPlain, rejected_line, turn_text};
 ghost use Rattle.model.specs.FaultWords.{plan_fault_words};
-ghost use Rattle.plan.specs.FaultWords.{fit_fault_words};
+ghost use Rattle.fitting.specs.FaultWords.{fit_fault_words};
 
 use crate::bound_text::write_bounded;
 use crate::check_fault::CheckFault;
@@ -20,14 +20,16 @@ use crate::told::Against;
 use crate::verdict::{Verdict, verdict_line};
 use all_faults::first_faults;
 use bounding::bounds_of;
+use checker::{CheckedPlan, Rejected};
 use depgraph::{Dependencies, Rotation};
+use ending::{Ending, Status, finish, write_text};
+use fitting::FitFault;
 use grid::Map;
-use plan::{CheckedPlan, FitFault, PlanFault, Rejected};
+use model::PlanFault;
 use planned::PlannedFault;
 use std::alloc::Global;
 use std::io::Write;
-use text_commands::{Ending, Status, finish, write_text};
-use text_io::{Counted, Failure, FaultWords};
+use text_io::{Counted, Failure, FaultName, FaultWords};
 
 /// Answers for a plan that is refused.
 pub(crate) fn refuse<W: Write>(
@@ -138,7 +140,7 @@ pub(crate) fn accept<W: Write>(
 fn turn_back<W: Write>(rotation: &Rotation, terms: &CheckTerms, out: &mut Counted<W>) -> Ending
     ensures { EndsRejected W.contents terms.now (turn_words (turn_of rotation.now)) (turn_text (turn_of rotation.now)) (of_turn (turn_of rotation.now)) (length (turn_of rotation.now).agents) out.old out.new (end_of result) }
 {
-    let words = FaultWords::new("Rotation", &[u64::from(rotation.step)]);
+    let words = FaultWords::new(FaultName::Rotation, &[u64::from(rotation.step)]);
     let agents: &[u16] = &rotation.agents;
     let written = match terms.all {
         None => write_turn(rotation, terms.json, out),

@@ -4,7 +4,7 @@ ghost use Rattle.text_io.specs.FaultWords.{words_of, words_text};
 ghost use Rattle.continuing.specs.FaultWords.{continue_fault_words};
 
 use std::fmt;
-use text_io::FaultWords;
+use text_io::{FaultName, FaultWords, Origin};
 use thiserror::Error;
 
 /// The first thing that differs: numbers first, and then the places of agents, by time.
@@ -23,13 +23,14 @@ impl ContinueFault {
     pub fn words(self) -> FaultWords
         ensures { words_of result ≡ continue_fault_words self }
     {
-        match self {
-            ContinueFault::OtherNumber => FaultWords::new("OtherNumber", &[]),
-            ContinueFault::OtherCount => FaultWords::new("OtherCount", &[]),
+        let words = match self {
+            ContinueFault::OtherNumber => FaultWords::new(FaultName::OtherNumber, &[]),
+            ContinueFault::OtherCount => FaultWords::new(FaultName::OtherCount, &[]),
             ContinueFault::Departs(agent, time) => {
-                FaultWords::new("Departs", &[u64::from(agent), u64::from(time)])
+                FaultWords::new(FaultName::Departs, &[u64::from(agent), u64::from(time)])
             }
-        }
+        };
+        words.of(Origin::Plan)
     }
 }
 

@@ -5,7 +5,7 @@ use Rattle.std.proofs.lemmas.Bool.{cases_Bool, cond-true, cond-false, eqb-true}
 use Rattle.grid.specs.declared.cell.Cell.{Cell}
 use Rattle.model.specs.Timetable.{Track, same_cell, collapsed, path, moves_after, step_after}
 use Rattle.model.specs.Laws.Tracks.{same_cell-same}
-use Rattle.plan.specs.Checking.{cells_of}
+use Rattle.checker.specs.Checking.{cells_of}
 use Rattle.depgraph.specs.Code.Arrivals.{is_new, entered, entry_times}
 
 -- ---- by whether a cell is entered anew

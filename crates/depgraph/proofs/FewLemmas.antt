@@ -8,7 +8,7 @@ use Rattle.std.proofs.lemmas.Option.{same_Some, none-some, slice_get-get_or}
 use Rattle.grid.specs.declared.cell.Cell.{Cell}
 use Rattle.model.specs.Timetable.{Track}
 use Rattle.plan_text.specs.Limits.{most_agents, most_acts, most_acts_in_all}
-use Rattle.plan.specs.Checking.{cells_of, steps_in}
+use Rattle.checker.specs.Checking.{cells_of, steps_in}
 use Rattle.depgraph.specs.Code.Arrivals.{is_new, entered, entry_times}
 use Rattle.depgraph.specs.Code.Entries.{AreFew}
 use Rattle.depgraph.specs.Code.Paths.{all_entered, all_times, ArePaths}

@@ -4,7 +4,7 @@ use Rattle.grid.specs.declared.cell.Cell.{Cell}
 use Rattle.model.specs.declared.visit.Visit.{Visit}
 use Rattle.model.specs.Timetable.{Track, Timetable}
 use Rattle.plan_text.specs.Limits.{most_acts}
-use Rattle.plan.specs.Checking.{Checked, IsChecked}
+use Rattle.checker.specs.Checking.{Checked, IsChecked}
 use Rattle.depgraph.specs.declared.placing.Arrival.{Arrival}
 use Rattle.depgraph.specs.declared.waiting.Wait.{Wait}
 use Rattle.depgraph.specs.Graphs.{IsGraphed}

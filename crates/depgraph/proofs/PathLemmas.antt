@@ -9,7 +9,7 @@ use Rattle.grid.specs.declared.cell.Cell.{Cell}
 use Rattle.model.specs.Timetable.{Track, Timetable, Stands, cell_after, path}
 use Rattle.model.specs.Laws.Needs.{stands-from}
 use Rattle.model.specs.Laws.Tracks.{cell_at-start}
-use Rattle.plan.specs.Checking.{cells_of}
+use Rattle.checker.specs.Checking.{cells_of}
 use Rattle.depgraph.specs.Code.Arrivals.{is_new, entered, entry_times}
 use Rattle.depgraph.specs.Code.Paths.{all_entered, all_times, ArePaths, begin_of}
 use Rattle.depgraph.proofs.ArrivalLemmas.{entered_path}

@@ -9,7 +9,7 @@ use Rattle.grid.specs.declared.cell.Cell.{Cell}
 use Rattle.model.specs.Costs.{cost, cost_after, EndsAtRest}
 use Rattle.model.specs.Timetable.{Track, same_cell}
 use Rattle.model.specs.Laws.Tracks.{same_cell-same}
-use Rattle.plan.specs.Checking.{cells_of}
+use Rattle.checker.specs.Checking.{cells_of}
 use Rattle.depgraph.specs.Code.Arrivals.{entered, entry_times}
 use Rattle.depgraph.specs.Code.Paths.{ArePaths, begin_of}
 use Rattle.depgraph.specs.Code.Tracks.{later_by, track_by, tracks_from, tracks_by}

@@ -8,7 +8,7 @@ use Rattle.grid.specs.declared.cell.Cell.{Cell}
 use Rattle.model.specs.Timetable.{Track, same_cell, cell_at, moves_before, path, step_of}
 use Rattle.model.specs.Dependency.{IsVisit}
 use Rattle.model.specs.Laws.Tracks.{same_cell-same, same_cell-true, moves-stay, moves-leave, moves-most, moves_at-start, cell-visit, length-path, visit_time, step-of_move}
-use Rattle.plan.specs.Checking.{cells_of}
+use Rattle.checker.specs.Checking.{cells_of}
 use Rattle.depgraph.specs.Code.Arrivals.{entered, entry_times}
 use Rattle.depgraph.specs.Code.Entries.{begin_in, IsEntry, arrival_time}
 use Rattle.depgraph.specs.Code.Paths.{all_entered, ArePaths, begin_of}

@@ -4,7 +4,7 @@ use Rattle.std.specs.List.{AllByRecursion}
 use Rattle.model.specs.Costs.{AllEndAtRest}
 use Rattle.model.specs.Timetable.{Timetable, IsConflictFree, IsSwapFree}
 use Rattle.plan_text.specs.Limits.{most_agents, most_acts, most_acts_in_all}
-use Rattle.plan.specs.Checking.{steps_in}
+use Rattle.checker.specs.Checking.{steps_in}
 
 -- Nobody is ever in a cell with another, no two exchange cells, each track ends where its agent comes to rest, and the limits of a plan.
 pub record IsGraphed (tt : Timetable) : Type 0 where

@@ -9,8 +9,8 @@ use crate::following::waits_by_time;
 use crate::paths::{Paths, paths_of};
 use crate::placing::{Placed, place_visits};
 use crate::waiting::Wait;
+use checker::CheckedPlan;
 use model::Visit;
-use plan::CheckedPlan;
 use std::alloc::{AllocError, Global};
 
 /// The plan's number, its paths, what the move into each of their cells waits for, and all visits: those of each cell stand together and

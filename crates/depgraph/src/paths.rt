@@ -7,8 +7,8 @@ ghost use Rattle.depgraph.specs.Code.Paths.{ArePaths};
 ghost use Rattle.depgraph.specs.Code.Tiles.{IsCovered, IsSameMap};
 
 use crate::numbering::Numbering;
+use checker::{Cells, CheckedPlan};
 use grid::Cell;
-use plan::{Cells, CheckedPlan};
 use std::alloc::{AllocError, Global};
 
 /// The paths of all agents, one after another: the numbers of their cells, the time at which each is entered, and where each agent's

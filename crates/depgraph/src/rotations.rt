@@ -7,8 +7,8 @@ ghost use Rattle.depgraph.specs.Code.Turning.{AreLaid, AreAllRotations, agents_o
 
 use crate::cycles::{Links, walk};
 use crate::waiting::Wait;
+use checker::CheckedPlan;
 use model::Rotation;
-use plan::CheckedPlan;
 use std::alloc::{AllocError, Global};
 
 /// All rotations of a plan's timetable, by step and then by least agent. `waits` has for each entry what the move into its cell

@@ -6,7 +6,7 @@ ghost use Rattle.event_text.specs.declared.event_fault.EventFault.TheVariants.{O
 
 use std::alloc::AllocError;
 use std::fmt;
-use text_io::{Failure, FaultWords};
+use text_io::{Failure, FaultName, FaultWords, Origin};
 use thiserror::Error;
 
 /// The first fault of a text of events, with its line from 1 on, or why the text was not read to that point.
@@ -24,13 +24,14 @@ impl EventFault {
     pub fn words(self) -> FaultWords
         ensures { words_of result ≡ event_fault_words self }
     {
-        match self {
-            EventFault::NoHeader => FaultWords::new("NoHeader", &[]),
-            EventFault::BadEvent(line) => FaultWords::new("BadEvent", &[line]),
-            EventFault::Unfinished(line) => FaultWords::new("Unfinished", &[line]),
+        let words = match self {
+            EventFault::NoHeader => FaultWords::new(FaultName::NoHeader, &[]),
+            EventFault::BadEvent(line) => FaultWords::new(FaultName::BadEvent, &[line]),
+            EventFault::Unfinished(line) => FaultWords::new(FaultName::Unfinished, &[line]),
             EventFault::ReadFailed => Failure::ReadFailed.words(),
             EventFault::OutOfMemory => Failure::OutOfMemory.words(),
-        }
+        };
+        words.of(Origin::Events)
     }
 }
 

@@ -6,7 +6,7 @@ ghost use Rattle.executor.specs.FaultWords.{complete_fault_words};
 
 use std::alloc::AllocError;
 use std::fmt;
-use text_io::{Failure, FaultWords};
+use text_io::{Failure, FaultName, FaultWords};
 use thiserror::Error;
 
 /// Why a run is not completed.
@@ -23,7 +23,10 @@ impl CompleteFault {
         ensures { words_of result ≡ complete_fault_words self }
     {
         match self {
-            CompleteFault::Rotation(number) => FaultWords::new("Rotation", &[u64::from(number)]),
+            CompleteFault::Rotation(number) => FaultWords::new(
+                FaultName::Rotation,
+                &[u64::from(number)],
+            ),
             CompleteFault::OutOfMemory => Failure::OutOfMemory.words(),
         }
     }

@@ -1,14 +1,15 @@
 //! What a text begins like.
-use crate::files::{FileKind, NamedFile, shown_path};
+use crate::files::{NamedFile, format_name, shown_path};
 use crate::lines::{Line, LineEnd};
 use crate::page::Page;
 use crate::spans::content;
 use std::rt::Files;
+use text_io::Origin;
 
 /// What a text begins like that may be none of its format.
 #[derive(Clone, Copy)]
 enum Beginning {
-    Of(FileKind),
+    Of(Origin),
     Marked,
     Returns,
     Wide,
@@ -33,7 +34,7 @@ pub(crate) fn put_beginning<R: Files>(
     }
     match beginning_of(line) {
         Beginning::Of(kind) => {
-            if kind != file.kind {
+            if !is_format_of(kind, file.origin) {
                 put_other_format(rt, files, file, kind, page);
             }
             false
@@ -87,15 +88,15 @@ fn packer_of(bytes: &[u8]) -> Option<(&'static str, &'static str)> {
 
 /// What the first line of a text begins with, and what the text looks like then.
 static FORMATS: [(&str, Beginning); 12] = [
-    ("mapf-plan", Beginning::Of(FileKind::Plan)),
-    ("mapf-proof", Beginning::Of(FileKind::Proof)),
-    ("mapf-events", Beginning::Of(FileKind::Events)),
-    ("type ", Beginning::Of(FileKind::Map)),
-    ("type\t", Beginning::Of(FileKind::Map)),
-    ("version ", Beginning::Of(FileKind::Scenario)),
-    ("version\t", Beginning::Of(FileKind::Scenario)),
-    ("\x50\x01", Beginning::Of(FileKind::Tape)),
-    ("\x50\x02", Beginning::Of(FileKind::Tape)),
+    ("mapf-plan", Beginning::Of(Origin::Plan)),
+    ("mapf-proof", Beginning::Of(Origin::Proof)),
+    ("mapf-events", Beginning::Of(Origin::Events)),
+    ("type ", Beginning::Of(Origin::Map)),
+    ("type\t", Beginning::Of(Origin::Map)),
+    ("version ", Beginning::Of(Origin::Scenario)),
+    ("version\t", Beginning::Of(Origin::Scenario)),
+    ("\x50\x01", Beginning::Of(Origin::Tape)),
+    ("\x50\x02", Beginning::Of(Origin::Tape)),
     ("{", Beginning::Json),
     ("[", Beginning::Json),
     ("<", Beginning::Markup),
@@ -145,15 +146,15 @@ fn put_other_format<R: Files>(
     rt: &R,
     files: &[NamedFile<'_>],
     file: NamedFile<'_>,
-    kind: FileKind,
+    kind: Origin,
     page: &mut Page,
 ) {
-    page.fill("The file begins like {}", &[kind.name()]);
+    page.fill("The file begins like {}", &[format_name(kind)]);
     if let Some(other) = exchanged_with(rt, files, file) {
         page.fill(", and {} like ", &[shown_path(other)]);
         page.fill(
             "{}: the files may be in the wrong order",
-            &[file.kind.name()],
+            &[format_name(file.origin)],
         );
     }
     page.say(".\n");
@@ -166,15 +167,21 @@ fn exchanged_with<'a, R: Files>(
     file: NamedFile<'_>,
 ) -> Option<NamedFile<'a>> {
     for other in files {
-        if other.path != file.path && begins_like(rt, other.path, file.kind) {
+        if other.path != file.path && begins_like(rt, other.path, file.origin) {
             return Some(*other);
         }
     }
     None
 }
 
-fn begins_like<R: Files>(rt: &R, path: &str, kind: FileKind) -> bool {
+/// Whether a file of this origin is read as one of the format of that origin.
+fn is_format_of(format: Origin, origin: Origin) -> bool {
+    format_name(format) == format_name(origin)
+}
+
+fn begins_like<R: Files>(rt: &R, path: &str, origin: Origin) -> bool {
     let mut line = Line::new();
     line.find(rt, path, 1);
-    line.is_read() && matches!(beginning_of(&line), Beginning::Of(found) if found == kind)
+    line.is_read()
+        && matches!(beginning_of(&line), Beginning::Of(found) if is_format_of(found, origin))
 }

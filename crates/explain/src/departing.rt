@@ -1,6 +1,5 @@
 //! Why a plan doesn't go on from another.
-use crate::faults::Fault;
-use crate::files::{FileKind, NamedFile, shown_path};
+use crate::files::{NamedFile, file_of, shown_path};
 use crate::lines::Line;
 use crate::page::Page;
 use crate::plan_words::FIRST_AGENT;
@@ -10,6 +9,7 @@ use crate::table::put_sentence;
 use crate::told::Told;
 use crate::walks::{Course, Place};
 use std::rt::Files;
+use text_io::{FaultName, Origin};
 
 /// Explains what differs between two plans, of which the second was to go on from the first.
 pub(crate) fn explain_departing<R: Files>(
@@ -18,18 +18,18 @@ pub(crate) fn explain_departing<R: Files>(
     told: &Told<'_>,
     page: &mut Page,
 ) {
-    let plans = match files {
-        [_, old, new] => [*old, *new],
-        [_, new, _, kept] => [*kept, *new],
-        _ => return,
+    let old = file_of(files, Origin::OldPlan).or(file_of(files, Origin::KeptPlan));
+    let (Some(old), Some(new)) = (old, file_of(files, Origin::Plan)) else {
+        return;
     };
+    let plans = [old, new];
     let is_told = match told.fault {
-        Fault::OtherNumber => put_heads(rt, plans, 2, page),
-        Fault::OtherCount => put_heads(rt, plans, 3, page),
+        FaultName::OtherNumber => put_heads(rt, plans, 2, page),
+        FaultName::OtherCount => put_heads(rt, plans, 3, page),
         _ => put_departure(rt, plans, told, page),
     };
     if !is_told {
-        put_sentence(told.name(), FileKind::Plan, page);
+        put_sentence(told, page);
     }
 }
 

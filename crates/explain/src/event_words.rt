@@ -1,20 +1,20 @@
 //! The faults of a list of events.
-use crate::faults::Fault;
 use crate::lines::Line;
 use crate::page::Page;
 use crate::showing::show_line;
 use crate::spans::{Parts, Span, content, is_number_upto};
 use crate::told::Told;
+use text_io::FaultName;
 
 /// Explains a fault of a list of events, at this line.
 pub(crate) fn explain_events(told: &Told<'_>, line: &Line, page: &mut Page) {
     let bytes = line.bytes();
     let (place, words) = match told.fault {
-        Fault::NoHeader => (
+        FaultName::NoHeader => (
             content(bytes),
             "Line 1 must be `mapf-events 1` or `mapf-events 2`, ended by an LF.\n",
         ),
-        Fault::Unfinished => (
+        FaultName::Unfinished => (
             Span::before(bytes.len()),
             "The text ends inside this line: an LF ends every line, the last one too.\n",
         ),

@@ -6,37 +6,45 @@ ghost use Rattle.explain.specs.Explaining.{AddsMore};
 
 use crate::departing::explain_departing;
 use crate::devices::explain_device;
-use crate::faults::Fault;
-use crate::files::{FileKind, NamedFile};
-use crate::leaves::explain_leaf;
+use crate::files::NamedFile;
 use crate::page::{Page, Style};
 use crate::plan_faults::explain_plan;
 use crate::row_words::{no_such_agent, no_such_row, size_differs};
+use crate::table::put_sentence;
 use crate::tapes::explain_tape;
-use crate::texts::{explain_either, explain_text, is_of_map, is_of_plan};
+use crate::texts::explain_text;
 use crate::told::Told;
-use std::alloc::Global;
 use std::io::Write;
 use std::rt::Files;
-use text_io::{Counted, FaultWords, Sink, WriteFault};
+use text_io::{Counted, FaultName, FaultWords, Origin, Sink, WriteFault};
 
-/// Writes for people what faults with these words mean, behind the line that told the first: `files`
-/// are those that the command names, in the order in which it opens them, and behind a tape the plan
-/// that is kept beside it; `-` alone is standard input. They are read once more, and what isn't there
-/// any more is left out.
-pub fn explain<R: Files + AllocGlobal, E: Write>(
+/// What is to be explained.
+#[derive(Clone, Copy, Debug)]
+pub struct Subject<'a> {
+    /// The faults, in the order in which they are explained.
+    pub faults: &'a [FaultWords],
+    /// More on them, which is put last.
+    pub more: &'a str,
+}
+
+/// Writes for people what faults mean, behind the line that told the first. `files` are those that the
+/// command names, in the order in which it opens them, and behind a tape the plan that is kept beside
+/// it; `-` alone is standard input. Each fault says which of them it is of. They are read once more to
+/// be shown, and what isn't there any more is left out.
+pub fn explain<R: Files, E: Write>(
     rt: &R,
     files: &[NamedFile<'_>],
-    faults: &[FaultWords],
+    subject: Subject<'_>,
     style: Style,
     err: &mut Counted<E>,
 )
     ensures { AddsMore (E.contents (counted_inner err.old)) (E.contents (counted_inner err.new)) }
 {
     let mut page = Page::new(style);
-    for words in faults {
-        put_explanation(rt, rt.alloc(), files, &Told::of(words), &mut page);
+    for words in subject.faults {
+        put_explanation(rt, files, &Told::of(words), &mut page);
     }
+    page.say(subject.more);
     let _ = write_page(page.as_bytes(), err);
 }
 
@@ -57,134 +65,54 @@ fn put_page<E: Write>(sink: &mut Sink<'_, E>, text: &[u8]) -> Result<(), WriteFa
 }
 
 /// Puts what is to be said. Standard input is gone once it was read.
-fn put_explanation<R: Files>(
-    rt: &R,
-    alloc: Global,
-    files: &[NamedFile<'_>],
-    told: &Told<'_>,
-    page: &mut Page,
-) {
+fn put_explanation<R: Files>(rt: &R, files: &[NamedFile<'_>], told: &Told<'_>, page: &mut Page) {
     match files {
         [file] if file.path == "-" => {
             let input = NamedFile {
-                kind: file.kind,
+                origin: file.origin,
                 path: "",
             };
-            put_fault(rt, alloc, &[input], told, page);
+            put_fault(rt, &[input], told, page);
         }
-        [file] if file.kind == FileKind::Proof => put_fault_of_proof(rt, files, told, page),
-        _ => put_fault(rt, alloc, files, told, page),
+        _ => put_fault(rt, files, told, page),
     }
 }
 
-/// Explains a fault of a proof by its line, or one of the system.
-fn put_fault_of_proof<R: Files>(rt: &R, files: &[NamedFile<'_>], told: &Told<'_>, page: &mut Page) {
-    if told.count() > 0 {
-        explain_text(rt, files, FileKind::Proof, told, page);
-    } else {
-        explain_device(rt, files, told, page);
-    }
-}
-
-fn put_fault<R: Files>(
-    rt: &R,
-    alloc: Global,
-    files: &[NamedFile<'_>],
-    told: &Told<'_>,
-    page: &mut Page,
-) {
+fn put_fault<R: Files>(rt: &R, files: &[NamedFile<'_>], told: &Told<'_>, page: &mut Page) {
     match told.fault {
-        Fault::NoSuchRow => no_such_row(rt, files, page),
-        Fault::SizeDiffers => size_differs(rt, files, told, page),
-        Fault::NoSuchAgent => no_such_agent(rt, files, page),
-        Fault::BadStart | Fault::BadMove | Fault::Vertex | Fault::Swap => {
+        FaultName::NoSuchRow => no_such_row(rt, files, page),
+        FaultName::SizeDiffers => size_differs(rt, files, told, page),
+        FaultName::NoSuchAgent if told.origin != Origin::Proof => no_such_agent(rt, files, page),
+        FaultName::BadStart | FaultName::BadMove | FaultName::Vertex | FaultName::Swap => {
             explain_plan(rt, files, told, page);
         }
-        Fault::OtherNumber | Fault::OtherCount | Fault::Departs => {
+        FaultName::OtherNumber | FaultName::OtherCount | FaultName::Departs => {
             explain_departing(rt, files, told, page);
         }
-        Fault::LeafTooLow => explain_leaf(rt, alloc, files, told, page),
-        _ => put_fault_of_file(rt, alloc, files, told, page),
+        FaultName::OpenFailed | FaultName::ReadFailed => explain_device(rt, files, told, page),
+        FaultName::WriteFailed
+        | FaultName::OutOfMemory
+        | FaultName::StoreFailed
+        | FaultName::StaleTape
+        | FaultName::NotTight
+        | FaultName::TooFewRows
+        | FaultName::AgentCount
+        | FaultName::StartDiffers
+        | FaultName::GoalDiffers => put_sentence(told, page),
+        _ => put_fault_of_file(rt, files, told, page),
     }
 }
 
-/// Explains a fault by what the file that has it is read as.
-fn put_fault_of_file<R: Files>(
-    rt: &R,
-    alloc: Global,
-    files: &[NamedFile<'_>],
-    told: &Told<'_>,
-    page: &mut Page,
-) {
-    match (shared_by(told), kind_of(told.fault)) {
-        (Some(kinds), _) => explain_shared(rt, alloc, kinds, files, told, page),
-        (None, Some(FileKind::Tape)) => explain_tape(rt, files, told, page),
-        (None, Some(kind)) => explain_text(rt, files, kind, told, page),
-        (None, None) => explain_device(rt, files, told, page),
-    }
-}
-
-/// Explains a fault that two formats have.
-fn explain_shared<R: Files>(
-    rt: &R,
-    alloc: Global,
-    kinds: [FileKind; 2],
-    files: &[NamedFile<'_>],
-    told: &Told<'_>,
-    page: &mut Page,
-) {
-    let [first, second] = kinds;
-    let is_first = match first {
-        FileKind::Map => is_of_map(rt, alloc, files, told),
-        _ => is_of_plan(rt, files),
-    };
-    match is_first {
-        Some(is_first) => {
-            let kind = if is_first { first } else { second };
-            explain_text(rt, files, kind, told, page);
-        }
-        None => explain_either(files, kinds, told, page),
-    }
-}
-
-/// The formats that have this fault, where there are two, in the order in which they are read.
-fn shared_by(told: &Told<'_>) -> Option<[FileKind; 2]> {
-    match told.fault {
-        Fault::BadHeader | Fault::TextAfter => Some([FileKind::Map, FileKind::Plan]),
-        Fault::BadNumber if told.count() == 1 => Some([FileKind::Map, FileKind::Plan]),
-        Fault::Unfinished => Some([FileKind::Plan, FileKind::Events]),
-        _ => None,
-    }
-}
-
-/// What the file was read as that alone has this fault.
-fn kind_of(fault: Fault) -> Option<FileKind> {
-    match fault {
-        Fault::TooLarge
-        | Fault::BadTerrain
-        | Fault::ShortRow
-        | Fault::LongRow
-        | Fault::MissingRows => Some(FileKind::Map),
-        Fault::LineTooLong
-        | Fault::NoVersion
-        | Fault::FieldCount
-        | Fault::BadNumber
-        | Fault::OutOfGrid
-        | Fault::BadLength => Some(FileKind::Scenario),
-        Fault::TooMany | Fault::BadAgent | Fault::BadAct => Some(FileKind::Plan),
-        Fault::NoHeader | Fault::BadEvent => Some(FileKind::Events),
-        Fault::Damaged
-        | Fault::WrongPlan
-        | Fault::WrongAgent
-        | Fault::TooLong
-        | Fault::NoRoom
-        | Fault::TapeInUse
-        | Fault::TapeExists
-        | Fault::NoTape
-        | Fault::PlanDamaged
-        | Fault::TapeEmptied
-        | Fault::OtherPlan
-        | Fault::TapeFailed => Some(FileKind::Tape),
-        _ => None,
+/// Explains a fault of a file's content by what the file is read as.
+fn put_fault_of_file<R: Files>(rt: &R, files: &[NamedFile<'_>], told: &Told<'_>, page: &mut Page) {
+    match told.origin {
+        Origin::Map
+        | Origin::Scenario
+        | Origin::Plan
+        | Origin::OldPlan
+        | Origin::Events
+        | Origin::Proof => explain_text(rt, files, told, page),
+        Origin::Tape | Origin::KeptPlan => explain_tape(rt, files, told, page),
+        Origin::Command | Origin::Input | Origin::Output => put_sentence(told, page),
     }
 }

@@ -1,60 +1,47 @@
 //! The files of a command.
 use std::fs;
 use std::rt::Files;
+use text_io::Origin;
 
-/// What a file is read as.
-#[derive(Clone, Copy, Debug, PartialEq, Eq)]
-pub enum FileKind {
-    Map,
-    Scenario,
-    Plan,
-    Events,
-    Proof,
-    Tape,
-    /// A plan beside a tape, behind a first line.
-    KeptPlan,
-}
-
-/// A file that a command names.
+/// A file that a command names, by which faults are its own.
 #[derive(Clone, Copy, Debug)]
 pub struct NamedFile<'a> {
-    pub kind: FileKind,
+    pub origin: Origin,
     pub path: &'a str,
 }
 
-impl FileKind {
-    /// What it is, as in `read as a map`.
-    pub(crate) fn name(self) -> &'static str {
-        match self {
-            FileKind::Map => "a map",
-            FileKind::Scenario => "a scenario",
-            FileKind::Plan => "a plan",
-            FileKind::Events => "a list of events",
-            FileKind::Proof => "a proof",
-            FileKind::Tape => "a tape",
-            FileKind::KeptPlan => "the plan of a tape",
-        }
-    }
-
-    /// Whether it is written too.
-    pub(crate) fn is_written(self) -> bool {
-        matches!(self, FileKind::Tape | FileKind::KeptPlan)
-    }
-}
-
 impl NamedFile<'_> {
-    /// The line of the file that has this line of its plan.
+    /// The line of the file that has this line of its plan. In the file of a kept plan another line stands first.
     pub(crate) fn plan_line(self, number: u64) -> u64 {
-        match self.kind {
-            FileKind::KeptPlan => number.saturating_add(1),
+        match self.origin {
+            Origin::KeptPlan => number.saturating_add(1),
             _ => number,
         }
     }
 }
 
+/// What a file is read as, as in `read as a map`.
+pub(crate) fn format_name(origin: Origin) -> &'static str {
+    match origin {
+        Origin::Map => "a map",
+        Origin::Scenario => "a scenario",
+        Origin::Plan | Origin::OldPlan => "a plan",
+        Origin::Events => "a list of events",
+        Origin::Proof => "a proof",
+        Origin::Tape => "a tape",
+        Origin::KeptPlan => "the plan of a tape",
+        Origin::Command | Origin::Input | Origin::Output => "a command",
+    }
+}
+
+/// Whether a file of this kind is written too.
+pub(crate) fn is_written(origin: Origin) -> bool {
+    matches!(origin, Origin::Tape | Origin::KeptPlan)
+}
+
 /// The file of this kind that a command names.
-pub(crate) fn file_of<'a>(files: &[NamedFile<'a>], kind: FileKind) -> Option<NamedFile<'a>> {
-    files.iter().find(|file| file.kind == kind).copied()
+pub(crate) fn file_of<'a>(files: &[NamedFile<'a>], origin: Origin) -> Option<NamedFile<'a>> {
+    files.iter().find(|file| file.origin == origin).copied()
 }
 
 /// The path, or what stands for it.

@@ -76,7 +76,7 @@ fn put_entry(entry: &Entry, of: &str, page: &mut Page) {
     page.fill(", of {}\n", &[of]);
     page.say(entry.sentence);
     page.say("\n");
-    page.say(advice_on(entry.name.as_bytes(), of));
+    page.say(advice_on(entry.name, of));
     if !entry.example.is_empty() {
         page.say("Example:\n");
         for line in entry.example.lines() {

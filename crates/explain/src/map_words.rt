@@ -1,11 +1,11 @@
 //! The faults of a map.
-use crate::faults::Fault;
 use crate::lines::{Line, LineEnd};
 use crate::page::Page;
 use crate::showing::show_line;
 use crate::spans::{Span, content, number};
 use crate::told::Told;
 use std::rt::Files;
+use text_io::FaultName;
 
 /// How many cells a row has, and how many rows there are.
 #[derive(Clone, Copy)]
@@ -39,11 +39,11 @@ pub(crate) fn explain_map<R: Files>(
     page: &mut Page,
 ) {
     match told.fault {
-        Fault::BadHeader => bad_header(line, page),
-        Fault::BadNumber => bad_number(line, page),
-        Fault::TooLarge => too_large(rt, path, line, page),
-        Fault::BadTerrain => bad_terrain(told.number(1), line, page),
-        Fault::TextAfter => text_after(rt, path, line, page),
+        FaultName::BadHeader => bad_header(line, page),
+        FaultName::BadNumber => bad_number(line, page),
+        FaultName::TooLarge => too_large(rt, path, line, page),
+        FaultName::BadTerrain => bad_terrain(told.number(1), line, page),
+        FaultName::TextAfter => text_after(rt, path, line, page),
         other => bad_row(other, map_size(rt, path), line, page),
     }
 }
@@ -155,14 +155,14 @@ fn row_of(line: &Line) -> u64 {
 }
 
 /// Rows that are too short, too long or not there.
-fn bad_row(fault: Fault, size: Option<Size>, line: &Line, page: &mut Page) {
+fn bad_row(fault: FaultName, size: Option<Size>, line: &Line, page: &mut Page) {
     let Size { width, height } = size.unwrap_or(Size {
         width: 0,
         height: 0,
     });
     match fault {
-        Fault::ShortRow => short_row(width, line, page),
-        Fault::LongRow => long_row(width, line, page),
+        FaultName::ShortRow => short_row(width, line, page),
+        FaultName::LongRow => long_row(width, line, page),
         _ => missing_rows(height, line, page),
     }
 }

@@ -1,6 +1,5 @@
 //! What a plan must not do.
-use crate::faults::Fault;
-use crate::files::{FileKind, NamedFile, file_of, shown_path};
+use crate::files::{NamedFile, file_of, shown_path};
 use crate::lines::Line;
 use crate::map_words::{Size, map_size};
 use crate::page::Page;
@@ -11,6 +10,7 @@ use crate::told::Told;
 use crate::walks::{Course, Place, find_agent};
 use grid::Terrain;
 use std::rt::Files;
+use text_io::{FaultName, Origin};
 
 /// An agent that a fault names, with its letter in the picture.
 #[derive(Clone, Copy)]
@@ -27,8 +27,8 @@ pub(crate) fn explain_plan<R: Files>(
     told: &Told<'_>,
     page: &mut Page,
 ) {
-    let map = file_of(files, FileKind::Map);
-    let plan = file_of(files, FileKind::Plan);
+    let map = file_of(files, Origin::Map);
+    let plan = file_of(files, Origin::Plan);
     if let (Some(map), Some(plan)) = (map, plan) {
         put_title(map, plan, told.number(0), page);
         explain_on_map(rt, [map.path, plan.path], told, page);
@@ -52,7 +52,7 @@ fn explain_on_map<R: Files>(rt: &R, paths: [&str; 2], told: &Told<'_>, page: &mu
         }
         None => {
             page.say("The plan can't be read once more here.\n");
-            put_sentence(told.name(), FileKind::Plan, page);
+            put_sentence(told, page);
         }
     }
 }
@@ -66,8 +66,8 @@ fn explain_agent<R: Files>(
 ) {
     let [map, _] = paths;
     match told.fault {
-        Fault::BadStart => bad_start(rt, map, first, page),
-        Fault::BadMove => bad_move(rt, map, first, told.number(1), page),
+        FaultName::BadStart => bad_start(rt, map, first, page),
+        FaultName::BadMove => bad_move(rt, map, first, told.number(1), page),
         _ => explain_both(rt, paths, first, told, page),
     }
 }
@@ -242,7 +242,7 @@ fn explain_both<R: Files>(
             course,
         };
         match told.fault {
-            Fault::Swap => swap(rt, map, [first, second], told.number(2), page),
+            FaultName::Swap => swap(rt, map, [first, second], told.number(2), page),
             _ => vertex(rt, map, [first, second], told.number(2), page),
         }
     }

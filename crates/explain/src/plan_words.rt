@@ -1,11 +1,11 @@
 //! The faults of a plan's text.
-use crate::faults::Fault;
 use crate::lines::{Line, LineEnd};
 use crate::page::Page;
 use crate::showing::show_line;
 use crate::spans::{Parts, Span, content, is_number_upto, number};
 use crate::told::Told;
 use std::rt::Files;
+use text_io::FaultName;
 
 /// The line of agent 0.
 pub(crate) const FIRST_AGENT: u64 = 4;
@@ -33,12 +33,12 @@ pub(crate) fn explain_plan_text<R: Files>(
     page: &mut Page,
 ) {
     match told.fault {
-        Fault::BadHeader => bad_header(line, page),
-        Fault::BadNumber => bad_number(line, page),
-        Fault::BadAgent => bad_agent(line, page),
-        Fault::BadAct => bad_act(told.number(1), line, page),
-        Fault::TooMany => too_many(line, page),
-        Fault::Unfinished => unfinished(announced_agents(rt, path), line, page),
+        FaultName::BadHeader => bad_header(line, page),
+        FaultName::BadNumber => bad_number(line, page),
+        FaultName::BadAgent => bad_agent(line, page),
+        FaultName::BadAct => bad_act(told.number(1), line, page),
+        FaultName::TooMany => too_many(line, page),
+        FaultName::Unfinished => unfinished(announced_agents(rt, path), line, page),
         _ => text_after(announced_agents(rt, path), line, page),
     }
 }

@@ -1,5 +1,5 @@
 //! The faults of `mapf row`, and of agents that there aren't.
-use crate::files::{FileKind, NamedFile, file_of, shown_path};
+use crate::files::{NamedFile, file_of, shown_path};
 use crate::lines::Line;
 use crate::map_words::{Size, map_size};
 use crate::page::Page;
@@ -9,10 +9,11 @@ use crate::showing::show_line;
 use crate::spans::{Parts, Span, content};
 use crate::told::Told;
 use std::rt::Files;
+use text_io::Origin;
 
 /// Says how many rows a scenario has.
 pub(crate) fn no_such_row<R: Files>(rt: &R, files: &[NamedFile<'_>], page: &mut Page) {
-    if let Some(file) = file_of(files, FileKind::Scenario) {
+    if let Some(file) = file_of(files, Origin::Scenario) {
         put_rows(shown_path(file), count_rows(rt, file.path), page);
     }
 }
@@ -50,8 +51,8 @@ pub(crate) fn size_differs<R: Files>(
     told: &Told<'_>,
     page: &mut Page,
 ) {
-    let map = file_of(files, FileKind::Map);
-    let scen = file_of(files, FileKind::Scenario);
+    let map = file_of(files, Origin::Map);
+    let scen = file_of(files, Origin::Scenario);
     if let (Some(map), Some(scen)) = (map, scen) {
         let row = told.number(0);
         let mut line = Line::new();
@@ -104,7 +105,7 @@ fn put_map_name(field: Option<Span>, line: &[u8], page: &mut Page) {
 
 /// Says how many agents a plan has.
 pub(crate) fn no_such_agent<R: Files>(rt: &R, files: &[NamedFile<'_>], page: &mut Page) {
-    if let Some(plan) = file_of(files, FileKind::Plan) {
+    if let Some(plan) = file_of(files, Origin::Plan) {
         put_agents(shown_path(plan), announced_agents(rt, plan.path), page);
     }
 }

@@ -1,5 +1,4 @@
 //! The faults of a scenario.
-use crate::faults::Fault;
 use crate::files::open_again;
 use crate::lines::{Line, LineEnd};
 use crate::page::Page;
@@ -8,7 +7,7 @@ use crate::spans::{Parts, Span, content, number};
 use crate::told::Told;
 use std::io::Read;
 use std::rt::Files;
-use text_io::{Counted, PIECE, Source};
+use text_io::{Counted, FaultName, PIECE, Source};
 
 /// The fields of a row.
 static FIELDS: [&str; 9] = [
@@ -71,14 +70,14 @@ fn is_filled(line: &[u8]) -> bool {
 pub(crate) fn explain_scenario(told: &Told<'_>, line: &Line, page: &mut Page) {
     let fields = Parts::fields(line.bytes());
     match told.fault {
-        Fault::NoVersion => no_version(line, page),
-        Fault::LineTooLong => {
+        FaultName::NoVersion => no_version(line, page),
+        FaultName::LineTooLong => {
             show_line(page, line, Span::at_column(4097));
             page.say("A line has at most 4096 bytes.\n");
         }
-        Fault::FieldCount => field_count(fields, line, page),
-        Fault::BadNumber => bad_number(told.number(1), fields, line, page),
-        Fault::OutOfGrid => out_of_grid(fields, line, page),
+        FaultName::FieldCount => field_count(fields, line, page),
+        FaultName::BadNumber => bad_number(told.number(1), fields, line, page),
+        FaultName::OutOfGrid => out_of_grid(fields, line, page),
         _ => {
             show_line(page, line, fields.get(8).unwrap_or(content(line.bytes())));
             page.say(

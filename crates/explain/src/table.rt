@@ -1,5 +1,5 @@
 //! All faults and refusals, with a sentence and, where texts show it, a smallest example.
-use crate::files::FileKind;
+use crate::files::format_name;
 use crate::other_faults::{
     command_entries, course_entries, departing_entries, fit_entries, message_entries,
     reply_entries, signed_entries, tape_entries,
@@ -8,6 +8,7 @@ use crate::page::Page;
 use crate::text_faults::{
     event_entries, map_entries, plan_entries, proof_entries, scenario_entries,
 };
+use crate::told::Told;
 
 /// What is known of a fault.
 pub(crate) struct Entry {
@@ -62,13 +63,15 @@ pub(crate) fn group_entries(group: usize) -> &'static [Entry] {
     }
 }
 
-/// Puts what is wrong where this fault is told: of this kind of file, or of any.
-pub(crate) fn put_sentence(name: &[u8], kind: FileKind, page: &mut Page) {
+/// Puts what is wrong where this fault is told: of a file like its own, or of any.
+pub(crate) fn put_sentence(told: &Told<'_>, page: &mut Page) {
+    let name = told.fault.text();
+    let format = format_name(told.origin);
     let mut found = "";
     for group in 0..GROUPS {
-        let is_of_kind = group_name(group) == kind.name();
+        let is_of_kind = group_name(group) == format;
         for entry in group_entries(group) {
-            if entry.name.as_bytes() == name && (found.is_empty() || is_of_kind) {
+            if entry.name == name && (found.is_empty() || is_of_kind) {
                 found = entry.sentence;
             }
         }

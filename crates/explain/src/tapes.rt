@@ -1,7 +1,6 @@
 //! The faults of tapes.
 use crate::advice::advice_on;
-use crate::faults::Fault;
-use crate::files::{FileKind, NamedFile, file_of, open_again, shown_path};
+use crate::files::{NamedFile, file_of, format_name, open_again, shown_path};
 use crate::page::Page;
 use crate::plan_words::plan_number;
 use crate::table::put_sentence;
@@ -9,6 +8,7 @@ use crate::told::Told;
 use std::fs;
 use std::io::{Read, Seek, SeekFrom};
 use std::rt::Files;
+use text_io::{FaultName, Origin};
 
 /// A record of a tape.
 type Record = [u8; 10];
@@ -20,12 +20,12 @@ pub(crate) fn explain_tape<R: Files>(
     told: &Told<'_>,
     page: &mut Page,
 ) {
-    if let Some(tape) = file_of(files, FileKind::Tape) {
+    if let Some(tape) = file_of(files, Origin::Tape) {
         let path = shown_path(tape);
         page.fill("{}, a tape:\n", &[path]);
         put_content(rt, tape.path, files, told, page);
-        put_sentence(told.name(), FileKind::Tape, page);
-        page.say(advice_on(told.name(), FileKind::Tape.name()));
+        put_sentence(told, page);
+        page.say(advice_on(told.fault.text(), format_name(Origin::Tape)));
     }
 }
 
@@ -38,13 +38,13 @@ fn put_content<R: Files>(
     page: &mut Page,
 ) {
     match told.fault {
-        Fault::Damaged | Fault::WrongPlan | Fault::WrongAgent => {
+        FaultName::Damaged | FaultName::WrongPlan | FaultName::WrongAgent => {
             if let Some(record) = record_of(rt, tape, told.number(0)) {
                 put_record(&record, told.number(0), page);
                 put_difference(rt, files, told, &record, page);
             }
         }
-        Fault::TooLong | Fault::TapeExists => put_length(rt, tape, page),
+        FaultName::TooLong | FaultName::TapeExists => put_length(rt, tape, page),
         _ => {}
     }
 }
@@ -78,11 +78,11 @@ fn put_difference<R: Files>(
 ) {
     let [_, _, a, b, c, d, high, low, ..] = *record;
     match told.fault {
-        Fault::WrongPlan => {
+        FaultName::WrongPlan => {
             let plan = u32::from_be_bytes([a, b, c, d]);
             put_plans(plan, number_due(rt, files), page);
         }
-        Fault::WrongAgent => {
+        FaultName::WrongAgent => {
             let agent = u16::from_be_bytes([high, low]);
             page.fill("It is of agent {}.\n", &[agent]);
         }
@@ -92,7 +92,7 @@ fn put_difference<R: Files>(
 
 /// The number of the plan that is given with the tape.
 fn number_due<R: Files>(rt: &R, files: &[NamedFile<'_>]) -> Option<u64> {
-    let plan = file_of(files, FileKind::Plan)?;
+    let plan = file_of(files, Origin::Plan)?;
     plan_number(rt, plan.path)
 }
 

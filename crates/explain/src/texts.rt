@@ -1,31 +1,27 @@
 //! The faults of texts.
 use crate::beginning::put_beginning;
 use crate::event_words::explain_events;
-use crate::faults::Fault;
-use crate::files::{FileKind, NamedFile, file_of, open_again, shown_path};
-use crate::lines::{Line, pass_lines};
+use crate::files::{NamedFile, file_of, format_name, shown_path};
+use crate::lines::Line;
 use crate::map_words::explain_map;
 use crate::page::Page;
-use crate::plan_words::{announced_agents, explain_plan_text};
+use crate::plan_words::explain_plan_text;
 use crate::scen_words::{explain_scenario, find_first_line};
 use crate::showing::show_line;
 use crate::spans::{Span, ends_with_return};
 use crate::table::put_sentence;
 use crate::told::Told;
-use grid::{MapFault, read_map};
-use std::alloc::Global;
 use std::rt::Files;
-use text_io::{Counted, Source};
+use text_io::{FaultName, Origin};
 
-/// Explains the fault of a text that is read as this kind.
+/// Explains the fault of a text.
 pub(crate) fn explain_text<R: Files>(
     rt: &R,
     files: &[NamedFile<'_>],
-    kind: FileKind,
     told: &Told<'_>,
     page: &mut Page,
 ) {
-    if let Some(file) = file_of(files, kind) {
+    if let Some(file) = file_of(files, told.origin) {
         let mut line = Line::new();
         find_fault(rt, file.path, told, &mut line);
         put_place(file, told, &line, page);
@@ -57,8 +53,8 @@ fn explain_line<R: Files>(
 ) {
     if !line.is_read() {
         page.say("It can't be read once more here, so its line isn't shown.\n");
-        put_sentence(told.name(), file.kind, page);
-    } else if !put_line_end(file.kind, told.fault, line, page) {
+        put_sentence(told, page);
+    } else if !put_line_end(file.origin, told.fault, line, page) {
         explain_format(rt, file, told, line, page);
     }
 }
@@ -71,47 +67,49 @@ fn explain_format<R: Files>(
     line: &Line,
     page: &mut Page,
 ) {
-    match file.kind {
-        FileKind::Map => explain_map(rt, file.path, told, line, page),
-        FileKind::Scenario => explain_scenario(told, line, page),
-        FileKind::Plan => explain_plan_text(rt, file.path, told, line, page),
-        FileKind::Events => explain_events(told, line, page),
-        FileKind::Proof => put_sentence(told.name(), file.kind, page),
-        FileKind::Tape | FileKind::KeptPlan => {}
+    match file.origin {
+        Origin::Map => explain_map(rt, file.path, told, line, page),
+        Origin::Scenario => explain_scenario(told, line, page),
+        Origin::Plan | Origin::OldPlan => explain_plan_text(rt, file.path, told, line, page),
+        Origin::Events => explain_events(told, line, page),
+        Origin::Proof => put_sentence(told, page),
+        _ => {}
     }
 }
 
 /// Finds the line of the fault.
 fn find_fault<R: Files>(rt: &R, path: &str, told: &Told<'_>, line: &mut Line) {
     match told.fault {
-        Fault::NoVersion => find_first_line(rt, path, line),
-        Fault::NoHeader => line.find(rt, path, 1),
+        FaultName::NoVersion => find_first_line(rt, path, line),
+        FaultName::NoHeader => line.find(rt, path, 1),
         _ => line.find(rt, path, told.number(0)),
     }
 }
 
 /// Puts where the fault is, as editors and compilers do.
 fn put_place(file: NamedFile<'_>, told: &Told<'_>, line: &Line, page: &mut Page) {
-    let (path, name, number) = (shown_path(file), file.kind.name(), line.number);
+    let (path, name, number) = (shown_path(file), format_name(file.origin), line.number);
     page.say(path);
     if number > 0 {
         page.fill(":{}", &[number]);
     }
-    if matches!(told.fault, Fault::BadTerrain | Fault::BadAct) {
+    if matches!(told.fault, FaultName::BadTerrain | FaultName::BadAct) {
         page.fill(":{}", &[told.number(1)]);
     }
     page.fill(", read as {}:\n", &[name]);
 }
 
 /// Says that the line ends as on Windows, where that is refused. The answer is whether that says all.
-fn put_line_end(kind: FileKind, fault: Fault, line: &Line, page: &mut Page) -> bool {
+fn put_line_end(kind: Origin, fault: FaultName, line: &Line, page: &mut Page) -> bool {
     let bytes = line.bytes();
-    if !matches!(kind, FileKind::Plan | FileKind::Events | FileKind::Proof)
-        || !ends_with_return(bytes)
+    if !matches!(
+        kind,
+        Origin::Plan | Origin::OldPlan | Origin::Events | Origin::Proof
+    ) || !ends_with_return(bytes)
     {
         return false;
     }
-    let is_all = matches!(fault, Fault::BadHeader | Fault::NoHeader);
+    let is_all = matches!(fault, FaultName::BadHeader | FaultName::NoHeader);
     if is_all {
         let upto = bytes.len();
         let from = upto.saturating_sub(1);
@@ -121,60 +119,4 @@ fn put_line_end(kind: FileKind, fault: Fault, line: &Line, page: &mut Page) -> b
         "The line ends with CR LF, and must end with LF alone: `sed -i 's/\\r$//'` takes the CRs off a file.\n",
     );
     is_all
-}
-
-/// Explains the fault of one of two texts, where it isn't known of which.
-pub(crate) fn explain_either(
-    files: &[NamedFile<'_>],
-    kinds: [FileKind; 2],
-    told: &Told<'_>,
-    page: &mut Page,
-) {
-    page.say("Not all files can be read once more here, so it isn't known which has the fault:\n");
-    for kind in kinds {
-        if let Some(file) = file_of(files, kind) {
-            page.say(shown_path(file));
-            page.fill(", read as {}: ", &[kind.name()]);
-            put_sentence(told.name(), kind, page);
-        }
-    }
-}
-
-/// Whether the fault is one of the map, and not of the plan. Where the map can't be read once more, that isn't known.
-pub(crate) fn is_of_map<R: Files>(
-    rt: &R,
-    alloc: Global,
-    files: &[NamedFile<'_>],
-    told: &Told<'_>,
-) -> Option<bool> {
-    if file_of(files, FileKind::Plan).is_none() {
-        return Some(true);
-    }
-    let map = file_of(files, FileKind::Map)?;
-    has_fault(rt, alloc, map.path, told.name())
-}
-
-/// Whether a map has the fault of this name.
-fn has_fault<R: Files>(rt: &R, alloc: Global, map: &str, name: &[u8]) -> Option<bool> {
-    match read_map(alloc, &mut Counted::new(open_again(rt, map)?)) {
-        Ok(_) => Some(false),
-        Err(MapFault::ReadFailed | MapFault::OutOfMemory) => None,
-        Err(fault) => {
-            let words = fault.words();
-            Some(words.name().as_bytes() == name)
-        }
-    }
-}
-
-/// Whether the plan is unfinished, and not the events: it has fewer lines than it announces.
-pub(crate) fn is_of_plan<R: Files>(rt: &R, files: &[NamedFile<'_>]) -> Option<bool> {
-    if file_of(files, FileKind::Events).is_none() {
-        return Some(true);
-    }
-    let plan = file_of(files, FileKind::Plan)?;
-    let agents = announced_agents(rt, plan.path);
-    let mut reader = Counted::new(open_again(rt, plan.path)?);
-    let mut source = Source::new(&mut reader);
-    let due = agents.unwrap_or(0).saturating_add(3);
-    Some(pass_lines(&mut source, due).is_err())
 }

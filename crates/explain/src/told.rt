@@ -1,30 +1,21 @@
 //! A fault that was told.
-use crate::faults::Fault;
-use text_io::FaultWords;
+use text_io::{FaultName, FaultWords, Origin};
 
-/// The words of a fault, and which one it is.
+/// A fault with its numbers, and what it is of.
 #[derive(Clone, Copy)]
 pub(crate) struct Told<'a> {
-    pub(crate) fault: Fault,
+    pub(crate) fault: FaultName,
+    pub(crate) origin: Origin,
     words: &'a FaultWords,
 }
 
 impl<'a> Told<'a> {
     pub(crate) fn of(words: &'a FaultWords) -> Told<'a> {
         Told {
-            fault: Fault::named(words.name().as_bytes()),
+            fault: words.fault(),
+            origin: words.origin(),
             words,
         }
-    }
-
-    /// The first word.
-    pub(crate) fn name(&self) -> &'a [u8] {
-        self.words.name().as_bytes()
-    }
-
-    /// How many numbers follow it.
-    pub(crate) fn count(&self) -> usize {
-        self.words.numbers().len()
     }
 
     /// The number with this place, from 0, or 0 where there is none.

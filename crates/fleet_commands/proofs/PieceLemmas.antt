@@ -1,8 +1,8 @@
 -- Pieces by what they say.
 use Rattle.std.proofs.Common.{◌≡◌, ◌∙◌, ℕ, List, [], ◌∷◌, refl}
-use Rattle.text_commands.specs.declared.pieces.Piece.{Piece}
-use Rattle.text_commands.specs.Laws.Pieces.{SaysPiece}
-use Rattle.text_commands.specs.Pieces.{pieces_of, pieces_text}
+use Rattle.ending.specs.declared.pieces.Piece.{Piece}
+use Rattle.ending.specs.Laws.Pieces.{SaysPiece}
+use Rattle.ending.specs.Pieces.{pieces_of, pieces_text}
 
 -- a piece of what was chosen, and of a number that was widened
 pub made : (piece : Piece) (given word : List ℕ) (wide number : ℕ) → (piece.word.now ≡ given) × (piece.number ≡ wide) → given ≡ word → wide ≡ number → SaysPiece piece word number

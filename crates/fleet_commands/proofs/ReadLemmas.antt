@@ -6,7 +6,7 @@ use Rattle.grid.specs.Map.{Grid}
 use Rattle.model.specs.Plan.{Plan, IsValid}
 use Rattle.model.specs.declared.plan_fault.PlanFault.{PlanFault}
 use Rattle.model.specs.declared.plan_fault.PlanFault.TheVariants as plan_fault
-use Rattle.plan.specs.Checking.{IsRefusedFor}
+use Rattle.checker.specs.Checking.{IsRefusedFor}
 use Rattle.planned.specs.Planned.{IsAtHand}
 use Rattle.planned.specs.declared.planned_fault.PlannedFault.{PlannedFault}
 use Rattle.planned.specs.declared.reading.PlanAtHand.{PlanAtHand}

@@ -4,7 +4,7 @@ use Rattle.text_io.specs.declared.counted.Counted.{Counted}
 use Rattle.model.specs.Plan.{Plan, IsValid}
 use Rattle.model.specs.Timetable.{Timetable}
 use Rattle.planned.specs.declared.reading.PlanAtHand.{PlanAtHand}
-use Rattle.text_commands.specs.Ending.{End}
+use Rattle.ending.specs.Ending.{End}
 use Rattle.fleet_commands.specs.FoundTapes.{Found, AreFoundIn}
 use Rattle.fleet_commands.specs.HandoverCommand.{AreReadAs, IsFirstUnknown, IsNotOneRun, ReadsThen, EndsByPlan}
 use Rattle.fleet_commands.specs.LeftPlan.{left_plan}

@@ -8,9 +8,9 @@ use Rattle.continuing.specs.Continuing.{cut_at}
 use Rattle.plan_text.specs.PlanText.{canonical_plan_text}
 use Rattle.planned.specs.Planned.{IsAtHand, ReadsTimetable}
 use Rattle.planned.specs.declared.reading.PlanAtHand.{PlanAtHand}
-use Rattle.text_commands.specs.declared.status.Status.TheVariants.{Done}
-use Rattle.text_commands.specs.Ending.{End, answered_with, gave_up}
-use Rattle.text_commands.specs.Rewriting.{EndsWriting}
+use Rattle.ending.specs.declared.status.Status.TheVariants.{Done}
+use Rattle.ending.specs.Ending.{End, answered_with, gave_up}
+use Rattle.ending.specs.Rewriting.{EndsWriting}
 use Rattle.fleet_commands.specs.FoundTapes.{Found, AreFoundIn, is_known}
 use Rattle.fleet_commands.specs.CutTimes.{IsCutTime}
 use Rattle.fleet_commands.specs.LeftPlan.{is_left_out}

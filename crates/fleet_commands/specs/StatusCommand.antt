@@ -9,10 +9,10 @@ use Rattle.depgraph.specs.Rotations.{Turn, AreRotations}
 use Rattle.planned.specs.FaultWords.{planned_fault_words}
 use Rattle.planned.specs.Planned.{ReadsTimetable}
 use Rattle.planned.specs.declared.planned_fault.PlannedFault.{PlannedFault}
-use Rattle.text_commands.specs.declared.status.Status.{Status}
-use Rattle.text_commands.specs.declared.status.Status.TheVariants as status
-use Rattle.text_commands.specs.Ending.{End, answered_with, gave_up}
-use Rattle.text_commands.specs.Rewriting.{EndsWriting}
+use Rattle.ending.specs.declared.status.Status.{Status}
+use Rattle.ending.specs.declared.status.Status.TheVariants as status
+use Rattle.ending.specs.Ending.{End, answered_with, gave_up}
+use Rattle.ending.specs.Rewriting.{EndsWriting}
 use Rattle.fleet_commands.specs.FoundTapes.{Found, AreFoundIn}
 use Rattle.fleet_commands.specs.PlansBeside.{AreCompared}
 use Rattle.fleet_commands.specs.StatusText.{run_lines, status_line, status_lines}

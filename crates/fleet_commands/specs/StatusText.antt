@@ -2,8 +2,8 @@
 use Rattle.std.specs.Prelude.{ℕ, ◌/◌, ◌&&◌, not, Bool, if◌then◌else◌, nat_lt, false, List, [], ◌∷◌, ◌++◌, length, map, codes, Option, None, Some, is_some, Ok, Err, slice_get, slice_index_or}
 use Rattle.std.specs.List.{range_with_len}
 use Rattle.text_io.specs.FaultWords.{Words}
-use Rattle.text_commands.specs.Pieces.{pieces_text}
-use Rattle.text_commands.specs.Telling.{enclosed_words}
+use Rattle.ending.specs.Pieces.{pieces_text}
+use Rattle.ending.specs.Telling.{enclosed_words}
 use Rattle.model.specs.declared.held.Held.{Held}
 use Rattle.model.specs.declared.held.Held.TheVariants.{At, Between}
 use Rattle.model.specs.Timetable.{Track, Timetable, moves, track_of}

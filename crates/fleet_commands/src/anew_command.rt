@@ -1,6 +1,6 @@
 //! `mapf anew`: writes what is left of a plan as a plan of its own.
 ghost use Rattle.std.specs.Prelude.{◌≡◌};
-ghost use Rattle.text_commands.specs.Ending.{EndsAndTells, end_of};
+ghost use Rattle.ending.specs.Ending.{EndsAndTells, end_of};
 ghost use Rattle.fleet_commands.specs.HandoverCommand.{ReadsThen};
 ghost use Rattle.fleet_commands.specs.AnewCommand.{AnswersAnew, IsBegunAnew, lacks_agent};
 ghost use Rattle.fleet_commands.specs.Code.Reading.{IsJudgedSo, fault_of};
@@ -9,14 +9,16 @@ use crate::handover_command::end_by;
 use crate::handover_fault::HandoverFault;
 use crate::known_tapes::read_known;
 use crate::left_plan::left_plan;
+use checker::check;
 use continuing::copy;
+use ending::{Ending, conclude};
 use grid::Map;
-use plan::{Plan, PlanFault, check};
+use model::PlanFault;
+use plan_text::Plan;
 use planned::{PlanAtHand, read_at_hand};
 use std::alloc::Global;
 use std::io::{Read, Write};
 use std::rt::Files;
-use text_commands::{Ending, conclude};
 use text_io::Counted;
 
 /// The number of a new plan, and which agent is left out of it, if any.

@@ -1,16 +1,16 @@
 //! `mapf handover`: writes a plan as far as its agents have begun it.
-ghost use Rattle.text_commands.specs.Ending.{EndsAndTells, end_of};
+ghost use Rattle.ending.specs.Ending.{EndsAndTells, end_of};
 ghost use Rattle.fleet_commands.specs.HandoverCommand.{AnswersHandover, EndsByPlan, IsHandedOver, ReadsThen};
 
 use crate::cut_time::cut_time;
 use crate::handover_fault::HandoverFault;
 use crate::known_tapes::read_known;
 use continuing::cut;
-use plan::{Plan, write_plan};
+use ending::{Ending, Status, conclude, finish};
+use plan_text::{Plan, write_plan};
 use planned::{PlanAtHand, read_at_hand};
 use std::io::{Read, Write};
 use std::rt::Files;
-use text_commands::{Ending, Status, conclude, finish};
 use text_io::Counted;
 
 /// As `perform`, with a fault's line on `err`. The answer is the exit status, which stays where

@@ -4,11 +4,11 @@ ghost use Rattle.text_io.specs.FaultWords.{words_of, words_text};
 ghost use Rattle.fleet_commands.specs.FaultWords.{handover_fault_words};
 ghost use Rattle.fleet_commands.specs.declared.handover_fault.HandoverFault.TheVariants as handover_fault;
 
-use plan::PushFault;
+use plan_text::PushFault;
 use planned::PlannedFault;
 use std::alloc::AllocError;
 use std::fmt;
-use text_io::{Failure, FaultWords};
+use text_io::{Failure, FaultName, FaultWords};
 use thiserror::Error;
 
 /// Why a plan isn't handed over, or not begun anew.
@@ -34,10 +34,13 @@ impl HandoverFault {
     {
         match self {
             HandoverFault::Planned(fault) => fault.words(),
-            HandoverFault::NoSuchAgent => FaultWords::new("NoSuchAgent", &[]),
-            HandoverFault::SameNumber => FaultWords::new("SameNumber", &[]),
-            HandoverFault::BadTape(agent) => FaultWords::new("BadTape", &[u64::from(agent)]),
-            HandoverFault::NotOneRun => FaultWords::new("NotOneRun", &[]),
+            HandoverFault::NoSuchAgent => FaultWords::new(FaultName::NoSuchAgent, &[]),
+            HandoverFault::SameNumber => FaultWords::new(FaultName::SameNumber, &[]),
+            HandoverFault::BadTape(agent) => FaultWords::new(
+                FaultName::BadTape,
+                &[u64::from(agent)],
+            ),
+            HandoverFault::NotOneRun => FaultWords::new(FaultName::NotOneRun, &[]),
             HandoverFault::OutOfMemory => Failure::OutOfMemory.words(),
         }
     }

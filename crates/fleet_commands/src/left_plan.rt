@@ -13,7 +13,7 @@ use crate::known_tapes::is_left_out;
 use agent_commands::AgentFault;
 use depgraph::{Dependencies, Part};
 use model::Act;
-use plan::Plan;
+use plan_text::Plan;
 use planned::PlanAtHand;
 use std::alloc::{AllocError, Global};
 

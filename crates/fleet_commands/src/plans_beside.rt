@@ -8,7 +8,7 @@ use crate::found_tapes::{name_of, unless_refused};
 use crate::status_line::StatusLine;
 use agent_commands::{AgentFault, plan_beside};
 use continuing::{ContinueFault, continues};
-use plan::Plan;
+use plan_text::Plan;
 use std::alloc::AllocError;
 use std::rt::Files;
 

@@ -2,7 +2,7 @@
 ghost use Rattle.std.specs.Prelude.{◌≡◌, is_ok, IfOk, MatchResult};
 ghost use Rattle.std.specs.List.{list_any};
 ghost use Rattle.model.specs.Timetable.{Timetable};
-ghost use Rattle.text_commands.specs.Ending.{EndsAndTells, end_of};
+ghost use Rattle.ending.specs.Ending.{EndsAndTells, end_of};
 ghost use Rattle.fleet_commands.specs.StatusCommand.{AnswersStatus, AreAllLines, EndsByTapes, is_fault, status_by};
 
 use crate::found_tapes::read_tapes;
@@ -11,11 +11,11 @@ use crate::plans_beside::push_plan_lines;
 use crate::status_line::{StatusLine, write_lines};
 use crate::status_lines::status_lines;
 use depgraph::Dependencies;
+use ending::{Ending, Status, conclude, finish};
 use planned::read_dependencies;
 use std::alloc::AllocError;
 use std::io::{Read, Write};
 use std::rt::Files;
-use text_commands::{Ending, Status, conclude, finish};
 use text_io::{Counted, Failure};
 
 /// As `perform`, with a fault's line on `err`. The answer is the exit status, which stays where

@@ -5,15 +5,15 @@ ghost use Rattle.text_io.specs.FaultWords.{words_of};
 ghost use Rattle.text_io.specs.Counted.{counted_inner, failures_of};
 ghost use Rattle.text_io.specs.Sink.{held_back, Puts, Breaks};
 ghost use Rattle.text_io.specs.Writing.{WritesText};
-ghost use Rattle.text_commands.specs.Pieces.{pieces_text};
+ghost use Rattle.ending.specs.Pieces.{pieces_text};
 ghost use Rattle.fleet_commands.specs.StatusText.{agent_text, begun_text, counts_text, fault_text, held_pieces, keeping_text, keeps_text, parted_text, progress_text, said, status_line, unmet_text};
 
 use crate::keeping::Keeping;
 use crate::one_run::Unmet;
 use agent_commands::AgentFault;
+use ending::{Piece, put_ended, put_fault_words, put_pieces};
 use model::Held;
 use std::io::Write;
-use text_commands::{Piece, put_ended, put_fault_words, put_pieces};
 use text_io::{Counted, FaultWords, Sink, WriteFault};
 
 /// Where an agent is, how many of all its moves it has finished, and what keeps it from the next.

@@ -6,7 +6,7 @@ ghost use Rattle.grid.specs.declared.map_fault.MapFault.TheVariants.{OutOfMemory
 
 use std::alloc::AllocError;
 use std::fmt;
-use text_io::{Failure, FaultWords};
+use text_io::{Failure, FaultName, FaultWords, Origin};
 use thiserror::Error;
 
 /// The first fault of a map text, with its line and column from 1 on, or why the text was not read to that point.
@@ -29,20 +29,21 @@ impl MapFault {
     pub fn words(self) -> FaultWords
         ensures { words_of result ≡ map_fault_words self }
     {
-        match self {
-            MapFault::BadHeader(line) => FaultWords::new("BadHeader", &[line]),
-            MapFault::BadNumber(line) => FaultWords::new("BadNumber", &[line]),
-            MapFault::TooLarge(line) => FaultWords::new("TooLarge", &[line]),
+        let words = match self {
+            MapFault::BadHeader(line) => FaultWords::new(FaultName::BadHeader, &[line]),
+            MapFault::BadNumber(line) => FaultWords::new(FaultName::BadNumber, &[line]),
+            MapFault::TooLarge(line) => FaultWords::new(FaultName::TooLarge, &[line]),
             MapFault::BadTerrain(line, column) => {
-                FaultWords::new("BadTerrain", &[line, u64::from(column)])
+                FaultWords::new(FaultName::BadTerrain, &[line, u64::from(column)])
             }
-            MapFault::ShortRow(line) => FaultWords::new("ShortRow", &[line]),
-            MapFault::LongRow(line) => FaultWords::new("LongRow", &[line]),
-            MapFault::MissingRows(line) => FaultWords::new("MissingRows", &[line]),
-            MapFault::TextAfter(line) => FaultWords::new("TextAfter", &[line]),
+            MapFault::ShortRow(line) => FaultWords::new(FaultName::ShortRow, &[line]),
+            MapFault::LongRow(line) => FaultWords::new(FaultName::LongRow, &[line]),
+            MapFault::MissingRows(line) => FaultWords::new(FaultName::MissingRows, &[line]),
+            MapFault::TextAfter(line) => FaultWords::new(FaultName::TextAfter, &[line]),
             MapFault::ReadFailed => Failure::ReadFailed.words(),
             MapFault::OutOfMemory => Failure::OutOfMemory.words(),
-        }
+        };
+        words.of(Origin::Map)
     }
 }
 

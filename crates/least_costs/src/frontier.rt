@@ -6,9 +6,9 @@ ghost use Rattle.least_costs.specs.Code.States.{HasState};
 
 use crate::states::{ClosedStates, State};
 use grid::Cell;
-use scen::put_last;
 use std::alloc::{AllocError, Global};
 use std::mem;
+use walks::put_last;
 
 /// The states that a search has reached: those from which it went on, and those that wait by what walks through them cost
 /// at least, which is as much as is looked for, or less, or one more, or still more. Of each the last is taken first, so

@@ -11,9 +11,9 @@ use crate::marks::Marks;
 use crate::sides::{sides_of, steps_between};
 use grid::{Cell, Map};
 use least_steps::StepFault;
-use scen::put_last;
 use std::alloc::{AllocError, Global};
 use std::mem;
+use walks::put_last;
 
 /// So many times a search goes on before it is seen how far it came.
 const TURNS: u32 = 16;

@@ -3,9 +3,9 @@ ghost use Rattle.std.specs.Prelude.{◌≡◌, ◌<◌, ◌≤◌, ℕ, IfErr, I
 ghost use Rattle.least_costs.specs.declared.states.Slot.{Slot as slot_type};
 
 use grid::Cell;
-use scen::put_last;
 use std::alloc::{AllocError, Global};
 use std::marker::Model;
+use walks::put_last;
 
 /// So many slots there are at first: a power of two.
 const FIRST_SLOTS: usize = 1024;

@@ -4,7 +4,7 @@ use Rattle.std.specs.Prelude.{Option}
 use Rattle.std.proofs.lemmas.Bool.{cases_lt}
 use Rattle.std.proofs.lemmas.Option.{same_Some, slice_get_within}
 use Rattle.grid.specs.declared.cell.Cell.{Cell}
-use Rattle.scen.specs.Walk.{IsOn}
+use Rattle.walks.specs.Walk.{IsOn}
 use Rattle.least_steps.specs.declared.open_list.OpenList.{OpenList}
 use Rattle.least_steps.specs.declared.open_list.Open.{Open}
 use Rattle.least_steps.specs.Code.Estimate.{least_number}

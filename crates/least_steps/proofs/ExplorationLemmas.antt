@@ -7,7 +7,7 @@ use Rattle.std.proofs.lemmas.Nat.{div-mul-add, mod-mul-add}
 use Rattle.std.proofs.lemmas.Option.{same_Some, slice_get-get_or, slice_get_within}
 use Rattle.grid.specs.declared.cell.Cell.{Cell}
 use Rattle.grid.specs.Map.{Grid}
-use Rattle.scen.specs.Walk.{IsOn}
+use Rattle.walks.specs.Walk.{IsOn}
 use Rattle.least_steps.specs.Code.Reaching.{HasAtMost, IsAbove, IsMove, IsNumber, WalksTo, number_in}
 use Rattle.least_steps.specs.Code.Exploring.{Advances, Comes, Exploration, Has, IsArrival, IsExploration, IsLeft, Lowers}
 use Rattle.least_steps.specs.Code.Steps.{AreLegal, weight}

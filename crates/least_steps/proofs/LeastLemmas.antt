@@ -3,12 +3,12 @@ use Rattle.std.proofs.Common.{◌≡◌, ℕ, ◌+◌, ◌*◌, ◌<◌, true, f
 use Rattle.std.proofs.lemmas.Bool.{true≢false}
 use Rattle.grid.specs.declared.cell.Cell.{Cell}
 use Rattle.grid.specs.Map.{Grid}
-use Rattle.rows.specs.declared.length.Length.{Length}
-use Rattle.rows.specs.Length.{IsAtMost}
-use Rattle.rows.specs.Code.OrderLaws.{never_both}
-use Rattle.scen.specs.Certificate.{IsLeast}
-use Rattle.scen.specs.Laws.KeyOrder.{at_most_from_key}
-use Rattle.scen.specs.Walk.{IsWalk}
+use Rattle.scenario.specs.declared.length.Length.{Length}
+use Rattle.scenario.specs.Length.{IsAtMost}
+use Rattle.scenario.specs.Code.OrderLaws.{never_both}
+use Rattle.walks.specs.Certificate.{IsLeast}
+use Rattle.walks.specs.Laws.KeyOrder.{at_most_from_key}
+use Rattle.walks.specs.Walk.{IsWalk}
 use Rattle.least_steps.specs.LeastSteps.{IsLeastSteps}
 use Rattle.least_steps.specs.Code.Reaching.{IsLeastNumber, IsWay}
 

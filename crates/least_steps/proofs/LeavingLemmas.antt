@@ -3,7 +3,7 @@ use Rattle.std.proofs.Common.{◌≡◌, ◌∙◌, ℕ, ◌+◌, ◌<◌, ◌�
 use Rattle.std.proofs.lemmas.Bool.{cases_order}
 use Rattle.grid.specs.declared.cell.Cell.{Cell}
 use Rattle.grid.specs.Map.{AreNext, IsDiagonalStep, IsStraightStep}
-use Rattle.scen.specs.Walk.{IsOn}
+use Rattle.walks.specs.Walk.{IsOn}
 use Rattle.least_steps.specs.Code.Exploring.{Comes, Exploration, Has, IsLeft, IsShorter, IsTurned}
 use Rattle.least_steps.specs.Code.Reaching.{IsMove}
 use Rattle.least_steps.specs.Laws.Ways.{comes-on, corner-on, step-on}

@@ -6,7 +6,7 @@ use Rattle.std.proofs.lemmas.Bool.{cases_lt, true≢false}
 use Rattle.std.proofs.lemmas.Nat.Bits.{bit_at-lt, bit_at_above, bit_at_and}
 use Rattle.grid.specs.declared.cell.Cell.{Cell}
 use Rattle.grid.specs.Map.{AreNext, IsDiagonalStep, IsStraightStep}
-use Rattle.scen.specs.Walk.{IsOn}
+use Rattle.walks.specs.Walk.{IsOn}
 use Rattle.least_steps.specs.Code.Exploring.{Exploration, Has, IsArrival, IsLeft}
 use Rattle.least_steps.specs.Code.Reaching.{IsMove}
 use Rattle.least_steps.specs.Code.Steps.{AreLegal, HasStep, cell_behind, not_back, onward_of, weight}

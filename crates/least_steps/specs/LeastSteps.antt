@@ -2,7 +2,7 @@
 use Rattle.std.specs.Prelude.{ℕ, ◌≤◌, List, Option, Some, None}
 use Rattle.grid.specs.declared.cell.Cell.{Cell}
 use Rattle.grid.specs.Map.{Grid}
-use Rattle.scen.specs.Walk.{IsWalk}
+use Rattle.walks.specs.Walk.{IsWalk}
 
 -- a walk of straight steps alone takes so many, and none takes fewer
 pub record IsFewest (m : Grid) (u v : Cell) (n : ℕ) : Type 0 where

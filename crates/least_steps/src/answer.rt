@@ -1,6 +1,6 @@
 //! What a search has found, if what it left proves it.
 ghost use Rattle.std.specs.Prelude.{◌≡◌, ◌+◌, IfOk, IsTrue, Some};
-ghost use Rattle.scen.specs.Walk.{IsOn};
+ghost use Rattle.walks.specs.Walk.{IsOn};
 ghost use Rattle.least_steps.specs.Code.Estimate.{least_number};
 ghost use Rattle.least_steps.specs.Code.Reaching.{IsFound, IsLeastNumber};
 ghost use Rattle.least_steps.specs.Code.Waiting.{AreBehind, AreSound, IsBehind, IsFar, IsInBucket, IsPlace, IsSearch, IsSoundList, IsOpenPlace};
@@ -10,7 +10,7 @@ use crate::open_list::{Open, OpenList};
 use crate::reached::Reached;
 use crate::step_fault::StepFault;
 use grid::Cell;
-use scen::STRAIGHT;
+use walks::STRAIGHT;
 
 /// The least number of a walk to the goal.
 pub(crate) fn answer(

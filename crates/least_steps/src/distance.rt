@@ -3,7 +3,7 @@ ghost use Rattle.std.specs.Prelude.{◌≡◌, ◌^◌, ◌<◌};
 ghost use Rattle.least_steps.specs.Code.Estimate.{least_number};
 
 use grid::Cell;
-use scen::{STRAIGHT, octile_distance};
+use walks::{STRAIGHT, octile_distance};
 
 /// The number of a walk between two cells on a map without obstacles.
 #[inline(always)]

@@ -9,7 +9,7 @@ use crate::open_list::{Course, Open, OpenList};
 use crate::reached::Reached;
 use crate::step_fault::StepFault;
 use crate::steps::{cell_after, first_of, onward, weight_of, without};
-use scen::STRAIGHT;
+use walks::STRAIGHT;
 
 /// No least walk on a map has a number as great: for each diagonal step it leaves out two cells of its own.
 const MOST_STEPPED: u64 = 4_194_304 * STRAIGHT;

@@ -1,7 +1,7 @@
 //! Legal steps, by the characters of a map.
 ghost use Rattle.std.specs.Prelude.{◌≡◌, ◌*◌, ◌<◌, ◌↔◌, IsTrue};
 ghost use Rattle.grid.specs.Map.{AreJoined, IsStraightStep, ShareSide, terrain_at};
-ghost use Rattle.scen.specs.Walk.{IsOn};
+ghost use Rattle.walks.specs.Walk.{IsOn};
 ghost use Rattle.least_steps.specs.Code.Joining.{are_alike, is_ground_character};
 ghost use Rattle.least_steps.specs.Code.Reaching.{number_in};
 

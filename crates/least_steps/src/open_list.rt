@@ -4,9 +4,9 @@ ghost use Rattle.least_steps.specs.Code.Waiting.{IsPlaceAmong, IsInBucket, IsSam
 
 use crate::distance::distance;
 use grid::Cell;
-use scen::{STRAIGHT, put_last};
 use std::alloc::{AllocError, Global};
 use std::mem;
+use walks::{STRAIGHT, put_last};
 
 /// A bucket is as wide as this number, which is less than a step's.
 const BUCKET_WIDTH: u64 = 4_194_304;

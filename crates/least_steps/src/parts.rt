@@ -2,7 +2,8 @@
 ghost use Rattle.std.specs.Prelude.{◌≡◌, ℕ, ◌+◌, ◌*◌, ◌<◌, IfOk, IfSome};
 
 use crate::step_fault::StepFault;
-use scen::{DIAGONAL, Length, STRAIGHT};
+use scenario::Length;
+use walks::{DIAGONAL, STRAIGHT};
 
 /// Times `DIAGONAL` this is 1 above a multiple of `STRAIGHT`, so it reads the diagonal steps back from a number.
 const DIAGONAL_INVERSE: u64 = 3_880_899;

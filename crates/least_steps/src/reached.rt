@@ -1,7 +1,7 @@
 //! All that a search has reached, and what is known of it at any time.
 ghost use Rattle.std.specs.Prelude.{◌≡◌, ℕ, ◌^◌, ◌<◌, ◌≤◌, ◌↔◌, IfOk, IsTrue, false};
 ghost use Rattle.grid.specs.Map.{IsMap};
-ghost use Rattle.scen.specs.Walk.{IsOn};
+ghost use Rattle.walks.specs.Walk.{IsOn};
 ghost use Rattle.least_steps.specs.Code.Exploring.{Comes, Has, IsNumberOf, Lowers};
 ghost use Rattle.least_steps.specs.Code.Reaching.{IsAbove, IsFound, number_in};
 ghost use Rattle.least_steps.specs.Code.Steps.{AreLegal};

@@ -6,7 +6,7 @@ ghost use Rattle.text_io.specs.FaultWords.{words_of, words_text};
 
 use std::alloc::AllocError;
 use std::fmt;
-use text_io::{Failure, FaultWords};
+use text_io::{Failure, FaultName, FaultWords};
 use thiserror::Error;
 
 /// Why a search has no answer.
@@ -23,7 +23,7 @@ impl StepFault {
         ensures { words_of result ≡ step_fault_words self }
     {
         match self {
-            StepFault::NotTight => FaultWords::new("NotTight", &[]),
+            StepFault::NotTight => FaultWords::new(FaultName::NotTight, &[]),
             StepFault::OutOfMemory => Failure::OutOfMemory.words(),
         }
     }

@@ -1,7 +1,7 @@
 //! The search, toward the goal first, and else in all directions.
 ghost use Rattle.std.specs.Prelude.{◌≡◌, ◌↔◌, IfOk, IsTrue};
-ghost use Rattle.scen.specs.Certificate.{AreOn, IsLeast};
-ghost use Rattle.scen.specs.Walk.{IsOn};
+ghost use Rattle.walks.specs.Certificate.{AreOn, IsLeast};
+ghost use Rattle.walks.specs.Walk.{IsOn};
 ghost use Rattle.least_steps.specs.LeastSteps.{IsLeastSteps};
 ghost use Rattle.least_steps.specs.Code.Exploring.{Advances};
 ghost use Rattle.least_steps.specs.Code.Reaching.{IsLeastNumber};
@@ -16,9 +16,10 @@ use crate::reached::Reached;
 use crate::step_fault::StepFault;
 use crate::steps::NONE;
 use grid::{Cell, Map};
-use scen::{Length, STRAIGHT};
+use scenario::Length;
 use std::alloc::{AllocError, Global};
 use std::marker::Model;
+use walks::STRAIGHT;
 
 /// Far more turns than a search on a map takes.
 const MOST_TURNS: u64 = 1 << 40;

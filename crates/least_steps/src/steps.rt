@@ -1,13 +1,13 @@
 //! The eight steps from a cell by their numbers, and sets of them.
 ghost use Rattle.std.specs.Prelude.{◌≡◌, ◌^◌, ◌<◌, ◌↔◌, IsTrue, false, true};
 ghost use Rattle.grid.specs.Map.{IsDiagonalStep, IsMap};
-ghost use Rattle.scen.specs.Walk.{IsOn};
+ghost use Rattle.walks.specs.Walk.{IsOn};
 ghost use Rattle.std.specs.Int.Bits.{bit_and, bit_xor};
 ghost use Rattle.least_steps.specs.Code.Steps.{AreLegal, IsAlongColumn, IsAlongRow, HasStep, IsLegalStep, cell_behind, lead, not_back, onward_of, set_with, side_of, turn_behind, weight};
 
 use crate::joining::{are_joined, is_step};
 use grid::{Cell, Map};
-use scen::{DIAGONAL, STRAIGHT};
+use walks::{DIAGONAL, STRAIGHT};
 
 /// No step led to a start.
 pub(crate) const NONE: u32 = 8;

@@ -18,10 +18,10 @@ use Rattle.command_line.specs.declared.lines.PlanQuery.TheVariants as query
 use Rattle.command_line.specs.declared.command_line.LineFault.{LineFault}
 use Rattle.command_line.specs.declared.command_line.LineFault.TheVariants.{Help, BadCommand, OutOfMemory}
 use Rattle.command_line.specs.Words.{IsLineOf, IsFaultOf}
-use Rattle.text_commands.specs.declared.status.Status.TheVariants as status
-use Rattle.text_commands.specs.Ending.{End, EndsAndTells, answered_with, gave_up, Concludes}
-use Rattle.text_commands.specs.Rewriting.{EndsWriting}
-use Rattle.text_commands.specs.Status.{code_of}
+use Rattle.ending.specs.declared.status.Status.TheVariants as status
+use Rattle.ending.specs.Ending.{End, EndsAndTells, answered_with, gave_up, Concludes}
+use Rattle.ending.specs.Rewriting.{EndsWriting}
+use Rattle.ending.specs.Status.{code_of}
 use Rattle.text_commands.specs.MapCommand.{RewritesMap}
 use Rattle.text_commands.specs.RowCommand.{AnswersRow}
 use Rattle.text_commands.specs.RowsCommand.{AnswersRows, ShowsProgress}

@@ -1,7 +1,7 @@
 //! The program `mapf` over its words. Its command line and its commands stand in crates below.
 #![tactic(auto)]
 
-mod blamed_plan;
+mod low_leaf;
 mod on_files;
 mod parted_plans;
 mod program;
@@ -15,6 +15,7 @@ pub use command_line::{
     Asked, CheckLine, FleetLine, FleetQuery, Line, LineFault, OptimalLine, PlanQuery, RowsLine,
     line,
 };
+pub use ending::{Ending, Status, conclude};
 pub use explain::Style;
 pub use fleet_commands::{NewPlan, anew_cmd, handover_cmd, status_cmd};
 pub use plan_commands::{continues_cmd, cut_cmd, deps_cell_cmd, deps_cmd, path_cmd};
@@ -23,7 +24,5 @@ pub use proof_commands::optimal_cmd;
 pub use robot::{TalkFault, Talker, talk};
 pub use run_commands::run_cmd;
 pub use tape_claim::{LockFile, TapeClaim};
-pub use text_commands::{
-    Ending, RowsAsked, Status, conclude, map_cmd, row_cmd, rows_cmd, scen_cmd,
-};
+pub use text_commands::{RowsAsked, map_cmd, row_cmd, rows_cmd, scen_cmd};
 pub use unperformed::refuse;

@@ -1,6 +1,6 @@
-//! Each command on its files, which are opened in the order of its words. An error is that of a file that can't be opened.
+//! Each command on its files, which are opened in the order of its words. An error is the file that can't be opened.
 ghost use Rattle.std.specs.Prelude.{◌≡◌, ◌⊎◌, ◌||◌, MatchBool, MatchOption, MatchResult, string_bytes};
-ghost use Rattle.text_commands.specs.Ending.{end_of};
+ghost use Rattle.ending.specs.Ending.{end_of};
 ghost use Rattle.text_commands.specs.MapCommand.{RewritesMap};
 ghost use Rattle.text_commands.specs.RowCommand.{AnswersRow};
 ghost use Rattle.text_commands.specs.RowsCommand.{AnswersRows, ShowsProgress};
@@ -15,18 +15,19 @@ ghost use Rattle.mapf_cmd.specs.Program.{AnswersFleet, AnswersQuery, CheckOn, On
 use agent_commands::{AgentFault, Seat, agent_command, open_to_read, tape_command};
 use check_commands::{BoundForm, CheckTerms, bound_command, check_command};
 use command_line::{CheckLine, FleetLine, FleetQuery, Line, OptimalLine, PlanQuery, RowsLine};
-use explain::{FileKind, NamedFile};
+use ending::Ending;
+use explain::NamedFile;
 use fleet_commands::{NewPlan, anew_command, handover_command, status_command};
 use plan_commands::continues_command;
 use proof_commands::optimal_command;
 use run_commands::run_command;
 use std::alloc::Global;
-use std::io::{ErrorKind, Read, Write};
+use std::fs;
+use std::io::{Read, Write};
 use std::rt::Files;
-use std::{fs, io};
 use tape_claim::LockFile;
-use text_commands::{Ending, RowsAsked, map_command, row_command, rows_command, scen_command};
-use text_io::Counted;
+use text_commands::{RowsAsked, map_command, row_command, rows_command, scen_command};
+use text_io::{Counted, Origin};
 
 /// Performs a command on its files. Where `is_watched` is set, `rows` says on `err` how far it has come.
 pub(crate) fn perform_on_files<R: Files + AllocGlobal, I: Read, W: Write, E: Write>(
@@ -36,7 +37,7 @@ pub(crate) fn perform_on_files<R: Files + AllocGlobal, I: Read, W: Write, E: Wri
     input: &mut Counted<I>,
     out: &mut Counted<W>,
     err: &mut Counted<E>,
-) -> io::Result<Ending>
+) -> Result<Ending, Origin>
 where
     R::File: LockFile,
     ensures { MatchResult result (λ ending. PerformsOn R.File.remaining I.remaining W.contents line.now input.old input.new out.old out.new (end_of ending)
@@ -82,6 +83,14 @@ where
     }
 }
 
+/// Opens a file to be read. Where that fails, the answer is what the file would be.
+fn open_file<R: Files>(rt: &R, path: &str, origin: Origin) -> Result<R::File, Origin> {
+    match fs::open(rt, path) {
+        Ok(file) => Ok(file),
+        Err(_) => Err(origin),
+    }
+}
+
 /// Performs `map` on its file, or on the input where that is `-`.
 // Compiled by itself, for its room on the stack.
 #[inline(never)]
@@ -90,7 +99,7 @@ fn map_on_file<R: Files + AllocGlobal, I: Read, W: Write>(
     file: &str,
     input: &mut Counted<I>,
     out: &mut Counted<W>,
-) -> io::Result<Ending>
+) -> Result<Ending, Origin>
     ensures { MatchResult result (λ ending. OnFileOrInput file.now (λ a b. RewritesMap I.remaining W.contents a b out.old out.new (end_of ending))
         (λ a b. RewritesMap R.File.remaining W.contents a b out.old out.new (end_of ending)) input.old input.new)
         (λ _. (input.new ≡ input.old) × (out.new ≡ out.old)) }
@@ -98,7 +107,7 @@ fn map_on_file<R: Files + AllocGlobal, I: Read, W: Write>(
     match file {
         "-" => Ok(map_command::perform(rt.alloc(), input, out)),
         _ => {
-            let mut map = Counted::new(fs::open(rt, file)?);
+            let mut map = Counted::new(open_file(rt, file, Origin::Map)?);
             Ok(map_command::perform(rt.alloc(), &mut map, out))
         }
     }
@@ -112,7 +121,7 @@ fn scen_on_file<R: Files + AllocGlobal, I: Read, W: Write>(
     file: &str,
     input: &mut Counted<I>,
     out: &mut Counted<W>,
-) -> io::Result<Ending>
+) -> Result<Ending, Origin>
     ensures { MatchResult result (λ ending. OnFileOrInput file.now (λ a b. RewritesScen I.remaining W.contents a b out.old out.new (end_of ending))
         (λ a b. RewritesScen R.File.remaining W.contents a b out.old out.new (end_of ending)) input.old input.new)
         (λ _. (input.new ≡ input.old) × (out.new ≡ out.old)) }
@@ -120,7 +129,7 @@ fn scen_on_file<R: Files + AllocGlobal, I: Read, W: Write>(
     match file {
         "-" => Ok(scen_command::perform(rt.alloc(), input, out)),
         _ => {
-            let mut scen = Counted::new(fs::open(rt, file)?);
+            let mut scen = Counted::new(open_file(rt, file, Origin::Scenario)?);
             Ok(scen_command::perform(rt.alloc(), &mut scen, out))
         }
     }
@@ -132,12 +141,12 @@ fn row_on_files<R: Files + AllocGlobal, W: Write>(
     scen: &str,
     row: u32,
     out: &mut Counted<W>,
-) -> io::Result<Ending>
+) -> Result<Ending, Origin>
     ensures { MatchResult result (λ ending. OnTwoFiles (λ a b c d. AnswersRow R.File.remaining R.File.remaining W.contents a b c d row out.old out.new (end_of ending)))
         (λ _. out.new ≡ out.old) }
 {
-    let mut map = Counted::new(fs::open(rt, map)?);
-    let mut scen = Counted::new(fs::open(rt, scen)?);
+    let mut map = Counted::new(open_file(rt, map, Origin::Map)?);
+    let mut scen = Counted::new(open_file(rt, scen, Origin::Scenario)?);
     Ok(row_command::perform(rt.alloc(), &mut map, &mut scen, row, out))
 }
 
@@ -147,7 +156,7 @@ fn rows_on_files<R: Files + AllocGlobal, W: Write, E: Write>(
     is_watched: bool,
     out: &mut Counted<W>,
     err: &mut Counted<E>,
-) -> io::Result<Ending>
+) -> Result<Ending, Origin>
     ensures { MatchResult result (λ ending. OnTwoFiles (λ a b c d. AnswersRows R.File.remaining R.File.remaining W.contents (rows_asked line.now) a b c d out.old out.new (end_of ending))
         × ShowsProgress E.contents (line.now.progress || is_watched) err.old err.new)
         (λ _. (out.new ≡ out.old) × (err.new ≡ err.old)) }
@@ -158,8 +167,8 @@ fn rows_on_files<R: Files + AllocGlobal, W: Write, E: Write>(
         straight: line.straight,
         progress: is_shown(line.progress, is_watched),
     };
-    let mut map = Counted::new(fs::open(rt, &line.map)?);
-    let mut scen = Counted::new(fs::open(rt, &line.scen)?);
+    let mut map = Counted::new(open_file(rt, &line.map, Origin::Map)?);
+    let mut scen = Counted::new(open_file(rt, &line.scen, Origin::Scenario)?);
     Ok(rows_command::perform(rt.alloc(), &mut map, &mut scen, &asked, out, err))
 }
 
@@ -174,7 +183,7 @@ fn check_on_files<R: Files + AllocGlobal, W: Write>(
     rt: &R,
     line: &CheckLine,
     out: &mut Counted<W>,
-) -> io::Result<Ending>
+) -> Result<Ending, Origin>
     ensures { MatchResult result (λ ending. CheckOn R.File.remaining W.contents line.now.scen (terms_of line.now) out.old out.new (end_of ending)) (λ _. out.new ≡ out.old) }
 {
     let terms = CheckTerms {
@@ -184,12 +193,12 @@ fn check_on_files<R: Files + AllocGlobal, W: Write>(
         no_rotation: line.no_rotation,
         json: line.json,
     };
-    let mut map = Counted::new(fs::open(rt, &line.map)?);
-    let mut plan = Counted::new(fs::open(rt, &line.plan)?);
+    let mut map = Counted::new(open_file(rt, &line.map, Origin::Map)?);
+    let mut plan = Counted::new(open_file(rt, &line.plan, Origin::Plan)?);
     match &line.scen {
         None => Ok(check_command::perform(rt.alloc(), &mut map, &mut plan, &terms, out)),
         Some(scen) => {
-            let mut scen = Counted::new(fs::open(rt, scen)?);
+            let mut scen = Counted::new(open_file(rt, scen, Origin::Scenario)?);
             Ok(check_command::perform_fit(rt.alloc(), &mut map, &mut plan, &mut scen, &terms, out))
         }
     }
@@ -201,12 +210,12 @@ fn query_on_files<R: Files + AllocGlobal, W: Write>(
     plan: &str,
     query: PlanQuery,
     out: &mut Counted<W>,
-) -> io::Result<Ending>
+) -> Result<Ending, Origin>
     ensures { MatchResult result (λ ending. OnTwoFiles (λ a b c d. AnswersQuery R.File.remaining R.File.remaining W.contents query a b c d out.old out.new (end_of ending)))
         (λ _. out.new ≡ out.old) }
 {
-    let mut map = Counted::new(fs::open(rt, map)?);
-    let mut plan = Counted::new(fs::open(rt, plan)?);
+    let mut map = Counted::new(open_file(rt, map, Origin::Map)?);
+    let mut plan = Counted::new(open_file(rt, plan, Origin::Plan)?);
     Ok(answer_query(rt.alloc(), &mut map, &mut plan, query, out))
 }
 
@@ -244,14 +253,14 @@ fn continues_on_files<R: Files + AllocGlobal, W: Write>(
     rt: &R,
     paths: [&str; 3],
     out: &mut Counted<W>,
-) -> io::Result<Ending>
+) -> Result<Ending, Origin>
     ensures { MatchResult result (λ ending. OnThreeFiles (λ a b c d e f. AnswersContinues R.File.remaining R.File.remaining R.File.remaining W.contents a b c d e f out.old out.new (end_of ending)))
         (λ _. out.new ≡ out.old) }
 {
     let [map, old, new] = paths;
-    let mut map = Counted::new(fs::open(rt, map)?);
-    let mut old = Counted::new(fs::open(rt, old)?);
-    let mut new = Counted::new(fs::open(rt, new)?);
+    let mut map = Counted::new(open_file(rt, map, Origin::Map)?);
+    let mut old = Counted::new(open_file(rt, old, Origin::OldPlan)?);
+    let mut new = Counted::new(open_file(rt, new, Origin::Plan)?);
     Ok(continues_command::perform(rt.alloc(), &mut map, &mut old, &mut new, out))
 }
 
@@ -259,13 +268,13 @@ fn optimal_on_files<R: Files + AllocGlobal, W: Write>(
     rt: &R,
     line: &OptimalLine,
     out: &mut Counted<W>,
-) -> io::Result<Ending>
+) -> Result<Ending, Origin>
     ensures { MatchResult result (λ ending. OnThreeFiles (λ a b c d e f. AnswersOptimal R.File.remaining R.File.remaining R.File.remaining W.contents line.now.json a b c d e f out.old out.new (end_of ending)))
         (λ _. out.new ≡ out.old) }
 {
-    let mut map = Counted::new(fs::open(rt, &line.map)?);
-    let mut plan = Counted::new(fs::open(rt, &line.plan)?);
-    let mut proof = Counted::new(fs::open(rt, &line.proof)?);
+    let mut map = Counted::new(open_file(rt, &line.map, Origin::Map)?);
+    let mut plan = Counted::new(open_file(rt, &line.plan, Origin::Plan)?);
+    let mut proof = Counted::new(open_file(rt, &line.proof, Origin::Proof)?);
     Ok(optimal_command::perform(rt.alloc(), &mut map, &mut plan, &mut proof, line.json, out))
 }
 
@@ -274,14 +283,14 @@ fn run_on_files<R: Files + AllocGlobal, W: Write>(
     paths: [&str; 3],
     complete: bool,
     out: &mut Counted<W>,
-) -> io::Result<Ending>
+) -> Result<Ending, Origin>
     ensures { MatchResult result (λ ending. OnThreeFiles (λ a b c d e f. AnswersRun R.File.remaining R.File.remaining R.File.remaining W.contents a b c d e f complete out.old out.new (end_of ending)))
         (λ _. out.new ≡ out.old) }
 {
     let [map, plan, events] = paths;
-    let mut map = Counted::new(fs::open(rt, map)?);
-    let mut plan = Counted::new(fs::open(rt, plan)?);
-    let mut events = Counted::new(fs::open(rt, events)?);
+    let mut map = Counted::new(open_file(rt, map, Origin::Map)?);
+    let mut plan = Counted::new(open_file(rt, plan, Origin::Plan)?);
+    let mut events = Counted::new(open_file(rt, events, Origin::Events)?);
     Ok(run_command::perform(rt.alloc(), &mut map, &mut plan, &mut events, complete, out))
 }
 
@@ -292,15 +301,15 @@ fn agent_on_files<R: Files + AllocGlobal, I: Read, W: Write>(
     seat: Seat<'_>,
     input: &mut Counted<I>,
     out: &mut Counted<W>,
-) -> io::Result<Ending>
+) -> Result<Ending, Origin>
 where
     R::File: LockFile,
     ensures { MatchResult result (λ ending. OnTwoFiles (λ a b c d. AnswersAgent R.File.remaining R.File.remaining R.File.remaining I.remaining W.contents seat.entry.claim seat.entry.id a b c d input.old input.new out.old out.new (end_of ending)))
         (λ _. (input.new ≡ input.old) × (out.new ≡ out.old)) }
 {
     let [map, plan] = paths;
-    let mut map = Counted::new(fs::open(rt, map)?);
-    let mut plan = Counted::new(fs::open(rt, plan)?);
+    let mut map = Counted::new(open_file(rt, map, Origin::Map)?);
+    let mut plan = Counted::new(open_file(rt, plan, Origin::Plan)?);
     Ok(agent_command::perform(rt, &mut map, &mut plan, seat, input, out))
 }
 
@@ -310,20 +319,20 @@ fn tape_on_files<R: Files + AllocGlobal, W: Write>(
     paths: [&str; 3],
     id: u16,
     out: &mut Counted<W>,
-) -> io::Result<Ending>
+) -> Result<Ending, Origin>
     ensures { MatchResult result (λ ending. OnThreeFiles (λ a b c d e f. AnswersTape R.File.remaining R.File.remaining R.File.remaining W.contents id a b c d e f out.old out.new (end_of ending))
         ⊎ (EndsWithoutTape (end_of ending) × (out.new ≡ out.old))) (λ _. out.new ≡ out.old) }
 {
     let [map, plan, tape] = paths;
-    let mut map = Counted::new(fs::open(rt, map)?);
-    let mut plan = Counted::new(fs::open(rt, plan)?);
+    let mut map = Counted::new(open_file(rt, map, Origin::Map)?);
+    let mut plan = Counted::new(open_file(rt, plan, Origin::Plan)?);
     match open_to_read(rt, tape) {
         Ok(file) => {
             let mut tape = Counted::new(file);
             Ok(tape_command::perform(rt.alloc(), &mut map, &mut plan, id, &mut tape, out))
         }
         Err(AgentFault::NoTape) => Ok(tape_command::without_tape()),
-        Err(_) => Err(io::Error::from(ErrorKind::InvalidInput)),
+        Err(_) => Err(Origin::Tape),
     }
 }
 
@@ -332,12 +341,12 @@ fn fleet_on_files<R: Files + AllocGlobal, W: Write>(
     rt: &R,
     line: &FleetLine,
     out: &mut Counted<W>,
-) -> io::Result<Ending>
+) -> Result<Ending, Origin>
     ensures { MatchResult result (λ ending. OnTwoFiles (λ a b c d. AnswersFleet R.File.remaining R.File.remaining R.File.remaining W.contents line.now.query a b c d out.old out.new (end_of ending)))
         (λ _. out.new ≡ out.old) }
 {
-    let mut map = Counted::new(fs::open(rt, &line.map)?);
-    let mut plan = Counted::new(fs::open(rt, &line.plan)?);
+    let mut map = Counted::new(open_file(rt, &line.map, Origin::Map)?);
+    let mut plan = Counted::new(open_file(rt, &line.plan, Origin::Plan)?);
     let tapes = &line.tapes;
     match line.query {
         FleetQuery::Status { json } => {
@@ -360,7 +369,7 @@ fn fleet_on_files<R: Files + AllocGlobal, W: Write>(
 pub(crate) fn files_of(
     line: &Line,
 ) -> (NamedFile<'_>, Option<NamedFile<'_>>, Option<NamedFile<'_>>) {
-    use FileKind::{Events, Map, Plan, Proof, Scenario, Tape};
+    use Origin::{Events, Map, OldPlan, Plan, Proof, Scenario, Tape};
     match line {
         Line::Map { file } => (file_of(Map, file), None, None),
         Line::Scen { file } => (file_of(Scenario, file), None, None),
@@ -378,7 +387,7 @@ pub(crate) fn files_of(
         Line::Query { map, plan, .. } => (file_of(Map, map), Some(file_of(Plan, plan)), None),
         Line::Continues { map, old, new } => (
             file_of(Map, map),
-            Some(file_of(Plan, old)),
+            Some(file_of(OldPlan, old)),
             Some(file_of(Plan, new)),
         ),
         Line::Optimal(optimal) => (
@@ -418,6 +427,6 @@ pub(crate) fn files_of(
     }
 }
 
-pub(crate) fn file_of(kind: FileKind, path: &str) -> NamedFile<'_> {
-    NamedFile { kind, path }
+pub(crate) fn file_of(origin: Origin, path: &str) -> NamedFile<'_> {
+    NamedFile { origin, path }
 }

@@ -2,9 +2,9 @@
 use agent_commands::plan_beside;
 use continuing::continues;
 use explain::open_again;
-use plan::{Plan, read_plan};
+use plan_text::{Plan, read_plan};
 use std::rt::Files;
-use text_io::{Counted, FaultWords};
+use text_io::{Counted, FaultName, FaultWords};
 
 /// Where the fault with these words is that a tape belongs to another plan: why the plan of a file doesn't go on from the one that is beside the tape, if
 /// both can be read once more.
@@ -16,7 +16,7 @@ pub(crate) fn parting<R: Files + AllocGlobal>(
     tape: &str,
     plan: &str,
 ) -> Option<FaultWords> {
-    if words.name() != "OtherPlan" {
+    if words.fault() != FaultName::OtherPlan {
         return None;
     }
     let kept = plan_beside(rt, tape).ok()??;

@@ -2,24 +2,21 @@
 ghost use Rattle.std.specs.Prelude.{map, string_bytes};
 ghost use Rattle.explain.specs.Explaining.{AddsMore};
 ghost use Rattle.text_io.specs.Counted.{counted_inner};
-ghost use Rattle.text_commands.specs.Ending.{end_of};
+ghost use Rattle.ending.specs.Ending.{end_of};
 ghost use Rattle.mapf_cmd.specs.Program.{AnswersLine, AnswersWords, Performs, ShowsOn};
 
-use crate::blamed_plan::{is_of_new, is_of_proof};
+use crate::low_leaf::leaf_again;
 use crate::on_files::{file_of, files_of, perform_on_files};
 use crate::parted_plans::parting;
 use crate::unperformed::end_unperformed;
 use agent_commands::name_beside;
-use command_line::{Asked, Line, line};
-use explain::{FileKind, Style, explain};
+use command_line::{Asked, Line, OptimalLine, line};
+use ending::{Ending, conclude};
+use explain::{Style, Subject, explain};
 use std::io::{Read, Write};
 use std::rt::Files;
 use tape_claim::{LockFile, TapeClaim};
-use text_commands::{Ending, conclude};
-use text_io::{Counted, Failure, FaultWords};
-
-/// The fault of a proof that the map and the plan explain too.
-const LEAF_TOO_LOW: &str = "LeafTooLow";
+use text_io::{Counted, Failure, FaultWords, Origin};
 
 /// What is known of the error output: how explanations look there, and whether somebody watches it, who wants to see progress.
 #[derive(Clone, Copy, Debug)]
@@ -90,7 +87,7 @@ where
 {
     match perform_on_files(rt, line, is_watched, input, out, err) {
         Ok(ending) => ending,
-        Err(_) => Ending::gave_up(Failure::OpenFailed.words()),
+        Err(origin) => Ending::gave_up(Failure::OpenFailed.words().of(origin)),
     }
 }
 
@@ -116,6 +113,7 @@ fn explain_fault<R: Files + AllocGlobal, E: Write>(
         } if *claim != TapeClaim::Any => {
             explain_agent(rt, [map, plan, tape], words, style, err);
         }
+        Line::Optimal(optimal) => explain_proof(rt, optimal, words, style, err),
         _ => explain_by_files(rt, line, words, style, err),
     }
 }
@@ -132,20 +130,46 @@ fn explain_agent<R: Files + AllocGlobal, E: Write>(
 {
     let [map, plan, tape] = paths;
     let files = [
-        file_of(FileKind::Map, map),
-        file_of(FileKind::Plan, plan),
-        file_of(FileKind::Tape, tape),
+        file_of(Origin::Map, map),
+        file_of(Origin::Plan, plan),
+        file_of(Origin::Tape, tape),
     ];
     let Ok(beside) = name_beside(rt.alloc(), tape) else {
-        explain(rt, &files, &[words], style, err);
+        explain(rt, &files, of_faults(&[words]), style, err);
         return;
     };
     let [map, plan, tape] = files;
-    let files = [map, plan, tape, file_of(FileKind::KeptPlan, &beside)];
+    let files = [map, plan, tape, file_of(Origin::KeptPlan, &beside)];
     match parting(rt, &words, tape.path, plan.path) {
-        Some(parted) => explain(rt, &files, &[words, parted], style, err),
-        None => explain(rt, &files, &[words], style, err),
+        Some(parted) => explain(rt, &files, of_faults(&[words, parted]), style, err),
+        None => explain(rt, &files, of_faults(&[words]), style, err),
     }
+}
+
+/// Explains the fault of a proof, with what its leaf says where that is too low.
+fn explain_proof<R: Files + AllocGlobal, E: Write>(
+    rt: &R,
+    line: &OptimalLine,
+    words: FaultWords,
+    style: Style,
+    err: &mut Counted<E>,
+)
+    ensures { AddsMore (E.contents (counted_inner err.old)) (E.contents (counted_inner err.new)) }
+{
+    let files = [
+        file_of(Origin::Map, &line.map),
+        file_of(Origin::Plan, &line.plan),
+        file_of(Origin::Proof, &line.proof),
+    ];
+    let leaf = leaf_again(rt, line, &words);
+    let subject = Subject {
+        faults: &[words],
+        more: match &leaf {
+            Some(text) => text.as_str(),
+            None => "",
+        },
+    };
+    explain(rt, &files, subject, style, err);
 }
 
 /// Explains the fault of a command by the files that it names.
@@ -158,19 +182,18 @@ fn explain_by_files<R: Files + AllocGlobal, E: Write>(
 )
     ensures { AddsMore (E.contents (counted_inner err.old)) (E.contents (counted_inner err.new)) }
 {
-    match (line, files_of(line)) {
-        (Line::Continues { map, old, new }, (first, _, Some(third)))
-            if is_of_new(rt, [map, old, new], &words) => {
-            explain(rt, &[first, third], &[words], style, err);
+    let faults = [words];
+    let subject = of_faults(&faults);
+    match files_of(line) {
+        (first, Some(second), Some(third)) => {
+            explain(rt, &[first, second, third], subject, style, err);
         }
-        (Line::Optimal(optimal), (_, _, Some(proof)))
-            if words.name() != LEAF_TOO_LOW && is_of_proof(rt, &optimal.map, &optimal.plan) => {
-            explain(rt, &[proof], &[words], style, err);
-        }
-        (_, (first, Some(second), Some(third))) => {
-            explain(rt, &[first, second, third], &[words], style, err);
-        }
-        (_, (first, Some(second), None)) => explain(rt, &[first, second], &[words], style, err),
-        (_, (first, None, _)) => explain(rt, &[first], &[words], style, err),
+        (first, Some(second), None) => explain(rt, &[first, second], subject, style, err),
+        (first, None, _) => explain(rt, &[first], subject, style, err),
     }
+}
+
+/// Faults of which no more is known.
+fn of_faults(faults: &[FaultWords]) -> Subject<'_> {
+    Subject { faults, more: "" }
 }

@@ -1,13 +1,13 @@
 //! How the program ends where its words are no command.
 ghost use Rattle.std.specs.Prelude.{◌≡◌, IfSome, map, string_bytes};
-ghost use Rattle.text_commands.specs.Ending.{EndsAndTells, answered_with};
-ghost use Rattle.text_commands.specs.Rewriting.{EndsWriting};
+ghost use Rattle.ending.specs.Ending.{EndsAndTells, answered_with};
+ghost use Rattle.ending.specs.Rewriting.{EndsWriting};
 ghost use Rattle.mapf_cmd.specs.Program.{AsksForFaultHelp, EndsRefused, EndsUnperformed};
 
 use command_line::LineFault;
+use ending::{Ending, Status, conclude, finish, write_text};
 use explain::{FaultHelp, fault_help};
 use std::io::Write;
-use text_commands::{Ending, Status, conclude, finish, write_text};
 use text_io::{Counted, Failure};
 
 /// Shows help on a fault, where the words ask for that, and else what `refuse` does. The answer is the exit status.

@@ -4,7 +4,7 @@ ghost use Rattle.text_io.specs.FaultWords.{words_of, words_text};
 ghost use Rattle.model.specs.FaultWords.{msg_fault_words};
 
 use std::fmt;
-use text_io::FaultWords;
+use text_io::{FaultName, FaultWords};
 use thiserror::Error;
 
 /// What is wrong with the bytes of a message.
@@ -23,10 +23,10 @@ impl MsgFault {
         ensures { words_of result ≡ msg_fault_words self }
     {
         match self {
-            MsgFault::BadLength => FaultWords::new("BadLength", &[]),
-            MsgFault::BadMagic => FaultWords::new("BadMagic", &[]),
-            MsgFault::BadVersion => FaultWords::new("BadVersion", &[]),
-            MsgFault::BadEntry(entry) => FaultWords::new("BadEntry", &[u64::from(entry)]),
+            MsgFault::BadLength => FaultWords::new(FaultName::BadLength, &[]),
+            MsgFault::BadMagic => FaultWords::new(FaultName::BadMagic, &[]),
+            MsgFault::BadVersion => FaultWords::new(FaultName::BadVersion, &[]),
+            MsgFault::BadEntry(entry) => FaultWords::new(FaultName::BadEntry, &[u64::from(entry)]),
         }
     }
 }

@@ -5,7 +5,7 @@ ghost use Rattle.model.specs.FaultWords.{plan_fault_words};
 
 use grid::Cell;
 use std::fmt;
-use text_io::{Failure, FaultWords};
+use text_io::{Failure, FaultName, FaultWords, Origin};
 use thiserror::Error;
 
 /// A fault of a plan: agents, then the step or the time, and the cell (Stern et al. 2019, "Types of conflicts").
@@ -27,25 +27,26 @@ impl PlanFault {
     pub fn words(self) -> FaultWords
         ensures { words_of result ≡ plan_fault_words self }
     {
-        match self {
-            PlanFault::BadStart(agent) => FaultWords::new("BadStart", &[u64::from(agent)]),
+        let words = match self {
+            PlanFault::BadStart(agent) => FaultWords::new(FaultName::BadStart, &[u64::from(agent)]),
             PlanFault::BadMove(agent, step) => FaultWords::new(
-                "BadMove",
+                FaultName::BadMove,
                 &[u64::from(agent), u64::from(step)],
             ),
             PlanFault::Vertex(first, second, time, cell) => {
                 let (first, second, time) = (u64::from(first), u64::from(second), u64::from(time));
                 FaultWords::new(
-                    "Vertex",
+                    FaultName::Vertex,
                     &[first, second, time, u64::from(cell.x), u64::from(cell.y)],
                 )
             }
             PlanFault::Swap(first, second, step) => FaultWords::new(
-                "Swap",
+                FaultName::Swap,
                 &[u64::from(first), u64::from(second), u64::from(step)],
             ),
             PlanFault::OutOfMemory => Failure::OutOfMemory.words(),
-        }
+        };
+        words.of(Origin::Plan)
     }
 }
 

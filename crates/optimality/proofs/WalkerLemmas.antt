@@ -14,7 +14,7 @@ use Rattle.model.specs.Laws.Places.{same_place}
 use Rattle.model.specs.Laws.Tracks.{cell_at-start}
 use Rattle.model.specs.Plan.{AreTracksOf, Course, IsPassable, IsTrackOf, IsValid, Plan, moved, position_at, position_of}
 use Rattle.model.specs.Timetable.{Track, cell_at}
-use Rattle.plan.specs.Laws.Walking.{bad-moved, bad_at, moved-place, position-stays, position_at-start, step_from_legal}
+use Rattle.checker.specs.Laws.Walking.{bad-moved, bad_at, moved-place, position-stays, position_at-start, step_from_legal}
 use Rattle.optimality.specs.Splitting.{ends_of}
 use Rattle.optimality.specs.Walkers.{IsAgentWalk, MayFollow}
 

@@ -1,31 +1,10 @@
-//! Plans: the checker, what they cost, and which rows of a scenario they solve. Their text stands in a crate below.
+//! What callers use of plans: their text, the checker, what plans cost, and which rows of a scenario they solve. All of it stands in
+//! crates below and is passed on.
 #![tactic(auto)]
 
-mod act_row;
-mod block;
-mod board;
-mod cells;
-mod checked_plan;
-mod checker;
-mod crowd;
-mod explaining;
-mod fit_fault;
-mod fitting;
-mod meeting;
-mod moving;
-mod resting;
-mod straying;
-mod stretch;
-mod under_way;
-mod walking;
-
-pub use cells::Cells;
-pub use checked_plan::CheckedPlan;
-pub use checker::{Rejected, check};
-pub use fit_fault::FitFault;
-pub use fitting::fits;
+pub use checker::{
+    BLOCK, Cells, CheckedPlan, Rejected, Stretch, bad_start, check, may_stray, moved, next_cell,
+};
+pub use fitting::{FitFault, fits};
 pub use model::{Act, PlanFault};
-pub use moving::{bad_start, moved, next_cell};
 pub use plan_text::{Plan, PlanTextFault, PushFault, read_plan, write_plan};
-pub use straying::may_stray;
-pub use stretch::{BLOCK, Stretch};

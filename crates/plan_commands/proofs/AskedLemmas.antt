@@ -4,7 +4,7 @@ use Rattle.std.specs.Prelude.{slice_get}
 use Rattle.std.proofs.lemmas.List.{drop_more}
 use Rattle.std.proofs.lemmas.Option.{slice_get-get_or}
 use Rattle.model.specs.Plan.{Course, Plan}
-use Rattle.plan.specs.Laws.Walking.{no_course}
+use Rattle.checker.specs.Laws.Walking.{no_course}
 use Rattle.plan_commands.specs.PathText.{AreAsked}
 use Rattle.plan_commands.specs.Code.Rows.{AllWalked}
 

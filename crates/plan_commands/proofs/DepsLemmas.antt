@@ -10,7 +10,7 @@ use Rattle.text_io.specs.Text.{line_feed, ended}
 use Rattle.grid.specs.declared.cell.Cell.{Cell}
 use Rattle.model.specs.Timetable.{Track, Timetable, moves, moves_after, same_cell}
 use Rattle.model.specs.Dependency.{Need, need}
-use Rattle.plan.specs.Checking.{steps_in}
+use Rattle.checker.specs.Checking.{steps_in}
 use Rattle.depgraph.specs.Routes.{asked, asked_by}
 use Rattle.plan_commands.specs.DepsText.{needs_of, need_lines, all_need_lines}
 use Rattle.plan_commands.specs.Code.Dependencies.{need_text}

@@ -14,10 +14,10 @@ use Rattle.model.specs.Timetable.{Track, cell_after, cell_at}
 use Rattle.model.specs.Laws.Places.{same_place}
 use Rattle.model.specs.Laws.Tracks.{cell_at-start}
 use Rattle.plan_text.specs.Limits.{most_acts}
-use Rattle.plan.specs.Code.Standing.{cell_in}
-use Rattle.plan.specs.Code.Tracks.{cell_by, cells_along, track_along}
-use Rattle.plan.specs.Code.Walking.{start_cells}
-use Rattle.plan.specs.Laws.Walking.{no_course}
+use Rattle.checker.specs.Code.Standing.{cell_in}
+use Rattle.checker.specs.Code.Tracks.{cell_by, cells_along, track_along}
+use Rattle.checker.specs.Code.Walking.{start_cells}
+use Rattle.checker.specs.Laws.Walking.{no_course}
 use Rattle.plan_commands.specs.PathText.{AreCellsAt, AreCellRows, count_of_times, numbers_of, path_line, path_lines}
 use Rattle.plan_commands.specs.Code.Rows.{AllWalked, row_at, rows_from, rows_of_courses}
 

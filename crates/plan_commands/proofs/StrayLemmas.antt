@@ -7,11 +7,11 @@ use Rattle.model.specs.Plan.{Course, IsBadMove}
 use Rattle.model.specs.Timetable.{cell_after}
 use Rattle.model.specs.Laws.Places.{same_place}
 use Rattle.plan_text.specs.Limits.{most_acts}
-use Rattle.plan.specs.Moving.{KeepsToGround, KeepToGround}
-use Rattle.plan.specs.Code.Tracks.{cells_along}
-use Rattle.plan.specs.Code.Walking.{HasBadMove, IsFirst}
-use Rattle.plan.specs.Laws.Courses.{Stays, along-places}
-use Rattle.plan.specs.Laws.Walking.{bad_at, course_from}
+use Rattle.checker.specs.Moving.{KeepsToGround, KeepToGround}
+use Rattle.checker.specs.Code.Tracks.{cells_along}
+use Rattle.checker.specs.Code.Walking.{HasBadMove, IsFirst}
+use Rattle.checker.specs.Laws.Courses.{Stays, along-places}
+use Rattle.checker.specs.Laws.Walking.{bad_at, course_from}
 use Rattle.plan_commands.specs.Code.Straying.{AllHaveFewActs, GoesItsWay, IsFirstMove, IsLeastMove, sooner_of}
 use Rattle.plan_commands.specs.declared.straying.BadMove.{BadMove}
 

@@ -9,10 +9,10 @@ use Rattle.model.specs.declared.act.Act.{Act}
 use Rattle.model.specs.declared.act.Act.TheVariants.{N, Wait}
 use Rattle.model.specs.Plan.{Course}
 use Rattle.model.specs.Timetable.{cell_at}
-use Rattle.plan.specs.Moving.{IsStretch, cell_by}
-use Rattle.plan.specs.Code.Standing.{cell_in}
-use Rattle.plan.specs.Code.Tracks.{track_along}
-use Rattle.plan.specs.Laws.Walking.{no_course}
+use Rattle.checker.specs.Moving.{IsStretch, cell_by}
+use Rattle.checker.specs.Code.Standing.{cell_in}
+use Rattle.checker.specs.Code.Tracks.{track_along}
+use Rattle.checker.specs.Laws.Walking.{no_course}
 use Rattle.plan_commands.specs.Code.Rows.{AllWalked, row_at}
 use Rattle.plan_commands.specs.Code.Walks.{IsCellInRange, acts_of_agent, act_in, AreStretches, begun}
 use Rattle.plan_commands.proofs.RowLemmas.{after_act, after_all, is_row, no_cell, row_in}

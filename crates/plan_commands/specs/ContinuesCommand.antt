@@ -9,13 +9,13 @@ use Rattle.plan_text.specs.PlanTextFault.{ReadsPlan, ReadsMapAndPlan}
 use Rattle.continuing.specs.Adding.{AddsMoves}
 use Rattle.continuing.specs.Continuing.{Continues}
 use Rattle.continuing.specs.Departing.{IsContinueFault}
-use Rattle.plan.specs.Checking.{IsRefusedFor}
+use Rattle.checker.specs.Checking.{IsRefusedFor}
 use Rattle.plan_commands.specs.declared.continues_command.Continuation.{Continuation}
 use Rattle.plan_commands.specs.declared.continuation_fault.ContinuationFault.{ContinuationFault}
 use Rattle.plan_commands.specs.declared.continuation_fault.ContinuationFault.TheVariants.{Map, OldText, NewText, Old, New, Apart}
-use Rattle.text_commands.specs.declared.status.Status.TheVariants.{Done}
-use Rattle.text_commands.specs.Ending.{End, answered_with, gave_up}
-use Rattle.text_commands.specs.Rewriting.{EndsByLine}
+use Rattle.ending.specs.declared.status.Status.TheVariants.{Done}
+use Rattle.ending.specs.Ending.{End, answered_with, gave_up}
+use Rattle.ending.specs.Rewriting.{EndsByLine}
 use Rattle.plan_commands.specs.FaultWords.{continuation_fault_words}
 
 -- The new plan continues the old one. It adds to it from this time on, the most acts of an agent of the old one, and by so many moves.

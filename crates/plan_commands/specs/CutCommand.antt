@@ -7,13 +7,13 @@ use Rattle.model.specs.Plan.{Plan, IsValid}
 use Rattle.plan_text.specs.PlanText.{canonical_plan_text}
 use Rattle.plan_text.specs.PlanTextFault.{ReadsPlan, ReadsMapAndPlan}
 use Rattle.continuing.specs.Continuing.{cut_at}
-use Rattle.plan.specs.Checking.{IsRefusedFor}
+use Rattle.checker.specs.Checking.{IsRefusedFor}
 use Rattle.planned.specs.FaultWords.{planned_fault_words}
 use Rattle.planned.specs.declared.planned_fault.PlannedFault.{PlannedFault}
 use Rattle.planned.specs.declared.planned_fault.PlannedFault.TheVariants as planned_fault
-use Rattle.text_commands.specs.declared.status.Status.TheVariants.{Done}
-use Rattle.text_commands.specs.Ending.{End, answered_with, gave_up}
-use Rattle.text_commands.specs.Rewriting.{EndsWriting}
+use Rattle.ending.specs.declared.status.Status.TheVariants.{Done}
+use Rattle.ending.specs.Ending.{End, answered_with, gave_up}
+use Rattle.ending.specs.Rewriting.{EndsWriting}
 
 -- The map was read, and then the plan, which is valid, and this is what is left of it where it is cut at the time; or it is refused for
 -- its least fault, or for want of memory. A text that could not be read is answered, and what comes after it isn't touched.

@@ -7,9 +7,9 @@ use Rattle.model.specs.Timetable.{Timetable}
 use Rattle.planned.specs.FaultWords.{planned_fault_words}
 use Rattle.planned.specs.Planned.{ReadsTimetable}
 use Rattle.planned.specs.declared.planned_fault.PlannedFault.{PlannedFault}
-use Rattle.text_commands.specs.declared.status.Status.TheVariants.{Done}
-use Rattle.text_commands.specs.Ending.{End, answered_with, gave_up}
-use Rattle.text_commands.specs.Rewriting.{EndsWriting}
+use Rattle.ending.specs.declared.status.Status.TheVariants.{Done}
+use Rattle.ending.specs.Ending.{End, answered_with, gave_up}
+use Rattle.ending.specs.Rewriting.{EndsWriting}
 use Rattle.plan_commands.specs.CellVisitsText.{AreCellVisits, visits_text}
 
 -- What the output got and how the command ended: the text of the cell's visits in the timetable, or a beginning of it where the output

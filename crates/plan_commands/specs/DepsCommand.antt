@@ -6,9 +6,9 @@ use Rattle.depgraph.specs.Rotations.{Turn, AreRotations}
 use Rattle.planned.specs.FaultWords.{planned_fault_words}
 use Rattle.planned.specs.Planned.{ReadsTimetable}
 use Rattle.planned.specs.declared.planned_fault.PlannedFault.{PlannedFault}
-use Rattle.text_commands.specs.declared.status.Status.TheVariants.{Done}
-use Rattle.text_commands.specs.Ending.{End, answered_with, gave_up}
-use Rattle.text_commands.specs.Rewriting.{EndsWriting}
+use Rattle.ending.specs.declared.status.Status.TheVariants.{Done}
+use Rattle.ending.specs.Ending.{End, answered_with, gave_up}
+use Rattle.ending.specs.Rewriting.{EndsWriting}
 use Rattle.plan_commands.specs.DepsText.{deps_text}
 
 -- What the output got and how the command ended: the text of the timetable's dependencies, with all its rotations, or a beginning of it

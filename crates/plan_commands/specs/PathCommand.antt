@@ -8,9 +8,9 @@ use Rattle.model.specs.Plan.{Course, Plan}
 use Rattle.plan_text.specs.PlanTextFault.{ReadsPlan, ReadsMapAndPlan}
 use Rattle.planned.specs.declared.planned_fault.PlannedFault.{PlannedFault}
 use Rattle.planned.specs.declared.planned_fault.PlannedFault.TheVariants as planned_fault
-use Rattle.text_commands.specs.declared.status.Status.TheVariants.{Done}
-use Rattle.text_commands.specs.Ending.{End, answered_with, gave_up}
-use Rattle.text_commands.specs.Rewriting.{EndsWriting}
+use Rattle.ending.specs.declared.status.Status.TheVariants.{Done}
+use Rattle.ending.specs.Ending.{End, answered_with, gave_up}
+use Rattle.ending.specs.Rewriting.{EndsWriting}
 use Rattle.plan_commands.specs.FaultWords.{path_fault_words}
 use Rattle.plan_commands.specs.PathText.{AreAsked, AreCellRows, path_text}
 use Rattle.plan_commands.specs.Walkable.{IsWalkable, IsLeastOfOneAgent}

@@ -6,9 +6,10 @@ ghost use Rattle.plan_commands.specs.declared.continuation_fault.ContinuationFau
 
 use continuing::ContinueFault;
 use grid::MapFault;
-use plan::{PlanFault, PlanTextFault};
+use model::PlanFault;
+use plan_text::PlanTextFault;
 use std::fmt;
-use text_io::FaultWords;
+use text_io::{FaultWords, Origin};
 use thiserror::Error;
 
 /// Why a plan is not found to continue another.
@@ -29,14 +30,16 @@ pub(crate) enum ContinuationFault {
 }
 
 impl ContinuationFault {
-    /// The words in which it is told: those of the inner fault, which don't say which plan has it.
+    /// The words in which it is told: those of the inner fault. An explanation knows which plan has it.
     pub(crate) fn words(self) -> FaultWords
         ensures { words_of result ≡ continuation_fault_words self }
     {
         match self {
             ContinuationFault::Map(fault) => fault.words(),
-            ContinuationFault::OldText(fault) | ContinuationFault::NewText(fault) => fault.words(),
-            ContinuationFault::Old(fault) | ContinuationFault::New(fault) => fault.words(),
+            ContinuationFault::OldText(fault) => fault.words().of(Origin::OldPlan),
+            ContinuationFault::NewText(fault) => fault.words(),
+            ContinuationFault::Old(fault) => fault.words().of(Origin::OldPlan),
+            ContinuationFault::New(fault) => fault.words(),
             ContinuationFault::Apart(fault) => fault.words(),
         }
     }

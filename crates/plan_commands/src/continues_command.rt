@@ -1,18 +1,19 @@
 //! `mapf continues`: says whether a plan goes on from another.
 ghost use Rattle.std.specs.Prelude.{IfOk, MatchResult, string_bytes, ◌≡◌};
-ghost use Rattle.text_commands.specs.Ending.{EndsAndTells, answered_with, end_of};
-ghost use Rattle.text_commands.specs.declared.status.Status.TheVariants.{Done};
+ghost use Rattle.ending.specs.Ending.{EndsAndTells, answered_with, end_of};
+ghost use Rattle.ending.specs.declared.status.Status.TheVariants.{Done};
 ghost use Rattle.continuing.specs.Departing.{IsContinueFault};
-ghost use Rattle.text_commands.specs.Rewriting.{EndsByLine};
+ghost use Rattle.ending.specs.Rewriting.{EndsByLine};
 ghost use Rattle.plan_commands.specs.ContinuesCommand.{AnswersContinues, IsContinuation, JudgesPlans, ReadsContinuation, continuation_line};
 
 use crate::continuation_fault::ContinuationFault;
+use checker::check;
 use continuing::{ContinueFault, added_moves, continues, longest};
+use ending::{Ending, Status, conclude, finish, write_text};
 use grid::{Map, read_map};
-use plan::{Plan, check, read_plan};
+use plan_text::{Plan, read_plan};
 use std::alloc::{AllocError, Global};
 use std::io::{Read, Write};
-use text_commands::{Ending, Status, conclude, finish, write_text};
 use text_io::{Counted, Failure};
 
 /// As `perform`, with a fault's line on `err`. The answer is the exit status, which stays where

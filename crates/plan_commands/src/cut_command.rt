@@ -1,15 +1,15 @@
 //! `mapf cut`: writes a plan without what its agents do from a time on.
-ghost use Rattle.text_commands.specs.Ending.{EndsAndTells, end_of};
+ghost use Rattle.ending.specs.Ending.{EndsAndTells, end_of};
 ghost use Rattle.plan_commands.specs.CutCommand.{AnswersCut, ReadsCut};
 
+use checker::check;
 use continuing::cut;
+use ending::{Ending, Status, conclude, finish};
 use grid::read_map;
-use plan::{check, read_plan};
-use plan_text::{Plan, write_plan};
+use plan_text::{Plan, read_plan, write_plan};
 use planned::PlannedFault;
 use std::alloc::Global;
 use std::io::{Read, Write};
-use text_commands::{Ending, Status, conclude, finish};
 use text_io::Counted;
 
 /// As `perform`, with a fault's line on `err`. The answer is the exit status, which stays where

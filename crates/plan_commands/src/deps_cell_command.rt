@@ -1,15 +1,15 @@
 //! `mapf deps --cell`: says who comes into a cell of a plan, and in which order.
-ghost use Rattle.text_commands.specs.Ending.{EndsAndTells, end_of};
+ghost use Rattle.ending.specs.Ending.{EndsAndTells, end_of};
 ghost use Rattle.plan_commands.specs.CellVisitsText.{AreCellVisits};
 ghost use Rattle.plan_commands.specs.DepsCellCommand.{AnswersDepsCell};
 
 use crate::visits_text::write_visits;
 use depgraph::{Graph, Visit};
+use ending::{Ending, Status, conclude, finish};
 use grid::Cell;
 use planned::read_graph;
 use std::alloc::Global;
 use std::io::{Read, Write};
-use text_commands::{Ending, Status, conclude, finish};
 use text_io::Counted;
 
 /// As `perform`, with a fault's line on `err`. The answer is the exit status, which stays where

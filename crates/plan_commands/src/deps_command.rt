@@ -1,12 +1,12 @@
 //! `mapf deps`: says which moves of a plan wait for which.
-ghost use Rattle.text_commands.specs.Ending.{EndsAndTells, end_of};
+ghost use Rattle.ending.specs.Ending.{EndsAndTells, end_of};
 ghost use Rattle.plan_commands.specs.DepsCommand.{AnswersDeps};
 
 use crate::deps_text::write_deps;
+use ending::{Ending, Status, conclude, finish};
 use planned::read_dependencies;
 use std::alloc::Global;
 use std::io::{Read, Write};
-use text_commands::{Ending, Status, conclude, finish};
 use text_io::Counted;
 
 /// As `perform`, with a fault's line on `err`. The answer is the exit status, which stays where

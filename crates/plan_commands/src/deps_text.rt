@@ -10,8 +10,8 @@ ghost use Rattle.plan_commands.specs.DepsText.{need_lines, all_need_lines, rotat
 ghost use Rattle.plan_commands.specs.Code.Dependencies.{HasNeedsOf, need_text};
 
 use depgraph::{Dependencies, Part, Rotation};
+use ending::put_number;
 use std::io::Write;
-use text_commands::put_number;
 use text_io::{Counted, Sink, WriteFault};
 
 /// Writes what the moves of a plan wait for, and its rotations. The writer is not flushed.

@@ -1,9 +1,9 @@
 //! `mapf path`: writes where the agents of a plan are, time by time.
 ghost use Rattle.std.specs.Prelude.{◌≡◌, IfOk, MatchOption, Some};
-ghost use Rattle.text_commands.specs.Ending.{EndsAndTells, end_of};
+ghost use Rattle.ending.specs.Ending.{EndsAndTells, end_of};
 ghost use Rattle.plan_commands.specs.PathCommand.{AnswersPath, ReadsWalkable};
 ghost use Rattle.plan_commands.specs.PathText.{AreAsked};
-ghost use Rattle.plan.specs.Code.Walking.{start_cells};
+ghost use Rattle.checker.specs.Code.Walking.{start_cells};
 ghost use Rattle.plan_commands.specs.Code.Numerals.{AreNumerals};
 ghost use Rattle.plan_commands.specs.Code.Rows.{AllWalked, EndsByRows, IsNoAgent};
 ghost use Rattle.plan_commands.specs.Code.Walks.{AreStretches};
@@ -13,13 +13,13 @@ use crate::path_fault::PathFault;
 use crate::path_text::write_rows;
 use crate::straying::fault_of_one_agent;
 use crate::walk::{first_stretches, starts};
+use checker::Stretch;
+use ending::{Ending, Status, conclude, finish};
 use grid::{Cell, read_map};
-use plan::{Plan, Stretch, read_plan};
-use plan_text::Course;
+use plan_text::{Course, Plan, read_plan};
 use planned::PlannedFault;
 use std::alloc::{AllocError, Global};
 use std::io::{Read, Write};
-use text_commands::{Ending, Status, conclude, finish};
 use text_io::Counted;
 
 /// As `perform`, with a fault's line on `err`. The answer is the exit status, which stays where

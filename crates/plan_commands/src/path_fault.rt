@@ -5,7 +5,7 @@ ghost use Rattle.plan_commands.specs.FaultWords.{path_fault_words};
 
 use planned::PlannedFault;
 use std::fmt;
-use text_io::{Failure, FaultWords};
+use text_io::{Failure, FaultName, FaultWords};
 use thiserror::Error;
 
 /// Why no positions of a plan are written.
@@ -26,7 +26,7 @@ impl PathFault {
     {
         match self {
             PathFault::Planned(fault) => fault.words(),
-            PathFault::NoSuchAgent => FaultWords::new("NoSuchAgent", &[]),
+            PathFault::NoSuchAgent => FaultWords::new(FaultName::NoSuchAgent, &[]),
             PathFault::OutOfMemory => Failure::OutOfMemory.words(),
         }
     }

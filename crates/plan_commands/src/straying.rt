@@ -3,13 +3,14 @@ ghost use Rattle.std.specs.Prelude.{◌≡◌, ◌≤◌, length, MatchOption};
 ghost use Rattle.grid.specs.Map.{IsSize};
 ghost use Rattle.model.specs.Plan.{IsPassable, IsBadMove};
 ghost use Rattle.plan_text.specs.Limits.{most_acts, most_agents};
-ghost use Rattle.plan.specs.Moving.{ArePassable, IsFirst};
+ghost use Rattle.checker.specs.Moving.{ArePassable, IsFirst};
 ghost use Rattle.plan_commands.specs.Walkable.{IsLeastOfOneAgent};
 ghost use Rattle.plan_commands.specs.Code.Straying.{AllHaveFewActs, GoesItsWay, GoTheirWays, IsLeastMove, sooner_of};
 
+use checker::{bad_start, may_stray, moved};
 use grid::Map;
-use plan::{Plan, PlanFault, bad_start, may_stray, moved};
-use plan_text::Course;
+use model::PlanFault;
+use plan_text::{Course, Plan};
 use std::alloc::Global;
 
 /// A move that is none: whose it is, and its step.

@@ -1,13 +1,13 @@
 //! Agents on their way: where they are at a time, and their next acts.
 ghost use Rattle.std.specs.Prelude.{◌≡◌, ◌+◌, ◌-◌, ◌<◌, ◌^◌, ℕ, length, IfOk};
-ghost use Rattle.plan.specs.Moving.{block_steps, cell_by};
-ghost use Rattle.plan.specs.Code.Standing.{cell_in};
-ghost use Rattle.plan.specs.Code.Walking.{start_cells};
+ghost use Rattle.checker.specs.Moving.{block_steps, cell_by};
+ghost use Rattle.checker.specs.Code.Standing.{cell_in};
+ghost use Rattle.checker.specs.Code.Walking.{start_cells};
 ghost use Rattle.plan_commands.specs.Code.Rows.{AllWalked, row_at};
 ghost use Rattle.plan_commands.specs.Code.Walks.{AreStretches, IsCellInRange, act_in, begun};
 
+use checker::{BLOCK, Stretch, next_cell};
 use grid::Cell;
-use plan::{BLOCK, Stretch, next_cell};
 use plan_text::Course;
 use std::alloc::{AllocError, Global};
 

@@ -9,7 +9,7 @@ use model::Act;
 use std::alloc::{AllocFailed, Global};
 use std::fmt;
 use std::marker::Model;
-use text_io::{Failure, FaultWords};
+use text_io::{Failure, FaultName, FaultWords};
 use thiserror::Error;
 
 /// A plan has no more agents.
@@ -35,7 +35,7 @@ impl PushFault {
         ensures { words_of result ≡ push_fault_words self }
     {
         match self {
-            PushFault::TooMany => FaultWords::new("TooMany", &[]),
+            PushFault::TooMany => FaultWords::new(FaultName::TooMany, &[]),
             PushFault::OutOfMemory => Failure::OutOfMemory.words(),
         }
     }

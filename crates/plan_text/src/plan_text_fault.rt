@@ -6,7 +6,7 @@ ghost use Rattle.plan_text.specs.declared.plan_text_fault.PlanTextFault.TheVaria
 
 use std::alloc::AllocError;
 use std::fmt;
-use text_io::{Failure, FaultWords};
+use text_io::{Failure, FaultName, FaultWords, Origin};
 use thiserror::Error;
 
 /// The first fault of a plan's text, with its line and column from 1 on, or why the text was not read to that point.
@@ -28,19 +28,20 @@ impl PlanTextFault {
     pub fn words(self) -> FaultWords
         ensures { words_of result ≡ plan_text_fault_words self }
     {
-        match self {
-            PlanTextFault::BadHeader(line) => FaultWords::new("BadHeader", &[line]),
-            PlanTextFault::BadNumber(line) => FaultWords::new("BadNumber", &[line]),
-            PlanTextFault::TooMany(line) => FaultWords::new("TooMany", &[line]),
-            PlanTextFault::BadAgent(line) => FaultWords::new("BadAgent", &[line]),
+        let words = match self {
+            PlanTextFault::BadHeader(line) => FaultWords::new(FaultName::BadHeader, &[line]),
+            PlanTextFault::BadNumber(line) => FaultWords::new(FaultName::BadNumber, &[line]),
+            PlanTextFault::TooMany(line) => FaultWords::new(FaultName::TooMany, &[line]),
+            PlanTextFault::BadAgent(line) => FaultWords::new(FaultName::BadAgent, &[line]),
             PlanTextFault::BadAct(line, column) => {
-                FaultWords::new("BadAct", &[line, u64::from(column)])
+                FaultWords::new(FaultName::BadAct, &[line, u64::from(column)])
             }
-            PlanTextFault::Unfinished(line) => FaultWords::new("Unfinished", &[line]),
-            PlanTextFault::TextAfter(line) => FaultWords::new("TextAfter", &[line]),
+            PlanTextFault::Unfinished(line) => FaultWords::new(FaultName::Unfinished, &[line]),
+            PlanTextFault::TextAfter(line) => FaultWords::new(FaultName::TextAfter, &[line]),
             PlanTextFault::ReadFailed => Failure::ReadFailed.words(),
             PlanTextFault::OutOfMemory => Failure::OutOfMemory.words(),
-        }
+        };
+        words.of(Origin::Plan)
     }
 }
 

@@ -6,7 +6,7 @@ use Rattle.grid.specs.MapFault.{ReadsMap}
 use Rattle.model.specs.Plan.{Plan}
 use Rattle.model.specs.Timetable.{Timetable}
 use Rattle.plan_text.specs.PlanTextFault.{ReadsPlan, ReadsMapAndPlan}
-use Rattle.plan.specs.Checking.{Checked, IsCheckOf, IsRefusedFor}
+use Rattle.checker.specs.Checking.{Checked, IsCheckOf, IsRefusedFor}
 use Rattle.planned.specs.declared.planned_fault.PlannedFault.{PlannedFault}
 use Rattle.planned.specs.declared.planned_fault.PlannedFault.TheVariants as planned_fault
 use Rattle.planned.specs.declared.reading.PlanAtHand.{PlanAtHand}

@@ -4,8 +4,10 @@ ghost use Rattle.text_io.specs.FaultWords.{words_of, words_text};
 ghost use Rattle.planned.specs.FaultWords.{planned_fault_words};
 ghost use Rattle.planned.specs.declared.planned_fault.PlannedFault.TheVariants as planned_fault;
 
+use checker::Rejected;
 use grid::MapFault;
-use plan::{PlanFault, PlanTextFault, Rejected};
+use model::PlanFault;
+use plan_text::PlanTextFault;
 use std::fmt;
 use text_io::{Failure, FaultWords, OutOfMemory};
 use thiserror::Error;

@@ -2,10 +2,12 @@
 ghost use Rattle.planned.specs.Planned.{ReadsAtHand, ReadsChecked, ReadsTimetable};
 
 use crate::PlannedFault;
+use checker::{CheckedPlan, check};
 use continuing::copy;
 use depgraph::{Dependencies, Graph};
 use grid::{Map, read_map};
-use plan::{CheckedPlan, Plan, PlanFault, check, read_plan};
+use model::PlanFault;
+use plan_text::{Plan, read_plan};
 use std::alloc::Global;
 use std::io::Read;
 use text_io::Counted;

@@ -3,7 +3,7 @@ use Rattle.std.specs.Prelude.{ℕ, List, Option}
 use Rattle.text_io.specs.declared.counted.Counted.{Counted}
 use Rattle.text_io.specs.Counted.{counted_inner}
 use Rattle.grid.specs.Map.{Grid}
-use Rattle.plan.specs.Checking.{Checked}
+use Rattle.checker.specs.Checking.{Checked}
 use Rattle.proof_check.specs.Leaf.{ShowsLeaf}
 use Rattle.proof_check.specs.declared.leaf.LowLeaf.{LowLeaf}
 use Rattle.proof_commands.specs.OptimalCommand.{ReadsPlanOnMap, ends_in}

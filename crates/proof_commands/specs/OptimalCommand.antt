@@ -5,7 +5,7 @@ use Rattle.text_io.specs.FaultWords.{words_text}
 use Rattle.grid.specs.Map.{Grid}
 use Rattle.model.specs.Plan.{Plan}
 use Rattle.plan_text.specs.PlanTextFault.{ReadsMapAndPlan}
-use Rattle.plan.specs.Checking.{Checked, IsCheckOf}
+use Rattle.checker.specs.Checking.{Checked, IsCheckOf}
 use Rattle.optimality.specs.declared.constraint.Ends.{Ends}
 use Rattle.optimality.specs.Judging.{BoundHolds, objective_value}
 use Rattle.optimality.specs.Splitting.{ends_of}
@@ -18,9 +18,9 @@ use Rattle.proof_text.specs.ProofText.{ProofText}
 use Rattle.proof_text.specs.declared.claim.ProofClaim.{ProofClaim}
 use Rattle.proof_text.specs.declared.proof_fault.ProofFault.{ProofFault}
 use Rattle.proof_text.specs.declared.proof_fault.ProofFault.TheVariants.{NoSuchAgent, OffMap, LeafTooLow}
-use Rattle.text_commands.specs.declared.status.Status.TheVariants.{Done}
-use Rattle.text_commands.specs.Ending.{End, answered_with, gave_up, rejected}
-use Rattle.text_commands.specs.Rewriting.{EndsByLine, Reads}
+use Rattle.ending.specs.declared.status.Status.TheVariants.{Done}
+use Rattle.ending.specs.Ending.{End, answered_with, gave_up, rejected}
+use Rattle.ending.specs.Rewriting.{EndsByLine, Reads}
 use Rattle.proof_commands.specs.ShownText.{claim_line, refused_line}
 
 -- a map and a plan were read, which is valid on it, and this is its check

@@ -3,8 +3,8 @@ ghost use Rattle.std.specs.Prelude.{◌≡◌, ◌++◌, ◌∷◌, [], map, opt
 ghost use Rattle.model.specs.Timetable.{track_of};
 ghost use Rattle.optimality.specs.Splitting.{ends_of};
 
+use checker::CheckedPlan;
 use optimality::Ends;
-use plan::CheckedPlan;
 use std::alloc::{AllocError, Global};
 
 /// The start and the last cell of each agent of the plan, agent 0 first.

@@ -3,8 +3,10 @@
 
 mod ends;
 mod leaf_again;
+mod leaf_text;
 pub mod optimal_command;
 mod shown;
 
 pub use leaf_again::read_leaf;
+pub use leaf_text::{leaf_text, least_cost};
 pub use optimal_command::optimal_cmd;

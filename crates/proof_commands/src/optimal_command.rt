@@ -1,8 +1,8 @@
 //! `mapf optimal`: says what a proof shows of a plan.
 ghost use Rattle.std.specs.Prelude.{◌≡◌, Err, IfOk, MatchResult};
-ghost use Rattle.text_commands.specs.Ending.{EndsAndTells, answered_with, end_of};
-ghost use Rattle.text_commands.specs.Rewriting.{EndsByLine};
-ghost use Rattle.text_commands.specs.declared.status.Status.TheVariants.{Done};
+ghost use Rattle.ending.specs.Ending.{EndsAndTells, answered_with, end_of};
+ghost use Rattle.ending.specs.Rewriting.{EndsByLine};
+ghost use Rattle.ending.specs.declared.status.Status.TheVariants.{Done};
 ghost use Rattle.optimality.specs.Judging.{BoundHolds, objective_value};
 ghost use Rattle.planned.specs.Planned.{ReadsChecked};
 ghost use Rattle.proof_commands.specs.Code.Showing.{shown_line};
@@ -11,15 +11,16 @@ ghost use Rattle.proof_commands.specs.OptimalCommand.{AnswersByProof, AnswersOpt
 
 use crate::ends::ends_of_agents;
 use crate::shown::{Shown, shown_line};
+use checker::{CheckedPlan, check};
+use ending::{Ending, Status, conclude, finish, write_text};
 use grid::{Map, read_map};
 use optimality::Objective;
-use plan::{CheckedPlan, check, read_plan};
+use plan_text::read_plan;
 use planned::PlannedFault;
 use proof_check::read_proof;
 use proof_text::{ProofClaim, ProofFault};
 use std::alloc::Global;
 use std::io::{Read, Write};
-use text_commands::{Ending, Status, conclude, finish, write_text};
 use text_io::{Counted, Failure};
 
 /// As `perform`, with a fault's line on `err`. The answer is the exit status, which stays where

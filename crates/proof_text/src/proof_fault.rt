@@ -6,7 +6,7 @@ ghost use Rattle.proof_text.specs.declared.proof_fault.ProofFault.TheVariants.{O
 
 use std::alloc::AllocError;
 use std::fmt;
-use text_io::{Failure, FaultWords};
+use text_io::{Failure, FaultName, FaultWords, Origin};
 use thiserror::Error;
 
 /// The first fault of a proof's text with its line from 1 on, why the proof is refused there, or why it was not read to that point.
@@ -35,22 +35,23 @@ impl ProofFault {
     pub fn words(self) -> FaultWords
         ensures { words_of result ≡ proof_fault_words self }
     {
-        match self {
-            ProofFault::BadHeader(line) => FaultWords::new("BadHeader", &[line]),
-            ProofFault::BadNode(line) => FaultWords::new("BadNode", &[line]),
-            ProofFault::BadNumber(line) => FaultWords::new("BadNumber", &[line]),
-            ProofFault::TooMany(line) => FaultWords::new("TooMany", &[line]),
-            ProofFault::Unfinished(line) => FaultWords::new("Unfinished", &[line]),
-            ProofFault::TextAfter(line) => FaultWords::new("TextAfter", &[line]),
-            ProofFault::NoSuchAgent(line) => FaultWords::new("NoSuchAgent", &[line]),
-            ProofFault::OffMap(line) => FaultWords::new("OffMap", &[line]),
+        let words = match self {
+            ProofFault::BadHeader(line) => FaultWords::new(FaultName::BadHeader, &[line]),
+            ProofFault::BadNode(line) => FaultWords::new(FaultName::BadNode, &[line]),
+            ProofFault::BadNumber(line) => FaultWords::new(FaultName::BadNumber, &[line]),
+            ProofFault::TooMany(line) => FaultWords::new(FaultName::TooMany, &[line]),
+            ProofFault::Unfinished(line) => FaultWords::new(FaultName::Unfinished, &[line]),
+            ProofFault::TextAfter(line) => FaultWords::new(FaultName::TextAfter, &[line]),
+            ProofFault::NoSuchAgent(line) => FaultWords::new(FaultName::NoSuchAgent, &[line]),
+            ProofFault::OffMap(line) => FaultWords::new(FaultName::OffMap, &[line]),
             ProofFault::LeafTooLow(line, least) => {
-                FaultWords::new("LeafTooLow", &[line, u64::from(least)])
+                FaultWords::new(FaultName::LeafTooLow, &[line, u64::from(least)])
             }
-            ProofFault::NotTight => FaultWords::new("NotTight", &[]),
+            ProofFault::NotTight => FaultWords::new(FaultName::NotTight, &[]),
             ProofFault::ReadFailed => Failure::ReadFailed.words(),
             ProofFault::OutOfMemory => Failure::OutOfMemory.words(),
-        }
+        };
+        words.of(Origin::Proof)
     }
 }
 

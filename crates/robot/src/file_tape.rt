@@ -12,7 +12,7 @@ use std::fs::{OpenFile, TryLockError};
 use std::io::{Read, Seek, Write};
 use std::{fmt, io};
 use tape_claim::LockFile;
-use text_io::{Failure, FaultWords};
+use text_io::{Failure, FaultName, FaultWords, Origin};
 use thiserror::Error;
 
 /// How many bytes at the most stand behind the whole records of a file.
@@ -36,7 +36,7 @@ impl FileTapeFault {
         ensures { words_of result ≡ file_tape_fault_words self }
     {
         match self {
-            FileTapeFault::TooLong => FaultWords::new("TooLong", &[]),
+            FileTapeFault::TooLong => FaultWords::new(FaultName::TooLong, &[]).of(Origin::Tape),
             FileTapeFault::InUse => Failure::TapeInUse.words(),
             FileTapeFault::TapeFailed => Failure::TapeFailed.words(),
             FileTapeFault::OutOfMemory => Failure::OutOfMemory.words(),

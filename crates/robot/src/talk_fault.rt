@@ -6,7 +6,7 @@ ghost use Rattle.robot.specs.declared.talk_fault.TalkFault.TheVariants as talk_f
 
 use std::alloc::AllocError;
 use std::fmt;
-use text_io::{Failure, FaultWords, WriteFault};
+use text_io::{Failure, FaultName, FaultWords, Origin, WriteFault};
 use thiserror::Error;
 
 /// Why a dialogue ended before its input did.
@@ -28,10 +28,10 @@ impl TalkFault {
         ensures { words_of result ≡ talk_fault_words self }
     {
         match self {
-            TalkFault::ReadFailed => Failure::ReadFailed.words(),
+            TalkFault::ReadFailed => Failure::ReadFailed.words().of(Origin::Input),
             TalkFault::WriteFailed => Failure::WriteFailed.words(),
             TalkFault::StoreFailed => Failure::StoreFailed.words(),
-            TalkFault::StaleTape => FaultWords::new("StaleTape", &[]),
+            TalkFault::StaleTape => FaultWords::new(FaultName::StaleTape, &[]).of(Origin::Tape),
             TalkFault::OutOfMemory => Failure::OutOfMemory.words(),
         }
     }

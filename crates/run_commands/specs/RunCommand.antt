@@ -7,9 +7,9 @@ use Rattle.runner.specs.declared.run_fault.RunFault.{RunFault}
 use Rattle.runner.specs.declared.run_fault.RunFault.TheVariants.{Planned, WriteFailed}
 use Rattle.runner.specs.Completing.{CompletesText}
 use Rattle.runner.specs.Replaying.{RunsText}
-use Rattle.text_commands.specs.declared.status.Status.TheVariants.{Done, Fault}
-use Rattle.text_commands.specs.Ending.{End, answered_with, gave_up}
-use Rattle.text_commands.specs.Finishing.{FinishesWriting}
+use Rattle.ending.specs.declared.status.Status.TheVariants.{Done, Fault}
+use Rattle.ending.specs.Ending.{End, answered_with, gave_up}
+use Rattle.ending.specs.Finishing.{FinishesWriting}
 use Rattle.runner.specs.FaultWords.{run_fault_words}
 
 -- The texts were read and the events were answered; where it was asked for, and there alone, it was also said how their run ends.

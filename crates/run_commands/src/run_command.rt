@@ -1,12 +1,12 @@
 //! `mapf run`: answers the events of a run, one after another, and says how it ends.
 ghost use Rattle.std.specs.Prelude.{◌≡◌};
-ghost use Rattle.text_commands.specs.Ending.{EndsAndTells, end_of};
+ghost use Rattle.ending.specs.Ending.{EndsAndTells, end_of};
 ghost use Rattle.run_commands.specs.RunCommand.{RunsOrCompletes, needs_flush, end_of_run, AnswersRun};
 
+use ending::{Ending, Status, conclude, finish};
 use runner::{Completion, RunFault, complete_text, run_text};
 use std::alloc::Global;
 use std::io::{Read, Write};
-use text_commands::{Ending, Status, conclude, finish};
 use text_io::Counted;
 
 /// As `perform`, with a fault's line on `err`, after all that was written before it. The answer is

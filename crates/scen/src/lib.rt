@@ -1,33 +1,11 @@
-//! The search and the certificates that tell which length of a scenario's row is right. Lengths and rows stand in a crate below.
+//! What callers use of scenarios: lengths, rows and their text, and the search and the certificates that tell which length of a row is
+//! right. All of it stands in crates below and is passed on.
 #![tactic(auto)]
 
-mod approach;
-mod beyond;
-mod certificate;
-mod distance;
-mod field;
-mod flood;
-mod front;
-mod heading;
-mod keys;
-mod length_table;
-mod room;
-mod rounding;
-mod search_fault;
-mod sides;
-mod tightness;
-mod tiles;
-mod walk_back;
-mod walk_search;
-mod wave;
-
-pub use certificate::{CertFault, Proposal, certify};
-pub use distance::octile_distance;
-pub use keys::{DIAGONAL, STRAIGHT};
-pub use length_table::LengthTable;
-pub use room::put_last;
-pub use rows::{
+pub use scenario::{
     Length, Listed, Row, ScenFault, Scenario, agrees, laws, put_listed, read_scen, write_scen,
 };
-pub use search_fault::SearchFault;
-pub use walk_search::search;
+pub use walks::{
+    CertFault, DIAGONAL, LengthTable, Proposal, STRAIGHT, SearchFault, certify, octile_distance,
+    put_last, search,
+};

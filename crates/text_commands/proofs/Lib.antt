@@ -1,5 +1,4 @@
 -- Lemmas on commands that write a text.
-mod LineParts
 mod RowVerdictPuts
 mod RowAnswers
 mod Refusals

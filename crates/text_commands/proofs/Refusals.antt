@@ -5,13 +5,13 @@ use Rattle.grid.specs.MapText.{canonical_map_text}
 use Rattle.text_io.specs.declared.counted.Counted.{Counted}
 use Rattle.grid.specs.declared.map_fault.MapFault.{MapFault}
 use Rattle.grid.specs.declared.map_fault.MapFault.TheVariants as map_fault
-use Rattle.rows.specs.FaultWords.{scen_fault_words}
-use Rattle.rows.specs.Query.{canonical_scen_text}
-use Rattle.rows.specs.ScenFault.{scen_outcome}
-use Rattle.rows.specs.declared.scen_fault.ScenFault.{ScenFault}
-use Rattle.rows.specs.declared.scen_fault.ScenFault.TheVariants as scen_fault
-use Rattle.text_commands.specs.Ending.{End, gave_up}
-use Rattle.text_commands.specs.Rewriting.{EndsBy}
+use Rattle.scenario.specs.FaultWords.{scen_fault_words}
+use Rattle.scenario.specs.Query.{canonical_scen_text}
+use Rattle.scenario.specs.ScenFault.{scen_outcome}
+use Rattle.scenario.specs.declared.scen_fault.ScenFault.{ScenFault}
+use Rattle.scenario.specs.declared.scen_fault.ScenFault.TheVariants as scen_fault
+use Rattle.ending.specs.Ending.{End, gave_up}
+use Rattle.ending.specs.Rewriting.{EndsBy}
 
 pub map_refused : {W : Type 0} (contents : W → Option (List ℕ)) (now : Counted W) (end : End) (fault : MapFault)
     → end ≡ gave_up (map_fault_words fault) → EndsBy canonical_map_text map_fault_words contents now now end (map_outcome (Err fault))

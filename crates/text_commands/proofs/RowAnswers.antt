@@ -4,18 +4,18 @@ use Rattle.text_io.specs.declared.counted.Counted.{Counted}
 use Rattle.text_io.specs.Counted.{counted_inner, failures_of}
 use Rattle.grid.specs.Map.{Grid}
 use Rattle.text_io.specs.Writing.{WritesText}
-use Rattle.scen.specs.Certificate.{Certifies}
-use Rattle.rows.specs.Query.{Query}
-use Rattle.scen.specs.declared.certificate.CertFault.{CertFault}
+use Rattle.walks.specs.Certificate.{Certifies}
+use Rattle.scenario.specs.Query.{Query}
+use Rattle.walks.specs.declared.certificate.CertFault.{CertFault}
 use Rattle.text_commands.specs.declared.row_fault.RowFault.{RowFault}
 use Rattle.text_commands.specs.declared.row_fault.RowFault.TheVariants.{Certificate, Map, NoSuchRow, OutOfMemory, Scen, SizeDiffers}
 use Rattle.text_commands.specs.declared.row_verdict.RowVerdict.{RowVerdict}
 use Rattle.text_commands.specs.RowCommand.{EndsByRowVerdict, IsAsked, IsUncertified, IsVerdictOn, JudgesRow, row_verdict_text}
-use Rattle.text_commands.specs.Finishing.{FinishesWriting}
-use Rattle.text_commands.specs.Ending.{End, answered_with}
-use Rattle.text_commands.specs.Status.{row_verdict_status}
-use Rattle.text_commands.specs.Laws.Ending.{ends_writing}
-use Rattle.scen.specs.declared.certificate.Proposal.{Proposal}
+use Rattle.ending.specs.Finishing.{FinishesWriting}
+use Rattle.ending.specs.Ending.{End, answered_with}
+use Rattle.text_commands.specs.RowStatus.{row_verdict_status}
+use Rattle.ending.specs.Laws.Ending.{ends_writing}
+use Rattle.walks.specs.declared.certificate.Proposal.{Proposal}
 
 -- a verdict's line was written, and the command ended by the verdict
 pub row_verdict_ends : {W : Type 0} (contents : W → Option (List ℕ)) (old mid new : Counted W) (verdict : RowVerdict) (written : Bool) (success end : End)

@@ -4,9 +4,9 @@ use Rattle.std.specs.Prelude.{Option, codes, decimal, if◌then◌else◌}
 use Rattle.text_io.specs.declared.sink.Sink.{Sink}
 use Rattle.text_io.specs.Sink.{Puts, Leaves}
 use Rattle.text_io.specs.Text.{space, line_feed}
-use Rattle.rows.specs.Query.{listed_text}
-use Rattle.rows.specs.declared.length.Length.{Length}
-use Rattle.rows.specs.declared.listed.Listed.{Listed}
+use Rattle.scenario.specs.Query.{listed_text}
+use Rattle.scenario.specs.declared.length.Length.{Length}
+use Rattle.scenario.specs.declared.listed.Listed.{Listed}
 use Rattle.text_io.specs.Laws.Putting.{Leaves-all, Leaves-less}
 use Rattle.text_commands.specs.RowCommand.{shortest_text}
 

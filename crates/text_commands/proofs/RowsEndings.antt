@@ -6,7 +6,7 @@ use Rattle.text_io.specs.Laws.Putting.{Breaks-after, Puts-trans, sink_written}
 use Rattle.text_io.specs.Sink.{Breaks, Puts, held_back, sink_writer}
 use Rattle.text_io.specs.declared.counted.Counted.{Counted}
 use Rattle.text_io.specs.declared.sink.Sink.{Sink}
-use Rattle.rows.specs.Query.{Query}
+use Rattle.scenario.specs.Query.{Query}
 use Rattle.text_commands.specs.declared.row_line.RowLine.{RowLine}
 use Rattle.text_commands.specs.declared.rows_fault.RowsFault.{RowsFault}
 use Rattle.text_commands.specs.declared.rows_fault.RowsFault.TheVariants.{Row, WriteFailed}
@@ -14,7 +14,7 @@ use Rattle.text_commands.specs.declared.tally.Tally.{Tally}
 use Rattle.text_commands.specs.Code.Judging.{HavePut, Judgement, PutsAllRows}
 use Rattle.text_commands.specs.Code.RowsEnding.{EndsAsTold, WritesRows}
 use Rattle.text_commands.specs.Code.Tallies.{IsTally, tally_line, tally_status}
-use Rattle.text_commands.specs.Ending.{End, answered_with}
+use Rattle.ending.specs.Ending.{End, answered_with}
 use Rattle.text_commands.specs.RowsCommand.{AreRowLines, EndsByJudging, ShowsProgress, numbered_lines, rows_last_line, rows_status, rows_text}
 
 -- ---- the last line

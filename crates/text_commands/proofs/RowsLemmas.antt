@@ -10,7 +10,7 @@ use Rattle.text_io.specs.Laws.Putting.{Breaks-after, Puts-trans}
 use Rattle.text_io.specs.Sink.{Breaks, Puts}
 use Rattle.text_io.specs.declared.sink.Sink.{Sink}
 use Rattle.grid.specs.Map.{Grid}
-use Rattle.rows.specs.Query.{Query}
+use Rattle.scenario.specs.Query.{Query}
 use Rattle.text_commands.specs.declared.row_line.RowLine.{RowLine}
 use Rattle.text_commands.specs.declared.tally.Tally.{Tally}
 use Rattle.text_commands.specs.Code.Judging.{HavePut, Judgement, PutsRow, PutsRows, one_line}

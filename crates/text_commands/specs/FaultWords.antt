@@ -3,8 +3,8 @@ use Rattle.std.specs.Prelude.{[], ◌∷◌, codes}
 use Rattle.text_io.specs.declared.failure.Failure.TheVariants as failure
 use Rattle.text_io.specs.FaultWords.{Words, text_fault, failed}
 use Rattle.grid.specs.MapFault.{map_fault_words}
-use Rattle.rows.specs.FaultWords.{scen_fault_words}
-use Rattle.scen.specs.FaultWords.{cert_fault_words}
+use Rattle.scenario.specs.FaultWords.{scen_fault_words}
+use Rattle.walks.specs.FaultWords.{cert_fault_words}
 use Rattle.text_commands.specs.declared.row_fault.RowFault.{RowFault}
 use Rattle.text_commands.specs.declared.row_fault.RowFault.TheVariants as row_fault
 

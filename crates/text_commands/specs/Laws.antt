@@ -1,7 +1,3 @@
 -- What follows from the definitions.
--- how a command ends that writes a text
-pub mod Ending
--- what is put of pieces
-pub mod Pieces
 -- progress that says nothing
 pub mod Progress

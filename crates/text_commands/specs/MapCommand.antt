@@ -3,8 +3,8 @@ use Rattle.std.specs.Prelude.{ℕ, List, Option}
 use Rattle.text_io.specs.declared.counted.Counted.{Counted}
 use Rattle.grid.specs.MapFault.{map_fault_words, MapFaultAt}
 use Rattle.grid.specs.MapText.{MapText, canonical_map_text}
-use Rattle.text_commands.specs.Ending.{End}
-use Rattle.text_commands.specs.Rewriting.{RewritesText}
+use Rattle.ending.specs.Ending.{End}
+use Rattle.ending.specs.Rewriting.{RewritesText}
 
 -- the map was read as `read_map` reads it, and the command ended by that
 abbrev pub RewritesMap

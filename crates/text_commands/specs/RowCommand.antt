@@ -5,21 +5,21 @@ use Rattle.text_io.specs.declared.counted.Counted.{Counted}
 use Rattle.grid.specs.Map.{Grid}
 use Rattle.grid.specs.MapFault.{ReadsMap}
 use Rattle.text_io.specs.Text.{space, line_feed}
-use Rattle.scen.specs.Certificate.{AreOn, Certifies, IsLeast}
-use Rattle.rows.specs.Length.{Agrees}
-use Rattle.rows.specs.Query.{Query, listed_text}
-use Rattle.rows.specs.ScenFault.{ReadsScen}
-use Rattle.scen.specs.declared.certificate.Proposal.{Proposal}
-use Rattle.rows.specs.declared.length.Length.{Length}
-use Rattle.rows.specs.declared.listed.Listed.{Listed}
+use Rattle.walks.specs.Certificate.{AreOn, Certifies, IsLeast}
+use Rattle.scenario.specs.Length.{Agrees}
+use Rattle.scenario.specs.Query.{Query, listed_text}
+use Rattle.scenario.specs.ScenFault.{ReadsScen}
+use Rattle.walks.specs.declared.certificate.Proposal.{Proposal}
+use Rattle.scenario.specs.declared.length.Length.{Length}
+use Rattle.scenario.specs.declared.listed.Listed.{Listed}
 use Rattle.text_commands.specs.declared.row_fault.RowFault.{RowFault}
 use Rattle.text_commands.specs.declared.row_fault.RowFault.TheVariants.{Map, Scen, NoSuchRow, SizeDiffers, OutOfMemory, Certificate}
 use Rattle.text_commands.specs.declared.row_verdict.RowVerdict.{RowVerdict}
 use Rattle.text_commands.specs.declared.row_verdict.RowVerdict.TheVariants.{Shortest, Unreachable}
 use Rattle.text_commands.specs.FaultWords.{row_fault_words}
-use Rattle.text_commands.specs.Rewriting.{EndsWriting}
-use Rattle.text_commands.specs.Ending.{End, answered_with, gave_up}
-use Rattle.text_commands.specs.Status.{row_verdict_status}
+use Rattle.ending.specs.Rewriting.{EndsWriting}
+use Rattle.ending.specs.Ending.{End, answered_with, gave_up}
+use Rattle.text_commands.specs.RowStatus.{row_verdict_status}
 
 -- the words of the line, as `shortest 2 0 listed 2 agrees`
 abbrev pub shortest_words : Length → Listed → Bool → List (List ℕ)

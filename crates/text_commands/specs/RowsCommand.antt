@@ -8,12 +8,12 @@ use Rattle.text_io.specs.Writing.{WritesText}
 use Rattle.text_io.specs.declared.sink.WriteFault.TheVariants.{WriteFailed}
 use Rattle.grid.specs.Map.{Grid}
 use Rattle.grid.specs.MapFault.{ReadsMap}
-use Rattle.scen.specs.Certificate.{IsLeast}
-use Rattle.scen.specs.declared.certificate.CertFault.TheVariants.{NotTight}
-use Rattle.rows.specs.declared.length.Length.{Length}
+use Rattle.walks.specs.Certificate.{IsLeast}
+use Rattle.walks.specs.declared.certificate.CertFault.TheVariants.{NotTight}
+use Rattle.scenario.specs.declared.length.Length.{Length}
 use Rattle.least_steps.specs.LeastSteps.{IsLeastSteps}
-use Rattle.rows.specs.Query.{Query}
-use Rattle.rows.specs.ScenFault.{ReadsScen}
+use Rattle.scenario.specs.Query.{Query}
+use Rattle.scenario.specs.ScenFault.{ReadsScen}
 use Rattle.text_commands.specs.declared.row_fault.RowFault.{RowFault}
 use Rattle.text_commands.specs.declared.row_fault.RowFault.TheVariants.{Map, Scen, NoSuchRow, OutOfMemory, Certificate}
 use Rattle.text_commands.specs.declared.row_line.RowLine.{RowLine}
@@ -21,12 +21,12 @@ use Rattle.text_commands.specs.declared.row_line.RowLine.TheVariants.{Judged, St
 use Rattle.text_commands.specs.declared.row_verdict.RowVerdict.{RowVerdict}
 use Rattle.text_commands.specs.declared.row_verdict.RowVerdict.TheVariants.{Shortest, Unreachable}
 use Rattle.text_commands.specs.declared.rows_command.RowsAsked.{RowsAsked}
-use Rattle.text_commands.specs.declared.status.Status.{Status}
-use Rattle.text_commands.specs.declared.status.Status.TheVariants.{Done, Fault}
-use Rattle.text_commands.specs.Ending.{End, answered_with, gave_up, Concludes}
+use Rattle.ending.specs.declared.status.Status.{Status}
+use Rattle.ending.specs.declared.status.Status.TheVariants.{Done, Fault}
+use Rattle.ending.specs.Ending.{End, answered_with, gave_up, Concludes}
 use Rattle.text_commands.specs.FaultWords.{row_fault_words}
-use Rattle.text_commands.specs.Pieces.{pieces_text}
-use Rattle.text_commands.specs.Rewriting.{EndsWriting}
+use Rattle.ending.specs.Pieces.{pieces_text}
+use Rattle.ending.specs.Rewriting.{EndsWriting}
 use Rattle.text_commands.specs.RowCommand.{HasSizeOf, IsRowVerdictOn, row_verdict_text}
 use Rattle.std.specs.Io.KnownBytes.{Appends}
 

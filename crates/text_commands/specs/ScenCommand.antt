@@ -1,12 +1,12 @@
 -- What `mapf scen` does and answers.
 use Rattle.std.specs.Prelude.{ℕ, List, Option}
 use Rattle.text_io.specs.declared.counted.Counted.{Counted}
-use Rattle.rows.specs.FaultWords.{scen_fault_words}
-use Rattle.rows.specs.Query.{canonical_scen_text}
-use Rattle.rows.specs.ScenText.{ScenText}
-use Rattle.rows.specs.ScenFault.{ScenFaultAt}
-use Rattle.text_commands.specs.Ending.{End}
-use Rattle.text_commands.specs.Rewriting.{RewritesText}
+use Rattle.scenario.specs.FaultWords.{scen_fault_words}
+use Rattle.scenario.specs.Query.{canonical_scen_text}
+use Rattle.scenario.specs.ScenText.{ScenText}
+use Rattle.scenario.specs.ScenFault.{ScenFaultAt}
+use Rattle.ending.specs.Ending.{End}
+use Rattle.ending.specs.Rewriting.{RewritesText}
 
 -- the scenario was read as `read_scen` reads it, and the command ended by that
 abbrev pub RewritesScen

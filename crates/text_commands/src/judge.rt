@@ -1,6 +1,6 @@
 //! Judging rows of a scenario, one after another, on one map.
 ghost use Rattle.std.specs.Prelude.{◌≡◌, ◌⊎◌, ◌+◌, ◌^◌, ◌<◌, IfOk, MatchResult};
-ghost use Rattle.scen.specs.declared.certificate.CertFault.TheVariants.{NotTight};
+ghost use Rattle.walks.specs.declared.certificate.CertFault.TheVariants.{NotTight};
 ghost use Rattle.least_steps.specs.LeastSteps.{IsLeastSteps};
 ghost use Rattle.text_commands.specs.Code.Judging.{PutsRow};
 ghost use Rattle.text_commands.specs.RowsCommand.{HasNoLine, IsRowJudged, IsRowLine};
@@ -13,11 +13,12 @@ use crate::rows_fault::RowsFault;
 use crate::tally::Tally;
 use grid::Map;
 use least_steps::{StepFault, StepSearch};
-use scen::{CertFault, Row};
+use scenario::Row;
 use std::alloc::{AllocError, Global};
 use std::io::Write;
 use std::marker::Model;
 use text_io::Sink;
+use walks::CertFault;
 
 /// A map on which rows are judged, with what finds the least walks on it; of straight steps alone, where `straight` is set.
 #[derive(Drop)]

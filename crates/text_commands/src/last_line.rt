@@ -2,10 +2,10 @@
 ghost use Rattle.std.specs.Prelude.{◌≡◌, [], OnOk, OnErr};
 ghost use Rattle.text_io.specs.Sink.{held_back, Puts, Breaks};
 ghost use Rattle.text_commands.specs.Code.Tallies.{tally_line, tally_pieces};
-ghost use Rattle.text_commands.specs.Pieces.{pieces_of};
+ghost use Rattle.ending.specs.Pieces.{pieces_of};
 
-use crate::pieces::{Piece, put_pieces};
 use crate::tally::Tally;
+use ending::{Piece, put_pieces};
 use std::io::Write;
 use text_io::{Sink, WriteFault};
 

@@ -1,8 +1,8 @@
 //! `mapf map`: reads a map and writes it in canonical form.
-ghost use Rattle.text_commands.specs.Ending.{EndsAndTells, end_of};
+ghost use Rattle.ending.specs.Ending.{EndsAndTells, end_of};
 ghost use Rattle.text_commands.specs.MapCommand.{RewritesMap};
 
-use crate::{Ending, Status, conclude, finish};
+use ending::{Ending, Status, conclude, finish};
 use grid::{read_map, write_map};
 use std::alloc::Global;
 use std::io::{Read, Write};

@@ -3,7 +3,7 @@ ghost use Rattle.std.specs.Prelude.{true};
 ghost use Rattle.text_commands.specs.RowsCommand.{ShowsProgress};
 
 use crate::tally::Tally;
-use crate::write_text;
+use ending::write_text;
 use std::alloc::{AllocError, Global};
 use std::io::Write;
 use text_io::Counted;

@@ -1,17 +1,18 @@
 //! `mapf row`: judges the listed length of a scenario's row on a map.
 ghost use Rattle.std.specs.Prelude.{◌≡◌, ◌↔◌, IsTrue, IfErr, MatchResult};
-ghost use Rattle.scen.specs.Certificate.{AreOn};
-ghost use Rattle.text_commands.specs.Ending.{EndsAndTells, end_of};
+ghost use Rattle.walks.specs.Certificate.{AreOn};
+ghost use Rattle.ending.specs.Ending.{EndsAndTells, end_of};
 ghost use Rattle.text_commands.specs.RowCommand.{HasSizeOf, IsAsked, IsUncertified, IsVerdictOn, JudgesRow, ReadsAndJudges, AnswersRow};
 
 use crate::row_fault::RowFault;
 use crate::row_verdict::{RowVerdict, write_row_verdict};
-use crate::{Ending, conclude, finish};
+use ending::{Ending, conclude, finish};
 use grid::{Cell, Map, read_map};
-use scen::{Proposal, Row, Scenario, SearchFault, certify, read_scen, search};
+use scenario::{Row, Scenario, read_scen};
 use std::alloc::Global;
 use std::io::{Read, Write};
 use text_io::Counted;
+use walks::{Proposal, SearchFault, certify, search};
 
 /// As `perform`, with a fault's line on `err`. The answer is the exit status, which stays where
 /// `err` fails.

@@ -5,10 +5,11 @@ ghost use Rattle.text_commands.specs.FaultWords.{row_fault_words};
 ghost use Rattle.text_commands.specs.declared.row_fault.RowFault.TheVariants as row_fault;
 
 use grid::MapFault;
-use scen::{CertFault, ScenFault};
+use scenario::ScenFault;
 use std::fmt;
-use text_io::{Failure, FaultWords};
+use text_io::{Failure, FaultName, FaultWords};
 use thiserror::Error;
+use walks::CertFault;
 
 /// Why a row has no answer.
 #[derive(Clone, Copy, Debug, PartialEq, Eq, Error)]
@@ -35,8 +36,11 @@ impl RowFault {
         match self {
             RowFault::Map(fault) => fault.words(),
             RowFault::Scen(fault) => fault.words(),
-            RowFault::NoSuchRow => FaultWords::new("NoSuchRow", &[]),
-            RowFault::SizeDiffers(row) => FaultWords::new("SizeDiffers", &[u64::from(row)]),
+            RowFault::NoSuchRow => FaultWords::new(FaultName::NoSuchRow, &[]),
+            RowFault::SizeDiffers(row) => FaultWords::new(
+                FaultName::SizeDiffers,
+                &[u64::from(row)],
+            ),
             RowFault::OutOfMemory => Failure::OutOfMemory.words(),
             RowFault::Certificate(fault) => fault.words(),
         }

@@ -5,8 +5,8 @@ ghost use Rattle.text_io.specs.Text.{space};
 ghost use Rattle.text_commands.specs.RowsCommand.{row_line_text};
 ghost use Rattle.std.specs.Prelude.{◌≡◌, Some};
 
-use crate::put_number;
 use crate::row_verdict::{RowVerdict, put_row_verdict, put_word};
+use ending::put_number;
 use itoa::Buffer;
 use std::io::Write;
 use text_io::{Sink, WriteFault};

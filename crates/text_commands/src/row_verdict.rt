@@ -4,12 +4,12 @@ ghost use Rattle.text_io.specs.Counted.{counted_inner, failures_of};
 ghost use Rattle.text_io.specs.Text.{space};
 ghost use Rattle.text_io.specs.Sink.{held_back, Puts, Breaks};
 ghost use Rattle.text_io.specs.Writing.{WritesText};
-ghost use Rattle.text_commands.specs.Status.{row_verdict_status};
+ghost use Rattle.text_commands.specs.RowStatus.{row_verdict_status};
 ghost use Rattle.text_commands.specs.RowCommand.{shortest_text, row_verdict_text, IsRowVerdictOn};
 
-use crate::Status;
+use ending::Status;
 use itoa::Buffer;
-use scen::{Length, Listed, agrees, put_listed};
+use scenario::{Length, Listed, agrees, put_listed};
 use std::io::Write;
 use text_io::{Counted, Sink, WriteFault};
 

@@ -2,7 +2,7 @@
 ghost use Rattle.std.specs.Prelude.{◌≡◌, ◌≤◌, ◌<◌, ◌⊎◌, [], MatchOption, length, unwrap_or};
 ghost use Rattle.text_io.specs.Sink.{held_back};
 ghost use Rattle.text_commands.specs.Code.Judging.{Judgement, PutsAllRows, PutsRows};
-ghost use Rattle.text_commands.specs.Ending.{end_of};
+ghost use Rattle.ending.specs.Ending.{end_of};
 ghost use Rattle.text_commands.specs.RowsCommand.{AnswersRows, EndsByJudging, EndsUnjudged, ShowsEndsAndTells, ShowsProgress, rows_between};
 ghost use Rattle.text_commands.specs.Code.RowsEnding.{EndsAsTold, WritesRows};
 
@@ -12,9 +12,9 @@ use crate::progress::{end_progress, show_progress};
 use crate::row_fault::RowFault;
 use crate::rows_fault::RowsFault;
 use crate::tally::Tally;
-use crate::{Ending, conclude};
+use ending::{Ending, conclude};
 use grid::{Map, read_map};
-use scen::{Row, read_scen};
+use scenario::{Row, read_scen};
 use std::alloc::Global;
 use std::io::{Read, Write};
 use text_io::{Counted, Sink, WriteFault};

@@ -1,9 +1,9 @@
 //! `mapf scen`: reads a scenario and writes it in canonical form.
-ghost use Rattle.text_commands.specs.Ending.{EndsAndTells, end_of};
+ghost use Rattle.ending.specs.Ending.{EndsAndTells, end_of};
 ghost use Rattle.text_commands.specs.ScenCommand.{RewritesScen};
 
-use crate::{Ending, Status, conclude, finish};
-use scen::{read_scen, write_scen};
+use ending::{Ending, Status, conclude, finish};
+use scenario::{read_scen, write_scen};
 use std::alloc::Global;
 use std::io::{Read, Write};
 use text_io::Counted;

@@ -1,8 +1,8 @@
 //! How many rows there are of each kind.
 ghost use Rattle.std.specs.Prelude.{◌≡◌, ◌+◌, ◌<◌, ◌≤◌, ◌^◌, ◌*◌, []};
 
-use crate::Status;
 use crate::row_line::RowLine;
+use ending::Status;
 
 /// How many rows were judged, and of each kind; of straight steps their sum and the greatest of them.
 #[derive(Clone, Copy, Debug)]

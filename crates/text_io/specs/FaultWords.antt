@@ -1,6 +1,7 @@
 -- The words in which a fault is told.
 use Rattle.std.specs.Prelude.{ℕ, Bool, true, false, List, [], ◌∷◌, map, take, codes, decimal}
 use Rattle.std.specs.List.{join_with_byte}
+use Rattle.text_io.specs.FaultName.{fault_name}
 use Rattle.text_io.specs.Text.{space}
 use Rattle.text_io.specs.declared.failure.Failure.{Failure}
 use Rattle.text_io.specs.declared.failure.Failure.TheVariants as failure
@@ -36,7 +37,7 @@ failed what = record { parts = failure_name what ∷ []; is_failure = true }
 
 -- what the words of the code tell
 abbrev pub words_of : FaultWords → Words
-words_of words = record { parts = words.name.now ∷ map decimal (take words.count words.numbers); is_failure = words.is_failure }
+words_of words = record { parts = fault_name words.name ∷ map decimal (take words.count words.numbers); is_failure = words.is_failure }
 
 abbrev pub write_fault_words : WriteFault → Words
 write_fault_words WriteFailed = failed failure.WriteFailed

@@ -6,7 +6,8 @@ pub mod Text
 pub mod Numerals
 -- places in a text, what a fault at a place is, and what a reader of any format owes
 pub mod Reading
--- the words in which a fault is told
+-- the names of all faults, and the words in which a fault is told
+pub mod FaultName
 pub mod FaultWords
 -- what a writer of any format owes
 pub mod Writing

@@ -1,8 +1,9 @@
 //! What fails that is no text.
 ghost use Rattle.std.specs.Prelude.{◌≡◌};
+ghost use Rattle.text_io.specs.FaultName.{fault_name};
 ghost use Rattle.text_io.specs.FaultWords.{failed, failure_name, words_of};
 
-use crate::FaultWords;
+use crate::{FaultName, FaultWords, Origin};
 
 /// What may fail beside a text: a reader, a writer, memory, a file, or the tape of an agent. Each format's faults have some of these among
 /// them, by the same names.
@@ -22,20 +23,29 @@ impl Failure {
     pub fn words(self) -> FaultWords
         ensures { words_of result ≡ failed self }
     {
-        FaultWords::failed(self.name())
+        FaultWords::failed(self.name()).of(self.origin())
     }
 
-    fn name(self) -> &'static str
-        ensures { result.now ≡ failure_name self }
+    /// What has it, where that is known from the name alone.
+    fn origin(self) -> Origin {
+        match self {
+            Failure::WriteFailed => Origin::Output,
+            Failure::TapeFailed | Failure::TapeInUse | Failure::StoreFailed => Origin::Tape,
+            Failure::ReadFailed | Failure::OutOfMemory | Failure::OpenFailed => Origin::Command,
+        }
+    }
+
+    fn name(self) -> FaultName
+        ensures { fault_name result ≡ failure_name self }
     {
         match self {
-            Failure::ReadFailed => "ReadFailed",
-            Failure::WriteFailed => "WriteFailed",
-            Failure::OutOfMemory => "OutOfMemory",
-            Failure::OpenFailed => "OpenFailed",
-            Failure::TapeFailed => "TapeFailed",
-            Failure::TapeInUse => "TapeInUse",
-            Failure::StoreFailed => "StoreFailed",
+            Failure::ReadFailed => FaultName::ReadFailed,
+            Failure::WriteFailed => FaultName::WriteFailed,
+            Failure::OutOfMemory => FaultName::OutOfMemory,
+            Failure::OpenFailed => FaultName::OpenFailed,
+            Failure::TapeFailed => FaultName::TapeFailed,
+            Failure::TapeInUse => FaultName::TapeInUse,
+            Failure::StoreFailed => FaultName::StoreFailed,
         }
     }
 }

@@ -3,7 +3,7 @@ use Rattle.std.specs.Prelude.{ℕ, Bool, true, false, if◌then◌else◌, List,
 use Rattle.std.specs.List.{flat_map}
 use Rattle.depgraph.specs.Rotations.{turn_of}
 use Rattle.check_commands.specs.FaultsText.{Told, comma, of_fit, of_plan, of_turn, told_json, line_of_told}
-use Rattle.text_commands.specs.Pieces.{pieces_text}
+use Rattle.ending.specs.Pieces.{pieces_text}
 use Rattle.check_commands.specs.declared.told.Against.{Against}
 use Rattle.check_commands.specs.declared.told.Against.TheVariants as against
 

@@ -3,7 +3,7 @@ use Rattle.std.specs.Prelude.{◌≡◌, ℕ, List, Option, Result, Ok, Err, Mat
 use Rattle.text_io.specs.declared.counted.Counted.{Counted}
 use Rattle.model.specs.Plan.{Plan}
 use Rattle.plan_text.specs.PlanTextFault.{ReadsMapAndPlan}
-use Rattle.plan.specs.Checking.{IsCheckOf, IsRefusedFor}
+use Rattle.checker.specs.Checking.{IsCheckOf, IsRefusedFor}
 use Rattle.check_commands.specs.declared.on_map.OnMap.{OnMap}
 
 -- the map and the plan were read, and this is what came of the check

@@ -2,7 +2,7 @@
 use Rattle.std.specs.Prelude.{◌≡◌, ℕ, ◌+◌, ◌<◌, List, [], ◌∷◌, ◌++◌, length, get_or, take, None}
 use Rattle.grid.specs.declared.cell.Cell.{Cell}
 use Rattle.model.specs.Timetable.{Track}
-use Rattle.plan.specs.Checking.{cells_of}
+use Rattle.checker.specs.Checking.{cells_of}
 use Rattle.depgraph.specs.Code.Arrivals.{entered, entry_times}
 
 -- the cells that the agents enter, and when, one agent after another

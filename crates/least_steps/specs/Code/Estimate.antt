@@ -2,7 +2,7 @@
 use Rattle.std.specs.Prelude.{ℕ, ◌+◌, ◌*◌, Bool, true, false}
 use Rattle.std.specs.Int.{abs_diff}
 use Rattle.grid.specs.declared.cell.Cell.{Cell}
-use Rattle.scen.specs.Code.Distances.{distance}
+use Rattle.walks.specs.Code.Distances.{distance}
 
 -- the number of a walk on a map without obstacles, with diagonal steps or of straight ones alone
 abbrev pub least_number : Bool → Cell → Cell → ℕ

@@ -2,7 +2,7 @@
 use Rattle.std.specs.Prelude.{◌≡◌, ℕ, ◌+◌, ◌*◌, ◌^◌, ◌<◌, ◌≤◌, ◌⊎◌, Bool, List, Some, length, slice_get}
 use Rattle.grid.specs.declared.cell.Cell.{Cell}
 use Rattle.grid.specs.Map.{Grid, IsMap}
-use Rattle.scen.specs.Walk.{IsOn}
+use Rattle.walks.specs.Walk.{IsOn}
 use Rattle.least_steps.specs.Code.Reaching.{HasAtMost, IsMove, IsNumber, WalksTo, number_in}
 use Rattle.least_steps.specs.Code.Steps.{AreLegal, cell_behind, weight}
 

@@ -3,7 +3,7 @@
 use Rattle.std.specs.Prelude.{◌≡◌, ℕ, ◌+◌, ◌*◌, ◌^◌, ◌<◌, ◌≤◌, ◌⊎◌, Bool, true, false, List, Option, None, Some, slice_get}
 use Rattle.grid.specs.declared.cell.Cell.{Cell}
 use Rattle.grid.specs.Map.{Grid, IsStraightStep, IsDiagonalStep}
-use Rattle.scen.specs.Walk.{IsWalk}
+use Rattle.walks.specs.Walk.{IsWalk}
 
 -- the number of a cell, row by row
 abbrev pub number_in : Grid → Cell → ℕ

@@ -1,7 +1,7 @@
 -- The places from which no step was taken yet.
 use Rattle.std.specs.Prelude.{◌≡◌, ℕ, ◌+◌, ◌^◌, ◌<◌, ◌≤◌, ◌⊎◌, List, [], Some, Vec, slice_get}
 use Rattle.grid.specs.declared.cell.Cell.{Cell}
-use Rattle.scen.specs.Walk.{IsOn}
+use Rattle.walks.specs.Walk.{IsOn}
 use Rattle.least_steps.specs.declared.open_list.Open.{Open}
 use Rattle.least_steps.specs.declared.open_list.OpenList.{OpenList}
 use Rattle.least_steps.specs.Code.Estimate.{least_number}

@@ -7,9 +7,9 @@ use Rattle.std.proofs.lemmas.Nat.{mul-add-lt}
 use Rattle.grid.specs.declared.cell.Cell.{Cell}
 use Rattle.grid.specs.declared.terrain.Terrain.{Terrain}
 use Rattle.grid.specs.Map.{AreJoined, AreNext, Grid, IsDiagonalStep, IsStraightStep, ShareSide, terrain_at}
-use Rattle.scen.specs.Certificate.{AreOn}
-use Rattle.scen.specs.Walk.{IsOn, IsWalk}
-use Rattle.scen.specs.Laws.OctileSteps.{AreBeside, distance_step}
+use Rattle.walks.specs.Certificate.{AreOn}
+use Rattle.walks.specs.Walk.{IsOn, IsWalk}
+use Rattle.walks.specs.Laws.OctileSteps.{AreBeside, distance_step}
 use Rattle.least_steps.specs.Code.Estimate.{least_number}
 use Rattle.least_steps.specs.Code.Reaching.{IsMove, IsWay, WalksTo, number_in}
 

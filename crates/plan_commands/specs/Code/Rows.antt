@@ -5,8 +5,8 @@ use Rattle.text_io.specs.declared.counted.Counted.{Counted}
 use Rattle.model.specs.Plan.{Course, Plan, position_of, position_at}
 use Rattle.model.specs.Timetable.{cell_at}
 use Rattle.plan_text.specs.Limits.{most_acts}
-use Rattle.plan.specs.Code.Tracks.{track_along, StaysInRange}
-use Rattle.text_commands.specs.Ending.{End}
+use Rattle.checker.specs.Code.Tracks.{track_along, StaysInRange}
+use Rattle.ending.specs.Ending.{End}
 use Rattle.plan_commands.specs.PathCommand.{ShowsRows, EndsByPath}
 use Rattle.plan_commands.specs.PathText.{count_of_times}
 use Rattle.plan_commands.specs.declared.path_fault.PathFault.{PathFault}

@@ -3,7 +3,7 @@ use Rattle.std.specs.Prelude.{◌≡◌, ℕ, ◌<◌, ◌≤◌, ◌⊎◌, if�
 use Rattle.grid.specs.Map.{Grid}
 use Rattle.model.specs.Plan.{Course, Plan, IsBadMove}
 use Rattle.plan_text.specs.Limits.{most_acts}
-use Rattle.plan.specs.Code.Walking.{HasBadMove}
+use Rattle.checker.specs.Code.Walking.{HasBadMove}
 use Rattle.plan_commands.specs.Walkable.{IsWalkable}
 use Rattle.plan_commands.specs.Code.Rows.{AllWalked, IsWalked}
 use Rattle.plan_commands.specs.declared.straying.BadMove.{BadMove}

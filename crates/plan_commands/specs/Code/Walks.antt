@@ -4,7 +4,7 @@ use Rattle.grid.specs.declared.cell.Cell.{Cell}
 use Rattle.model.specs.declared.act.Act.{Act}
 use Rattle.model.specs.declared.act.Act.TheVariants.{Wait}
 use Rattle.model.specs.Plan.{Course}
-use Rattle.plan.specs.Moving.{block_steps, IsStretch}
+use Rattle.checker.specs.Moving.{block_steps, IsStretch}
 
 -- the cell is one that a map may have
 pub record IsCellInRange (c : Cell) : Type 0 where

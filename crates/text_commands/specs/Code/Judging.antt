@@ -4,7 +4,7 @@ use Rattle.text_io.specs.Sink.{Breaks, Puts, held_back}
 use Rattle.text_io.specs.Text.{space}
 use Rattle.text_io.specs.declared.sink.Sink.{Sink}
 use Rattle.grid.specs.Map.{Grid}
-use Rattle.rows.specs.Query.{Query}
+use Rattle.scenario.specs.Query.{Query}
 use Rattle.text_commands.specs.declared.row_line.RowLine.{RowLine}
 use Rattle.text_commands.specs.declared.rows_fault.RowsFault.{RowsFault}
 use Rattle.text_commands.specs.declared.rows_fault.RowsFault.TheVariants.{Row, WriteFailed}

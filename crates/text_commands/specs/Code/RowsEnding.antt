@@ -5,14 +5,14 @@ use Rattle.text_io.specs.Counted.{counted_inner, failures_of}
 use Rattle.text_io.specs.Writing.{WritesText}
 use Rattle.text_io.specs.declared.counted.Counted.{Counted}
 use Rattle.text_io.specs.declared.sink.WriteFault.TheVariants as write_fault
-use Rattle.rows.specs.Query.{Query}
+use Rattle.scenario.specs.Query.{Query}
 use Rattle.text_commands.specs.declared.row_line.RowLine.{RowLine}
 use Rattle.text_commands.specs.declared.rows_fault.RowsFault.{RowsFault}
 use Rattle.text_commands.specs.declared.rows_fault.RowsFault.TheVariants.{Row, WriteFailed}
 use Rattle.text_commands.specs.declared.tally.Tally.{Tally}
 use Rattle.text_commands.specs.Code.Judging.{Judgement}
 use Rattle.text_commands.specs.Code.Tallies.{IsTally, tally_status}
-use Rattle.text_commands.specs.Ending.{End, answered_with, gave_up}
+use Rattle.ending.specs.Ending.{End, answered_with, gave_up}
 use Rattle.text_commands.specs.FaultWords.{row_fault_words}
 use Rattle.text_commands.specs.RowsCommand.{AreRowLines, HasNoLine, numbered_lines, rows_text}
 

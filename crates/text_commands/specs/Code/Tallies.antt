@@ -2,10 +2,10 @@
 use Rattle.std.specs.Prelude.{◌≡◌, ℕ, ◌+◌, ◌==◌, ◌&&◌, Bool, false, true, if◌then◌else◌, List, [], ◌∷◌, ◌++◌, codes, count_by, length, map, max, sum_by}
 use Rattle.text_io.specs.Text.{line_feed}
 use Rattle.text_commands.specs.declared.row_line.RowLine.{RowLine}
-use Rattle.text_commands.specs.declared.status.Status.{Status}
-use Rattle.text_commands.specs.declared.status.Status.TheVariants.{Done, Fault}
+use Rattle.ending.specs.declared.status.Status.{Status}
+use Rattle.ending.specs.declared.status.Status.TheVariants.{Done, Fault}
 use Rattle.text_commands.specs.declared.tally.Tally.{Tally}
-use Rattle.text_commands.specs.Pieces.{pieces_text}
+use Rattle.ending.specs.Pieces.{pieces_text}
 use Rattle.text_commands.specs.RowsCommand.{has_other_size, is_agreed, is_otherwise, is_unreached, most_steps, steps_of}
 
 -- 1 for yes

@@ -1,9 +1,9 @@
 -- The ending is that with which writing ended.
 use Rattle.std.proofs.Common.{subst, sym}
 use Rattle.std.specs.Prelude.{is_ok}
-use Rattle.text_commands.specs.Ending.{End, end_of}
-use Rattle.text_commands.specs.Finishing.{FinishesWriting}
-use Rattle.text_commands.specs.Laws.Ending.{ends_writing}
+use Rattle.ending.specs.Ending.{End, end_of}
+use Rattle.ending.specs.Finishing.{FinishesWriting}
+use Rattle.ending.specs.Laws.Ending.{ends_writing}
 use Rattle.agent_commands.specs.TapeCommand.{EndsByTape}
 use Rattle.agent_commands.specs.Code.Reports.{outcome_of, report_text}
 use Rattle.agent_commands.proofs.tape_command.show.Goals as goal

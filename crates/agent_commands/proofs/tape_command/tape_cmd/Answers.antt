@@ -1,4 +1,4 @@
-use Rattle.text_commands.specs.Ending.{end_of}
+use Rattle.ending.specs.Ending.{end_of}
 use Rattle.agent_commands.proofs.tape_command.tape_cmd.Goals as goal
 
 pub returns : goal.returns

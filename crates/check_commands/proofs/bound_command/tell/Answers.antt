@@ -1,7 +1,7 @@
 -- The bounds were found, and the text is that of them.
 use Rattle.std.proofs.Common.{ℕ, List, ap, inl, sum}
-use Rattle.text_commands.specs.Ending.{answered_with}
-use Rattle.text_commands.specs.declared.status.Status.TheVariants.{Done}
+use Rattle.ending.specs.Ending.{answered_with}
+use Rattle.ending.specs.declared.status.Status.TheVariants.{Done}
 use Rattle.bounding.specs.Bounding.{greatest_bound}
 use Rattle.model.specs.Costs.{makespan, sum_of_costs}
 use Rattle.check_commands.specs.BoundCommand.{bound_text, costs_and_bounds}

@@ -1,7 +1,7 @@
 -- By its pieces.
 use Rattle.std.proofs.Common.{◌∙◌}
 use Rattle.check_commands.proofs.BoundLemmas.{bounded-json-parts}
-use Rattle.text_commands.specs.Laws.Pieces.{breaks_as, puts_as, says}
+use Rattle.ending.specs.Laws.Pieces.{breaks_as, puts_as, says}
 use Rattle.check_commands.proofs.bound_text.put_bounded_json.Goals as goal
 
 pub returns-clause-ok : goal.returns-clause-ok

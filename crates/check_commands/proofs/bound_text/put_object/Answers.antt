@@ -5,7 +5,7 @@ use Rattle.text_io.specs.Laws.Putting.{Leaves-all, Leaves-less, Leaves-broken, P
 use Rattle.check_commands.specs.BoundCommand.{agent_bound_json}
 use Rattle.check_commands.specs.Code.Bounds.{comma_if}
 use Rattle.check_commands.proofs.BoundLemmas.{object-pieces}
-use Rattle.text_commands.specs.Laws.Pieces.{says}
+use Rattle.ending.specs.Laws.Pieces.{says}
 use Rattle.check_commands.proofs.bound_text.put_object.Goals as goal
 
 pub returns-in_err-put-clause-err : goal.returns-in_err-put-clause-err

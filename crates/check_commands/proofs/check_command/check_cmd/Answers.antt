@@ -1,4 +1,4 @@
-use Rattle.text_commands.specs.Ending.{end_of}
+use Rattle.ending.specs.Ending.{end_of}
 use Rattle.check_commands.proofs.check_command.check_cmd.Goals as goal
 
 pub returns : goal.returns

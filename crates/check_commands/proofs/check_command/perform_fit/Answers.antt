@@ -1,8 +1,8 @@
 -- What the check comes to, by how each call ended.
 use Rattle.std.proofs.Common.{◌≡◌, ◌∙◌, ap, refl, subst}
 use Rattle.std.specs.Prelude.{MatchResult}
-use Rattle.text_commands.specs.Ending.{end_of, gave_up}
-use Rattle.plan.specs.Checking.{IsCheckOf, IsRefusedFor}
+use Rattle.ending.specs.Ending.{end_of, gave_up}
+use Rattle.checker.specs.Checking.{IsCheckOf, IsRefusedFor}
 use Rattle.check_commands.specs.CheckCommand.{EndsByRefusal, ReadsAndFits}
 use Rattle.check_commands.specs.CheckCommand.Came.{differing, refused, unread, valid}
 use Rattle.check_commands.specs.declared.check_fault.CheckFault.TheVariants as check_fault

@@ -1,5 +1,5 @@
 -- As JSON, and else in words.
-use Rattle.text_commands.specs.Laws.Pieces.{breaks_as, puts_as, says}
+use Rattle.ending.specs.Laws.Pieces.{breaks_as, puts_as, says}
 use Rattle.check_commands.proofs.FaultsLemmas.{json-end-parts}
 use Rattle.check_commands.proofs.faults_text.put_end.Goals as goal
 

@@ -1,7 +1,7 @@
 -- Each fault by its piece.
 use Rattle.std.proofs.Common.{ap, sym}
 use Rattle.check_commands.specs.FaultsText.{fit_fault_json}
-use Rattle.text_commands.specs.Laws.Pieces.{breaks_as, puts_as, says}
+use Rattle.ending.specs.Laws.Pieces.{breaks_as, puts_as, says}
 use Rattle.check_commands.proofs.ToldLemmas.{goal_differs-parts, size_differs-parts, start_differs-parts}
 use Rattle.check_commands.proofs.told.put_fit_fault.Goals as goal
 

@@ -1,7 +1,7 @@
 use Rattle.std.proofs.Common.{ap, sym}
 use Rattle.check_commands.specs.Code.Listing.{told_against}
 use Rattle.check_commands.specs.FaultsText.{line_of_told}
-use Rattle.text_commands.specs.Laws.Pieces.{breaks_as, puts_as}
+use Rattle.ending.specs.Laws.Pieces.{breaks_as, puts_as}
 use Rattle.check_commands.proofs.told.put_line.Goals as goal
 
 pub returns-in-Turn-clause-ok : goal.returns-in-Turn-clause-ok

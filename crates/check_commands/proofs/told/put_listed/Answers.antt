@@ -5,7 +5,7 @@ use Rattle.std.proofs.lemmas.Result.{err_from_is_err_and}
 use Rattle.text_io.specs.Text.{separated}
 use Rattle.text_io.specs.Laws.Putting.{Leaves-all, Leaves-less, Leaves-broken, Puts-last, Breaks-last}
 use Rattle.check_commands.specs.FaultsText.{comma, listed_numbers}
-use Rattle.text_commands.specs.Laws.Pieces.{says}
+use Rattle.ending.specs.Laws.Pieces.{says}
 use Rattle.check_commands.proofs.ToldLemmas.{number-piece}
 use Rattle.check_commands.proofs.told.put_listed.Goals as goal
 

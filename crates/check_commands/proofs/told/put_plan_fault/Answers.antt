@@ -1,7 +1,7 @@
 -- Each fault by its pieces.
 use Rattle.std.proofs.Common.{ap, sym}
 use Rattle.check_commands.specs.FaultsText.{plan_fault_json}
-use Rattle.text_commands.specs.Laws.Pieces.{breaks_as, puts_as, says}
+use Rattle.ending.specs.Laws.Pieces.{breaks_as, puts_as, says}
 use Rattle.check_commands.proofs.ToldLemmas.{bad_move-parts, bad_start-parts, swap-parts, vertex-parts}
 use Rattle.check_commands.proofs.told.put_plan_fault.Goals as goal
 

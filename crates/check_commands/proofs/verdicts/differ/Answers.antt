@@ -1,7 +1,7 @@
 -- The difference is the one fault of the list.
 use Rattle.std.proofs.Common.{◌∙◌, ◌∷◌, [], ap, false, inl}
-use Rattle.text_commands.specs.Ending.{rejected}
-use Rattle.plan.specs.FaultWords.{fit_fault_words}
+use Rattle.ending.specs.Ending.{rejected}
+use Rattle.fitting.specs.FaultWords.{fit_fault_words}
 use Rattle.check_commands.specs.CheckCommand.{named_by}
 use Rattle.check_commands.specs.FaultsText.{faults_text, of_fit}
 use Rattle.check_commands.proofs.EndingLemmas.{ended}

@@ -1,6 +1,6 @@
 -- The first faults are those that were found.
 use Rattle.std.proofs.Common.{◌∙◌, ap, inl, map, refl}
-use Rattle.text_commands.specs.Ending.{rejected}
+use Rattle.ending.specs.Ending.{rejected}
 use Rattle.model.specs.FaultWords.{plan_fault_words}
 use Rattle.check_commands.specs.FaultsText.{faults_text, of_plan}
 use Rattle.check_commands.proofs.EndingLemmas.{ended}

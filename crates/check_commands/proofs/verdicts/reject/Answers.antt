@@ -1,7 +1,7 @@
 -- The line is that of the fault's text, and the ending has its words.
 use Rattle.std.proofs.Common.{◌∙◌, List, ℕ, ap, subst}
-use Rattle.text_commands.specs.Ending.{End, end_of, rejected}
-use Rattle.text_commands.specs.Rewriting.{EndsByLine}
+use Rattle.ending.specs.Ending.{End, end_of, rejected}
+use Rattle.ending.specs.Rewriting.{EndsByLine}
 use Rattle.check_commands.specs.FaultWords.{check_fault_words}
 use Rattle.check_commands.specs.VerdictText.{rejected_line}
 use Rattle.check_commands.proofs.verdicts.reject.Goals as goal

@@ -1,6 +1,6 @@
 -- The rotation is told by itself, or is the one fault of the list.
 use Rattle.std.proofs.Common.{◌≡◌, ◌∙◌, ◌∷◌, [], ap, codes, false, inl, is_ok, length, refl}
-use Rattle.text_commands.specs.Ending.{rejected}
+use Rattle.ending.specs.Ending.{rejected}
 use Rattle.text_io.specs.FaultWords.{text_fault}
 use Rattle.depgraph.specs.Rotations.{turn_of}
 use Rattle.check_commands.specs.FaultsText.{faults_text, of_turn}

@@ -1,6 +1,6 @@
 -- The plan that was checked is this one.
 use Rattle.std.proofs.Common.{Err, sym, subst}
-use Rattle.plan.specs.Checking.{IsRefusedFor}
+use Rattle.checker.specs.Checking.{IsRefusedFor}
 use Rattle.fleet_commands.specs.Code.Reading.{IsJudgedSo}
 use Rattle.fleet_commands.proofs.ReadLemmas.{refused}
 use Rattle.fleet_commands.proofs.anew_command.checked.Goals as goal

@@ -4,9 +4,9 @@ use Rattle.std.specs.Prelude.{is_ok}
 use Rattle.std.specs.List.{flat_map}
 use Rattle.text_io.specs.Counted.{counted_inner, failures_of}
 use Rattle.text_io.specs.Writing.{WritesText}
-use Rattle.text_commands.specs.Ending.{End, answered_with, end_of}
-use Rattle.text_commands.specs.Finishing.{FinishesWriting}
-use Rattle.text_commands.specs.Laws.Ending.{ends_writing}
+use Rattle.ending.specs.Ending.{End, answered_with, end_of}
+use Rattle.ending.specs.Finishing.{FinishesWriting}
+use Rattle.ending.specs.Laws.Ending.{ends_writing}
 use Rattle.fleet_commands.specs.StatusCommand.{status_by}
 use Rattle.fleet_commands.specs.StatusText.{status_line}
 use Rattle.fleet_commands.proofs.status_command.tell.Goals as goal

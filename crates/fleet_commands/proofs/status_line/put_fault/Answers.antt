@@ -3,9 +3,9 @@ use Rattle.std.proofs.Common.{◌≡◌, [], ◌∷◌, refl}
 use Rattle.std.proofs.lemmas.Result.{err_from_is_err_and}
 use Rattle.text_io.specs.Laws.Putting.{Puts-then, Breaks-then, Breaks-text}
 use Rattle.text_io.specs.FaultWords.{words_of}
-use Rattle.text_commands.specs.Laws.Pieces.{breaks_as, puts_as}
-use Rattle.text_commands.specs.Pieces.{pieces_text}
-use Rattle.text_commands.specs.Telling.{enclosed_words}
+use Rattle.ending.specs.Laws.Pieces.{breaks_as, puts_as}
+use Rattle.ending.specs.Pieces.{pieces_text}
+use Rattle.ending.specs.Telling.{enclosed_words}
 use Rattle.fleet_commands.specs.StatusText.{said}
 use Rattle.std.specs.Prelude.{codes}
 use Rattle.fleet_commands.proofs.status_line.put_fault.Goals as goal

@@ -1,7 +1,7 @@
 -- The pieces say the cells.
 use Rattle.std.proofs.Common.{◌∙◌, ap, sym}
-use Rattle.text_commands.specs.Laws.Pieces.{breaks_as, puts_as}
-use Rattle.text_commands.specs.Pieces.{pieces_text}
+use Rattle.ending.specs.Laws.Pieces.{breaks_as, puts_as}
+use Rattle.ending.specs.Pieces.{pieces_text}
 use Rattle.fleet_commands.specs.StatusText.{held_pieces}
 use Rattle.fleet_commands.proofs.PieceLemmas.{made, four-pieces}
 use Rattle.fleet_commands.proofs.status_line.put_held.Goals as goal

@@ -1,6 +1,6 @@
 -- What is put says what keeps the agent.
 use Rattle.std.proofs.Common.{◌∙◌, ◌++◌, ℕ, List, ap, ap₂, sym}
-use Rattle.text_commands.specs.Laws.Pieces.{breaks_as, puts_as}
+use Rattle.ending.specs.Laws.Pieces.{breaks_as, puts_as}
 use Rattle.fleet_commands.specs.StatusText.{keeping_text}
 use Rattle.fleet_commands.proofs.PieceLemmas.{made, two-pieces}
 use Rattle.fleet_commands.proofs.status_line.put_keeping.Goals as goal

@@ -2,7 +2,7 @@
 use Rattle.std.proofs.Common.{refl}
 use Rattle.std.proofs.lemmas.Result.{err_from_is_err_and}
 use Rattle.text_io.specs.Laws.Putting.{Puts-then, Breaks-then, Breaks-text}
-use Rattle.text_commands.specs.Pieces.{pieces_text}
+use Rattle.ending.specs.Pieces.{pieces_text}
 use Rattle.fleet_commands.specs.StatusText.{agent_text, held_pieces}
 use Rattle.fleet_commands.proofs.status_line.put_place.Goals as goal
 

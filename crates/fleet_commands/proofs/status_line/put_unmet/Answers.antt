@@ -1,6 +1,6 @@
 -- What is put says what was chosen.
 use Rattle.std.proofs.Common.{◌++◌, ℕ, List, ap₂}
-use Rattle.text_commands.specs.Laws.Pieces.{breaks_as, puts_as}
+use Rattle.ending.specs.Laws.Pieces.{breaks_as, puts_as}
 use Rattle.fleet_commands.proofs.PieceLemmas.{made, three-pieces}
 use Rattle.fleet_commands.proofs.status_line.put_unmet.Goals as goal
 

@@ -1,6 +1,6 @@
 -- What waits is too far, so what was found is the least.
 use Rattle.std.proofs.Common.{◌≡◌, ◌+◌, Some, subst, sym}
-use Rattle.scen.specs.Walk.{IsOn}
+use Rattle.walks.specs.Walk.{IsOn}
 use Rattle.least_steps.specs.Code.Estimate.{least_number}
 use Rattle.least_steps.proofs.AnswerLemmas.{as_far, is_least, settled}
 use Rattle.least_steps.proofs.answer.answer.Goals as goal

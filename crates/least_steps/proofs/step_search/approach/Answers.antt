@@ -1,7 +1,7 @@
 -- Each place that is taken is done, or too far, or its cell has another number.
 use Rattle.std.proofs.Common.{◌∙◌, subst, sym}
 use Rattle.std.proofs.lemmas.Bool.{true≢false}
-use Rattle.scen.specs.Walk.{IsOn}
+use Rattle.walks.specs.Walk.{IsOn}
 use Rattle.least_steps.specs.declared.open_list.OpenList.{OpenList}
 use Rattle.least_steps.specs.Code.Exploring.{Advances, Exploration}
 use Rattle.least_steps.specs.Code.Waiting.{IsSearch}

@@ -1,7 +1,7 @@
 -- The start alone is reached, and waits.
 use Rattle.std.proofs.Common.{◌≡◌, ◌∙◌, ◌+◌, inl, inr, arith, refl, subst, sym}
 use Rattle.std.proofs.lemmas.Option.{same_Some}
-use Rattle.scen.specs.Walk.{IsOn}
+use Rattle.walks.specs.Walk.{IsOn}
 use Rattle.least_steps.specs.declared.open_list.Open.{Open}
 use Rattle.least_steps.specs.Code.Exploring.{Has}
 use Rattle.least_steps.specs.Code.Reaching.{WalksTo}

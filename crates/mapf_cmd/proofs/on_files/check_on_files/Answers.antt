@@ -1,7 +1,7 @@
 use Rattle.std.proofs.Common.{Option, subst, sym}
 use Rattle.std.specs.Prelude.{String}
 use Rattle.std.specs.Global.{Global}
-use Rattle.text_commands.specs.Ending.{end_of}
+use Rattle.ending.specs.Ending.{end_of}
 use Rattle.mapf_cmd.specs.Program.{CheckOn, terms_of}
 use Rattle.mapf_cmd.proofs.on_files.check_on_files.Goals as goal
 

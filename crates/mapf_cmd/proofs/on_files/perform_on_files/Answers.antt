@@ -2,7 +2,7 @@
 use Rattle.std.proofs.Common.{◌≡◌, MatchResult, refl, subst, sym}
 use Rattle.std.proofs.lemmas.Result.{MatchResult-weaker}
 use Rattle.command_line.specs.declared.lines.Line.{Line}
-use Rattle.text_commands.specs.Ending.{end_of}
+use Rattle.ending.specs.Ending.{end_of}
 use Rattle.mapf_cmd.specs.Program.{PerformsOn, ShowsOn}
 use Rattle.mapf_cmd.proofs.on_files.perform_on_files.Goals as goal
 

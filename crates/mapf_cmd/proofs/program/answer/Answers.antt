@@ -2,7 +2,7 @@
 use Rattle.std.proofs.Common.{◌≡◌, ◌∙◌, Option, None, Some, ap, refl, subst, sym}
 use Rattle.std.specs.Prelude.{option_map}
 use Rattle.text_io.specs.FaultWords.{Words, words_of}
-use Rattle.text_commands.specs.Ending.{end_of}
+use Rattle.ending.specs.Ending.{end_of}
 use Rattle.mapf_cmd.specs.Program.{Explains, explained_of}
 use Rattle.mapf_cmd.proofs.program.answer.Goals as goal
 

@@ -3,7 +3,7 @@ use Rattle.std.proofs.Common.{◌∙◌, ◌||◌, ℕ, Bool, List, Option, inr,
 use Rattle.text_io.specs.declared.counted.Counted.{Counted}
 use Rattle.command_line.specs.declared.lines.Line.{Line}
 use Rattle.command_line.specs.declared.lines.Line.TheVariants as line
-use Rattle.text_commands.specs.Ending.{gave_up}
+use Rattle.ending.specs.Ending.{gave_up}
 use Rattle.text_commands.specs.Laws.Progress.{shows_nothing}
 use Rattle.mapf_cmd.specs.Program.{ShowsOn}
 use Rattle.mapf_cmd.proofs.program.perform.Goals as goal
@@ -23,7 +23,7 @@ shows_none told is_watched (line.Tape a b c d) now = refl
 shows_none told is_watched (line.Fleet l) now = refl
 
 pub returns-in-Err-clause-performs : goal.returns-in-Err-clause-performs
-returns-in-Err-clause-performs g c = inr (c.gave_up.ensures ∙ ap gave_up c.words.ensures, c.in-Err.ensures.0, c.in-Err.ensures.1)
+returns-in-Err-clause-performs g c = inr (c.gave_up.ensures ∙ ap gave_up (c.of.ensures ∙ c.words.ensures), c.in-Err.ensures.0, c.in-Err.ensures.1)
 
 pub returns-in-Err-clause-shows : goal.returns-in-Err-clause-shows
 returns-in-Err-clause-shows g c =

@@ -1,8 +1,8 @@
 use Rattle.std.proofs.Common.{◌∙◌, List, ℕ, ap, refl, subst, sym}
 use Rattle.command_line.specs.declared.command_line.LineFault.{LineFault}
-use Rattle.text_commands.specs.Ending.{EndsAndTells, answered_with, end_of, gave_up}
-use Rattle.text_commands.specs.Rewriting.{EndsWriting}
-use Rattle.text_commands.specs.declared.status.Status.TheVariants.{Done}
+use Rattle.ending.specs.Ending.{EndsAndTells, answered_with, end_of, gave_up}
+use Rattle.ending.specs.Rewriting.{EndsWriting}
+use Rattle.ending.specs.declared.status.Status.TheVariants.{Done}
 use Rattle.mapf_cmd.specs.Program.{EndsRefused}
 use Rattle.mapf_cmd.proofs.unperformed.refuse.Goals as goal
 

@@ -1,8 +1,8 @@
 use Rattle.std.proofs.Common.{subst}
 use Rattle.std.specs.Prelude.{is_ok}
-use Rattle.text_commands.specs.Ending.{End, end_of}
-use Rattle.text_commands.specs.Finishing.{FinishesWriting}
-use Rattle.text_commands.specs.Laws.Ending.{ends_writing}
+use Rattle.ending.specs.Ending.{End, end_of}
+use Rattle.ending.specs.Finishing.{FinishesWriting}
+use Rattle.ending.specs.Laws.Ending.{ends_writing}
 use Rattle.mapf_cmd.proofs.unperformed.show.Goals as goal
 
 pub returns : goal.returns

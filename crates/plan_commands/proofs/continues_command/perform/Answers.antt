@@ -1,5 +1,5 @@
 use Rattle.std.proofs.Common.{◌∙◌, Ok, Err, ap, refl}
-use Rattle.text_commands.specs.Ending.{gave_up}
+use Rattle.ending.specs.Ending.{gave_up}
 use Rattle.plan_commands.proofs.continues_command.perform.Goals as goal
 
 pub returns-in-Ok : goal.returns-in-Ok

@@ -1,11 +1,11 @@
 -- The line is that of the plans, and the ending is that with which writing ended.
 use Rattle.std.proofs.Common.{◌∙◌, ℕ, List, inl, subst}
 use Rattle.std.specs.Prelude.{is_ok}
-use Rattle.text_commands.specs.declared.status.Status.TheVariants.{Done}
-use Rattle.text_commands.specs.Ending.{End, answered_with, end_of}
-use Rattle.text_commands.specs.Finishing.{FinishesWriting}
-use Rattle.text_commands.specs.Rewriting.{EndsWriting}
-use Rattle.text_commands.specs.Laws.Ending.{ends_writing}
+use Rattle.ending.specs.declared.status.Status.TheVariants.{Done}
+use Rattle.ending.specs.Ending.{End, answered_with, end_of}
+use Rattle.ending.specs.Finishing.{FinishesWriting}
+use Rattle.ending.specs.Rewriting.{EndsWriting}
+use Rattle.ending.specs.Laws.Ending.{ends_writing}
 use Rattle.plan_commands.proofs.continues_command.tell.Goals as goal
 
 pub returns-in-Ok : goal.returns-in-Ok

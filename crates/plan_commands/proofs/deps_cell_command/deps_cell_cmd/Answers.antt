@@ -1,4 +1,4 @@
-use Rattle.text_commands.specs.Ending.{end_of}
+use Rattle.ending.specs.Ending.{end_of}
 use Rattle.plan_commands.proofs.deps_cell_command.deps_cell_cmd.Goals as goal
 
 pub returns : goal.returns

@@ -2,9 +2,9 @@
 use Rattle.std.proofs.Common.{◌∙◌, Ok, Err, ap, refl, subst}
 use Rattle.std.specs.Prelude.{is_ok}
 use Rattle.plan_commands.specs.DepsText.{deps_text}
-use Rattle.text_commands.specs.Ending.{End, end_of, gave_up}
-use Rattle.text_commands.specs.Finishing.{FinishesWriting}
-use Rattle.text_commands.specs.Laws.Ending.{ends_writing}
+use Rattle.ending.specs.Ending.{End, end_of, gave_up}
+use Rattle.ending.specs.Finishing.{FinishesWriting}
+use Rattle.ending.specs.Laws.Ending.{ends_writing}
 use Rattle.plan_commands.proofs.deps_command.perform.Goals as goal
 
 pub returns-in-Ok : goal.returns-in-Ok

@@ -1,9 +1,9 @@
 -- The rows are those of the courses that are asked for, and the ending is that with which writing ended.
 use Rattle.std.proofs.Common.{◌∙◌, Ok, Err, ap, refl, subst}
 use Rattle.std.specs.Prelude.{is_ok}
-use Rattle.text_commands.specs.Ending.{End, end_of, gave_up}
-use Rattle.text_commands.specs.Finishing.{FinishesWriting}
-use Rattle.text_commands.specs.Laws.Ending.{ends_writing}
+use Rattle.ending.specs.Ending.{End, end_of, gave_up}
+use Rattle.ending.specs.Finishing.{FinishesWriting}
+use Rattle.ending.specs.Laws.Ending.{ends_writing}
 use Rattle.plan_commands.specs.PathText.{path_text}
 use Rattle.plan_commands.specs.Code.Rows.{rows_of_courses}
 use Rattle.plan_commands.specs.declared.path_fault.PathFault.TheVariants.{NoSuchAgent, OutOfMemory}

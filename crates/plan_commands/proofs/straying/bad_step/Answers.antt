@@ -3,9 +3,9 @@ use Rattle.std.proofs.Common.{length, ap, arith, sym, subst, ◌∙◌}
 use Rattle.std.specs.Prelude.{slice_get}
 use Rattle.std.proofs.lemmas.Option.{slice_get-get_or}
 use Rattle.model.specs.Plan.{position_of}
-use Rattle.plan.specs.Code.Standing.{IsOnGrid}
-use Rattle.plan.specs.Laws.Keeping.{kept_none, kept_next, kept_always}
-use Rattle.plan.specs.Laws.Walking.{ahead-moved, bad-moved, on_map_from_terrain, position_at-start}
+use Rattle.checker.specs.Code.Standing.{IsOnGrid}
+use Rattle.checker.specs.Laws.Keeping.{kept_none, kept_next, kept_always}
+use Rattle.checker.specs.Laws.Walking.{ahead-moved, bad-moved, on_map_from_terrain, position_at-start}
 use Rattle.plan_commands.proofs.StrayLemmas.{goes_its_way}
 use Rattle.plan_commands.proofs.straying.bad_step.Goals as goal
 

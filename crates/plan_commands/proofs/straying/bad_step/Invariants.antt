@@ -1,7 +1,7 @@
 use Rattle.std.proofs.Common.{◌≡◌}
 use Rattle.model.specs.Plan.{position_of, position_at}
-use Rattle.plan.specs.Code.Standing.{IsOnGrid}
-use Rattle.plan.specs.Laws.Keeping.{HasKept}
+use Rattle.checker.specs.Code.Standing.{IsOnGrid}
+use Rattle.checker.specs.Laws.Keeping.{HasKept}
 use Rattle.plan_commands.proofs.straying.bad_step.Given as goal
 
 -- the agent came so far without a bad move, and was in cells of the map

@@ -1,6 +1,6 @@
 -- Each agent goes on by the act that was read.
 use Rattle.std.proofs.Common.{arith, refl, sym, ap₂, subst, ◌∙◌}
-use Rattle.plan.specs.Moving.{cell_by}
+use Rattle.checker.specs.Moving.{cell_by}
 use Rattle.plan_commands.specs.Code.Walks.{IsCellInRange}
 use Rattle.plan_commands.proofs.WalkLemmas.{led_more, read_act}
 use Rattle.plan_commands.proofs.walk.walk_on.Goals as goal

@@ -1,7 +1,7 @@
 -- The line says what the plan costs.
 use Rattle.std.proofs.Common.{ℕ, subst}
-use Rattle.text_commands.specs.Ending.{End, end_of}
-use Rattle.text_commands.specs.Rewriting.{EndsByLine}
+use Rattle.ending.specs.Ending.{End, end_of}
+use Rattle.ending.specs.Rewriting.{EndsByLine}
 use Rattle.proof_commands.specs.ShownText.{claim_line}
 use Rattle.proof_commands.proofs.optimal_command.compare.Goals as goal
 

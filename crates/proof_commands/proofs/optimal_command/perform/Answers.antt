@@ -1,6 +1,6 @@
 -- The proof is read where the plan is valid.
 use Rattle.std.proofs.Common.{◌∙◌, ap, inl, inr, refl}
-use Rattle.text_commands.specs.Ending.{gave_up}
+use Rattle.ending.specs.Ending.{gave_up}
 use Rattle.proof_commands.proofs.optimal_command.perform.Goals as goal
 
 pub returns-in-Ok : goal.returns-in-Ok

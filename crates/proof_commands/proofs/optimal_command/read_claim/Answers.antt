@@ -4,7 +4,7 @@ use Rattle.optimality.specs.Judging.{BoundHolds}
 use Rattle.optimality.specs.declared.constraint.Ends.{Ends}
 use Rattle.proof_text.specs.ProofFault.{ProofFaultAt, proof_outcome}
 use Rattle.proof_text.specs.ProofText.{ProofText}
-use Rattle.text_commands.specs.Rewriting.{Reads}
+use Rattle.ending.specs.Rewriting.{Reads}
 use Rattle.proof_commands.proofs.optimal_command.read_claim.Goals as goal
 
 pub returns-clause-reads : goal.returns-clause-reads

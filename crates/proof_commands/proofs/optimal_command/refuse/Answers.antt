@@ -1,8 +1,8 @@
 -- The line names the fault, and the ending has its words.
 use Rattle.std.proofs.Common.{◌∙◌, inl, inr, ap, subst, sym}
 use Rattle.text_io.specs.FaultWords.{words_text}
-use Rattle.text_commands.specs.Ending.{End, end_of, rejected}
-use Rattle.text_commands.specs.Rewriting.{EndsByLine}
+use Rattle.ending.specs.Ending.{End, end_of, rejected}
+use Rattle.ending.specs.Rewriting.{EndsByLine}
 use Rattle.proof_text.specs.FaultWords.{proof_fault_words}
 use Rattle.proof_text.specs.declared.proof_fault.ProofFault.{ProofFault}
 use Rattle.proof_commands.specs.OptimalCommand.{EndsUnproved}

@@ -1,8 +1,8 @@
 -- The line is that of what was shown, and the ending is that with which writing ended.
 use Rattle.std.proofs.Common.{◌∙◌, ℕ, List, ap, inl, inr, refl, subst}
-use Rattle.text_commands.specs.Ending.{end_of, gave_up}
-use Rattle.text_commands.specs.Rewriting.{EndsWriting}
-use Rattle.text_commands.specs.Laws.Ending.{ends_writing}
+use Rattle.ending.specs.Ending.{end_of, gave_up}
+use Rattle.ending.specs.Rewriting.{EndsWriting}
+use Rattle.ending.specs.Laws.Ending.{ends_writing}
 use Rattle.proof_commands.proofs.optimal_command.tell.Goals as goal
 
 pub returns-in-Ok : goal.returns-in-Ok

@@ -1,7 +1,7 @@
 -- The run ends by its answer, and the output is flushed where that is due.
 use Rattle.std.proofs.Common.{◌≡◌, ◌∙◌, true, false, refl, subst, sym}
-use Rattle.text_commands.specs.Ending.{End, end_of}
-use Rattle.text_commands.specs.Finishing.{FinishesWriting}
+use Rattle.ending.specs.Ending.{End, end_of}
+use Rattle.ending.specs.Finishing.{FinishesWriting}
 use Rattle.run_commands.specs.RunCommand.{needs_flush}
 use Rattle.run_commands.proofs.run_command.perform.Goals as goal
 

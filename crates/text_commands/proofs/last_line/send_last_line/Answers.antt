@@ -4,7 +4,7 @@ use Rattle.std.proofs.lemmas.Result.{err_from_is_err_and}
 use Rattle.text_io.specs.Laws.Putting.{Leaves-all, Leaves-less, Leaves-broken, Puts-last, Breaks-last}
 use Rattle.text_io.specs.Text.{line_feed}
 use Rattle.text_commands.specs.Code.Tallies.{tally_pieces}
-use Rattle.text_commands.specs.Pieces.{pieces_text}
+use Rattle.ending.specs.Pieces.{pieces_text}
 use Rattle.text_commands.proofs.last_line.send_last_line.Goals as goal
 
 pub returns-in_err-put_pieces-clause-err : goal.returns-in_err-put_pieces-clause-err

@@ -1,7 +1,7 @@
 use Rattle.std.proofs.Common.{◌∙◌, Err, ap}
 use Rattle.grid.specs.MapFault.{map_fault_words, map_outcome}
-use Rattle.text_commands.specs.Ending.{gave_up}
-use Rattle.text_commands.specs.Laws.Ending.{rewrites}
+use Rattle.ending.specs.Ending.{gave_up}
+use Rattle.ending.specs.Laws.Ending.{rewrites}
 use Rattle.text_commands.proofs.Refusals.{map_refused}
 use Rattle.text_commands.proofs.map_command.perform.Goals as goal
 

@@ -6,9 +6,9 @@ use Rattle.std.proofs.lemmas.Nat.{mul-le}
 use Rattle.std.proofs.lemmas.Option.{slice_get_cases}
 use Rattle.grid.specs.declared.cell.Cell.{Cell}
 use Rattle.grid.specs.Map.{Grid, IsMap}
-use Rattle.scen.specs.Certificate.{AreOn}
-use Rattle.rows.specs.Query.{Query, IsQuery}
-use Rattle.scen.specs.Walk.{IsOn}
+use Rattle.walks.specs.Certificate.{AreOn}
+use Rattle.scenario.specs.Query.{Query, IsQuery}
+use Rattle.walks.specs.Walk.{IsOn}
 use Rattle.text_commands.specs.RowCommand.{HasSizeOf}
 use Rattle.text_commands.proofs.row_command.is_for.Goals as goal
 

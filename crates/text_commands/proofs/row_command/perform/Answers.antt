@@ -1,5 +1,5 @@
 use Rattle.std.proofs.Common.{◌∙◌, Ok, Err, ap, refl}
-use Rattle.text_commands.specs.Ending.{answered_with, gave_up}
+use Rattle.ending.specs.Ending.{answered_with, gave_up}
 use Rattle.text_commands.proofs.RowAnswers.{row_verdict_ends}
 use Rattle.text_commands.proofs.row_command.perform.Goals as goal
 

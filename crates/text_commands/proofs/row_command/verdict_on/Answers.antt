@@ -1,10 +1,10 @@
 use Rattle.std.proofs.Common.{◌≡◌, ℕ, Option, Ok, Err, subst}
 use Rattle.grid.specs.declared.cell.Cell.{Cell}
 use Rattle.grid.specs.Map.{Grid}
-use Rattle.scen.specs.Certificate.{Certifies, IsLeast}
-use Rattle.rows.specs.Query.{Query}
-use Rattle.scen.specs.declared.certificate.Proposal.{Proposal}
-use Rattle.rows.specs.declared.length.Length.{Length}
+use Rattle.walks.specs.Certificate.{Certifies, IsLeast}
+use Rattle.scenario.specs.Query.{Query}
+use Rattle.walks.specs.declared.certificate.Proposal.{Proposal}
+use Rattle.scenario.specs.declared.length.Length.{Length}
 use Rattle.text_commands.specs.declared.row_verdict.RowVerdict.{RowVerdict}
 use Rattle.text_commands.specs.RowCommand.{IsCertified, IsRowVerdictOn}
 use Rattle.text_commands.proofs.RowAnswers.{refusal_judged}

@@ -2,7 +2,7 @@
 use Rattle.std.proofs.Common.{◌≡◌, ◌∙◌, ℕ, List, Bor, refl, ap}
 use Rattle.std.specs.Prelude.{codes, decimal}
 use Rattle.std.proofs.lemmas.Result.{err_from_is_err_and}
-use Rattle.rows.specs.Query.{listed_text}
+use Rattle.scenario.specs.Query.{listed_text}
 use Rattle.text_io.specs.Laws.Putting.{Leaves-broken, Puts-last, Breaks-last}
 use Rattle.text_commands.proofs.RowVerdictPuts.{spaced, from_answer, from_listed, from_mark, from_diagonal, from_straight, first-left, straight-left, diagonal-left, mark-left, listed-left, answer-left}
 use Rattle.text_commands.proofs.row_verdict.put_shortest.Goals as goal

@@ -1,6 +1,6 @@
 use Rattle.std.proofs.Common.{inr, subst, unwrap_or}
 use Rattle.text_commands.specs.Code.Judging.{Judgement}
-use Rattle.text_commands.specs.Ending.{end_of}
+use Rattle.ending.specs.Ending.{end_of}
 use Rattle.text_commands.specs.RowsCommand.{EndsByJudging}
 use Rattle.text_commands.proofs.RowsEndings.{rows_end}
 use Rattle.text_commands.proofs.RowsLemmas.{shows_more}

@@ -1,7 +1,7 @@
 -- The texts were read, and the rows that are asked for were judged.
 use Rattle.std.proofs.Common.{◌∙◌, ◌<◌, ◌≤◌, ◌⊎◌, List, ap, inl, inr, length, refl, subst, unwrap_or}
-use Rattle.rows.specs.Query.{Query}
-use Rattle.text_commands.specs.Ending.{end_of, gave_up}
+use Rattle.scenario.specs.Query.{Query}
+use Rattle.ending.specs.Ending.{end_of, gave_up}
 use Rattle.text_commands.specs.RowsCommand.{EndsByJudging, EndsUnjudged, rows_between}
 use Rattle.text_commands.specs.declared.row_fault.RowFault.TheVariants.{OutOfMemory}
 use Rattle.text_commands.specs.Laws.Progress.{shows_nothing}

@@ -1,8 +1,8 @@
 use Rattle.std.proofs.Common.{◌∙◌, Err, ap}
-use Rattle.rows.specs.FaultWords.{scen_fault_words}
-use Rattle.rows.specs.ScenFault.{scen_outcome}
-use Rattle.text_commands.specs.Ending.{gave_up}
-use Rattle.text_commands.specs.Laws.Ending.{rewrites}
+use Rattle.scenario.specs.FaultWords.{scen_fault_words}
+use Rattle.scenario.specs.ScenFault.{scen_outcome}
+use Rattle.ending.specs.Ending.{gave_up}
+use Rattle.ending.specs.Laws.Ending.{rewrites}
 use Rattle.text_commands.proofs.Refusals.{scen_refused}
 use Rattle.text_commands.proofs.scen_command.perform.Goals as goal
 

@@ -1,7 +1,7 @@
 -- The mark is no greater, so a walk is known.
 use Rattle.std.proofs.Common.{◌≡◌, ◌∙◌, ◌<◌, length, ap, subst, sym}
 use Rattle.std.specs.Prelude.{slice_index_or}
-use Rattle.scen.specs.Walk.{IsOn}
+use Rattle.walks.specs.Walk.{IsOn}
 use Rattle.least_steps.specs.Code.Exploring.{Exploration, Has}
 use Rattle.least_steps.specs.Code.Reaching.{number_in}
 use Rattle.least_steps.specs.Laws.Ways.{number-inside}

@@ -1,7 +1,7 @@
 -- The legal steps of one cell are known now.
 use Rattle.std.proofs.Common.{◌<◌, length, subst, sym}
 use Rattle.std.specs.Prelude.{slice_set}
-use Rattle.scen.specs.Walk.{IsOn}
+use Rattle.walks.specs.Walk.{IsOn}
 use Rattle.least_steps.specs.Code.Exploring.{Exploration, IsExploration}
 use Rattle.least_steps.specs.Code.Reaching.{number_in}
 use Rattle.least_steps.specs.Code.Steps.{AreLegal}

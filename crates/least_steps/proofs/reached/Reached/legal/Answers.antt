@@ -1,7 +1,7 @@
 -- They were known.
 use Rattle.std.proofs.Common.{◌∙◌, ◌<◌, length, ap, subst, sym}
 use Rattle.std.specs.Prelude.{slice_index_or}
-use Rattle.scen.specs.Walk.{IsOn}
+use Rattle.walks.specs.Walk.{IsOn}
 use Rattle.least_steps.specs.Code.Exploring.{Exploration}
 use Rattle.least_steps.specs.Code.Reaching.{number_in}
 use Rattle.least_steps.specs.Code.Steps.{AreLegal}

@@ -1,7 +1,7 @@
 -- Off the map no walk begins or ends; on it the search that came to its end had begun.
 use Rattle.std.proofs.Common.{◌≡◌, ◌∙◌, ℕ, None, Some, subst, sym}
 use Rattle.std.proofs.lemmas.Bool.{true≢false}
-use Rattle.scen.specs.Certificate.{AreOn}
+use Rattle.walks.specs.Certificate.{AreOn}
 use Rattle.least_steps.specs.declared.open_list.OpenList.{OpenList}
 use Rattle.least_steps.specs.Code.Exploring.{Exploration}
 use Rattle.least_steps.specs.Code.Waiting.{IsSearch}

@@ -1,0 +1,2 @@
+-- Lemmas on texts that are put.
+mod LineParts

@@ -1,0 +1,2 @@
+-- Lemmas on agents and the rows of their numbers.
+mod FitLemmas

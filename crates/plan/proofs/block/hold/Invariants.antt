@@ -1,5 +1,0 @@
-use Rattle.plan.proofs.RowLemmas.{IsHeldTo}
-use Rattle.plan.proofs.block.hold.Given as goal
-
-abbrev pub invariant-loop-walker : goal.invariant-loop-walker
-invariant-loop-walker l = IsHeldTo l.courses l.step l.walkers l.initial.squares l.squares l.walker-index

@@ -1,6 +1,0 @@
-use Rattle.std.proofs.Common.{◌+◌, ◌*◌}
-use Rattle.plan.specs.Code.Squares.{IsLaid}
-use Rattle.plan.proofs.board.lay_row.Given as goal
-
-abbrev pub invariant-loop-column : goal.invariant-loop-column
-invariant-loop-column l = IsLaid l.map l.squares (l.row * l.map.width + l.column)

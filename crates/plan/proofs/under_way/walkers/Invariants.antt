@@ -1,5 +1,0 @@
-use Rattle.plan.proofs.UnderWayStarts.{AreFirst}
-use Rattle.plan.proofs.under_way.walkers.Given as goal
-
-abbrev pub invariant-loop-agent : goal.invariant-loop-agent
-invariant-loop-agent l = AreFirst l.map l.courses l.walkers.items l.agent

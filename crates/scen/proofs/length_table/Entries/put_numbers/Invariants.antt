@@ -1,8 +1,0 @@
-use Rattle.std.proofs.Common.{◌≡◌, ℕ, ◌+◌, ◌<◌}
-use Rattle.std.specs.Prelude.{slice_index}
-use Rattle.scen.specs.Code.TableEntries.{number_on}
-use Rattle.scen.proofs.length_table.Entries.put_numbers.Given as goal
-
--- the numbers of the cells before are told
-abbrev pub invariant-loop-i : goal.invariant-loop-i
-invariant-loop-i l = (k : ℕ) → k < l.i → slice_index l.numbers k ≡ number_on l.self l.width (l.x + k) l.y

@@ -1,8 +1,0 @@
-use Rattle.std.proofs.Common.{ℕ, ◌*◌, ◌<◌}
-use Rattle.scen.specs.Code.TableEntries.{number_on}
-use Rattle.scen.specs.Code.Tightness.{KeepsBlockAt}
-use Rattle.scen.proofs.tightness.is_tight.Given as goal
-
--- each block whose row is in a band before it keeps
-abbrev pub invariant-loop-band : goal.invariant-loop-band
-invariant-loop-band l = (y : ℕ) → y < 64 * l.band → y < l.map.height → (x : ℕ) → x < l.map.width → KeepsBlockAt l.map (number_on l.entries l.map.width) x y

@@ -1,7 +1,0 @@
-use Rattle.std.specs.Prelude.{IsTrue, ◌↔◌}
-use Rattle.scen.specs.Code.Tightness.{KeepsRows}
-use Rattle.scen.proofs.tightness.keeps_row.Given as goal
-
--- it tells of the blocks before
-abbrev pub invariant-loop-i : goal.invariant-loop-i
-invariant-loop-i l = IsTrue l.keeps ↔ KeepsRows l.i l.upper l.lower
