@@ -56,6 +56,7 @@ import statuses
 import tabling
 import vectors
 import vehicles
+from gate_clock import GateClock
 from harness import ROOT, SHIPPED, Harness, Outcome, Report
 from lanes import Lanes
 
@@ -139,6 +140,7 @@ class Gate:
     def __init__(self) -> None:
         self.last = ""
         self.process = subprocess.Popen(["rt", "ci"], cwd=ROOT, stdin=subprocess.DEVNULL, stdout=subprocess.PIPE, text=True, errors="replace")
+        self.clock = GateClock(self.process.pid)
         self.passing_on = threading.Thread(target=self.pass_on)
         self.passing_on.start()
 
@@ -149,6 +151,8 @@ class Gate:
     def end(self) -> tuple[int, int]:
         """Waits for its end, and answers how many it counted as passed and as failed."""
         self.passing_on.join()
+        for line in self.clock.stop():
+            print(line, flush=True)
         failed_itself = self.process.wait() != 0
         counted = re.fullmatch(r"(\d+) passed, (\d+) failed\n", self.last)
         passed, failed = map(int, counted.groups()) if counted else (0, 0)
@@ -158,6 +162,7 @@ class Gate:
         """Ends it, where it has not ended."""
         self.process.terminate()
         self.passing_on.join()
+        self.clock.ends.set()
 
 
 @contextlib.contextmanager

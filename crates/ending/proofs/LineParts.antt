@@ -1,6 +1,7 @@
 -- The parts of a fault's words between two texts, and how far they have been put.
 use Rattle.std.proofs.Common.{◌≡◌, ◌∙◌, ℕ, List, ◌++◌, refl, sym, ap, take, append_assoc}
 use Rattle.std.specs.Prelude.{Option, codes}
+use Rattle.text_io.specs.FaultName.{fault_name}
 use Rattle.text_io.specs.Laws.Words.{joined}
 use Rattle.text_io.specs.Text.{spaced_numbers}
 use Rattle.text_io.specs.FaultWords.{words_of, words_text}
@@ -18,13 +19,13 @@ abbrev pub from_numbers : FaultWords → List ℕ → List ℕ
 from_numbers words end = spaced_numbers (numbers_of words) ++ end
 
 abbrev pub from_name : FaultWords → List ℕ → List ℕ
-from_name words end = words.name.now ++ from_numbers words end
+from_name words end = fault_name words.name ++ from_numbers words end
 
 text-is : (head : List ℕ) (words : FaultWords) (end : List ℕ) → head ++ from_name words end ≡ enclosed_words head (words_of words) end
 text-is head words end =
     ap (λ (rest : List ℕ). head ++ rest)
-    (sym (append_assoc words.name.now (spaced_numbers (numbers_of words)) end)
-    ∙ ap (λ (text : List ℕ). text ++ end) (sym (joined words.name.now (numbers_of words))))
+    (sym (append_assoc (fault_name words.name) (spaced_numbers (numbers_of words)) end)
+    ∙ ap (λ (text : List ℕ). text ++ end) (sym (joined (fault_name words.name) (numbers_of words))))
     ∙ sym (append_assoc head (words_text (words_of words)) end)
 
 module _ {W : Type 0} (contents : W → Option (List ℕ)) (head : List ℕ) (words : FaultWords) (end : List ℕ) where
@@ -36,8 +37,8 @@ module _ {W : Type 0} (contents : W → Option (List ℕ)) (head : List ℕ) (wo
   name-left s now p = Leaves-less contents s s now _ head (from_name words end) _ (first-left s) refl p
 
   pub numbers-left : (s mid now : Sink W) (given : List ℕ) → Leaves contents s mid (enclosed_words head (words_of words) end) (from_name words end)
-      → given ≡ words.name.now → Puts contents mid now given → Leaves contents s now (enclosed_words head (words_of words) end) (from_numbers words end)
-  numbers-left s mid now given left e p = Leaves-less contents s mid now _ words.name.now (from_numbers words end) given left e p
+      → given ≡ fault_name words.name → Puts contents mid now given → Leaves contents s now (enclosed_words head (words_of words) end) (from_numbers words end)
+  numbers-left s mid now given left e p = Leaves-less contents s mid now _ (fault_name words.name) (from_numbers words end) given left e p
 
   pub end-left : (s mid now : Sink W) (given : List ℕ) → Leaves contents s mid (enclosed_words head (words_of words) end) (from_numbers words end)
       → given ≡ spaced_numbers (numbers_of words) → Puts contents mid now given → Leaves contents s now (enclosed_words head (words_of words) end) end

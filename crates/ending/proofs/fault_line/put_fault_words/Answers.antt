@@ -1,6 +1,7 @@
 -- Part after part.
 use Rattle.std.proofs.Common.{◌∙◌, ap, refl}
 use Rattle.std.proofs.lemmas.Result.{err_from_is_err_and}
+use Rattle.text_io.specs.FaultName.{fault_name}
 use Rattle.text_io.specs.Text.{spaced_numbers}
 use Rattle.text_io.specs.Laws.Putting.{Leaves-broken, Puts-last, Breaks-last}
 use Rattle.ending.proofs.LineParts.{numbers_of, from_numbers, from_name, first-left, name-left, numbers-left, end-left}
@@ -17,7 +18,7 @@ returns-in_err-put-2-clause-err g c =
     let p = err_from_is_err_and c.from_residual-in_err-put-2.result c.from_residual-in_err-put-2.ensures.1 in
     let words = c.args.words in
     let name = name-left g.W.Write.contents c.args.head.now words c.args.end.now _ _ c.in_ok-put.ensures.ok in
-    rw p.1 (Leaves-broken g.W.Write.contents _ _ _ _ words.name.now (from_numbers words c.args.end.now) _ name (c.as_bytes.ensures.value ∙ c.name.ensures) c.in_err-put-2.ensures.err)
+    rw p.1 (Leaves-broken g.W.Write.contents _ _ _ _ (fault_name words.name) (from_numbers words c.args.end.now) _ name (c.as_bytes.ensures.value ∙ c.name.ensures) c.in_err-put-2.ensures.err)
 
 pub returns-in_err-put_numbers-clause-err : goal.returns-in_err-put_numbers-clause-err
 returns-in_err-put_numbers-clause-err g c =
