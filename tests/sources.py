@@ -10,6 +10,7 @@ import zipfile
 from typing import Iterator
 
 import contracts
+import gate_tables
 import measuring
 from harness import ROOT, Ended, Harness, Outcome, compared, ended_as, side_by_side
 
@@ -418,5 +419,5 @@ def outcomes(harness: Harness) -> Iterator[Outcome]:
     for name in sorted({*found, *MADE}):
         yield compared(f"{name} says that memory is wanting", "a search of crates/*/src", found.get(name, 0), PLACES.get(name, 1) if name in MADE else 0)
     of_house = (of_the_sources, of_a_workspace, of_promises, of_limits, of_bad_workspaces)
-    parts = (*of_house, contracts.outcomes, measuring.outcomes)
+    parts = (*of_house, contracts.outcomes, measuring.outcomes, gate_tables.outcomes)
     yield from side_by_side([lambda part=part: list(part(harness)) for part in parts])
