@@ -143,6 +143,8 @@ def fault_of(restarts: Restarts, words: str, before: int, cut: Cut) -> str:
         return f"the tape has {(tape or b'').hex()}"
     if is_begun and records < before + cut.answers:
         return f"of {before + cut.answers} records that were told of the tape has {records}"
+    if words.endswith((NEW, KEPT)) and is_begun and before + cut.answers and kept != beside("+", BEHIND):
+        return f"a record was told of, and beside the tape is {kept!r}"
     # A new tape is asked for once more where its first line was not out.
     claim = KEPT if words.endswith(KEPT) or (words.endswith(NEW) and is_begun) else NEW if words.endswith(NEW) else ""
     again = f"agent M P 0 T{claim}"
