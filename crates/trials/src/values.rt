@@ -46,18 +46,17 @@ fn is_proved(alloc: Global, map: &Map) -> Result<bool, AllocError> {
     Ok(certify(map, START, GOAL, &proposal) == Ok(Length::new(0, 1)))
 }
 
-#[test]
-fn lengths(rt: HostRuntime) -> Result<(), Fail> {
-    let map = map_of(rt.alloc(), SQUARE)?;
-    assert!(rt; all_agree() && is_proved(rt.alloc(), &map)?);
-    Ok(())
+/// Whether a counted reader passes a call on, and has not failed.
+fn is_counted() -> bool {
+    let mut reader = Counted::new(b"abc".as_slice());
+    let mut bytes = [0; 2];
+    let is_read = matches!(reader.read(&mut bytes), Ok(2)) && bytes == *b"ab";
+    is_read && reader.failures() == 0 && *reader.inner() == b"c".as_slice()
 }
 
 #[test]
-fn counted_calls(rt: HostRuntime) -> Result<(), Fail> {
-    let mut reader = Counted::new(b"abc".as_slice());
-    let mut bytes = [0; 2];
-    assert_eq!(rt; reader.read(&mut bytes)?, 2);
-    assert!(rt; reader.failures() == 0 && *reader.inner() == b"c".as_slice() && bytes == *b"ab");
+fn values_of_a_caller(rt: HostRuntime) -> Result<(), Fail> {
+    let map = map_of(rt.alloc(), SQUARE)?;
+    assert!(rt; all_agree() && is_counted() && is_proved(rt.alloc(), &map)?);
     Ok(())
 }
