@@ -5,8 +5,8 @@
 // write takes nothing), `short` (one byte passes, without an error), `byte` (one byte passes at each other call), or `count` (none fails). The file FAULT_MET is
 // made when a call is met, and has the name of the call's file, or of the stream; of calls that are counted it is made at the program's end, and has their number.
 //
-// What is done to files and streams is noted in the file FAULT_TRACE, a line each, for power_cuts.py: `open NAME`, `write NAME PLACE HEX`, `cut NAME SIZE`,
-// `sync NAME`, `rename OLD NEW` and `unlink NAME`.
+// What is done to files and streams is noted in the file FAULT_TRACE, a line each, for power_cuts.py: `open NAME` of a file that may be made, `lock NAME`,
+// `read NAME`, `write NAME PLACE HEX`, `cut NAME SIZE`, `sync NAME`, `rename OLD NEW` and `unlink NAME`.
 #define _GNU_SOURCE
 #include <errno.h>
 #include <fcntl.h>
@@ -120,7 +120,7 @@ int posix_memalign(void **to, size_t align, size_t size) {
 }
 
 ssize_t read(int fd, void *to, size_t count) {
-    if (!fails_on("read", fd)) return syscall(SYS_read, fd, to, count);
+    if (!fails_on("read", fd)) return noted(syscall(SYS_read, fd, to, count), "read %s\n", traced ? name_of(fd) : "", "");
     return passing(count) ? syscall(SYS_read, fd, to, (size_t)1) : failed(EIO);
 }
 ssize_t pread(int fd, void *to, size_t count, off_t where) {
@@ -161,7 +161,9 @@ int statx(int fd, const char *restrict name, int flags, unsigned mask, struct st
     // By a name where there is one, and else the open file.
     return (int)((*name ? fails("look", "a name") : fails_on("look", fd)) ? failed(EIO) : syscall(SYS_statx, fd, name, flags, mask, to));
 }
-int flock(int fd, int how) { return (int)(fails_on("lock", fd) ? failed(ENOLCK) : syscall(SYS_flock, fd, how)); }
+int flock(int fd, int how) {
+    return (int)(fails_on("lock", fd) ? failed(ENOLCK) : noted(syscall(SYS_flock, fd, how), "lock %s\n", traced ? name_of(fd) : "", ""));
+}
 
 // Syncs that are counted aren't made: there may be many.
 static int is_counted(void) { return call && !strcmp(call, "sync") && !strcmp(kind, "count"); }

@@ -1,4 +1,5 @@
 """Power that is cut behind each call of an agent, also where a call fails: what was answered is kept, and the agent goes on from what is left.
+And a tape is locked before it is read.
 
 The library of faults.c notes what the program does to files. By a model of a disk, what was synced stays where the power is cut. Of what was
 done since then each name of a file, and the first bytes of each write, may be kept or lost."""
@@ -106,7 +107,7 @@ def cuts_of(notes: str, tape: bytes, kept: Optional[bytes]) -> Iterator[Cut]:
     disk, out = Disk(tape, kept), b""
     for note in ["", *notes.splitlines()]:
         call, *words = note.split(" ")
-        if words[:1] == ["output"]:
+        if call == "write" and words[0] == "output":
             out += bytes.fromhex(words[2])
         elif call:
             disk.do(call, *words)
@@ -154,7 +155,10 @@ def fault_of(restarts: Restarts, words: str, before: int, cut: Cut) -> str:
 
 
 def judged(restarts: Restarts, case: Case, notes: str) -> str:
-    """What is wrong behind any cut of a run; empty where nothing is."""
+    """What is wrong with a run, or behind any cut of it; empty where nothing is."""
+    calls = [call for call, name, *_ in map(str.split, notes.splitlines()) if name == TAPE and call != "open"]
+    if calls and calls[0] != "lock":
+        return f"the tape was not locked first, but {calls}"
     # Before it was opened a tape may be lost that was not synced: what it has is known when the first line is out.
     before = len(case.tape or b"") // 10
     return next(filter(None, (fault_of(restarts, case.words, before, cut) for cut in cuts_of(notes, case.tape or b"", case.beside))), "")
@@ -193,7 +197,7 @@ def of_a_long_walk(library: Library) -> Iterator[Outcome]:
     tape, disk, answers, wrong = (folder / TAPE).read_bytes(), Disk(b"", None), -1, []
     for note in notes.splitlines():
         call, name, *rest = note.split(" ")
-        if name == "output":
+        if (call, name) == ("write", "output"):
             answers += 1
             is_kept = disk.synced[TAPE].synced == tape[: 10 * answers]
             wrong += [] if is_kept else [answers]
