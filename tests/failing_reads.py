@@ -1,5 +1,5 @@
-"""Readers that hand out a text and then fail, behind each of its bytes: the bytes before decide where they can, and else the reader's failure is
-told. How few calls take and write large texts.
+"""Readers fail behind each byte of a text. Where the bytes before decide a fault, the program tells that fault, and else that the reader failed. And
+large texts take few calls.
 
 The library of faults.c makes the reads fail."""
 import functools
@@ -17,7 +17,7 @@ FILES = {"M": LANE.encode(), "P": BEHIND.encode()}
 # The text that is handed out.
 TEXT = "T"
 MAP_OF_TWO = "type octile\nheight 1\nwidth 2\nmap\n"
-# Beginnings of texts, each with the command that reads it, and the fault that it decides; none where the next byte might.
+# Beginnings of texts, each with the command that reads it, and the fault that it decides: none where the next bytes have to decide.
 BEGINNINGS: list[tuple[str, str, str]] = [
     ("map T", "typo", ""),
     ("map T", "typo\n", "BadHeader 1"),
@@ -66,7 +66,7 @@ BEGINNINGS: list[tuple[str, str, str]] = [
     ("optimal M P T", "mapf-proof 1\nobjective x\n", "BadHeader 2"),
 ]
 
-# What agent 0 is asked, and its answers, of which the first says where it is.
+# Agent 0 is asked these lines. The first of its answers says where it is.
 ASKED = ["start", "say", "finish", "say", "held", "start", "hear 4601", "hear 4", "hear 460100000000000700000002", "hear 460100000000000800000001"]
 ANSWERS = ["at 1 0 done 0", "moving 2 0", "said 460100000000000700000000", "arrived 2 0", "said 460100000000000700000001", "at 2 0 done 1", "refused AtEnd"]
 ANSWERS += ["refused BadLength", "refused BadLine", "refused TooMany", "refused WrongPlan"]
@@ -91,7 +91,7 @@ def failed(out: bytes = b"") -> Ended:
 
 
 def whole_texts() -> Iterator[tuple[str, str, list[bytes]]]:
-    """Texts without a fault, with the command that reads each, and what is out when so many of its lines have come: all at the end."""
+    """Texts without a fault, with the command that reads each, and its output by how many lines have come; the last one is all."""
     for words, text, out in (
         ("map T", CORNER, CORNER_WRITTEN),
         ("scen T", ROW, ROW_WRITTEN),
@@ -137,7 +137,7 @@ def of_an_agent(library: Library) -> Iterator[Outcome]:
 
 
 def of_large_texts(library: Library) -> Iterator[Outcome]:
-    """What calls are counted by passes large pieces on whole."""
+    """The readers and writers that count calls pass large pieces on whole."""
     text = "\n".join(["type octile", f"height {SIDE}", f"width {SIDE}", "map", *["." * SIDE] * SIDE, ""]).encode()
     folder: pathlib.Path = library.harness.folder({"M": text})
     most = len(text) // LEAST_PIECE + 2

@@ -5,8 +5,8 @@
 // write takes nothing), `short` (one byte passes, without an error), `byte` (one byte passes at each other call), or `count` (none fails). The file FAULT_MET is
 // made when a call is met, and has the name of the call's file, or of the stream; of calls that are counted it is made at the program's end, and has their number.
 //
-// What is done to files and streams is noted in the file FAULT_TRACE, a line each, for power_cuts.py: `open NAME` of a file that may be made, `lock NAME`,
-// `read NAME`, `write NAME PLACE HEX`, `cut NAME SIZE`, `sync NAME`, `rename OLD NEW` and `unlink NAME`.
+// The library notes in the file FAULT_TRACE what the program does to files and streams, a line each, for power_cuts.py: `open NAME` of a file that may be
+// made, `lock NAME`, `read NAME`, `write NAME PLACE HEX`, `cut NAME SIZE`, `sync NAME`, `rename OLD NEW` and `unlink NAME`.
 #define _GNU_SOURCE
 #include <errno.h>
 #include <fcntl.h>

@@ -1,8 +1,7 @@
-"""Power that is cut behind each call of an agent, also where a call fails: what was answered is kept, and the agent goes on from what is left.
-And a tape is locked before it is read.
+"""Cuts the power behind each call of an agent, also where a call fails. What the agent answered has to stay, and it has to go on from what is left.
 
-The library of faults.c notes what the program does to files. By a model of a disk, what was synced stays where the power is cut. Of what was
-done since then each name of a file, and the first bytes of each write, may be kept or lost."""
+The library of faults.c notes what the program does to files. By a model of a disk, synced bytes stay where the power is cut. Of later changes, each
+name of a file and the first bytes of each write may be kept or lost. The notes also show that an agent locks its tape before it reads or writes it."""
 import dataclasses
 import functools
 import itertools
@@ -15,7 +14,7 @@ from faults import BESIDE, DRAFT, KEPT, NEW, TAPE, Case, Library
 from harness import Ended, Harness, Outcome, compared, shown, side_by_side
 from texts import BEHIND, LANE, ONWARD, beside, plan
 
-# What agent 0 is asked where nothing is cut, and again by what is left; and its answers by how many records it begins with.
+# Each agent 0 is asked this, also when it goes on from what is left. Its answers depend on how many records it begins with.
 ASKED = lines("start", "finish")
 ANSWERS = [
     lines("at 1 0 done 0", "moving 2 0", "arrived 2 0"),
@@ -25,7 +24,7 @@ ANSWERS = [
 RECORDS = (MOVING, STANDING)
 FILES = {"M": LANE, "P": BEHIND, "Y": ONWARD}
 PAIR = "type octile\nheight 1\nwidth 2\nmap\n..\n"
-# An agent of which nothing fails and whose answers are those above: its words, the bytes of its tape, and what is beside that.
+# Agents that give these answers where nothing fails: the words of each, the bytes of its tape, and what is beside the tape.
 BEGUN: list[tuple[str, bytes, Optional[bytes]]] = [
     *(("agent M P 0 T", tape, None) for tape in (b"", NOISE[:9], MOVING, MOVING + NOISE[:9], MOVING + STANDING)),
     *((f"agent M P 0 T{NEW}", tape, None) for tape in (b"", NOISE[:9])),
@@ -34,20 +33,20 @@ BEGUN: list[tuple[str, bytes, Optional[bytes]]] = [
     (f"agent M P 0 T{KEPT}", b"", beside("-", plan("1 0 e", "0 0 e"))),
     (f"agent M P 0 T{KEPT}", MOVING + NOISE[:9], beside("+", plan("1 0 e", "0 0 e"))),
 ]
-# How calls of an agent fail too.
-FAILING = [("write", "error"), ("write", "short"), ("write", "none"), ("sync", "error"), ("rename", "error"), ("seek", "error"), ("open", "error")]
+# Calls of an agent that fail in turn.
+FAILING = [*((call, "error") for call in ("open", "look", "lock", "read", "seek", "write", "sync", "rename")), ("write", "short"), ("write", "none")]
 # An agent makes no more calls of a kind here.
 MOST = 60
 # How often the agent of a long walk goes to and fro.
 ROUNDS = 500
 
-# What may be left of a tape, and of what is beside it: None where there is no file.
+# The bytes that are left of a tape, and of the file beside it: None where there is no file.
 Left = tuple[Optional[bytes], Optional[bytes]]
 
 
 @dataclasses.dataclass
 class File:
-    """What a file has, and what of it was synced."""
+    """A file with its bytes, and with the bytes that it had when it was synced last."""
 
     now: bytes
     synced: bytes
@@ -56,7 +55,7 @@ class File:
         self.now = self.now[:place] + more + self.now[place + len(more) :]
 
     def left(self) -> set[bytes]:
-        """What it may have where the power is cut."""
+        """The bytes that it may have where the power is cut."""
         return {self.now, *(self.now[:count] + self.synced[count:] for count in range(len(self.now) + 1))}
 
 
@@ -64,13 +63,13 @@ class Disk:
     """Files by their names, now and as their folder was synced last."""
 
     def __init__(self, tape: bytes, kept: Optional[bytes]) -> None:
-        # A process that was killed may have left a tape that is not synced. What is beside it was, and has no mark before the first record is.
+        # A process that was killed may have left a tape unsynced. It synced the file beside the tape, and marked that behind the tape's first sync.
         is_marked = (kept or b"").startswith(beside("+", ""))
         self.names = {TAPE: File(tape, tape if is_marked else b""), **({} if kept is None else {BESIDE: File(kept, kept)})}
         self.synced = dict(self.names)
 
     def do(self, call: str, name: str, *rest: str) -> None:
-        """Does what a line of the notes says."""
+        """Does what a line of the notes says: a sync is one of a file, or else of the folder."""
         if call == "open":
             self.names.setdefault(name, File(b"", b""))
         elif call == "write" and name in self.names:
@@ -87,7 +86,7 @@ class Disk:
             del self.names[name]
 
     def left_of(self, name: str) -> set[Optional[bytes]]:
-        """What the file of a name may have where the power is cut."""
+        """The bytes that may stand under a name where the power is cut."""
         left: set[Optional[bytes]] = set()
         for file in (self.synced.get(name), self.names.get(name)):
             left |= {None} if file is None else file.left()
@@ -96,14 +95,14 @@ class Disk:
 
 @dataclasses.dataclass(frozen=True)
 class Cut:
-    """What may be left where the power is cut, and how many answers were out: None before the first line."""
+    """Files that a cut may leave, and how many answers told of a record before it: None before the first line."""
 
     left: Left
     answers: Optional[int]
 
 
 def cuts_of(notes: str, tape: bytes, kept: Optional[bytes]) -> Iterator[Cut]:
-    """What may be left behind each call that was noted, and before the first one."""
+    """All that may be left behind each call that was noted, and before the first one."""
     disk, out = Disk(tape, kept), b""
     for note in ["", *notes.splitlines()]:
         call, *words = note.split(" ")
@@ -117,7 +116,7 @@ def cuts_of(notes: str, tape: bytes, kept: Optional[bytes]) -> Iterator[Cut]:
 
 
 class Restarts:
-    """What agents say that are started on what is left: each once, however many cuts leave it."""
+    """Starts agents on what cuts leave, and once alone where several cuts leave the same."""
 
     def __init__(self, harness: Harness) -> None:
         self.harness = harness
@@ -154,11 +153,13 @@ def fault_of(restarts: Restarts, words: str, before: int, cut: Cut) -> str:
     return "" if found == due else f"{again} does {found} by {cut.left}, and due was {due}"
 
 
-def judged(restarts: Restarts, case: Case, notes: str) -> str:
+def judged(restarts: Restarts, case: Case, ended: Ended, notes: str) -> str:
     """What is wrong with a run, or behind any cut of it; empty where nothing is."""
     calls = [call for call, name, *_ in map(str.split, notes.splitlines()) if name == TAPE and call != "open"]
     if calls and calls[0] != "lock":
         return f"the tape was not locked first, but {calls}"
+    if not ended.out and {"write", "cut"} & set(calls):
+        return f"the tape was written before the first line: {calls}"
     # Before it was opened a tape may be lost that was not synced: what it has is known when the first line is out.
     before = len(case.tape or b"") // 10
     return next(filter(None, (fault_of(restarts, case.words, before, cut) for cut in cuts_of(notes, case.tape or b"", case.beside))), "")
@@ -169,7 +170,7 @@ def noted(library: Library, case: Case, folder: pathlib.Path, call: str, kind: s
     notes = folder / "notes"
     notes.unlink(missing_ok=True)
     ended, met = library.run(case, folder, call, kind, at, {"FAULT_TRACE": str(notes)})
-    return ended, met, notes.read_text()
+    return ended, met, notes.read_text() if notes.exists() else ""
 
 
 def cuts_behind_calls(library: Library, restarts: Restarts, case: Case, call: str, kind: str) -> list[Outcome]:
@@ -179,7 +180,7 @@ def cuts_behind_calls(library: Library, restarts: Restarts, case: Case, call: st
     for at in range(1, MOST):
         ended, met, notes = noted(library, case, folder, call, kind, at)
         ran = f"{shown(['mapf', *case.words.split()], case.given)}  where {call} {at} meets {kind}, of {met or 'nothing'}"
-        fault = judged(restarts, case, notes) if met or ended == case.due else f"{ended}, and due was {case.due}"
+        fault = judged(restarts, case, ended, notes) if met or ended == case.due else f"{ended}, and due was {case.due}"
         name = f"power cuts of {case.words} with {(case.tape or b'').hex()}, {call} {at} with {kind}"
         outcomes.append(Outcome(name, fault and f"ran    {ran}\n    found  {fault}"))
         (folder / DRAFT).unlink(missing_ok=True)
@@ -189,7 +190,7 @@ def cuts_behind_calls(library: Library, restarts: Restarts, case: Case, call: st
 
 
 def of_a_long_walk(library: Library) -> Iterator[Outcome]:
-    """Whenever an answer is out its record stays, and all that come before it."""
+    """Whenever an answer is out, its record stays, and so do all records before it."""
     count = 2 * ROUNDS
     folder = library.harness.folder({"M": PAIR.encode(), "P": plan(f"0 0 {'ew' * ROUNDS}").encode()})
     case = Case("agent M P 0 T", Ended(0, b"", b""), lines("start", "finish") * count, b"")

@@ -1,6 +1,6 @@
-//! Calls of the libraries that the program never makes, each where it succeeds: no contract says that memory suffices for them.
-//! `./test --prove` refuses each allocation of these tests in turn too. At the most one is refused in a run, so what says that memory
-//! was wanting succeeds when it is called again.
+//! Calls of the libraries that the program never makes. Each succeeds here: no contract says that
+//! memory suffices for it. `./test --prove` also refuses each allocation of these tests in turn. It
+//! refuses one at the most in a run, so a call that wanted memory succeeds when it is made again.
 #![tactic(auto)]
 
 #[cfg(test)]
