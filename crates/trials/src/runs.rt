@@ -5,8 +5,8 @@ use event_text::EventReader;
 use grid::Cell;
 use model::Held;
 use runner::{
-    CompleteFault, Event, EventFault, Reply, Runner, Version, read_events, read_events_any, run,
-    run_with, write_replies,
+    CompleteFault, Event, Reply, Runner, Version, read_events, read_events_any, run, run_with,
+    write_replies,
 };
 use std::alloc::Global;
 use std::test::Fail;
@@ -31,7 +31,7 @@ fn are_answered(alloc: Global, graph: &Graph, events: &[Event]) -> Result<bool, 
 }
 
 /// Whether agent 1 holds both cells behind all events, and only has to end its move then.
-fn is_to_finish(graph: &Graph, alloc: Global, events: &[Event]) -> Result<bool, OutOfMemory> {
+fn is_to_finish(alloc: Global, graph: &Graph, events: &[Event]) -> Result<bool, OutOfMemory> {
     let mut runner = Runner::new(alloc, graph)?;
     for event in events {
         let _ = runner.step(*event)?;
@@ -62,7 +62,7 @@ fn runs_of_events(rt: HostRuntime) -> Result<(), Fail> {
         && events == same
         && begins_with(EVENTS, Event::Start(0));
     let are_right = are_answered(rt.alloc(), &graph, &events)?
-        && is_to_finish(&graph, rt.alloc(), &events)?;
+        && is_to_finish(rt.alloc(), &graph, &events)?;
     assert!(rt; are_read && are_right);
     Ok(())
 }

@@ -17,7 +17,7 @@ pub const SQUARE: &str = "type octile\nheight 2\nwidth 2\nmap\n..\n..\n";
 /// A scenario on the corner.
 pub const ROW: &str = "version 1\n0\tm.map\t3\t2\t0\t1\t1\t0\t2.00000000\n";
 
-/// A plan on the lane: agent 0 goes from the middle to the right, and agent 1 into the middle behind it.
+/// A plan on the lane: agent 0 goes from the middle to the right, and agent 1 follows it.
 pub const BEHIND: &str = "mapf-plan 1\nnumber 7\nagents 2\nagent 1 0 e-\nagent 0 0 e\n";
 
 /// The scenario that it solves.
