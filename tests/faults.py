@@ -8,7 +8,7 @@ import pathlib
 import re
 import shutil
 import struct
-from typing import Iterator, Optional
+from typing import Iterator, Mapping, Optional
 
 import command_lines
 import help_texts
@@ -280,9 +280,9 @@ class Library:
         command = ["cc", "-shared", "-fPIC", "-O1", "-w", "-o", str(self.path), str(ROOT / "tests" / "faults.c")]
         self.built = compared("the library is built", shown(command), harness.run(command), Ended(0, b"", b""))
 
-    def run(self, case: Case, folder: pathlib.Path, call: str, kind: str, at: int) -> tuple[Ended, str]:
+    def run(self, case: Case, folder: pathlib.Path, call: str, kind: str, at: int, others: Mapping[str, str] = {}) -> tuple[Ended, str]:
         """Runs a command in which this call fails, or each one where `at` is 0. Answers what it did, and the file or the stream of the
-        call; empty where the call was not met."""
+        call; empty where the call was not met. What else is asked of the library stands in `others`."""
         met = folder / "met"
         met.unlink(missing_ok=True)
         if case.tape is not None:
@@ -291,7 +291,7 @@ class Library:
             if case.beside is not None:
                 (folder / BESIDE).write_bytes(case.beside)
         more = {"LD_PRELOAD": str(self.path), "FAULT_CALL": call, "FAULT_KIND": kind, "FAULT_AT": str(at), "FAULT_MET": str(met)}
-        ended = self.harness.run([str(self.harness.program), *case.words.split()], case.given, folder, more)
+        ended = self.harness.run([str(self.harness.program), *case.words.split()], case.given, folder, {**more, **others})
         return ended, met.read_text() if met.exists() else ""
 
     def count(self, words: str, folder: pathlib.Path, call: str, to: str, given: bytes = b"") -> tuple[Ended, str]:

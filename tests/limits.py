@@ -268,6 +268,8 @@ def of_most_acts(harness: Harness) -> list[Outcome]:
         files = {"M": map_bytes, "P": text(f"0 0 {walk}e", f"2 0 {walk}e"), "E": lines("mapf-events 1", f"start {other}", "start 0", f"start {full}")}
         counts = f"agents {full + 1} moves {moved} needs 0 rotations 0"
         outcomes.append(asked(harness, f"deps of {MOST_ACTS_OF_ALL} acts", "deps M P", files, Ended(0, lines(counts), b"")))
+        visits = lines(*(f"visit {other} {k} {k}" for k in range(1, steps + 1, 2)))
+        outcomes.append(asked(harness, f"who comes into a cell by {MOST_ACTS_OF_ALL} acts", "deps M P --cell 3 0", files, Ended(0, visits, b"")))
         replies = lines("moving 3 0", "moving 1 2", "refused AtEnd")
         outcomes.append(asked(harness, f"a run of {MOST_ACTS_OF_ALL} acts", "run M P E", files, Ended(0, replies, b"")))
         state = lines("at 2 0 done 0", "moving 3 0")

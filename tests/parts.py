@@ -29,6 +29,7 @@ import documents
 import drawn_numbers
 import endings
 import explaining
+import failing_reads
 import faults
 import fleet
 import formats
@@ -40,6 +41,7 @@ import listing
 import live_watching
 import messages
 import packaging
+import power_cuts
 import proving
 import refusals
 import repairing
@@ -79,6 +81,8 @@ PARTS: dict[str, tuple[str, Callable[[Harness], Iterator[Outcome]]]] = {
     "messages": ("messages with each byte changed, and what agents tell and how far they go by what they heard", messages.outcomes),
     "devices": ("files, inputs and outputs that fail", devices.outcomes),
     "faults": ("calls of the system that fail, one after another", faults.outcomes),
+    "reads": ("texts whose reader fails behind each byte", failing_reads.outcomes),
+    "power": ("power that is cut behind each call of an agent, by a model of a disk", power_cuts.outcomes),
     "memory": ("calls of the libraries to which memory is refused", refusals.outcomes),
     "explain": ("faults explained to people", explaining.outcomes),
     "runs": ("runs beside a plain model: events at random, and stops at each write", replays.outcomes),

@@ -1,4 +1,4 @@
-"""Whole scenarios and what plans cost at least: `rows` and `bound` beside plain searches, on maps at random."""
+"""Whole scenarios, rows of them, and what plans cost at least: `rows`, `row` and `bound` beside plain searches, on maps at random."""
 import dataclasses
 import functools
 import heapq
@@ -14,6 +14,8 @@ from plan_chains import Plan, read, rested
 from random_runs import Cell, random_map, random_plan
 
 SHORT_SEEDS, LONG_SEEDS = range(1, 301), range(1, 3_001)
+# How many rows of a scenario are asked for by themselves too.
+ROWS_ALONE = 3
 SIDES = ((0, -1), (1, 0), (0, 1), (-1, 0))
 # Which terrain a straight step leads between.
 GROUNDS = (".GS", "W")
@@ -135,6 +137,14 @@ def due_of_rows(ground: Ground, rows: Sequence[Row], first: int, end: int, is_st
     return Ended(1 if bad else 0, text.encode(), b"")
 
 
+def due_of_row(ground: Ground, rows: Sequence[Row], number: int) -> Ended:
+    """What is answered for one row: any length that is searched for is proved before it is told."""
+    line = row_line(ground, rows[number])
+    if line == "SizeDiffers":
+        return answer(1, f"{line} {number}")
+    return answer(0 if line.endswith("agrees") else 1, f"{line}\n")
+
+
 # ---- scenarios at random
 
 
@@ -167,6 +177,8 @@ def row_calls(seed: int) -> Iterator[Call]:
         yield ["rows", "m", "s", *words], files, due_of_rows(ground, rows, 0, len(rows), bool(words))
         first, end = rng.randrange(len(rows) + 3), rng.randrange(len(rows) + 3)
         yield ["rows", "m", "s", *words, "--from", str(first), f"--to={end}"], files, due_of_rows(ground, rows, first, end, bool(words))
+    for number in range(min(len(rows), ROWS_ALONE)):
+        yield ["row", "m", "s", str(number)], files, due_of_row(ground, rows, number)
 
 
 # ---- bounds of plans

@@ -15,7 +15,7 @@ import measuring
 from harness import ROOT, Ended, Harness, Outcome, compared, ended_as, side_by_side
 
 # Crates of tests, which are no part of the program.
-OF_TESTS = re.compile(r"fakes|\w+_fixtures|\w+_trials")
+OF_TESTS = re.compile(r"(?:fleet_)?trials")
 NAMES = re.compile(r"\b(?:OutOfMemory|AllocError)\b(?!::from)")
 FUNCTION = re.compile(r"^( *)(?:pub(?:\(\w+\))? )?(?:const )?fn (\w+)", re.MULTILINE)
 BLOCK = re.compile(r"^(?:impl|trait)\b(?:<[^{]*?>)? ?(.*?)(?: where .*)? \{$", re.MULTILINE)

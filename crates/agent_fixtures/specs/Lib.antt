@@ -1,2 +1,0 @@
--- a tape that fails once
-pub mod FailTape

@@ -1,2 +1,0 @@
--- What the fake readers and writers hold.
-pub mod Held

@@ -1,0 +1,90 @@
+//! Commands that open the files of tapes.
+use crate::endings::{End, Out, Outputs, reader};
+use crate::texts::LANE;
+use mapf_cmd::{LockFile, NewPlan, agent_cmd, anew_cmd, handover_cmd, status_cmd};
+use std::alloc::AllocError;
+use std::rt::Files;
+use std::test::Fail;
+use std::{env, fs, process};
+
+/// One agent, which makes one move.
+const ALONE: &str = "mapf-plan 1\nnumber 7\nagents 1\nagent 1 0 e\n";
+
+#[derive(Clone, Copy, Debug)]
+enum Command {
+    /// Makes the move, by which the tape is written.
+    Agent,
+    Status,
+    Handover,
+    Anew,
+}
+
+/// The commands in their order, each with what it writes.
+static COMMANDS: [(Command, &str); 4] = [
+    (Command::Agent, "at 1 0 done 0\nmoving 2 0\narrived 2 0\n"),
+    (Command::Status, "0 at 2 0 done 1 of 1 arrived\n"),
+    (Command::Handover, ALONE),
+    (
+        Command::Anew,
+        "mapf-plan 1\nnumber 8\nagents 1\nagent 2 0 =\n",
+    ),
+];
+
+const ANEW: NewPlan = NewPlan {
+    number: 8,
+    without: None,
+};
+
+/// Performs a command on the tapes that have the agent's number behind these words.
+fn perform<R: Files + AllocGlobal>(
+    rt: &R,
+    command: Command,
+    tape: &str,
+    out: &mut Out<'_>,
+    err: &mut Out<'_>,
+) -> u8
+where
+    R::File: LockFile,
+{
+    let (map, plan) = (&mut reader(LANE), &mut reader(ALONE));
+    match command {
+        Command::Agent => {
+            let input = &mut reader("start\nfinish\n");
+            agent_cmd(rt, map, plan, 0, tape, input, out, err)
+        }
+        Command::Status => status_cmd(rt, map, plan, tape, false, out, err),
+        Command::Handover => handover_cmd(rt, map, plan, tape, out, err),
+        Command::Anew => anew_cmd(rt, map, plan, tape, ANEW, out, err),
+    }
+}
+
+fn end_of<R: Files + AllocGlobal>(
+    rt: &R,
+    command: Command,
+    tape: &str,
+    text: &str,
+) -> Result<End, AllocError>
+where
+    R::File: LockFile,
+{
+    let mut outputs = Outputs::new(rt.alloc())?;
+    let Outputs { out, err } = &mut outputs;
+    let status = perform(rt, command, tape, &mut Out::new(out), &mut Out::new(err));
+    Ok(outputs.end(status, text))
+}
+
+#[test]
+fn commands(rt: HostRuntime) -> Result<(), Fail> {
+    let folder = env::temp_dir(&rt)?;
+    let number = process::id(rt.process());
+    let tape = format!(in rt.alloc(); "{}/mapf-trials-{number}", folder.display())?;
+    for &(command, text) in &COMMANDS {
+        let mut end = end_of(&rt, command, tape.as_str(), text)?;
+        if end == End::Wanting {
+            end = end_of(&rt, command, tape.as_str(), text)?;
+        }
+        assert_eq!(rt; end, End::Right, "at {command:?}");
+    }
+    fs::remove_file(&rt, tape.as_str())?;
+    Ok(())
+}

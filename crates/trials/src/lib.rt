@@ -1,0 +1,21 @@
+//! Calls of the libraries that the program never makes. Each succeeds here: no contract says that
+//! memory suffices for it. `./test --prove` also refuses each allocation of these tests in turn. It
+//! refuses one at the most in a run, so a call that wanted memory succeeds when it is made again.
+#![tactic(auto)]
+
+#[cfg(test)]
+mod agents;
+#[cfg(test)]
+mod commands;
+#[cfg(test)]
+mod endings;
+#[cfg(test)]
+mod fleets;
+#[cfg(test)]
+mod graphs;
+#[cfg(test)]
+mod runs;
+#[cfg(test)]
+mod texts;
+#[cfg(test)]
+mod values;
