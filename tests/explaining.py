@@ -36,6 +36,19 @@ ADVICE = [
     ("NotSigned", "with `--keys`"),
     ("NotItsTopic", "its own topic"),
 ]
+# Faulty texts that come through a pipe, which can't be read twice: the words of the command, the text, and the place that is told. Formats
+# share these faults, so the place shows that the fault knows which file it is of.
+PIPED = [
+    ("check lane /dev/stdin", "mapf-plan 2\n", "/dev/stdin:1, read as a plan:\n"),
+    ("check /dev/stdin behind", "type hex\n", "/dev/stdin:1, read as a map:\n"),
+    ("check lane /dev/stdin", f"{BEHIND}more\n", "/dev/stdin:6, read as a plan:\n"),
+    ("run lane behind /dev/stdin", "mapf-events 1\nstart 0", "/dev/stdin:2, read as a list of events:\n"),
+    ("run lane /dev/stdin none", "mapf-plan 1\nnumber 7\nagents 1\n", "/dev/stdin:4, read as a plan:\n"),
+    ("continues lane /dev/stdin behind", "mapf-plan 1\nnumber x\n", "/dev/stdin:2, read as a plan:\n"),
+    ("optimal lane behind /dev/stdin", "mapf-proof 2\n", "/dev/stdin:1, read as a proof:\n"),
+]
+NOT_SHOWN = "It can't be read once more here, so its line isn't shown.\n"
+
 # How the texts of an example begin, and the command that reads what stands there.
 HEADERS = {"type octile": "map", "version 1": "scen", "mapf-plan 1": "plan", "mapf-events": "events", "mapf-proof": "proof"}
 
@@ -179,7 +192,17 @@ def help_on_one(harness: Harness, name: str) -> Sequence[Outcome]:
     return found
 
 
+def through_pipes(harness: Harness) -> Iterator[Outcome]:
+    folder = harness.folder({"lane": LANE.encode(), "behind": BEHIND.encode(), "none": b"mapf-events 1\n"})
+    for words, text, place in PIPED:
+        answer = harness.mapf([*words.split(), "--explain"], text.encode(), folder)
+        _, _, said = answer.err.decode().partition("\n")
+        told = said.startswith(place + NOT_SHOWN)
+        yield compared(f"{words}, through a pipe", shown(["mapf", *words.split(), "--explain"]), said if not told else "", "")
+
+
 def outcomes(harness: Harness) -> Iterator[Outcome]:
+    yield from through_pipes(harness)
     yield from help_on_all(harness)
     yield from side_by_side([lambda name=name: help_on_one(harness, name) for name in sorted(documented())])
     yield from side_by_side([lambda of=of, wrong=wrong: explained(harness, of, wrong) for of, all_of in INPUTS.items() for wrong in all_of])

@@ -137,7 +137,7 @@ has_mark remaining file marked p is kept =
 pub not_let_by : {F : Type 0} (remaining : F → Option (List ℕ)) (file : F) (kept : KeptPlan) (p : Plan) (has_record : Bool) (fault : AgentFault)
     → IsKeptIn remaining file kept.is_marked kept.plan → IsNoTaskFor kept p has_record fault → IsNotLetBy remaining p has_record fault
 not_let_by remaining file kept p has_record TapeEmptied is why = (why.1, (file, has_mark remaining file kept.is_marked kept.plan why.0 is))
-not_let_by remaining file kept p has_record OtherPlan is why =
+not_let_by remaining file kept p has_record (OtherPlan apart) is why =
     record { file = file; marked = kept.is_marked; kept = kept.plan; is_kept = is; is_other = why }
 not_let_by remaining file kept p has_record PlanDamaged is why = absurd why
 not_let_by remaining file kept p has_record NoTape is why = absurd why
@@ -154,7 +154,7 @@ pub not_read : {F : Type 0} (remaining : F → Option (List ℕ)) (file : F) (p 
 not_read remaining file p has_record PlanDamaged why = (file, why)
 not_read remaining file p has_record (File fault) why = why
 not_read remaining file p has_record TapeEmptied why = absurd why
-not_read remaining file p has_record OtherPlan why = absurd why
+not_read remaining file p has_record (OtherPlan apart) why = absurd why
 not_read remaining file p has_record NoTape why = absurd why
 not_read remaining file p has_record OpenFailed why = absurd why
 not_read remaining file p has_record TapeExists why = absurd why

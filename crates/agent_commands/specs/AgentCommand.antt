@@ -58,7 +58,7 @@ abbrev pub IsNotBeside : {F : Type 0} → (F → Option (List ℕ)) → TapeClai
 IsNotBeside {F} remaining claim p tape PlanDamaged = (claim ≢ Any) × ((file : F) × HasNoPlan remaining file)
 IsNotBeside {F} remaining claim p tape TapeEmptied =
     (claim ≢ Any) × (length (file_state tape).contents < record_length) × ((file : F) × HasMark remaining file)
-IsNotBeside {F} remaining claim p tape OtherPlan = (claim ≡ Kept) × IsOtherPlan remaining p
+IsNotBeside {F} remaining claim p tape (OtherPlan apart) = (claim ≡ Kept) × IsOtherPlan remaining p
 IsNotBeside {F} remaining claim p tape _ = ⊥
 
 -- the timetable has the agent
@@ -86,7 +86,7 @@ IsNoTape {F} remaining claim p tt i TapeExists =
 IsNoTape {F} remaining claim p tt i NoTape = (claim ≡ Kept) × HasAgent tt i
 IsNoTape {F} remaining claim p tt i PlanDamaged = IsUnfit remaining claim p tt i PlanDamaged
 IsNoTape {F} remaining claim p tt i TapeEmptied = IsUnfit remaining claim p tt i TapeEmptied
-IsNoTape {F} remaining claim p tt i OtherPlan = IsUnfit remaining claim p tt i OtherPlan
+IsNoTape {F} remaining claim p tt i (OtherPlan apart) = IsUnfit remaining claim p tt i (OtherPlan apart)
 IsNoTape {F} remaining claim p tt i (File TooLong) =
     (track : Track) × (track_of tt i ≡ Some track) × ((file : F) × IfSome (remaining file) (λ bytes. room_of track + record_length ≤ length bytes))
 IsNoTape {F} remaining claim p tt i (File fault) = HasAgent tt i

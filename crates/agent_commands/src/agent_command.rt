@@ -78,7 +78,7 @@ where
         Err(AgentFault::Dialogue(TalkFault::StoreFailed | TalkFault::StaleTape)) => {
             Ending::answered_with(Status::Failure)
         }
-        Err(fault) => Ending::gave_up(fault.words()),
+        Err(fault) => Ending::gave_up(fault.words()).because(fault.cause()),
     }
 }
 

@@ -1,11 +1,13 @@
 //! Why an agent does not answer its input to the end.
-ghost use Rattle.std.specs.Prelude.{◌≡◌, Some};
-ghost use Rattle.text_io.specs.FaultWords.{words_of, words_text};
+ghost use Rattle.std.specs.Prelude.{◌≡◌, [], Some};
+ghost use Rattle.text_io.specs.FaultName.{fault_name};
+ghost use Rattle.text_io.specs.FaultWords.{text_fault, words_of, words_text};
 ghost use Rattle.agent_commands.specs.FaultWords.{agent_fault_words};
 ghost use Rattle.agent_commands.specs.declared.agent_fault.AgentFault.TheVariants as agent_fault;
 ghost use Rattle.robot.specs.declared.file_tape.FileTapeFault.TheVariants.{OutOfMemory};
 
 use agent::OpenFault;
+use continuing::ContinueFault;
 use planned::PlannedFault;
 use robot::{FileTapeFault, TalkFault};
 use std::alloc::AllocError;
@@ -28,8 +30,8 @@ pub enum AgentFault {
     PlanDamaged,
     /// A record was stored on the tape, and it has none.
     TapeEmptied,
-    /// The tape belongs to another plan, of which none goes on from the other.
-    OtherPlan,
+    /// The tape belongs to another plan, of which none goes on from the other: where that at hand departs from it.
+    OtherPlan(ContinueFault),
     /// The tape file could not be taken for a tape.
     File(FileTapeFault),
     /// There is no such agent, or the tape is not the agent's.
@@ -57,11 +59,19 @@ impl AgentFault {
             AgentFault::NoTape => of_tape(FaultName::NoTape),
             AgentFault::PlanDamaged => of_tape(FaultName::PlanDamaged),
             AgentFault::TapeEmptied => of_tape(FaultName::TapeEmptied),
-            AgentFault::OtherPlan => of_tape(FaultName::OtherPlan),
+            AgentFault::OtherPlan(_) => of_tape(FaultName::OtherPlan),
             AgentFault::File(fault) => fault.words(),
             AgentFault::Tape(OpenFault::NoSuchAgent) => OpenFault::NoSuchAgent.words(),
             AgentFault::Tape(fault) => fault.words().of(Origin::Tape),
             AgentFault::Dialogue(fault) => fault.words(),
+        }
+    }
+
+    /// A fault that says why, for people.
+    pub fn cause(self) -> Option<FaultWords> {
+        match self {
+            AgentFault::OtherPlan(apart) => Some(apart.words()),
+            _ => None,
         }
     }
 }

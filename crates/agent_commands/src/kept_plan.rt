@@ -102,10 +102,11 @@ fn task_for(kept: &KeptPlan, plan: &Plan, has_record: bool) -> Result<PlanTask, 
             (true, false) => PlanTask::Mark,
         });
     }
-    if continues(&kept.plan, plan).is_ok() || continues(plan, &kept.plan).is_ok() {
-        return Ok(PlanTask::Write);
+    match continues(&kept.plan, plan) {
+        Ok(()) => Ok(PlanTask::Write),
+        Err(_) if continues(plan, &kept.plan).is_ok() => Ok(PlanTask::Write),
+        Err(apart) => Err(AgentFault::OtherPlan(apart)),
     }
-    Err(AgentFault::OtherPlan)
 }
 
 /// Whether two plans are one.

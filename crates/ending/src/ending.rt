@@ -18,6 +18,8 @@ pub struct Ending {
     pub told: Option<FaultWords>,
     /// The fault that is there to be explained.
     pub explained: Option<FaultWords>,
+    /// One more fault, which says why. No answer goes by it.
+    pub cause: Option<FaultWords>,
 }
 
 impl Ending {
@@ -29,6 +31,7 @@ impl Ending {
             status,
             told: None,
             explained: None,
+            cause: None,
         }
     }
 
@@ -40,6 +43,7 @@ impl Ending {
             status: Status::Fault,
             told: None,
             explained: Some(words),
+            cause: None,
         }
     }
 
@@ -51,7 +55,17 @@ impl Ending {
             status: Status::of_fault(&words),
             told: Some(words),
             explained: Some(words),
+            cause: None,
         }
+    }
+
+    /// The same ending, with a fault that says why, if there is one.
+    pub fn because(self, cause: Option<FaultWords>) -> Ending
+        ensures { end_of result ≡ end_of self }
+    {
+        let mut ending = self;
+        ending.cause = cause;
+        ending
     }
 }
 

@@ -11,8 +11,9 @@ struct Advice {
 
 /// What to do about the fault of this name, or nothing where there is no more to say.
 pub(crate) fn advice_on(name: &str, of: &str) -> &'static str {
+    let name = name.as_bytes();
     for advice in &ADVICE {
-        if advice.name == name && advice.of == of {
+        if advice.name.as_bytes() == name && advice.of == of {
             return advice.text;
         }
     }

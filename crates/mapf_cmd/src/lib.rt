@@ -3,7 +3,6 @@
 
 mod low_leaf;
 mod on_files;
-mod parted_plans;
 mod program;
 mod unperformed;
 

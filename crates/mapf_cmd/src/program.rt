@@ -7,7 +7,6 @@ ghost use Rattle.mapf_cmd.specs.Program.{AnswersLine, AnswersWords, Performs, Sh
 
 use crate::low_leaf::leaf_again;
 use crate::on_files::{file_of, files_of, perform_on_files};
-use crate::parted_plans::parting;
 use crate::unperformed::end_unperformed;
 use agent_commands::name_beside;
 use command_line::{Asked, Line, OptimalLine, line};
@@ -65,10 +64,21 @@ where
     let status = conclude(ending, err);
     if asked.explain {
         if let Some(words) = ending.explained {
-            explain_fault(rt, &asked.line, words, screen.style, err);
+            let faults = Faults {
+                words,
+                cause: ending.cause,
+            };
+            explain_fault(rt, &asked.line, faults, screen.style, err);
         }
     }
     status
+}
+
+/// A fault that is explained, and perhaps one more, which says why.
+#[derive(Clone, Copy)]
+struct Faults {
+    words: FaultWords,
+    cause: Option<FaultWords>,
 }
 
 /// Performs a command on its files.
@@ -97,7 +107,7 @@ where
 fn explain_fault<R: Files + AllocGlobal, E: Write>(
     rt: &R,
     line: &Line,
-    words: FaultWords,
+    faults: Faults,
     style: Style,
     err: &mut Counted<E>,
 )
@@ -111,10 +121,10 @@ fn explain_fault<R: Files + AllocGlobal, E: Write>(
             claim,
             ..
         } if *claim != TapeClaim::Any => {
-            explain_agent(rt, [map, plan, tape], words, style, err);
+            explain_agent(rt, [map, plan, tape], faults, style, err);
         }
-        Line::Optimal(optimal) => explain_proof(rt, optimal, words, style, err),
-        _ => explain_by_files(rt, line, words, style, err),
+        Line::Optimal(optimal) => explain_proof(rt, optimal, faults.words, style, err),
+        _ => explain_by_files(rt, line, faults.words, style, err),
     }
 }
 
@@ -122,7 +132,7 @@ fn explain_fault<R: Files + AllocGlobal, E: Write>(
 fn explain_agent<R: Files + AllocGlobal, E: Write>(
     rt: &R,
     paths: [&str; 3],
-    words: FaultWords,
+    faults: Faults,
     style: Style,
     err: &mut Counted<E>,
 )
@@ -134,14 +144,15 @@ fn explain_agent<R: Files + AllocGlobal, E: Write>(
         file_of(Origin::Plan, plan),
         file_of(Origin::Tape, tape),
     ];
+    let words = faults.words;
     let Ok(beside) = name_beside(rt.alloc(), tape) else {
         explain(rt, &files, of_faults(&[words]), style, err);
         return;
     };
     let [map, plan, tape] = files;
     let files = [map, plan, tape, file_of(Origin::KeptPlan, &beside)];
-    match parting(rt, &words, tape.path, plan.path) {
-        Some(parted) => explain(rt, &files, of_faults(&[words, parted]), style, err),
+    match faults.cause {
+        Some(cause) => explain(rt, &files, of_faults(&[words, cause]), style, err),
         None => explain(rt, &files, of_faults(&[words]), style, err),
     }
 }

@@ -47,5 +47,5 @@ IsNotTaken remaining claim p tape OpenFailed = Unit {0}
 IsNotTaken remaining claim p tape (File fault) = IsLost fault
 IsNotTaken remaining claim p tape PlanDamaged = IsNotBeside remaining claim p tape PlanDamaged
 IsNotTaken remaining claim p tape TapeEmptied = IsNotBeside remaining claim p tape TapeEmptied
-IsNotTaken remaining claim p tape OtherPlan = IsNotBeside remaining claim p tape OtherPlan
+IsNotTaken remaining claim p tape (OtherPlan apart) = IsNotBeside remaining claim p tape (OtherPlan apart)
 IsNotTaken remaining claim p tape _ = ⊥

@@ -92,7 +92,7 @@ pub record IsTaskFor (kept : KeptPlan) (p : Plan) (has_record : Bool) (task : Pl
 
 abbrev pub IsNoTaskFor : KeptPlan → Plan → Bool → AgentFault → Type 0
 IsNoTaskFor kept p has_record TapeEmptied = (kept.is_marked ≡ true) × (has_record ≡ false)
-IsNoTaskFor kept p has_record OtherPlan = IsAkin kept.plan p → ⊥
+IsNoTaskFor kept p has_record (OtherPlan apart) = IsAkin kept.plan p → ⊥
 IsNoTaskFor kept p has_record _ = ⊥
 
 -- a plan is kept, and this is to be done to its file
@@ -104,7 +104,7 @@ IsKeptTask {F} remaining p has_record task =
 abbrev pub IsNotLetBy : {F : Type 0} → (F → Option (List ℕ)) → Plan → Bool → AgentFault → Type 0
 IsNotLetBy {F} remaining p has_record PlanDamaged = (file : F) × HasNoPlan remaining file
 IsNotLetBy {F} remaining p has_record TapeEmptied = (has_record ≡ false) × ((file : F) × HasMark remaining file)
-IsNotLetBy {F} remaining p has_record OtherPlan = IsOtherPlan remaining p
+IsNotLetBy {F} remaining p has_record (OtherPlan apart) = IsOtherPlan remaining p
 IsNotLetBy {F} remaining p has_record NoTape = Unit {0}
 IsNotLetBy {F} remaining p has_record OpenFailed = Unit {0}
 IsNotLetBy {F} remaining p has_record (File fault) = IsLost fault
