@@ -17,7 +17,7 @@ PROGRAM = CRATE / "out" / "trials_tests"
 # A test in the sources.
 TEST = re.compile(r"^#\[test\]\nfn (\w+)", re.MULTILINE)
 # What a test ends with that was told that memory is wanting.
-WANTING = re.compile(rb"error: (?:OutOfMemory|AllocError)\n")
+WANTING = re.compile(rb"error: (?:OutOfMemory|AllocError|Kind\(OutOfMemory\))\n")
 WANTING_STATUS = 101
 # No test makes nearly so many allocations.
 MOST = 5_000
