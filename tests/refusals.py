@@ -1,8 +1,8 @@
 """Memory that is refused to calls of the libraries that the program never makes: the tests of the crate `trials` run with each of their allocations
 refused in turn, until a run meets none. For the program's own calls `faults` does the same.
 
-Such a test compares what a call answers. It passes, or ends because memory was wanting; a wrong answer stops it. The test program is the one that
-`rt ci` has built, so this part runs with `./test --prove` alone."""
+Where memory is wanting such a test makes its call again, and passes by the second answer: one allocation alone is refused in a run. The test program
+is the one that `rt ci` has built, so this part runs with `./test --prove` alone."""
 import functools
 import pathlib
 import re
@@ -10,15 +10,12 @@ import shutil
 from typing import Iterator
 
 from faults import Library
-from harness import ROOT, Ended, Harness, Outcome, compared, shown, side_by_side
+from harness import ROOT, Harness, Outcome, compared, shown, side_by_side
 
 CRATE = ROOT / "crates" / "trials"
 PROGRAM = CRATE / "out" / "trials_tests"
 # A test in the sources.
 TEST = re.compile(r"^#\[test\]\nfn (\w+)", re.MULTILINE)
-# What a test ends with that was told that memory is wanting.
-WANTING = re.compile(rb"error: (?:OutOfMemory|AllocError)\n")
-WANTING_STATUS = 101
 # No test makes nearly so many allocations.
 MOST = 5_000
 
@@ -34,11 +31,6 @@ def written_in(sources: pathlib.Path) -> list[str]:
     return sorted(f"{path.stem}::{name}" for path in sources.glob("*.rt") for name in TEST.findall(path.read_text(encoding="utf-8")))
 
 
-def is_allowed(ended: Ended, is_met: bool) -> bool:
-    """Whether a test ended as it may, by whether an allocation was refused to it."""
-    return ended.status == 0 or (is_met and ended.status == WANTING_STATUS and WANTING.search(ended.err + ended.out) is not None)
-
-
 def refused_in_turn(harness: Harness, library: Library, test: str) -> list[Outcome]:
     """Runs a test with its first allocation refused, its second one, and on, and at last with none. Its files are in a folder of their own."""
     folder = harness.folder()
@@ -47,7 +39,7 @@ def refused_in_turn(harness: Harness, library: Library, test: str) -> list[Outco
         met.unlink(missing_ok=True)
         more = {"LD_PRELOAD": str(library.path), "FAULT_CALL": "alloc", "FAULT_KIND": "error", "FAULT_AT": str(at), "FAULT_MET": str(met)}
         ended = harness.run([str(PROGRAM), test], folder=folder, more={**more, "TMPDIR": str(folder)})
-        if not is_allowed(ended, met.exists()):
+        if ended.status:
             return [Outcome(test, f"ran    {shown([str(PROGRAM), test])}, with allocation {at} refused\n    wrote  {ended}")]
         if not met.exists():
             return [Outcome(test)] if at > 1 else [Outcome(test, "no allocation was made")]

@@ -8,7 +8,6 @@ use grid::Cell;
 use robot::{TalkFault, Talker, talk};
 use runner::SimTape;
 use std::alloc::Global;
-use std::test::Fail;
 use text_io::Counted;
 
 const RIGHT: Cell = Cell { x: 2, y: 0 };
@@ -77,11 +76,16 @@ fn hears_and_answers(alloc: Global, graph: &Graph) -> Result<bool, OutOfMemory> 
     }
 }
 
+fn are_right(alloc: Global) -> Result<bool, OutOfMemory> {
+    let graph = graph_of_behind(alloc)?;
+    Ok(is_torn_and_moves(alloc, &graph)? && hears_and_answers(alloc, &graph)?)
+}
+
 #[test]
-fn agents_over_tapes_in_memory(rt: HostRuntime) -> Result<(), Fail> {
-    let graph = graph_of_behind(rt.alloc())?;
-    let are_right = is_torn_and_moves(rt.alloc(), &graph)?
-        && hears_and_answers(rt.alloc(), &graph)?;
-    assert!(rt; are_right);
-    Ok(())
+fn agents_over_tapes_in_memory(rt: HostRuntime) {
+    let mut found = are_right(rt.alloc());
+    if found.is_err() {
+        found = are_right(rt.alloc());
+    }
+    assert!(rt; found == Ok(true));
 }

@@ -7,8 +7,7 @@ use mapf_cmd::{
     deps_cell_cmd, deps_cmd, map_cmd, optimal_cmd, path_cmd, row_cmd, rows_cmd, run_cmd, scen_cmd,
     tape_cmd,
 };
-use std::alloc::{AllocError, Global};
-use std::test::Fail;
+use std::alloc::Global;
 
 /// A command on the corner and its scenario, or else on the lane and the plan `BEHIND`.
 #[derive(Clone, Copy, Debug)]
@@ -116,21 +115,22 @@ fn perform_on_plan(alloc: Global, command: Command, out: &mut Out<'_>, err: &mut
     }
 }
 
-fn end_of(alloc: Global, command: Command, text: &str) -> Result<End, AllocError> {
-    let mut outputs = Outputs::new(alloc)?;
+fn end_of(alloc: Global, command: Command, text: &str) -> End {
+    let Ok(mut outputs) = Outputs::new(alloc) else {
+        return End::Wanting;
+    };
     let Outputs { out, err } = &mut outputs;
     let status = perform(alloc, command, &mut Out::new(out), &mut Out::new(err));
-    Ok(outputs.end(status, text))
+    outputs.end(status, text)
 }
 
 #[test]
-fn commands(rt: HostRuntime) -> Result<(), Fail> {
+fn commands(rt: HostRuntime) {
     for &(command, text) in &COMMANDS {
-        let mut end = end_of(rt.alloc(), command, text)?;
+        let mut end = end_of(rt.alloc(), command, text);
         if end == End::Wanting {
-            end = end_of(rt.alloc(), command, text)?;
+            end = end_of(rt.alloc(), command, text);
         }
         assert_eq!(rt; end, End::Right, "at {command:?}");
     }
-    Ok(())
 }

@@ -1,8 +1,8 @@
 //! Graphs, which know who comes into which cell.
 use crate::texts::graph_of_behind;
-use depgraph::{Graph, Visit};
+use depgraph::{Graph, OutOfMemory, Visit};
 use grid::Cell;
-use std::test::Fail;
+use std::alloc::Global;
 
 /// Who comes into the middle.
 const INTO_MIDDLE: [Visit; 2] = [
@@ -35,9 +35,16 @@ fn has_need(graph: &Graph) -> bool {
     }
 }
 
+fn is_right(alloc: Global) -> Result<bool, OutOfMemory> {
+    let graph = graph_of_behind(alloc)?;
+    Ok(has_cells(&graph) && has_need(&graph))
+}
+
 #[test]
-fn graphs(rt: HostRuntime) -> Result<(), Fail> {
-    let graph = graph_of_behind(rt.alloc())?;
-    assert!(rt; has_cells(&graph) && has_need(&graph));
-    Ok(())
+fn graph_of_a_plan(rt: HostRuntime) {
+    let mut found = is_right(rt.alloc());
+    if found.is_err() {
+        found = is_right(rt.alloc());
+    }
+    assert!(rt; found == Ok(true));
 }

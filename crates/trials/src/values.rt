@@ -4,8 +4,7 @@ use grid::{Cell, Map};
 use scen::{Length, LengthTable, Listed, Proposal, agrees, certify};
 use std::alloc::{AllocError, Global};
 use std::io::Read;
-use std::test::Fail;
-use text_io::Counted;
+use text_io::{Counted, OutOfMemory};
 
 /// Lengths with a listed number of so many decimals each, and whether they agree.
 static LISTED: [((u32, u32), (u64, u8), bool); 4] = [
@@ -54,9 +53,16 @@ fn is_counted() -> bool {
     is_read && reader.failures() == 0 && *reader.inner() == b"c".as_slice()
 }
 
+fn are_right(alloc: Global) -> Result<bool, OutOfMemory> {
+    let map = map_of(alloc, SQUARE)?;
+    Ok(all_agree() && is_counted() && is_proved(alloc, &map)?)
+}
+
 #[test]
-fn values_of_a_caller(rt: HostRuntime) -> Result<(), Fail> {
-    let map = map_of(rt.alloc(), SQUARE)?;
-    assert!(rt; all_agree() && is_counted() && is_proved(rt.alloc(), &map)?);
-    Ok(())
+fn values_of_a_caller(rt: HostRuntime) {
+    let mut found = are_right(rt.alloc());
+    if found.is_err() {
+        found = are_right(rt.alloc());
+    }
+    assert!(rt; found == Ok(true));
 }
