@@ -13,8 +13,8 @@ sys.path.insert(0, str(ROOT / "bench"))
 import far  # noqa: E402
 
 TOOL, PAGE = ROOT / "bench" / "run.py", ROOT / "docs" / "PERFORMANCE.md"
-# What stands between two lines of the page.
-MARKED = re.compile(r"^<!--(\w+)-->\n(.*?)^<!--end-->$", re.DOTALL | re.MULTILINE)
+# What stands between two lines of the page. The gate's table is made by another tool.
+MARKED = re.compile(r"^<!--(?!gate-->)(\w+)-->\n(.*?)^<!--end-->$", re.DOTALL | re.MULTILINE)
 
 
 def measure(table: str, name: str, ms: float, ratio: Optional[float] = 1.25) -> dict:

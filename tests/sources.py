@@ -24,6 +24,7 @@ STRINGS_AND_COMMENTS = re.compile(r'b?"(?:[^"\\]|\\.)*"|//[^\n]*')
 RENAMED = re.compile(r"^ *(?:pub )?use [^;]*\b(?:OutOfMemory|AllocError) as ", re.MULTILINE)
 # Where names stand that are compared, and not made.
 PATTERNS = [re.compile(r"\bmatches!\([^;]*?\)(?=[\s;,)]|$)"), re.compile(r"\blet [^=;]*="), re.compile(r"^[^=\n]*(?:=(?!>)[^=\n]*)*=>", re.MULTILINE)]
+PATTERNS.append(re.compile(r"^ *\| .*$", re.MULTILINE))
 
 # Why a function may say it.
 NAMED_ANEW = "passes on a want that it was told of by the name that another type has for it"
@@ -84,6 +85,7 @@ MADE = {
     "text_commands/judge.rt: row_fault": PASSED_ON,
     "text_commands/row_command.rt: propose": PASSED_ON,
     "text_commands/rows_command.rt: judge_on": NAMED_ANEW,
+    "text_io/failure.rt: Failure: name": NAMED_ANEW,
     "text_io/out_of_memory.rt: From<AllocError> for OutOfMemory: from": NAMED_ANEW,
 }
 # In how many places a function says it, where that is more than one.
@@ -107,6 +109,7 @@ FORMS = [
     ("rows.push(row).map_err(AllocError::from)?;", 0),
     ('FaultWords::new("OutOfMemory", &[])', 0),
     ("// OutOfMemory", 0),
+    ("        | FaultName::OutOfMemory", 0),
 ]
 
 
@@ -175,7 +178,8 @@ unreached = 1
   where
     Pair : ℕ
 """,
-    "crates/two/specs/More.antt": "pub record is_free (n : ℕ) : Type 0 where\n  pub IsRow : ℕ\n",
+    "crates/two/specs/More.antt": "pub record is_free (n : ℕ) : Type 0 where\n  pub IsRow : ℕ\n"
+    f"-- {'x' * 97}\n-- {'x' * 98}\n-- {'x' * 98} \"text\"\nuse Rattle.one.{'x' * 98}\n",
     "crates/two/specs/Lib.antt": "pub mod Rows\npub mod More\n",
     "crates/two/proofs/Rows.antt": """use Rattle.std.proofs.Common.{refl}
 use Rattle.one.specs.Cells.{is_free}
@@ -273,6 +277,7 @@ SEEN = {
     "long-functions": (1, ["crates/two/src/lib.rt:5: is_row has 41 lines"]),
     "long-files": (1, ["tests/long.py:501: the file has 501 lines"]),
     "many-parameters": (1, ["crates/two/src/lib.rt:59: put_all has 6 parameters"]),
+    "wide-lines": (1, ["crates/two/specs/More.antt:4: the line has 101 columns"]),
 }
 
 

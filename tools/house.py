@@ -27,8 +27,8 @@ import product  # noqa: E402
 from measures.crates import foreign_crates, foreign_proofs, specs_twice  # noqa: E402
 from measures.definitions import Definitions  # noqa: E402
 from measures.promises import TABLE, Promise, Promises  # noqa: E402
-from measures.sizes import MOST_LINES_OF_FILE, MOST_LINES_OF_FUNCTION, MOST_PARAMETERS  # noqa: E402
-from measures.sizes import long_files, long_functions, many_parameters  # noqa: E402
+from measures.sizes import MOST_COLUMNS, MOST_LINES_OF_FILE, MOST_LINES_OF_FUNCTION, MOST_PARAMETERS  # noqa: E402
+from measures.sizes import long_files, long_functions, many_parameters, wide_lines  # noqa: E402
 from measures.stale_names import stale_names  # noqa: E402
 from measures.workspace import BadWorkspace, Place, Workspace  # noqa: E402
 from whole_file import draft  # noqa: E402
@@ -42,11 +42,12 @@ MEASURES: dict[str, tuple[str, int]] = {
     "stale-names": ("names of the code in docs/ that stand nowhere else", 0),
     "lost-calls": ("names in the table of promises that nothing there has", 0),
     "stale-promises": ("rows of that table that house.py --write-promises would change", 0),
-    "longest-promise": ("lines of definitions that a promise reaches, at the most", 4085),
-    "all-promises": ("lines of definitions that each promise reaches, summed up", 35560),
-    "long-functions": (f"functions of the product with more than {MOST_LINES_OF_FUNCTION} lines", 1),
-    "long-files": (f"files with more than {MOST_LINES_OF_FILE} lines", 5),
-    "many-parameters": (f"functions with more than {MOST_PARAMETERS} parameters", 33),
+    "longest-promise": ("lines of definitions that a promise reaches, at the most", 5029),
+    "all-promises": ("lines of definitions that each promise reaches, summed up", 41036),
+    "long-functions": (f"functions of the product with more than {MOST_LINES_OF_FUNCTION} lines", 2),
+    "long-files": (f"files with more than {MOST_LINES_OF_FILE} lines", 7),
+    "many-parameters": (f"functions with more than {MOST_PARAMETERS} parameters", 32),
+    "wide-lines": (f"lines of src/ and specs/ with more than {MOST_COLUMNS} columns", 20),
 }
 
 
@@ -77,6 +78,7 @@ def measured(workspace: Workspace) -> dict[str, Measured]:
         "long-functions": counted(long_functions(workspace, product.crates())),
         "long-files": counted(long_files(workspace)),
         "many-parameters": counted(many_parameters(workspace)),
+        "wide-lines": counted(wide_lines(workspace)),
     }
 
 

@@ -1,4 +1,5 @@
 """What is too long: bodies and heads of functions, and files."""
+import re
 from typing import Iterable, Iterator
 
 from measures.rattle import Function, functions
@@ -7,6 +8,9 @@ from measures.workspace import Place, Workspace
 MOST_LINES_OF_FUNCTION = 40
 MOST_LINES_OF_FILE = 500
 MOST_PARAMETERS = 5
+MOST_COLUMNS = 100
+# What no break makes narrower: a path that is imported, and a text.
+IS_WIDE = re.compile(r"^ *(?:pub |ghost )*use |\"")
 # The folders of a crate that people write, and those beside the crates with the kinds of files that are code.
 OF_CRATES = ("src", "specs", "proofs")
 BESIDE_CRATES = {
@@ -46,3 +50,12 @@ def long_files(workspace: Workspace) -> Iterator[Place]:
         lines = len(workspace.lines(path))
         if lines > MOST_LINES_OF_FILE:
             yield Place(path, MOST_LINES_OF_FILE + 1, f"the file has {lines} lines")
+
+
+def wide_lines(workspace: Workspace) -> Iterator[Place]:
+    """Lines of code and of definitions that are too wide."""
+    for crate in workspace.crates:
+        for path in [*workspace.files(f"crates/{crate}/src", ".rt"), *workspace.files(f"crates/{crate}/specs", ".antt")]:
+            for number, line in enumerate(workspace.lines(path), 1):
+                if len(line) > MOST_COLUMNS and not IS_WIDE.search(line):
+                    yield Place(path, number, f"the line has {len(line)} columns")

@@ -1,5 +1,8 @@
--- What an agent has heard: counters, each of an agent and how many moves it is known to have finished.
-use Rattle.std.specs.Prelude.{◌≡◌, ◌≢◌, ℕ, ◌<◌, ◌==◌, if◌then◌else◌, Bool, true, false, List, [], ◌∷◌, length, max, Any, slice_index_or, Option, None, Some, is_some, unwrap_or}
+-- What an agent has heard: counters, each of an agent and how many moves it is known to have
+-- finished.
+use Rattle.std.specs.Prelude.{◌≡◌, ◌≢◌, ℕ, ◌<◌, ◌==◌, if◌then◌else◌, Bool}
+use Rattle.std.specs.Prelude.{true, false, List, [], ◌∷◌, length, max}
+use Rattle.std.specs.Prelude.{Any, slice_index_or, Option, None, Some, is_some, unwrap_or}
 use Rattle.std.specs.List.{list_any}
 use Rattle.model.specs.declared.entry.Entry.{Entry}
 use Rattle.model.specs.Messages.{told_by}
@@ -26,9 +29,11 @@ pub record SetsOnly (old new : List Counter) (agent done : ℕ) : Type 0 where
 abbrev pub tells_of : List Entry → ℕ → Bool
 tells_of entries j = list_any (λ entry. entry.agent == j) entries
 
--- what an agent's counter comes to by entries: the greater of the old and the new number where they tell of it, and else it stays
+-- what an agent's counter comes to by entries: the greater of the old and the new number where they
+-- tell of it, and else it stays
 abbrev pub raised : List Counter → List Entry → ℕ → Option ℕ
-raised old entries j = if tells_of entries j then Some (max (known_in old j) (told_by entries j)) else heard_of old j
+raised old entries j =
+    if tells_of entries j then Some (max (known_in old j) (told_by entries j)) else heard_of old j
 
 -- the counter of each agent is raised by the entries
 abbrev pub Raises : List Counter → List Counter → List Entry → Type 0
@@ -48,4 +53,5 @@ agent_at counters i = (slice_index_or counters i (record { agent = 0; done = 0 }
 
 -- the agents rise, so that none has two counters
 abbrev pub IsRising : List Counter → Type 0
-IsRising counters = (i j : ℕ) → i < j → j < length counters → agent_at counters i < agent_at counters j
+IsRising counters =
+    (i j : ℕ) → i < j → j < length counters → agent_at counters i < agent_at counters j

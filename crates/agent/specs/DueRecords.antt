@@ -12,4 +12,6 @@ due_records plan agent (suc n) = due_records plan agent n ++ due_record plan age
 pub length-due_records : (plan agent count : ℕ) → length (due_records plan agent count) ≡ 10 * count
 length-due_records plan agent zero = omega arith
 length-due_records plan agent (suc n) =
-    (let counted = length-due_records plan agent n in let both = length-append (due_records plan agent n) (due_record plan agent n) in omega (arith, counted, both))
+    (let counted = length-due_records plan agent n in let both =
+    length-append (due_records plan agent n) (due_record plan agent n) in
+    omega (arith, counted, both))

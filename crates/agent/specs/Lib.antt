@@ -1,4 +1,5 @@
--- What has to be believed of the crate, beside the definitions of `model` and `depgraph`, in the order in which to read it.
+-- What has to be believed of the crate, beside the definitions of `model` and `depgraph`, in the
+-- order in which to read it.
 
 -- which bytes are no message, and why
 pub mod Decoding

@@ -1,5 +1,6 @@
 -- A tape in memory, and that it is a tape.
-use Rattle.std.proofs.Common.{◌≡◌, ℕ, ◌≤◌, ◌++◌, Bool, true, List, length, take, drop, refl, sym, ap, ◌∙◌, arith}
+use Rattle.std.proofs.Common.{◌≡◌, ℕ, ◌≤◌, ◌++◌, Bool, true, List, length}
+use Rattle.std.proofs.Common.{take, drop, refl, sym, ap, ◌∙◌, arith}
 use Rattle.std.proofs.lemmas.List.{length-take-le}
 use Rattle.std.proofs.lemmas.Bool.{true≢false}
 use Rattle.model.specs.History.{record_length}
@@ -7,16 +8,19 @@ use Rattle.agent.specs.declared.mem_tape.MemTape.{MemTape}
 use Rattle.agent.specs.Tape.{TapeState, MayRead, MayWrite, IsRead, IsWrite}
 
 abbrev pub mem_state : MemTape → TapeState
-mem_state t = record { contents = take t.len t.bytes.items; room = length t.bytes.items; failures = 0 }
+mem_state t =
+    record { contents = take t.len t.bytes.items; room = length t.bytes.items; failures = 0 }
 
 -- a read succeeds
-pub record IsMemRead (t : MemTape) (at : ℕ) (succeeds : Bool) (bytes : List ℕ) (u : MemTape) : Type 0 where
+pub record IsMemRead (t : MemTape) (at : ℕ) (succeeds : Bool) (bytes : List ℕ)
+    (u : MemTape) : Type 0 where
   pub no_failure : succeeds ≡ true
   pub gives : bytes ≡ take record_length (drop at (mem_state t).contents)
   pub same : mem_state u ≡ mem_state t
 
 -- a write succeeds
-pub record IsMemWrite (t : MemTape) (at : ℕ) (bytes : List ℕ) (succeeds : Bool) (u : MemTape) : Type 0 where
+pub record IsMemWrite (t : MemTape) (at : ℕ) (bytes : List ℕ) (succeeds : Bool)
+    (u : MemTape) : Type 0 where
   pub no_failure : succeeds ≡ true
   pub contents : (mem_state u).contents ≡ take at (mem_state t).contents ++ bytes
   pub room : (mem_state u).room ≡ (mem_state t).room
@@ -28,9 +32,12 @@ abbrev pub mem_writes : MemTape → ℕ → List ℕ → Bool → MemTape → Ty
 mem_writes t at bytes succeeds u = IsMemWrite t at bytes succeeds u
 
 pub mem_within : (t : MemTape) → length (mem_state t).contents ≤ (mem_state t).room
-mem_within t = (let fits = t.in_room in let length = length-take-le t.len t.bytes.items fits in omega (arith, length, fits))
+mem_within t =
+    (let fits = t.in_room in let length = length-take-le t.len t.bytes.items fits in
+    omega (arith, length, fits))
 
-pub mem_is_read : (t u : MemTape) (at : ℕ) (succeeds : Bool) (bytes : List ℕ) → MayRead (mem_state t) at → mem_reads t at succeeds bytes u
+pub mem_is_read : (t u : MemTape) (at : ℕ) (succeeds : Bool) (bytes : List ℕ)
+    → MayRead (mem_state t) at → mem_reads t at succeeds bytes u
     → IsRead (mem_state t) (mem_state u) at succeeds bytes
 mem_is_read t u at succeeds bytes may h = record {
   contents = ap (λ s. s.contents) h.same;
@@ -40,7 +47,8 @@ mem_is_read t u at succeeds bytes may h = record {
   fails = λ no. absurd (true≢false (sym h.no_failure ∙ no));
 }
 
-pub mem_is_write : (t u : MemTape) (at : ℕ) (bytes : List ℕ) (succeeds : Bool) → MayWrite (mem_state t) at → length bytes ≡ record_length
+pub mem_is_write : (t u : MemTape) (at : ℕ) (bytes : List ℕ) (succeeds : Bool)
+    → MayWrite (mem_state t) at → length bytes ≡ record_length
     → mem_writes t at bytes succeeds u → IsWrite (mem_state t) (mem_state u) at bytes succeeds
 mem_is_write t u at bytes succeeds may count h = record {
   room = h.room;

@@ -17,7 +17,8 @@ pub record IsOwn (p : AgentPart) (t : TapeState) : Type 0 where
   pub size : HasTapeRoom (length p.needs) t
   pub due : AreDue p.number p.agent t.contents (whole_records t)
 
--- What an agent keeps: it has the part of a graph, its tape is its own, and it has heard of agents of the plan alone.
+-- What an agent keeps: it has the part of a graph, its tape is its own, and it has heard of agents
+-- of the plan alone.
 pub record IsSound (p : AgentPart) (t : TapeState) (heard : List Counter) : Type 0 where
   pub of_graph : IsOfGraph p
   pub own : IsOwn p t

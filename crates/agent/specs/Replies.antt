@@ -6,11 +6,13 @@ use Rattle.model.specs.declared.held.Held.TheVariants.{At, Between}
 use Rattle.model.specs.declared.why.Why.{Why}
 use Rattle.model.specs.declared.why.Why.TheVariants as why
 use Rattle.model.specs.History.{Answer, heard, at, between, refused}
-use Rattle.model.specs.declared.msg_fault.MsgFault.TheVariants.{BadLength, BadMagic, BadVersion, BadEntry}
+use Rattle.model.specs.declared.msg_fault.MsgFault.TheVariants.{BadLength, BadMagic}
+use Rattle.model.specs.declared.msg_fault.MsgFault.TheVariants.{BadVersion, BadEntry}
 use Rattle.agent.specs.declared.refusal.HearFault.{HearFault}
 use Rattle.agent.specs.declared.refusal.HearFault.TheVariants as fault
 use Rattle.agent.specs.declared.refusal.Refusal.{Refusal}
-use Rattle.agent.specs.declared.refusal.Refusal.TheVariants.{Broken, AlreadyMoving, AtEnd, Waits, NotMoving, StoreFailed}
+use Rattle.agent.specs.declared.refusal.Refusal.TheVariants.{Broken, AlreadyMoving, AtEnd}
+use Rattle.agent.specs.declared.refusal.Refusal.TheVariants.{Waits, NotMoving, StoreFailed}
 
 abbrev pub why_of : Refusal → Why
 why_of Broken = why.Broken

@@ -1,5 +1,6 @@
 -- What a tape is, and what a read and a write of it may come to.
-use Rattle.std.specs.Prelude.{◌≡◌, ℕ, ◌+◌, ◌/◌, ◌<◌, ◌≤◌, ◌⊎◌, Bool, true, false, List, ◌++◌, length, take, drop, Option, None, Some}
+use Rattle.std.specs.Prelude.{◌≡◌, ℕ, ◌+◌, ◌/◌, ◌<◌, ◌≤◌, ◌⊎◌, Bool, true}
+use Rattle.std.specs.Prelude.{false, List, ◌++◌, length, take, drop, Option, None, Some}
 use Rattle.text_io.specs.Counted.{greatest}
 use Rattle.model.specs.History.{record_length}
 
@@ -40,15 +41,19 @@ pub record IsRead (old new : TapeState) (at : ℕ) (succeeds : Bool) (bytes : Li
   pub counts : succeeds ≡ true → new.failures ≡ old.failures
   pub fails : succeeds ≡ false → HasFailed old.failures new.failures
 
--- A write of a record at a place, over what stood there: all of it, or where it fails fewer than ten bytes of any kind, or all of it.
+-- A write of a record at a place, over what stood there: all of it, or where it fails fewer than
+-- ten bytes of any kind, or all of it.
 pub record IsWrite (old new : TapeState) (at : ℕ) (bytes : List ℕ) (succeeds : Bool) : Type 0 where
   pub room : new.room ≡ old.room
   pub stores : succeeds ≡ true → new.contents ≡ take at old.contents ++ bytes
-  pub tears : succeeds ≡ false → (tail : List ℕ) × (new.contents ≡ take at old.contents ++ tail) × ((length tail < record_length) ⊎ (tail ≡ bytes))
+  pub tears : succeeds ≡ false → (tail : List ℕ) × (new.contents ≡ take at old.contents ++ tail)
+      × ((length tail < record_length) ⊎ (tail ≡ bytes))
   pub counts : succeeds ≡ true → new.failures ≡ old.failures
   pub fails : succeeds ≡ false → HasFailed old.failures new.failures
 
--- A write of a tape that is told where to tear: it succeeds where nothing is armed, and else it stores so many bytes, fails and disarms.
+-- A write of a tape that is told where to tear: it succeeds where nothing is armed, and else it
+-- stores so many bytes, fails and disarms.
 abbrev pub IsTorn : Option ℕ → Option ℕ → TapeState → TapeState → ℕ → List ℕ → Bool → Type 0
 IsTorn None armed old new at bytes succeeds = (succeeds ≡ true) × (armed ≡ None)
-IsTorn (Some n) armed old new at bytes succeeds = (succeeds ≡ false) × (armed ≡ None) × (new.contents ≡ take at old.contents ++ take n bytes)
+IsTorn (Some n) armed old new at bytes succeeds =
+    (succeeds ≡ false) × (armed ≡ None) × (new.contents ≡ take at old.contents ++ take n bytes)

@@ -18,7 +18,9 @@ pub record IsInRange (t : Telling) : Type 0 where
 
 -- the bytes are those of version 1, of an agent that says how many moves it has finished
 abbrev pub IsOne : List ℕ → Telling → Type 0
-IsOne bytes t = (done : ℕ) × (t.message ≡ own_message t.message.sender done) × IsMessage t.plan t.message.sender done bytes
+IsOne bytes t =
+    (done : ℕ) × (t.message ≡ own_message t.message.sender done)
+    × IsMessage t.plan t.message.sender done bytes
 
 -- or those of version 2
 abbrev pub IsTwo : List ℕ → Telling → Type 0

@@ -1,5 +1,7 @@
 //! An agent: what it may do next, by its tape and by what it has heard.
-ghost use Rattle.std.specs.Prelude.{◌≡◌, ◌+◌, ◌*◌, ◌<◌, ◌≤◌, [], ◌++◌, true, false, length, option_map, IfSome, IfOk, IfErr, OnOk, OnErr, MatchOption};
+ghost use Rattle.std.specs.Prelude.{◌≡◌, ◌+◌, ◌*◌, ◌<◌, ◌≤◌, []};
+ghost use Rattle.std.specs.Prelude.{◌++◌, true, false, length, option_map, IfSome};
+ghost use Rattle.std.specs.Prelude.{IfOk, IfErr, OnOk, OnErr, MatchOption};
 ghost use Rattle.model.specs.History.{record_length};
 ghost use Rattle.model.specs.Timetable.{Timetable, track_of};
 ghost use Rattle.depgraph.specs.AgentParts.{IsPartOf, IsOfGraph};
@@ -37,7 +39,12 @@ impl<'g, T: Tape> Model for Agent<'g, T> {
 
     ghost Value = { AgentOn T };
 
-    ghost view = { λ a. record { part = a.part; tape = a.tape; heard = a.counters; broken = a.broken } };
+    ghost view = { λ a. record {
+      part = a.part;
+      tape = a.tape;
+      heard = a.counters;
+      broken = a.broken;
+    } };
 
     ghost invariant = { λ a. IsSound a.part (T.state a.tape) a.counters };
 }
@@ -46,18 +53,21 @@ impl<'g, T: Tape> Agent<'g, T> {
     ghost use Rattle.std.specs.Prelude.{None};
     ghost use Rattle.model.specs.Rules.{path_cell};
     ghost use Rattle.model.specs.Messages.{own_message, whole_message, AreRising};
-    ghost use Rattle.agent.specs.Agents.{AgentOn, state_of, Moves, Starts, Finishes, Hears, HearsOf, HearsFrom, IsHolding, Says, bytes_told, TellsAll};
+    ghost use Rattle.agent.specs.Agents.{AgentOn, state_of, Moves, Starts, Finishes, Hears};
+    ghost use Rattle.agent.specs.Agents.{HearsOf, HearsFrom, IsHolding, Says, bytes_told, TellsAll};
     ghost use Rattle.model.specs.Dependency.{need};
     ghost use Rattle.agent.specs.Ahead.{LooksAhead};
     ghost use Rattle.agent.specs.Counters.{known_in};
     ghost use Rattle.agent.specs.Opening.{IsOpened, IsRefused, Restarts};
     ghost use Rattle.agent.specs.Owning.{IsOwn};
-    ghost use Rattle.agent.specs.States.{finished_moves, begun_moves, is_on_the_way, start_refusal, finish_refusal, waits_for};
+    ghost use Rattle.agent.specs.States.{finished_moves, begun_moves, is_on_the_way};
+    ghost use Rattle.agent.specs.States.{start_refusal, finish_refusal, waits_for};
     ghost use Rattle.agent.specs.Tape.{IsKept, whole_records};
     ghost use Rattle.agent.specs.Code.Listing.{entries_of};
     ghost use Rattle.agent.specs.Code.Taking.{TakesTelling};
 
-    /// Opens the tape of an agent, which has then heard nothing. A tape that is refused comes back with what it had.
+    /// Opens the tape of an agent, which has then heard nothing. A tape that is refused comes back
+    /// with what it had.
     pub fn open(
         alloc: Global,
         graph: &'g Graph,
@@ -65,7 +75,8 @@ impl<'g, T: Tape> Agent<'g, T> {
         tape: T,
     ) -> Result<Agent<'g, T>, (OpenFault, T)>
         ensures opened { IfOk result (IsOpened T.state T.may_read graph.now id tape) }
-        ensures refused { IfErr result (λ e. IsRefused T.state T.may_read graph.now id tape e.1 e.0) }
+        ensures refused { IfErr result
+            (λ e. IsRefused T.state T.may_read graph.now id tape e.1 e.0) }
         ensures kept { IfErr result (λ e. IsKept (T.state tape) (T.state e.1)) }
     {
         match graph.part(id) {
@@ -77,8 +88,10 @@ impl<'g, T: Tape> Agent<'g, T> {
     /// The same by the agent's part of a graph, which may be gone.
     pub fn open_part(alloc: Global, part: Part<'g>, tape: T) -> Result<Agent<'g, T>, (OpenFault, T)>
         ensures part { IfOk result (λ a. a.part ≡ part.entry) }
-        ensures opened { IfOk result (λ a. (tt : Timetable) → IsPartOf tt part.entry → IsOpened T.state T.may_read tt part.entry.agent tape a) }
-        ensures refused { IfErr result (λ e. (tt : Timetable) → IsPartOf tt part.entry → IsRefused T.state T.may_read tt part.entry.agent tape e.1 e.0) }
+        ensures opened { IfOk result (λ a. (tt : Timetable) → IsPartOf tt part.entry
+            → IsOpened T.state T.may_read tt part.entry.agent tape a) }
+        ensures refused { IfErr result (λ e. (tt : Timetable) → IsPartOf tt part.entry
+            → IsRefused T.state T.may_read tt part.entry.agent tape e.1 e.0) }
         ensures kept { IfErr result (λ e. IsKept (T.state tape) (T.state e.1)) }
     {
         let moves = part.own_moves();
@@ -101,7 +114,8 @@ impl<'g, T: Tape> Agent<'g, T> {
         })
     }
 
-    /// Opens the agent's own tape again, as after a restart. A tape that is refused leaves the agent as it was.
+    /// Opens the agent's own tape again, as after a restart. A tape that is refused leaves the
+    /// agent as it was.
     pub fn restart(&mut self) -> Result<(), OpenFault>
         ensures { Restarts T.state T.may_read self.old self.new result }
     {
@@ -130,7 +144,8 @@ impl<'g, T: Tape> Agent<'g, T> {
     /// Begins the next move, and answers the cell that the agent enters.
     #[inline(always)]
     pub fn start(&mut self) -> Result<Cell, Refusal>
-        ensures starts { (tt : Timetable) → IsPartOf tt self.old.part → Starts T.state T.may_write tt self.old self.new result }
+        ensures starts { (tt : Timetable) → IsPartOf tt self.old.part
+            → Starts T.state T.may_write tt self.old self.new result }
         ensures within { IsOfGraph self.old.part }
     {
         match self.start_refusal() {
@@ -142,7 +157,8 @@ impl<'g, T: Tape> Agent<'g, T> {
     /// Ends the move that was begun, and answers the cell that the agent reached.
     #[inline(always)]
     pub fn finish(&mut self) -> Result<Cell, Refusal>
-        ensures finishes { (tt : Timetable) → IsPartOf tt self.old.part → Finishes T.state T.may_write tt self.old self.new result }
+        ensures finishes { (tt : Timetable) → IsPartOf tt self.old.part
+            → Finishes T.state T.may_write tt self.old self.new result }
         ensures within { IsOfGraph self.old.part }
     {
         if self.broken {
@@ -156,7 +172,8 @@ impl<'g, T: Tape> Agent<'g, T> {
 
     /// The message that says how many moves are stored as finished.
     pub fn say(&self) -> Result<[u8; 12], Refusal>
-        ensures says { (tt : Timetable) → IsPartOf tt self.now.part → Says T.state tt self.now result }
+        ensures says { (tt : Timetable) → IsPartOf tt self.now.part
+            → Says T.state tt self.now result }
         ensures within { IsOfGraph self.now.part }
     {
         if self.broken {
@@ -169,10 +186,11 @@ impl<'g, T: Tape> Agent<'g, T> {
         }))
     }
 
-    /// The message of version 2 with all that the agent knows: how many of its own moves are stored as finished, and what it has heard of
-    /// others. It takes memory for its bytes alone.
+    /// The message of version 2 with all that the agent knows: how many of its own moves are stored
+    /// as finished, and what it has heard of others. It takes memory for its bytes alone.
     pub fn tell(&self) -> Result<Vec<u8>, TellFault>
-        ensures tells { (tt : Timetable) → IsPartOf tt self.now.part → TellsAll T.state tt self.now (bytes_told result) }
+        ensures tells { (tt : Timetable) → IsPartOf tt self.now.part
+            → TellsAll T.state tt self.now (bytes_told result) }
         ensures within { IsOfGraph self.now.part }
     {
         if self.broken {
@@ -183,9 +201,13 @@ impl<'g, T: Tape> Agent<'g, T> {
         Ok(tell(alloc, plan, self.id(), self.done(), &self.counters)?)
     }
 
-    /// Puts the entries of what `tell` says behind a list, which is as it was where memory is refused.
+    /// Puts the entries of what `tell` says behind a list, which is as it was where memory is
+    /// refused.
     pub fn put_entries(&self, entries: &mut Vec<Entry>) -> Result<(), AllocError>
-        ensures put { OnOk result (entries.new.items ≡ entries.old.items ++ (whole_message (length self.now.part.moves) self.now.part.agent (finished_moves (state_of T.state self.now)) (known_in self.now.heard)).entries) }
+        ensures put { OnOk result
+            (entries.new.items ≡ entries.old.items
+            ++ (whole_message (length self.now.part.moves) self.now.part.agent
+            (finished_moves (state_of T.state self.now)) (known_in self.now.heard)).entries) }
         ensures few { OnOk result (length entries.new.items ≤ length entries.old.items + 10000) }
         ensures err { OnErr result (entries.new.items ≡ entries.old.items) }
     {
@@ -194,10 +216,11 @@ impl<'g, T: Tape> Agent<'g, T> {
         put_told(entries, self.id(), self.done(), &self.counters)
     }
 
-    /// Hears a message of either version: answers its sender, and how many moves of that one are known to be finished now. It takes memory
-    /// only for agents not heard of before.
+    /// Hears a message of either version: answers its sender, and how many moves of that one are
+    /// known to be finished now. It takes memory only for agents not heard of before.
     pub fn hear(&mut self, bytes: &[u8]) -> Result<(u16, u32), HearFault>
-        ensures hears { (tt : Timetable) → IsPartOf tt self.old.part → Hears T.state tt self.old self.new bytes.now result }
+        ensures hears { (tt : Timetable) → IsPartOf tt self.old.part
+            → Hears T.state tt self.old self.new bytes.now result }
         ensures within { IsOfGraph self.old.part }
     {
         if self.broken {
@@ -213,7 +236,8 @@ impl<'g, T: Tape> Agent<'g, T> {
     /// Hears what a message of version 1 says, as `hear` does.
     #[inline(always)]
     pub fn hear_finished(&mut self, finished: Finished) -> Result<(u16, u32), HearFault>
-        ensures hears { (tt : Timetable) → IsPartOf tt self.old.part → HearsFrom T.state tt self.old self.new finished result }
+        ensures hears { (tt : Timetable) → IsPartOf tt self.old.part
+            → HearsFrom T.state tt self.old self.new finished result }
         ensures within { IsOfGraph self.old.part }
     {
         if self.broken {
@@ -222,9 +246,12 @@ impl<'g, T: Tape> Agent<'g, T> {
         self.take_own(finished)
     }
 
-    /// Hears what a message of version 2 of the agent's plan says, by its sender and its entries, as `hear` does.
+    /// Hears what a message of version 2 of the agent's plan says, by its sender and its entries,
+    /// as `hear` does.
     pub fn hear_entries(&mut self, from: u16, entries: &[Entry]) -> Result<(u16, u32), HearFault>
-        ensures hears { (tt : Timetable) → IsPartOf tt self.old.part → HearsOf T.state tt self.old self.new (record { sender = from; entries = entries.now }) result }
+        ensures hears { (tt : Timetable) → IsPartOf tt self.old.part
+            → HearsOf T.state tt self.old self.new
+            (record { sender = from; entries = entries.now }) result }
         ensures within { IsOfGraph self.old.part }
     {
         if self.broken {
@@ -241,7 +268,10 @@ impl<'g, T: Tape> Agent<'g, T> {
     /// Takes what the sender of a message says of itself.
     #[inline(always)]
     fn take_own(&mut self, finished: Finished) -> Result<(u16, u32), HearFault>
-        ensures { (tt : Timetable) → IsPartOf tt self.old.part → TakesTelling T.state tt self.old self.new (record { plan = finished.plan; message = own_message finished.from finished.done }) result }
+        ensures { (tt : Timetable) → IsPartOf tt self.old.part
+            → TakesTelling T.state tt self.old self.new
+            (record { plan = finished.plan; message = own_message finished.from finished.done })
+            result }
     {
         if finished.plan != self.part.number() {
             return Err(HearFault::WrongPlan);
@@ -264,7 +294,12 @@ impl<'g, T: Tape> Agent<'g, T> {
         entries: Entries<'_>,
     ) -> Result<(u16, u32), HearFault>
         requires { AreRising 0 (entries_of entries) }
-        ensures { (tt : Timetable) → IsPartOf tt self.old.part → TakesTelling T.state tt self.old self.new (record { plan = plan; message = record { sender = from; entries = entries_of entries.entry } }) result }
+        ensures { (tt : Timetable) → IsPartOf tt self.old.part
+            → TakesTelling T.state tt self.old self.new
+            (record {
+              plan = plan;
+              message = record { sender = from; entries = entries_of entries.entry };
+            }) result }
     {
         if plan != self.part.number() {
             return Err(HearFault::WrongPlan);
@@ -278,7 +313,8 @@ impl<'g, T: Tape> Agent<'g, T> {
 
     /// How many moves of an agent are known to be finished; `None` where there is no such agent.
     pub fn known(&self, agent: u16) -> Option<u32>
-        ensures known { (tt : Timetable) → IsPartOf tt self.now.part → result ≡ option_map (λ _. known_in self.now.heard agent) (track_of tt agent) }
+        ensures known { (tt : Timetable) → IsPartOf tt self.now.part
+            → result ≡ option_map (λ _. known_in self.now.heard agent) (track_of tt agent) }
         ensures within { IsOfGraph self.now.part }
     {
         if u32::from(agent) < self.part.agents() {
@@ -290,7 +326,8 @@ impl<'g, T: Tape> Agent<'g, T> {
 
     /// The cells that the agent holds, by its whole records.
     pub fn held(&self) -> Held
-        ensures holds { (tt : Timetable) → IsPartOf tt self.now.part → IsHolding T.state tt self.now result }
+        ensures holds { (tt : Timetable) → IsPartOf tt self.now.part
+            → IsHolding T.state tt self.now result }
         ensures within { IsOfGraph self.now.part }
     {
         let records = self.records();
@@ -317,10 +354,13 @@ impl<'g, T: Tape> Agent<'g, T> {
         self.records() % 2 == 1
     }
 
-    /// How many of the moves behind those that it has begun, so many at the most, the agent would begin one after the other by what it knows now. Nothing is stored, and what is
-    /// free stays so: a drive may make these moves before they are asked for, as `fleet::laws::ahead_of_tapes` says.
+    /// How many of the moves behind those that it has begun, so many at the most, the agent would
+    /// begin one after the other by what it knows now. Nothing is stored, and what is free stays
+    /// so: a drive may make these moves before they are asked for, as `fleet::laws::ahead_of_tapes`
+    /// says.
     pub fn ahead(&self, most: u32) -> u32
-        ensures looks { (tt : Timetable) → IsPartOf tt self.now.part → LooksAhead T.state tt self.now most result }
+        ensures looks { (tt : Timetable) → IsPartOf tt self.now.part
+            → LooksAhead T.state tt self.now most result }
         ensures within { IsOfGraph self.now.part }
     {
         if self.broken {
@@ -370,9 +410,12 @@ impl<'g, T: Tape> Agent<'g, T> {
     #[inline(always)]
     fn start_refusal(&self) -> Option<Refusal>
         ensures within { IsOwn self.now.part (T.state self.now.tape) }
-        ensures refusal { (tt : Timetable) (is : IsPartOf tt self.now.part) → result ≡ start_refusal tt self.now.part.agent is.track (state_of T.state self.now) }
+        ensures refusal { (tt : Timetable) (is : IsPartOf tt self.now.part)
+            → result ≡ start_refusal tt self.now.part.agent is.track (state_of T.state self.now) }
         ensures of_graph { IsOfGraph self.now.part }
-        ensures room { MatchOption result (whole_records (T.state self.now.tape) < 2 * length self.now.part.needs) (λ _. Unit {0}) }
+        ensures room { MatchOption result
+            (whole_records (T.state self.now.tape) < 2 * length self.now.part.needs)
+            (λ _. Unit {0}) }
     {
         if self.broken {
             return Some(Refusal::Broken);
@@ -391,7 +434,8 @@ impl<'g, T: Tape> Agent<'g, T> {
     #[inline(always)]
     fn waits(&self, number: u32) -> Option<Refusal>
         requires { number < length self.now.part.needs }
-        ensures { (tt : Timetable) (is : IsPartOf tt self.now.part) → result ≡ waits_for self.now.heard (need tt self.now.part.agent is.track number) }
+        ensures { (tt : Timetable) (is : IsPartOf tt self.now.part)
+            → result ≡ waits_for self.now.heard (need tt self.now.part.agent is.track number) }
     {
         match self.part.need(number) {
             Some((agent, count)) if self.counters.known(agent) < count => {
@@ -405,7 +449,8 @@ impl<'g, T: Tape> Agent<'g, T> {
     #[inline(always)]
     fn store(&mut self) -> Result<Cell, Refusal>
         requires { whole_records (T.state self.old.tape) < 2 * length self.old.part.needs }
-        ensures { (tt : Timetable) (is : IsPartOf tt self.old.part) → Moves T.state T.may_write tt is.track None self.old self.new result }
+        ensures { (tt : Timetable) (is : IsPartOf tt self.old.part)
+            → Moves T.state T.may_write tt is.track None self.old self.new result }
     {
         let number = self.records();
         let cell = self.path_cell(number / 2 + 1);
@@ -434,7 +479,8 @@ impl<'g, T: Tape> Agent<'g, T> {
     /// A cell of the path.
     fn path_cell(&self, index: u32) -> Cell
         requires { index ≤ length self.now.part.needs }
-        ensures cell { (tt : Timetable) (is : IsPartOf tt self.now.part) → result ≡ path_cell is.track index }
+        ensures cell { (tt : Timetable) (is : IsPartOf tt self.now.part)
+            → result ≡ path_cell is.track index }
         ensures within { IsOfGraph self.now.part }
     {
         self.part.cell(index).unwrap()
@@ -468,12 +514,17 @@ impl<'g> Agent<'g, CountedTape> {
         self.tape.arm(Some(stored));
     }
 
-    /// Opens the agent's own tape again, as `restart` does, without a read: its records are those that are due. Nothing is armed then.
+    /// Opens the agent's own tape again, as `restart` does, without a read: its records are those
+    /// that are due. Nothing is armed then.
     pub fn reopen(&mut self)
         ensures armed { counted_armed self.new.tape ≡ None }
         ensures state { counted_state self.new.tape ≡ counted_state self.old.tape }
         ensures whose { CountsFor self.old.tape.plan self.old.tape.agent self.new.tape }
-        ensures opened { self.new ≡ record self.old { tape = self.new.tape; heard = []; broken = false } }
+        ensures opened { self.new ≡ record self.old {
+          tape = self.new.tape;
+          heard = [];
+          broken = false;
+        } }
     {
         self.forget();
         self.tape.arm(None);

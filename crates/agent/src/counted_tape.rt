@@ -1,5 +1,6 @@
 //! The tape of an agent in a run that is played.
-ghost use Rattle.std.specs.Prelude.{◌≡◌, ◌≤◌, ◌<◌, ◌+◌, ◌*◌, ◌/◌, ◌↔◌, [], ◌++◌, None, Some, length, take, slice_index, IsTrue, IfSome};
+ghost use Rattle.std.specs.Prelude.{◌≡◌, ◌≤◌, ◌<◌, ◌+◌, ◌*◌, ◌/◌, ◌↔◌, []};
+ghost use Rattle.std.specs.Prelude.{◌++◌, None, Some, length, take, slice_index, IsTrue, IfSome};
 ghost use Rattle.std.specs.Option.{ForSome};
 ghost use Rattle.model.specs.History.{record_length};
 ghost use Rattle.agent.specs.Records.{due_record};
@@ -10,8 +11,9 @@ use crate::tape::{RECORD_LENGTH, RECORD_SIZE, Tape, TapeError};
 
 /// A tape that counts the records of one agent, of which the next write fails where it was armed.
 ///
-/// Each record is determined by its number, so none is kept, and the tape takes no memory. It is for one who plays the whole run, as a
-/// runner does: any other bytes than those of the record that is due are not stored, and their write fails.
+/// Each record is determined by its number, so none is kept, and the tape takes no memory. It is
+/// for one who plays the whole run, as a runner does: any other bytes than those of the record that
+/// is due are not stored, and their write fails.
 #[derive(Debug, Drop)]
 pub struct CountedTape {
     /// The plan and the agent whose records are counted.
@@ -30,12 +32,14 @@ pub struct CountedTape {
 }
 
 impl CountedTape {
-    ghost use Rattle.agent.specs.CountedTape.{counted_state, counted_armed, CountsFor, IsCountedWrite};
+    ghost use Rattle.agent.specs.CountedTape.{counted_state, counted_armed};
+    ghost use Rattle.agent.specs.CountedTape.{CountsFor, IsCountedWrite};
 
     /// An empty tape with room for two records for each of so many moves, and nothing armed.
     pub fn new(plan: u32, agent: u16, moves: u32) -> CountedTape
         requires { moves ≤ 65535 }
-        ensures state { counted_state result ≡ record { contents = []; room = 2 * record_length * moves; failures = 0 } }
+        ensures state { counted_state result
+            ≡ record { contents = []; room = 2 * record_length * moves; failures = 0 } }
         ensures armed { counted_armed result ≡ None }
         ensures whose { CountsFor plan agent result }
     {
@@ -79,7 +83,9 @@ impl CountedTape {
     #[inline(always)]
     fn is_due(&self, at: u32, bytes: &[u8; RECORD_SIZE]) -> bool
         requires { at + 10 ≤ self.now.room }
-        ensures { IsTrue result ↔ ((at ≡ 10 * self.now.records) × (bytes.now ≡ due_record self.now.plan self.now.agent self.now.records)) }
+        ensures { IsTrue result
+            ↔ ((at ≡ 10 * self.now.records)
+            × (bytes.now ≡ due_record self.now.plan self.now.agent self.now.records)) }
     {
         at == RECORD_LENGTH * self.records && is_due(bytes, self.plan, self.agent, self.records)
     }
@@ -88,9 +94,11 @@ impl CountedTape {
     #[inline(never)]
     fn refuse(&mut self, at: u32)
         requires { MayWrite (counted_state self.old) at }
-        ensures contents { (counted_state self.new).contents ≡ take at (counted_state self.old).contents }
+        ensures contents { (counted_state self.new).contents
+            ≡ take at (counted_state self.old).contents }
         ensures room { (counted_state self.new).room ≡ (counted_state self.old).room }
-        ensures failed { HasFailed (counted_state self.old).failures (counted_state self.new).failures }
+        ensures failed { HasFailed (counted_state self.old).failures
+            (counted_state self.new).failures }
         ensures whose { CountsFor self.old.plan self.old.agent self.new }
     {
         self.failures = self.failures.saturating_add(1);
@@ -103,10 +111,13 @@ impl CountedTape {
     fn tear(&mut self, stored: u8)
         requires most { stored ≤ 10 }
         requires room { 10 * self.old.records + 10 ≤ self.old.room }
-        ensures contents { (counted_state self.new).contents ≡ take (10 * self.old.records) (counted_state self.old).contents ++ take stored (due_record self.old.plan self.old.agent self.old.records) }
+        ensures contents { (counted_state self.new).contents ≡ take (10 * self.old.records)
+            (counted_state self.old).contents
+            ++ take stored (due_record self.old.plan self.old.agent self.old.records) }
         ensures armed { counted_armed self.new ≡ None }
         ensures room { (counted_state self.new).room ≡ (counted_state self.old).room }
-        ensures failed { HasFailed (counted_state self.old).failures (counted_state self.new).failures }
+        ensures failed { HasFailed (counted_state self.old).failures
+            (counted_state self.new).failures }
         ensures whose { CountsFor self.old.plan self.old.agent self.new }
     {
         self.torn = stored % RECORD_LENGTH as u8;
@@ -117,7 +128,8 @@ impl CountedTape {
 }
 
 impl Tape for CountedTape {
-    ghost use Rattle.agent.specs.CountedTape.{counted_state, counted_reads, counted_writes, counted_within, counted_is_read, counted_is_write};
+    ghost use Rattle.agent.specs.CountedTape.{counted_state, counted_reads, counted_writes};
+    ghost use Rattle.agent.specs.CountedTape.{counted_within, counted_is_read, counted_is_write};
 
     ghost state = { counted_state };
 

@@ -1,8 +1,10 @@
 //! What an agent has heard of others.
-ghost use Rattle.std.specs.Prelude.{◌≡◌, ◌+◌, ◌≤◌, ◌^◌, false, [], length, max, nat_lt, IfOk, IfErr, OnOk, OnErr};
+ghost use Rattle.std.specs.Prelude.{◌≡◌, ◌+◌, ◌≤◌, ◌^◌, false, [], length};
+ghost use Rattle.std.specs.Prelude.{max, nat_lt, IfOk, IfErr, OnOk, OnErr};
 ghost use Rattle.std.specs.List.{prefix_len};
 ghost use Rattle.model.specs.Messages.{AreRising};
-ghost use Rattle.agent.specs.Counters.{known_in, is_heard_of, SetsOnly, Raises, TellsOfNew, IsRising};
+ghost use Rattle.agent.specs.Counters.{known_in, is_heard_of, SetsOnly};
+ghost use Rattle.agent.specs.Counters.{Raises, TellsOfNew, IsRising};
 ghost use Rattle.agent.specs.Code.Listing.{entries_of};
 ghost use Rattle.agent.specs.Code.Merging.{merged, AreParted};
 ghost use Rattle.agent.specs.Code.Places.{IsCounterAt, IsGapFor, AreAround};
@@ -70,11 +72,12 @@ impl Counters {
         }
     }
 
-    /// Keeps the greater of the old and the new number of an agent, and answers it. It takes memory only for an agent that was not
-    /// heard of before.
+    /// Keeps the greater of the old and the new number of an agent, and answers it. It takes memory
+    /// only for an agent that was not heard of before.
     pub fn raise(&mut self, agent: u16, done: u32) -> Result<u32, AllocError>
         ensures kept { IfOk result (λ n. n ≡ max (known_in self.old agent) done) }
-        ensures raised { OnOk result (SetsOnly self.old self.new agent (max (known_in self.old agent) done)) }
+        ensures raised { OnOk result
+            (SetsOnly self.old self.new agent (max (known_in self.old agent) done)) }
         ensures err { OnErr result (self.new ≡ self.old) }
         ensures known_succeeds { OnErr result (is_heard_of self.old agent ≡ false) }
     {
@@ -94,8 +97,8 @@ impl Counters {
         }
     }
 
-    /// Raises the counter of each entry's agent. It takes memory only where some entry is of an agent that was not heard of before,
-    /// and then in one growth, before anything is changed.
+    /// Raises the counter of each entry's agent. It takes memory only where some entry is of an
+    /// agent that was not heard of before, and then in one growth, before anything is changed.
     pub(crate) fn raise_all(&mut self, entries: Entries<'_>) -> Result<(), AllocError>
         requires { AreRising 0 (entries_of entries) }
         ensures raised { OnOk result (Raises self.old self.new (entries_of entries.entry)) }
@@ -135,7 +138,8 @@ impl Counters {
 /// How many entries are of agents without a counter.
 fn count_new(counters: &[Counter], entries: Entries<'_>) -> usize
     requires { AreRising 0 (entries_of entries) }
-    ensures count { length (merged (entries_of entries.entry) counters.now) ≡ length counters.now + result }
+    ensures count { length (merged (entries_of entries.entry) counters.now)
+        ≡ length counters.now + result }
     ensures few { result ≤ 2 ^ 16 }
 {
     let mut rest = counters;
@@ -195,7 +199,8 @@ fn merge(
     Ok(all)
 }
 
-/// The first counters as far as they are of agents below one, the number of its own counter if that comes next, and the other counters.
+/// The first counters as far as they are of agents below one, the number of its own counter if that
+/// comes next, and the other counters.
 fn part(counters: &[Counter], agent: u16) -> (&[Counter], Option<u32>, &[Counter])
     ensures { AreParted agent counters.now result.0.now result.1 result.2.now }
 {

@@ -5,7 +5,8 @@ ghost use Rattle.agent.specs.Decoding.{message_fault};
 
 use model::MsgFault;
 
-/// What a message tells: its sender, the number of the plan, and how many moves the sender has finished.
+/// What a message tells: its sender, the number of the plan, and how many moves the sender has
+/// finished.
 #[derive(Clone, Copy, Debug, PartialEq, Eq, Hash)]
 pub struct Finished {
     pub from: u16,
@@ -29,8 +30,10 @@ pub fn encode(finished: Finished) -> [u8; 12]
 
 /// What the bytes of a message tell.
 pub fn decode(bytes: &[u8]) -> Result<Finished, MsgFault>
-    ensures answer { MatchResult result (λ f. IsMessage f.plan f.from f.done bytes.now) (λ fault. message_fault bytes.now ≡ Some fault) }
-    ensures each { (plan from done : ℕ) → plan < 2 ^ 32 → from < 2 ^ 16 → done < 2 ^ 32 → IsMessage plan from done bytes.now
+    ensures answer { MatchResult result (λ f. IsMessage f.plan f.from f.done bytes.now)
+        (λ fault. message_fault bytes.now ≡ Some fault) }
+    ensures each { (plan from done : ℕ) → plan < 2 ^ 32 → from < 2 ^ 16 → done < 2 ^ 32
+        → IsMessage plan from done bytes.now
         → result ≡ Ok (record { from = from; plan = plan; done = done }) }
 {
     if bytes.len() < 2 {

@@ -11,7 +11,9 @@ use depgraph::Part;
 
 /// Why a message of the plan is not heard, by its sender and its entries.
 pub(crate) fn refusal_of(part: &Part<'_>, from: u16, entries: Entries<'_>) -> Option<HearFault>
-    ensures { (tt : Timetable) → IsPartOf tt part.now → result ≡ message_refusal tt (record { sender = from; entries = entries_of entries.entry }) }
+    ensures { (tt : Timetable) → IsPartOf tt part.now
+        → result ≡ message_refusal tt
+        (record { sender = from; entries = entries_of entries.entry }) }
 {
     if u32::from(from) >= part.agents() {
         return Some(HearFault::NoSuchAgent);

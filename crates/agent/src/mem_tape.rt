@@ -1,5 +1,6 @@
 //! A tape in memory.
-ghost use Rattle.std.specs.Prelude.{◌≡◌, ◌<◌, ◌≤◌, ◌^◌, ◌+◌, ◌++◌, ◌↔◌, [], length, take, IfOk, IsErrOf, Some};
+ghost use Rattle.std.specs.Prelude.{◌≡◌, ◌<◌, ◌≤◌, ◌^◌, ◌+◌, ◌++◌, ◌↔◌};
+ghost use Rattle.std.specs.Prelude.{[], length, take, IfOk, IsErrOf, Some};
 ghost use Rattle.agent.specs.declared.mem_tape.TapeMakeFault.TheVariants.{OutOfMemory as out_of_memory};
 ghost use Rattle.text_io.specs.FaultWords.{words_of, words_text};
 ghost use Rattle.agent.specs.FaultWords.{tape_make_fault_words};
@@ -60,7 +61,8 @@ impl MemTape {
 
     /// An empty tape with room for so many bytes.
     pub fn new(alloc: Global, room: u32) -> Result<MemTape, OutOfMemory>
-        ensures { IfOk result (λ t. mem_state t ≡ record { contents = []; room = room; failures = 0 }) }
+        ensures { IfOk result
+            (λ t. mem_state t ≡ record { contents = []; room = room; failures = 0 }) }
     {
         Ok(MemTape {
             bytes: vec![in alloc; 0u8; room as usize]?,
@@ -70,7 +72,8 @@ impl MemTape {
 
     /// A tape with these bytes, and room for so many.
     pub fn from_bytes(alloc: Global, bytes: &[u8], room: u32) -> Result<MemTape, TapeMakeFault>
-        ensures ok { IfOk result (λ t. mem_state t ≡ record { contents = bytes.now; room = room; failures = 0 }) }
+        ensures ok { IfOk result
+            (λ t. mem_state t ≡ record { contents = bytes.now; room = room; failures = 0 }) }
         ensures too_long { IsErrOf result TapeMakeFault.TooLong ↔ (room < length bytes.now) }
     {
         if bytes.len() > room as usize {
@@ -84,7 +87,8 @@ impl MemTape {
 
     /// Keeps the first bytes alone.
     pub fn truncate(&mut self, len: u32)
-        ensures { mem_state self.new ≡ record (mem_state self.old) { contents = take len (mem_state self.old).contents } }
+        ensures { mem_state self.new ≡ record (mem_state self.old)
+            { contents = take len (mem_state self.old).contents } }
     {
         self.len = self.len.min(len as usize);
     }
@@ -119,7 +123,8 @@ fn put_record(all: &mut [u8], at: usize, record: &[u8; RECORD_SIZE])
 }
 
 impl Tape for MemTape {
-    ghost use Rattle.agent.specs.MemTape.{mem_state, mem_reads, mem_writes, mem_within, mem_is_read, mem_is_write};
+    ghost use Rattle.agent.specs.MemTape.{mem_state, mem_reads, mem_writes};
+    ghost use Rattle.agent.specs.MemTape.{mem_within, mem_is_read, mem_is_write};
 
     ghost state = { mem_state };
 

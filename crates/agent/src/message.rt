@@ -38,9 +38,13 @@ impl<'a> Model for Told<'a> {
 
     ghost Value = { Telling };
 
-    ghost view = { λ t. record { plan = t.plan; message = record { sender = t.from; entries = entries_in t.bytes.now } } };
+    ghost view = { λ t. record {
+      plan = t.plan;
+      message = record { sender = t.from; entries = entries_in t.bytes.now };
+    } };
 
-    ghost invariant = { λ t. IsWhole (record { plan = t.plan; message = record { sender = t.from; entries = entries_in t.bytes.now } }) };
+    ghost invariant = { λ t. IsWhole (record
+        { plan = t.plan; message = record { sender = t.from; entries = entries_in t.bytes.now } }) };
 }
 
 impl<'a> Told<'a> {
@@ -69,9 +73,11 @@ impl<'a> Told<'a> {
         self.entries().count() as u16
     }
 
-    /// The agent of an entry, and how many moves it has finished; `None` where there are no more entries.
+    /// The agent of an entry, and how many moves it has finished; `None` where there are no more
+    /// entries.
     pub fn entry(&self, at: u32) -> Option<(u16, u32)>
-        ensures { result ≡ option_map (λ entry. (entry.agent, entry.done)) (slice_get self.now.message.entries at) }
+        ensures { result ≡ option_map (λ entry. (entry.agent, entry.done))
+            (slice_get self.now.message.entries at) }
     {
         let entries = self.entries();
         if at as usize >= entries.count() {
@@ -91,11 +97,14 @@ impl<'a> Told<'a> {
 
 /// What bytes tell, at the version that they say. Nothing is read past their end.
 pub fn read_message(bytes: &[u8]) -> Result<Message<'_>, MsgFault>
-    ensures reads { MatchResult result (λ m. IsReadAs m bytes.now) (λ fault. any_fault bytes.now ≡ Some fault) }
+    ensures reads { MatchResult result (λ m. IsReadAs m bytes.now)
+        (λ fault. any_fault bytes.now ≡ Some fault) }
     ensures in_range { IfOk result (λ m. IsInRange (telling_of m)) }
-    ensures each_one { (plan from done : ℕ) → plan < 2 ^ 32 → from < 2 ^ 16 → done < 2 ^ 32 → IsMessage plan from done bytes.now
+    ensures each_one { (plan from done : ℕ) → plan < 2 ^ 32 → from < 2 ^ 16 → done < 2 ^ 32
+        → IsMessage plan from done bytes.now
         → result ≡ Ok (message.One (record { from = from; plan = plan; done = done })) }
-    ensures each_two { (t : Telling) → IsInRange t → IsTold t.plan t.message bytes.now → result ≡ Ok (message.Two t) }
+    ensures each_two { (t : Telling) → IsInRange t → IsTold t.plan t.message bytes.now
+        → result ≡ Ok (message.Two t) }
 {
     if bytes.len() >= 2 && bytes[0] == MAGIC && bytes[1] == VERSION_TWO {
         match read_told(bytes) {
@@ -113,7 +122,8 @@ pub fn read_message(bytes: &[u8]) -> Result<Message<'_>, MsgFault>
 fn read_told(bytes: &[u8]) -> Result<Told<'_>, MsgFault>
     requires magic { get_or bytes.now 0 0 ≡ 0x46 }
     requires version { get_or bytes.now 1 0 ≡ 2 }
-    ensures reads { MatchResult result (λ t. IsTold t.plan t.message bytes.now) (λ fault. told_fault bytes.now ≡ Some fault) }
+    ensures reads { MatchResult result (λ t. IsTold t.plan t.message bytes.now)
+        (λ fault. told_fault bytes.now ≡ Some fault) }
     ensures in_range { IfOk result IsInRange }
 {
     if bytes.len() < HEAD_LENGTH {

@@ -21,7 +21,8 @@ pub(crate) fn read_records<T: Tape>(
     requires limit { records ≤ 2 * 65535 }
     ensures due { OnOk result (AreDue plan agent (T.state tape.old).contents records) }
     ensures reads { OnOk result (HasRead T.may_read tape.old records tape.new) }
-    ensures stops { IfErr result (StopsAtRecord T.state T.may_read plan agent records tape.old tape.new) }
+    ensures stops { IfErr result
+        (StopsAtRecord T.state T.may_read plan agent records tape.old tape.new) }
     ensures kept { IsKept (T.state tape.old) (T.state tape.new) }
 {
     for number in 0..records {
@@ -34,9 +35,12 @@ pub(crate) fn read_records<T: Tape>(
 fn check_record<T: Tape>(tape: &mut T, plan: u32, agent: u16, number: u32) -> Result<(), OpenFault>
     requires within { MayRead (T.state tape.old) (record_length * number) }
     requires limit { number < 2 * 65535 }
-    ensures due { OnOk result (record_at (T.state tape.old).contents number ≡ due_record plan agent number) }
+    ensures due { OnOk result (record_at (T.state tape.old).contents number
+        ≡ due_record plan agent number) }
     ensures gives { OnOk result (Gives T.may_read number tape.old tape.new) }
-    ensures fault { IfErr result (IsRecordFault T.may_read (due_record plan agent number) (record_at (T.state tape.old).contents number) number tape.old tape.new) }
+    ensures fault { IfErr result
+        (IsRecordFault T.may_read (due_record plan agent number)
+        (record_at (T.state tape.old).contents number) number tape.old tape.new) }
     ensures kept { IsKept (T.state tape.old) (T.state tape.new) }
 {
     let mut bytes = [0u8; RECORD_SIZE];

@@ -24,8 +24,8 @@ pub(crate) fn due_record(plan: u32, agent: u16, number: u32) -> [u8; RECORD_SIZE
     [0x50, (number % 2 + 1) as u8, p0, p1, p2, p3, a0, a1, d0, d1]
 }
 
-/// Whether bytes are the record with a number. Its parts are compared as numbers: where an agent has only just spelled them, they are not
-/// put into memory.
+/// Whether bytes are the record with a number. Its parts are compared as numbers: where an agent
+/// has only just spelled them, they are not put into memory.
 #[inline(always)]
 pub(crate) fn is_due(bytes: &[u8; RECORD_SIZE], plan: u32, agent: u16, number: u32) -> bool
     requires { number < 2 * 65535 }
@@ -42,7 +42,8 @@ pub(crate) fn is_due(bytes: &[u8; RECORD_SIZE], plan: u32, agent: u16, number: u
 
 /// How a record differs from the one that is due.
 pub(crate) fn compare(bytes: &[u8; RECORD_SIZE], due: &[u8; RECORD_SIZE]) -> Option<Difference>
-    ensures { MatchOption result (bytes.now ≡ due.now) (λ found. IsDifference due.now bytes.now found) }
+    ensures { MatchOption result (bytes.now ≡ due.now)
+        (λ found. IsDifference due.now bytes.now found) }
 {
     if !says_due(bytes, due) {
         Some(Difference::Damaged)

@@ -1,8 +1,10 @@
 //! Why an agent refuses.
 ghost use Rattle.std.specs.Prelude.{◌≡◌, Some};
 ghost use Rattle.text_io.specs.FaultWords.{words_of, words_text};
-ghost use Rattle.agent.specs.FaultWords.{open_fault_words, refusal_words, hear_fault_words, tell_fault_words};
-ghost use Rattle.agent.specs.declared.refusal.HearFault.TheVariants.{Message as message, OutOfMemory as out_of_memory};
+ghost use Rattle.agent.specs.FaultWords.{open_fault_words, refusal_words};
+ghost use Rattle.agent.specs.FaultWords.{hear_fault_words, tell_fault_words};
+ghost use Rattle.agent.specs.declared.refusal.HearFault.TheVariants.{Message as message};
+ghost use Rattle.agent.specs.declared.refusal.HearFault.TheVariants.{OutOfMemory as out_of_memory};
 ghost use Rattle.agent.specs.declared.refusal.TellFault.TheVariants.{OutOfMemory as no_memory};
 
 use model::MsgFault;
@@ -15,7 +17,8 @@ use thiserror::Error;
 #[derive(Clone, Copy, Debug, PartialEq, Eq, Error)]
 pub enum OpenFault {
     NoSuchAgent,
-    /// The record says another kind or another number of moves than is due, or begins with another byte.
+    /// The record says another kind or another number of moves than is due, or begins with another
+    /// byte.
     Damaged(u32),
     WrongPlan(u32),
     /// There are more records than two a move.

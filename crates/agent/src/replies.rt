@@ -31,7 +31,8 @@ pub fn reply_to_finish(answer: Result<Cell, Refusal>) -> Reply
 
 /// The reply to a delivery, unless memory was refused.
 pub fn reply_to_delivery(answer: Result<(u16, u32), HearFault>) -> Result<Reply, AllocError>
-    ensures { MatchResult result (λ reply. delivered answer ≡ Some (answer_of reply)) (λ _. delivered answer ≡ None) }
+    ensures { MatchResult result (λ reply. delivered answer ≡ Some (answer_of reply))
+        (λ _. delivered answer ≡ None) }
 {
     let why = match answer {
         Ok((sender, known)) => return Ok(Reply::Heard(sender, known)),

@@ -1,5 +1,6 @@
 //! The tape of an agent's progress: a write-ahead log of records of ten bytes.
-ghost use Rattle.std.specs.Prelude.{◌≡◌, ◌≤◌, ℕ, Bool, List, Option, Some, true, is_ok, length, IfSome};
+ghost use Rattle.std.specs.Prelude.{◌≡◌, ◌≤◌, ℕ, Bool, List, Option};
+ghost use Rattle.std.specs.Prelude.{Some, true, is_ok, length, IfSome};
 ghost use Rattle.text_io.specs.FaultWords.{failed, words_of, words_text};
 ghost use Rattle.text_io.specs.declared.failure.Failure.TheVariants as failure;
 ghost use Rattle.model.specs.History.{record_length};
@@ -70,10 +71,12 @@ pub trait Tape {
 
     ghost within: { (t : Self) → length (state t).contents ≤ (state t).room };
 
-    ghost reads: { (t u : Self) (at : ℕ) (succeeds : Bool) (bytes : List ℕ) → MayRead (state t) at → may_read t at succeeds bytes u
+    ghost reads: { (t u : Self) (at : ℕ) (succeeds : Bool) (bytes : List ℕ) → MayRead (state t) at
+        → may_read t at succeeds bytes u
         → IsRead (state t) (state u) at succeeds bytes };
 
-    ghost writes: { (t u : Self) (at : ℕ) (bytes : List ℕ) (succeeds : Bool) → MayWrite (state t) at → length bytes ≡ record_length
+    ghost writes: { (t u : Self) (at : ℕ) (bytes : List ℕ) (succeeds : Bool) → MayWrite (state t) at
+        → length bytes ≡ record_length
         → may_write t at bytes succeeds u → IsWrite (state t) (state u) at bytes succeeds };
 }
 
@@ -81,15 +84,19 @@ pub trait Tape {
 pub trait Scripted: Tape {
     ghost armed: { Self → Option ℕ };
 
-    /// The next write stores so many bytes of its record and fails; or it succeeds. A read succeeds, and leaves what is armed.
+    /// The next write stores so many bytes of its record and fails; or it succeeds. A read
+    /// succeeds, and leaves what is armed.
     fn arm(&mut self, tear: Option<u8>)
         requires { IfSome tear (λ n. n ≤ record_length) }
         ensures armed { armed self.new ≡ tear }
         ensures state { Self.state self.new ≡ Self.state self.old };
 
-    ghost reads_armed: { (t u : Self) (at : ℕ) (succeeds : Bool) (bytes : List ℕ) → MayRead (Self.state t) at → Self.may_read t at succeeds bytes u
+    ghost reads_armed: { (t u : Self) (at : ℕ) (succeeds : Bool) (bytes : List ℕ)
+        → MayRead (Self.state t) at → Self.may_read t at succeeds bytes u
         → (succeeds ≡ true) × (armed u ≡ armed t) };
 
-    ghost writes_armed: { (t u : Self) (at : ℕ) (bytes : List ℕ) (succeeds : Bool) → MayWrite (Self.state t) at → length bytes ≡ record_length
-        → Self.may_write t at bytes succeeds u → IsTorn (armed t) (armed u) (Self.state t) (Self.state u) at bytes succeeds };
+    ghost writes_armed: { (t u : Self) (at : ℕ) (bytes : List ℕ) (succeeds : Bool)
+        → MayWrite (Self.state t) at → length bytes ≡ record_length
+        → Self.may_write t at bytes succeeds u
+        → IsTorn (armed t) (armed u) (Self.state t) (Self.state u) at bytes succeeds };
 }

@@ -1,5 +1,6 @@
 //! The bytes of a message of version 2.
-ghost use Rattle.std.specs.Prelude.{◌≡◌, ◌<◌, ◌≤◌, ◌∷◌, ◌++◌, ℕ, length, take, drop, flat_map, IfOk, OnOk, OnErr};
+ghost use Rattle.std.specs.Prelude.{◌≡◌, ◌<◌, ◌≤◌, ◌∷◌, ◌++◌, ℕ, length};
+ghost use Rattle.std.specs.Prelude.{take, drop, flat_map, IfOk, OnOk, OnErr};
 ghost use Rattle.model.specs.Messages.{big_endian, entry_bytes, whole_message, IsTold};
 ghost use Rattle.agent.specs.Counters.{known_in, AreWithin};
 ghost use Rattle.agent.specs.Code.Told.{told_entries};
@@ -11,7 +12,8 @@ use crate::message::{HEAD_LENGTH, VERSION_TWO};
 use model::Entry;
 use std::alloc::{AllocError, Global};
 
-/// The message of an agent with all that it knows: what it has finished itself, and what it has heard of others. It takes memory once.
+/// The message of an agent with all that it knows: what it has finished itself, and what it has
+/// heard of others. It takes memory once.
 pub(crate) fn tell(
     alloc: Global,
     plan: u32,
@@ -49,14 +51,17 @@ fn put_around(
     own: Counter,
     above: &[Counter],
 ) -> Result<(), AllocError>
-    ensures { OnOk result (bytes.new.items ≡ bytes.old.items ++ flat_map entry_bytes (told_entries (below.now ++ own ∷ above.now))) }
+    ensures { OnOk result
+        (bytes.new.items ≡ bytes.old.items ++ flat_map entry_bytes
+        (told_entries (below.now ++ own ∷ above.now))) }
 {
     put_known(bytes, below)?;
     put_known(bytes, &[own])?;
     put_known(bytes, above)
 }
 
-/// Puts the entries of that message behind a list, which is as it was where memory is refused. It takes memory once.
+/// Puts the entries of that message behind a list, which is as it was where memory is refused. It
+/// takes memory once.
 pub(crate) fn put_told(
     entries: &mut Vec<Entry>,
     from: u16,
@@ -64,7 +69,8 @@ pub(crate) fn put_told(
     counters: &Counters,
 ) -> Result<(), AllocError>
     ensures put { OnOk result ((agents : ℕ) → from < agents → AreWithin agents counters.now
-        → entries.new.items ≡ entries.old.items ++ (whole_message agents from done (known_in counters.now)).entries) }
+        → entries.new.items ≡ entries.old.items
+        ++ (whole_message agents from done (known_in counters.now)).entries) }
     ensures err { OnErr result (entries.new.items ≡ entries.old.items) }
 {
     let (below, above) = counters.around(from);
@@ -83,7 +89,8 @@ fn put_parts(
     own: Counter,
     above: &[Counter],
 ) -> Result<(), AllocError>
-    ensures put { OnOk result (entries.new.items ≡ entries.old.items ++ told_entries (below.now ++ own ∷ above.now)) }
+    ensures put { OnOk result
+        (entries.new.items ≡ entries.old.items ++ told_entries (below.now ++ own ∷ above.now)) }
     ensures begins { take (length entries.old.items) entries.new.items ≡ entries.old.items }
 {
     entries.reserve(below.len() + 1 + above.len())?;
@@ -110,7 +117,8 @@ fn put_counters(entries: &mut Vec<Entry>, counters: &[Counter]) -> Result<(), Al
 
 /// Puts the bytes of the entry of each agent that is known to have finished a move.
 fn put_known(bytes: &mut Vec<u8>, counters: &[Counter]) -> Result<(), AllocError>
-    ensures { OnOk result (bytes.new.items ≡ bytes.old.items ++ flat_map entry_bytes (told_entries counters.now)) }
+    ensures { OnOk result
+        (bytes.new.items ≡ bytes.old.items ++ flat_map entry_bytes (told_entries counters.now)) }
 {
     for counter in counters {
         if counter.done > 0 {
@@ -121,7 +129,9 @@ fn put_known(bytes: &mut Vec<u8>, counters: &[Counter]) -> Result<(), AllocError
 }
 
 fn put_entry(bytes: &mut Vec<u8>, counter: Counter) -> Result<(), AllocError>
-    ensures { OnOk result (bytes.new.items ≡ bytes.old.items ++ entry_bytes (record { agent = counter.agent; done = counter.done })) }
+    ensures { OnOk result
+        (bytes.new.items ≡ bytes.old.items
+        ++ entry_bytes (record { agent = counter.agent; done = counter.done })) }
 {
     let [a0, a1] = counter.agent.to_be_bytes();
     let [d0, d1, d2, d3] = counter.done.to_be_bytes();

@@ -1,5 +1,7 @@
 -- What `mapf agent` does and answers.
-use Rattle.std.specs.Prelude.{◌≡◌, ◌≢◌, ℕ, ◌+◌, ◌*◌, ◌<◌, ◌≤◌, ◌⊎◌, Bool, true, false, List, length, Option, None, Some, IfSome, Result, Ok, Err, MatchResult}
+use Rattle.std.specs.Prelude.{◌≡◌, ◌≢◌, ℕ, ◌+◌, ◌*◌, ◌<◌, ◌≤◌}
+use Rattle.std.specs.Prelude.{◌⊎◌, Bool, true, false, List, length, Option}
+use Rattle.std.specs.Prelude.{None, Some, IfSome, Result, Ok, Err, MatchResult}
 use Rattle.text_io.specs.declared.counted.Counted.{Counted}
 use Rattle.model.specs.History.{record_length}
 use Rattle.model.specs.Plan.{Plan}
@@ -25,20 +27,32 @@ use Rattle.ending.specs.Ending.{End, answered_with, gave_up}
 use Rattle.agent_commands.specs.FaultWords.{agent_fault_words}
 use Rattle.agent_commands.specs.KeptPlan.{HasMark, HasNoPlan, IsAkin, IsKeptIn, IsOtherPlan}
 use Rattle.agent_commands.specs.declared.agent_fault.AgentFault.{AgentFault}
-use Rattle.agent_commands.specs.declared.agent_fault.AgentFault.TheVariants.{Planned, OpenFailed, TapeExists, NoTape, PlanDamaged, TapeEmptied, OtherPlan, File, Tape, Dialogue}
+use Rattle.agent_commands.specs.declared.agent_fault.AgentFault.TheVariants.{Planned}
+use Rattle.agent_commands.specs.declared.agent_fault.AgentFault.TheVariants.{OpenFailed}
+use Rattle.agent_commands.specs.declared.agent_fault.AgentFault.TheVariants.{TapeExists}
+use Rattle.agent_commands.specs.declared.agent_fault.AgentFault.TheVariants.{NoTape}
+use Rattle.agent_commands.specs.declared.agent_fault.AgentFault.TheVariants.{PlanDamaged}
+use Rattle.agent_commands.specs.declared.agent_fault.AgentFault.TheVariants.{TapeEmptied}
+use Rattle.agent_commands.specs.declared.agent_fault.AgentFault.TheVariants.{OtherPlan}
+use Rattle.agent_commands.specs.declared.agent_fault.AgentFault.TheVariants.{File}
+use Rattle.agent_commands.specs.declared.agent_fault.AgentFault.TheVariants.{Tape}
+use Rattle.agent_commands.specs.declared.agent_fault.AgentFault.TheVariants.{Dialogue}
 
 -- how long a tape file of an agent may be: two records a move
 abbrev pub room_of : Track → ℕ
 room_of track = 2 * record_length * moves track
 
--- A tape is the image of some file, as it was opened, with room for two records a move of the agent. Which file was opened no clause can say.
+-- A tape is the image of some file, as it was opened, with room for two records a move of the
+-- agent. Which file was opened no clause can say.
 abbrev pub IsTapeOf : {F : Type 0} → (F → Option (List ℕ)) → Timetable → ℕ → FileTape F → Type 0
 IsTapeOf {F} remaining tt i tape =
-    (track : Track) × (track_of tt i ≡ Some track) × ((file : F) × IsImage remaining file (room_of track) tape)
+    (track : Track) × (track_of tt i ≡ Some track)
+    × ((file : F) × IsImage remaining file (room_of track) tape)
 
--- Beside a tape a file had a plan to which that at hand is akin, and it says that a record was stored only where the tape has one. Which file was opened no clause
--- can say.
-pub record IsBeside {F : Type 0} (remaining : F → Option (List ℕ)) (p : Plan) (tape : FileTape F) : Type 0 where
+-- Beside a tape a file had a plan to which that at hand is akin, and it says that a record was
+-- stored only where the tape has one. Which file was opened no clause can say.
+pub record IsBeside {F : Type 0} (remaining : F → Option (List ℕ)) (p : Plan)
+    (tape : FileTape F) : Type 0 where
   pub file : F
   pub marked : Bool
   pub kept : Plan
@@ -46,18 +60,24 @@ pub record IsBeside {F : Type 0} (remaining : F → Option (List ℕ)) (p : Plan
   pub is_akin : IsAkin kept p
   pub has_record : marked ≡ true → record_length ≤ length (file_state tape).contents
 
--- what is claimed of a tape: a new one has no whole record, and its file is synced; one that was kept belongs to the plan at hand
+-- what is claimed of a tape: a new one has no whole record, and its file is synced; one that was
+-- kept belongs to the plan at hand
 abbrev pub IsClaimed : {F : Type 0} → (F → Option (List ℕ)) → TapeClaim → Plan → FileTape F → Type 0
 IsClaimed remaining Any p tape = Unit {0}
-IsClaimed remaining New p tape = (length (file_state tape).contents < record_length) × (tape.disk.synced ≡ true)
+IsClaimed remaining New p tape =
+    (length (file_state tape).contents < record_length) × (tape.disk.synced ≡ true)
 IsClaimed remaining Kept p tape = IsBeside remaining p tape
 
--- Why the plan beside a tape of which something is claimed doesn't let it be taken: it is none; it says that a record was stored on a tape that has none; or that
--- at hand is another, beside one that was kept.
-abbrev pub IsNotBeside : {F : Type 0} → (F → Option (List ℕ)) → TapeClaim → Plan → FileTape F → AgentFault → Type 0
-IsNotBeside {F} remaining claim p tape PlanDamaged = (claim ≢ Any) × ((file : F) × HasNoPlan remaining file)
+-- Why the plan beside a tape of which something is claimed doesn't let it be taken: it is none; it
+-- says that a record was stored on a tape that has none; or that at hand is another, beside one
+-- that was kept.
+abbrev pub IsNotBeside
+    : {F : Type 0} → (F → Option (List ℕ)) → TapeClaim → Plan → FileTape F → AgentFault → Type 0
+IsNotBeside {F} remaining claim p tape PlanDamaged =
+    (claim ≢ Any) × ((file : F) × HasNoPlan remaining file)
 IsNotBeside {F} remaining claim p tape TapeEmptied =
-    (claim ≢ Any) × (length (file_state tape).contents < record_length) × ((file : F) × HasMark remaining file)
+    (claim ≢ Any) × (length (file_state tape).contents < record_length)
+    × ((file : F) × HasMark remaining file)
 IsNotBeside {F} remaining claim p tape (OtherPlan apart) = (claim ≡ Kept) × IsOtherPlan remaining p
 IsNotBeside {F} remaining claim p tape _ = ⊥
 
@@ -65,40 +85,51 @@ IsNotBeside {F} remaining claim p tape _ = ⊥
 abbrev pub HasAgent : Timetable → ℕ → Type 0
 HasAgent tt i = (track : Track) × (track_of tt i ≡ Some track)
 
--- no file was made for a new tape, since beside it there is no such text, or one that says that a record was stored
+-- no file was made for a new tape, since beside it there is no such text, or one that says that a
+-- record was stored
 abbrev pub IsNotMade : {F : Type 0} → (F → Option (List ℕ)) → TapeClaim → AgentFault → Type 0
 IsNotMade {F} remaining claim PlanDamaged = (claim ≡ New) × ((file : F) × HasNoPlan remaining file)
 IsNotMade {F} remaining claim TapeEmptied = (claim ≡ New) × ((file : F) × HasMark remaining file)
 IsNotMade {F} remaining claim _ = ⊥
 
 -- a tape was opened that the plan beside it doesn't let be taken, or a new one was not made for it
-abbrev pub IsUnfit : {F : Type 0} → (F → Option (List ℕ)) → TapeClaim → Plan → Timetable → ℕ → AgentFault → Type 0
+abbrev pub IsUnfit
+    : {F : Type 0} → (F → Option (List ℕ)) → TapeClaim → Plan → Timetable → ℕ → AgentFault → Type 0
 IsUnfit {F} remaining claim p tt i fault =
-    ((tape : FileTape F) × IsTapeOf remaining tt i tape × IsNotBeside remaining claim p tape fault) ⊎ IsNotMade remaining claim fault
+    ((tape : FileTape F) × IsTapeOf remaining tt i tape × IsNotBeside remaining claim p tape fault)
+    ⊎ IsNotMade remaining claim fault
 
--- Why there is no tape. Only a file with ten bytes or more behind the room is too long; only a new tape must have no whole record, and only one
--- that was kept must be there, with its plan.
-abbrev pub IsNoTape : {F : Type 0} → (F → Option (List ℕ)) → TapeClaim → Plan → Timetable → ℕ → AgentFault → Type 0
+-- Why there is no tape. Only a file with ten bytes or more behind the room is too long; only a new
+-- tape must have no whole record, and only one that was kept must be there, with its plan.
+abbrev pub IsNoTape
+    : {F : Type 0} → (F → Option (List ℕ)) → TapeClaim → Plan → Timetable → ℕ → AgentFault → Type 0
 IsNoTape {F} remaining claim p tt i (Tape NoSuchAgent) = track_of tt i ≡ None
 IsNoTape {F} remaining claim p tt i OpenFailed = HasAgent tt i
 IsNoTape {F} remaining claim p tt i TapeExists =
-    (claim ≡ New) × ((tape : FileTape F) × IsTapeOf remaining tt i tape × (record_length ≤ length (file_state tape).contents))
+    (claim ≡ New) × ((tape : FileTape F) × IsTapeOf remaining tt i tape
+    × (record_length ≤ length (file_state tape).contents))
 IsNoTape {F} remaining claim p tt i NoTape = (claim ≡ Kept) × HasAgent tt i
 IsNoTape {F} remaining claim p tt i PlanDamaged = IsUnfit remaining claim p tt i PlanDamaged
 IsNoTape {F} remaining claim p tt i TapeEmptied = IsUnfit remaining claim p tt i TapeEmptied
-IsNoTape {F} remaining claim p tt i (OtherPlan apart) = IsUnfit remaining claim p tt i (OtherPlan apart)
+IsNoTape {F} remaining claim p tt i (OtherPlan apart) =
+    IsUnfit remaining claim p tt i (OtherPlan apart)
 IsNoTape {F} remaining claim p tt i (File TooLong) =
-    (track : Track) × (track_of tt i ≡ Some track) × ((file : F) × IfSome (remaining file) (λ bytes. room_of track + record_length ≤ length bytes))
+    (track : Track) × (track_of tt i ≡ Some track)
+    × ((file : F) × IfSome (remaining file)
+    (λ bytes. room_of track + record_length ≤ length bytes))
 IsNoTape {F} remaining claim p tt i (File fault) = HasAgent tt i
 IsNoTape {F} remaining claim p tt i _ = ⊥
 
 -- the agent was opened on such a tape, of which the claim holds
-abbrev pub IsOnTape : {F : Type 0} → (F → Option (List ℕ)) → TapeClaim → Plan → Timetable → ℕ → AgentOn (FileTape F) → Type 0
+abbrev pub IsOnTape : {F : Type 0} → (F → Option (List ℕ)) → TapeClaim → Plan → Timetable → ℕ
+    → AgentOn (FileTape F) → Type 0
 IsOnTape {F} remaining claim p tt i agent =
-    (tape : FileTape F) × IsTapeOf remaining tt i tape × IsClaimed remaining claim p tape × IsOpened file_state IsFileRead tt i tape agent
+    (tape : FileTape F) × IsTapeOf remaining tt i tape × IsClaimed remaining claim p tape
+    × IsOpened file_state IsFileRead tt i tape agent
 
 -- A tape was opened of which the claim holds, and was refused for this fault, with what it had.
-pub record IsRefusedTape {F : Type 0} (remaining : F → Option (List ℕ)) (claim : TapeClaim) (p : Plan) (tt : Timetable) (i : ℕ) (fault : OpenFault) : Type 0 where
+pub record IsRefusedTape {F : Type 0} (remaining : F → Option (List ℕ)) (claim : TapeClaim)
+    (p : Plan) (tt : Timetable) (i : ℕ) (fault : OpenFault) : Type 0 where
   pub tape : FileTape F
   pub is_tape : IsTapeOf remaining tt i tape
   pub claimed : IsClaimed remaining claim p tape
@@ -107,11 +138,15 @@ pub record IsRefusedTape {F : Type 0} (remaining : F → Option (List ℕ)) (cla
   pub kept : IsKept (file_state tape) (file_state after)
 
 -- why the agent was not opened: there is no tape, or it was refused
-abbrev pub IsNotOnTape : {F : Type 0} → (F → Option (List ℕ)) → TapeClaim → Plan → Timetable → ℕ → AgentFault → Type 0
+abbrev pub IsNotOnTape
+    : {F : Type 0} → (F → Option (List ℕ)) → TapeClaim → Plan → Timetable → ℕ → AgentFault → Type 0
 IsNotOnTape remaining claim p tt i fault =
-    IsNoTape remaining claim p tt i fault ⊎ ((refusal : OpenFault) × (fault ≡ Tape refusal) × IsRefusedTape remaining claim p tt i refusal)
+    IsNoTape remaining claim p tt i fault
+    ⊎ ((refusal : OpenFault) × (fault ≡ Tape refusal)
+    × IsRefusedTape remaining claim p tt i refusal)
 
--- what others say of a tape is heeded where it was kept: a new one has nothing that anybody could have heard
+-- what others say of a tape is heeded where it was kept: a new one has nothing that anybody could
+-- have heard
 abbrev pub heeds : TapeClaim → Bool
 heeds Kept = true
 heeds _ = false
@@ -121,30 +156,40 @@ abbrev pub told_of_dialogue : Result Unit TalkFault → Result Unit AgentFault
 told_of_dialogue (Ok done) = Ok done
 told_of_dialogue (Err fault) = Err (Dialogue fault)
 
--- The agent was opened on its tape and then led a dialogue, or it was not opened, and then neither input nor output were touched.
+-- The agent was opened on its tape and then led a dialogue, or it was not opened, and then neither
+-- input nor output were touched.
 pub record Converses
-    {F I W : Type 0} (remaining : F → Option (List ℕ)) (input_left : I → Option (List ℕ)) (contents : W → Option (List ℕ))
-    (claim : TapeClaim) (p : Plan) (tt : Timetable) (i : ℕ) (old_in new_in : Counted I) (old_out new_out : Counted W) (result : Result Unit AgentFault) : Type 0 where
+    {F I W : Type 0} (remaining : F → Option (List ℕ)) (input_left : I → Option (List ℕ))
+    (contents : W → Option (List ℕ))
+    (claim : TapeClaim) (p : Plan) (tt : Timetable) (i : ℕ) (old_in new_in : Counted I)
+    (old_out new_out : Counted W) (result : Result Unit AgentFault) : Type 0 where
   pub opened : Result (AgentOn (FileTape F)) AgentFault
-  pub opens : MatchResult opened (IsOnTape remaining claim p tt i) (IsNotOnTape remaining claim p tt i)
+  pub opens : MatchResult opened (IsOnTape remaining claim p tt i)
+      (IsNotOnTape remaining claim p tt i)
   pub ends : MatchResult opened
       (λ agent. (answer : Result Unit TalkFault) × (after : AgentOn (FileTape F))
-      × Talks input_left contents file_state (heeds claim) tt old_in new_in old_out new_out agent after answer × (result ≡ told_of_dialogue answer))
+      × Talks input_left contents file_state (heeds claim) tt old_in new_in old_out new_out agent
+      after answer × (result ≡ told_of_dialogue answer))
       (λ fault. (result ≡ Err fault) × (new_in ≡ old_in) × (new_out ≡ old_out))
 
--- The map and the plan were read and the plan was checked; where it is valid, the agent answered, and else neither input nor output
--- were touched.
+-- The map and the plan were read and the plan was checked; where it is valid, the agent answered,
+-- and else neither input nor output were touched.
 pub record Serves
-    {F M P I W : Type 0} (remaining : F → Option (List ℕ)) (map_left : M → Option (List ℕ)) (plan_left : P → Option (List ℕ))
-    (input_left : I → Option (List ℕ)) (contents : W → Option (List ℕ)) (claim : TapeClaim) (i : ℕ) (old_map new_map : Counted M) (old_plan new_plan : Counted P)
-    (old_in new_in : Counted I) (old_out new_out : Counted W) (result : Result Unit AgentFault) : Type 0 where
+    {F M P I W : Type 0} (remaining : F → Option (List ℕ)) (map_left : M → Option (List ℕ))
+    (plan_left : P → Option (List ℕ))
+    (input_left : I → Option (List ℕ)) (contents : W → Option (List ℕ)) (claim : TapeClaim) (i : ℕ)
+    (old_map new_map : Counted M) (old_plan new_plan : Counted P)
+    (old_in new_in : Counted I) (old_out new_out : Counted W)
+    (result : Result Unit AgentFault) : Type 0 where
   pub read : Result PlanAtHand PlannedFault
   pub reads : ReadsAtHand map_left plan_left old_map new_map old_plan new_plan read
   pub ends : MatchResult read
-      (λ it. Converses remaining input_left contents claim it.plan it.dependencies i old_in new_in old_out new_out result)
+      (λ it. Converses remaining input_left contents claim it.plan it.dependencies i old_in new_in
+      old_out new_out result)
       (λ fault. (result ≡ Err (Planned fault)) × (new_in ≡ old_in) × (new_out ≡ old_out))
 
--- How the command ends by what it came to: where the tape failed or was an older one, the last answer said it.
+-- How the command ends by what it came to: where the tape failed or was an older one, the last
+-- answer said it.
 abbrev pub end_of_agent : Result Unit AgentFault → End
 end_of_agent (Ok done) = answered_with Done
 end_of_agent (Err (Dialogue StoreFailed)) = answered_with Failure
@@ -153,9 +198,12 @@ end_of_agent (Err fault) = gave_up (agent_fault_words fault)
 
 -- The texts were read and the agent answered, and the command ended by what that came to.
 pub record AnswersAgent
-    {F M P I W : Type 0} (remaining : F → Option (List ℕ)) (map_left : M → Option (List ℕ)) (plan_left : P → Option (List ℕ))
+    {F M P I W : Type 0} (remaining : F → Option (List ℕ)) (map_left : M → Option (List ℕ))
+    (plan_left : P → Option (List ℕ))
     (input_left : I → Option (List ℕ)) (contents : W → Option (List ℕ)) (claim : TapeClaim) (i : ℕ)
-    (old_map new_map : Counted M) (old_plan new_plan : Counted P) (old_in new_in : Counted I) (old_out new_out : Counted W) (end : End) : Type 0 where
+    (old_map new_map : Counted M) (old_plan new_plan : Counted P) (old_in new_in : Counted I)
+    (old_out new_out : Counted W) (end : End) : Type 0 where
   pub answer : Result Unit AgentFault
-  pub serves : Serves remaining map_left plan_left input_left contents claim i old_map new_map old_plan new_plan old_in new_in old_out new_out answer
+  pub serves : Serves remaining map_left plan_left input_left contents claim i old_map new_map
+      old_plan new_plan old_in new_in old_out new_out answer
   pub ends : end ≡ end_of_agent answer

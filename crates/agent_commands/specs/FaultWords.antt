@@ -6,7 +6,16 @@ use Rattle.agent.specs.FaultWords.{open_fault_words}
 use Rattle.robot.specs.FaultWords.{file_tape_fault_words, talk_fault_words}
 use Rattle.planned.specs.FaultWords.{planned_fault_words}
 use Rattle.agent_commands.specs.declared.agent_fault.AgentFault.{AgentFault}
-use Rattle.agent_commands.specs.declared.agent_fault.AgentFault.TheVariants.{Planned, OpenFailed, TapeExists, NoTape, PlanDamaged, TapeEmptied, OtherPlan, File, Tape, Dialogue}
+use Rattle.agent_commands.specs.declared.agent_fault.AgentFault.TheVariants.{Planned}
+use Rattle.agent_commands.specs.declared.agent_fault.AgentFault.TheVariants.{OpenFailed}
+use Rattle.agent_commands.specs.declared.agent_fault.AgentFault.TheVariants.{TapeExists}
+use Rattle.agent_commands.specs.declared.agent_fault.AgentFault.TheVariants.{NoTape}
+use Rattle.agent_commands.specs.declared.agent_fault.AgentFault.TheVariants.{PlanDamaged}
+use Rattle.agent_commands.specs.declared.agent_fault.AgentFault.TheVariants.{TapeEmptied}
+use Rattle.agent_commands.specs.declared.agent_fault.AgentFault.TheVariants.{OtherPlan}
+use Rattle.agent_commands.specs.declared.agent_fault.AgentFault.TheVariants.{File}
+use Rattle.agent_commands.specs.declared.agent_fault.AgentFault.TheVariants.{Tape}
+use Rattle.agent_commands.specs.declared.agent_fault.AgentFault.TheVariants.{Dialogue}
 
 -- those of the fault of the texts, of the tape or of the dialogue
 abbrev pub agent_fault_words : AgentFault → Words

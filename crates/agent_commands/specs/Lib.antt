@@ -1,5 +1,5 @@
--- What has to be believed, in the order in which to read it: each promise of the crate is made in these words, and in those of the crates
--- below.
+-- What has to be believed, in the order in which to read it: each promise of the crate is made in
+-- these words, and in those of the crates below.
 
 -- the words of why an agent does not answer its input to the end
 pub mod FaultWords

@@ -19,8 +19,8 @@ use std::rt::Files;
 use tape_claim::{LockFile, TapeClaim};
 use text_io::Counted;
 
-/// As `perform` on any tape, with a fault's line on `err`. The answer is the exit status, which stays
-/// where `err` fails.
+/// As `perform` on any tape, with a fault's line on `err`. The answer is the exit status, which
+/// stays where `err` fails.
 pub fn agent_cmd<R: Files + AllocGlobal, M: Read, P: Read, I: Read, W: Write, E: Write>(
     rt: &R,
     map: &mut Counted<M>,
@@ -33,7 +33,9 @@ pub fn agent_cmd<R: Files + AllocGlobal, M: Read, P: Read, I: Read, W: Write, E:
 ) -> u8
 where
     R::File: LockFile,
-    ensures { EndsAndTells (AnswersAgent R.File.remaining M.remaining P.remaining I.remaining W.contents TapeClaim.Any id map.old map.new plan.old plan.new
+    ensures { EndsAndTells
+        (AnswersAgent R.File.remaining M.remaining P.remaining I.remaining W.contents TapeClaim.Any
+        id map.old map.new plan.old plan.new
         input.old input.new out.old out.new) E.contents err.old err.new result }
 {
     let seat = Seat {
@@ -55,10 +57,11 @@ pub struct Seat<'a> {
 /// Reads a map from `map` and a plan from `plan`, checks the plan on the map, and opens the tape
 /// file of the agent. Then it answers the lines of `input` on `out`, each before the next is waited
 /// for. The tape file is not touched before the plan is known to have the agent. It is held until
-/// the end, and no other process may hold it. A new one was made, and synced with its folder, before
-/// the first answer is out; a file that has a whole record is refused. Of one that was kept no file
-/// is made. Beside a new one, and one that was kept, a file has the plan at hand by then; a kept one
-/// is refused where the plan that was kept neither is it, nor goes on from it or before it.
+/// the end, and no other process may hold it. A new one was made, and synced with its folder,
+/// before the first answer is out; a file that has a whole record is refused. Of one that was kept
+/// no file is made. Beside a new one, and one that was kept, a file has the plan at hand by then; a
+/// kept one is refused where the plan that was kept neither is it, nor goes on from it or before
+/// it.
 pub fn perform<R: Files + AllocGlobal, M: Read, P: Read, I: Read, W: Write>(
     rt: &R,
     map: &mut Counted<M>,
@@ -69,7 +72,8 @@ pub fn perform<R: Files + AllocGlobal, M: Read, P: Read, I: Read, W: Write>(
 ) -> Ending
 where
     R::File: LockFile,
-    ensures { AnswersAgent R.File.remaining M.remaining P.remaining I.remaining W.contents seat.entry.claim seat.entry.id map.old map.new
+    ensures { AnswersAgent R.File.remaining M.remaining P.remaining I.remaining W.contents
+        seat.entry.claim seat.entry.id map.old map.new
         plan.old plan.new input.old input.new out.old out.new (end_of result) }
 {
     match serve(rt, map, plan, seat, input, out) {
@@ -93,7 +97,9 @@ fn serve<R: Files + AllocGlobal, M: Read, P: Read, I: Read, W: Write>(
 ) -> Result<(), AgentFault>
 where
     R::File: LockFile,
-    ensures { Serves R.File.remaining M.remaining P.remaining I.remaining W.contents seat.entry.claim seat.entry.id map.old map.new plan.old plan.new input.old input.new out.old out.new
+    ensures { Serves R.File.remaining M.remaining P.remaining I.remaining W.contents
+        seat.entry.claim seat.entry.id map.old map.new plan.old plan.new input.old input.new
+        out.old out.new
         result }
 {
     let Some(found) = read_part_and_terms(rt.alloc(), map, plan, seat.id, seat.claim)? else {
@@ -112,8 +118,10 @@ fn converse<R: Files + AllocGlobal, I: Read, W: Write>(
 ) -> Result<(), AgentFault>
 where
     R::File: LockFile,
-    ensures { (p : Plan) → IsTermsFor (claim_of found.terms) p found.terms → (tt : Timetable) → IsPartOf tt found.own
-        → Converses R.File.remaining I.remaining W.contents (claim_of found.terms) p tt found.own.agent input.old input.new out.old out.new result }
+    ensures { (p : Plan) → IsTermsFor (claim_of found.terms) p found.terms → (tt : Timetable)
+        → IsPartOf tt found.own
+        → Converses R.File.remaining I.remaining W.contents (claim_of found.terms) p tt
+        found.own.agent input.old input.new out.old out.new result }
 {
     let PartAndTerms { own, terms } = found;
     let heeded = heeded_part(&own, terms.claim());

@@ -30,7 +30,8 @@ pub enum AgentFault {
     PlanDamaged,
     /// A record was stored on the tape, and it has none.
     TapeEmptied,
-    /// The tape belongs to another plan, of which none goes on from the other: where that at hand departs from it.
+    /// The tape belongs to another plan, of which none goes on from the other: where that at hand
+    /// departs from it.
     OtherPlan(ContinueFault),
     /// The tape file could not be taken for a tape.
     File(FileTapeFault),

@@ -11,8 +11,8 @@ use std::io::Read;
 use tape_claim::TapeClaim;
 use text_io::{Counted, OutOfMemory};
 
-/// Reads a map and then a plan, checks the plan, and takes what an agent needs of it; `None` where there is no such agent. The map, the plan
-/// and its dependencies, which are large, are gone then.
+/// Reads a map and then a plan, checks the plan, and takes what an agent needs of it; `None` where
+/// there is no such agent. The map, the plan and its dependencies, which are large, are gone then.
 pub(crate) fn read_part<M: Read, P: Read>(
     alloc: Global,
     map: &mut Counted<M>,
@@ -46,7 +46,8 @@ pub(crate) struct PartAndTerms {
     pub(crate) terms: Terms,
 }
 
-/// The same, with what is claimed of the agent's tape, and the plan where one is kept beside it; only then the plan, which is large, is copied.
+/// The same, with what is claimed of the agent's tape, and the plan where one is kept beside it;
+/// only then the plan, which is large, is copied.
 pub(crate) fn read_part_and_terms<M: Read, P: Read>(
     alloc: Global,
     map: &mut Counted<M>,
@@ -54,7 +55,8 @@ pub(crate) fn read_part_and_terms<M: Read, P: Read>(
     id: u16,
     claim: TapeClaim,
 ) -> Result<Option<PartAndTerms>, PlannedFault>
-    ensures { ReadsPartAndTerms M.remaining P.remaining id claim map.old map.new plan.old plan.new result }
+    ensures { ReadsPartAndTerms M.remaining P.remaining id claim map.old map.new plan.old
+        plan.new result }
 {
     if let TapeClaim::Any = claim {
         return Ok(on_terms(read_part(alloc, map, plan, id)?, Terms::Any));

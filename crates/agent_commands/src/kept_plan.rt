@@ -2,7 +2,8 @@
 ghost use Rattle.std.specs.Prelude.{◌≡◌, ◌↔◌, IfErr, IfOk, IsTrue, MatchResult, OnErr};
 ghost use Rattle.agent_commands.specs.KeptPlan.{IsAkin, IsFoundBeside};
 ghost use Rattle.agent_commands.specs.Code.Parts.{IsLost};
-ghost use Rattle.agent_commands.specs.Code.Plans.{IsKeptTask, IsNoTaskFor, IsNotLetBy, IsNotMadeAnew, IsTaskFor, claim_of};
+ghost use Rattle.agent_commands.specs.Code.Plans.{IsKeptTask, IsNoTaskFor, IsNotLetBy};
+ghost use Rattle.agent_commands.specs.Code.Plans.{IsNotMadeAnew, IsTaskFor, claim_of};
 
 use crate::agent_fault::AgentFault;
 use crate::plan_file::{
@@ -30,7 +31,8 @@ pub(crate) enum PlanTask {
     Write,
 }
 
-/// Looks beside a new tape before its file is made, if there is none: a tape that is refused for what is beside it leaves no file.
+/// Looks beside a new tape before its file is made, if there is none: a tape that is refused for
+/// what is beside it leaves no file.
 pub(crate) fn look_before_making<R: Files + AllocGlobal>(
     rt: &R,
     tape: &str,
@@ -45,7 +47,8 @@ pub(crate) fn look_before_making<R: Files + AllocGlobal>(
     }
 }
 
-/// Looks at the file beside a new tape, if there is one: it is written anew unless it says that a record was stored, or is another file.
+/// Looks at the file beside a new tape, if there is one: it is written anew unless it says that a
+/// record was stored, or is another file.
 pub(crate) fn look_beside_new<R: Files + AllocGlobal>(rt: &R, tape: &str) -> Result<(), AgentFault>
     ensures { IfErr result (IsNotMadeAnew R.File.remaining) }
 {
@@ -80,7 +83,8 @@ pub(crate) fn look_beside_kept<R: Files + AllocGlobal>(
     plan: &Plan,
     has_record: bool,
 ) -> Result<PlanTask, AgentFault>
-    ensures { MatchResult result (IsKeptTask R.File.remaining plan.now has_record) (IsNotLetBy R.File.remaining plan.now has_record) }
+    ensures { MatchResult result (IsKeptTask R.File.remaining plan.now has_record)
+        (IsNotLetBy R.File.remaining plan.now has_record) }
 {
     let name = name_beside(rt.alloc(), tape)?;
     let held = open_file(rt, &name, TapeClaim::Kept)?;
@@ -90,7 +94,8 @@ pub(crate) fn look_beside_kept<R: Files + AllocGlobal>(
 
 /// What is to be done to the file that has a kept plan, for the plan at hand.
 fn task_for(kept: &KeptPlan, plan: &Plan, has_record: bool) -> Result<PlanTask, AgentFault>
-    ensures { MatchResult result (IsTaskFor kept.now plan.now has_record) (IsNoTaskFor kept.now plan.now has_record) }
+    ensures { MatchResult result (IsTaskFor kept.now plan.now has_record)
+        (IsNoTaskFor kept.now plan.now has_record) }
 {
     if kept.is_marked && !has_record {
         return Err(AgentFault::TapeEmptied);

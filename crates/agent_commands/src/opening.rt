@@ -4,7 +4,8 @@ ghost use Rattle.model.specs.History.{record_length};
 ghost use Rattle.model.specs.Plan.{Plan};
 ghost use Rattle.model.specs.Timetable.{Timetable};
 ghost use Rattle.depgraph.specs.AgentParts.{IsPartOf};
-ghost use Rattle.agent_commands.specs.AgentCommand.{IsClaimed, IsNoTape, IsNotOnTape, IsOnTape, IsTapeOf};
+ghost use Rattle.agent_commands.specs.AgentCommand.{IsClaimed, IsNoTape, IsNotOnTape};
+ghost use Rattle.agent_commands.specs.AgentCommand.{IsOnTape, IsTapeOf};
 ghost use Rattle.agent_commands.specs.declared.agent_fault.AgentFault.TheVariants.{File};
 ghost use Rattle.robot.specs.declared.file_tape.FileTapeFault.TheVariants.{TapeFailed};
 ghost use Rattle.robot.specs.FileTape.{file_state};
@@ -39,8 +40,10 @@ pub(crate) fn open_agent<'a, 'g, R: Files + AllocGlobal>(
 where
     R::File: LockFile,
     ensures part { IfOk result (λ agent. agent.part ≡ part.entry) }
-    ensures opened { (p : Plan) → IsTermsFor (claim_of terms) p terms → (tt : Timetable) → IsPartOf tt part.entry → MatchResult result
-        (λ agent. IsOnTape R.File.remaining (claim_of terms) p tt part.entry.agent (unguarded agent))
+    ensures opened { (p : Plan) → IsTermsFor (claim_of terms) p terms → (tt : Timetable)
+        → IsPartOf tt part.entry → MatchResult result
+        (λ agent. IsOnTape R.File.remaining (claim_of terms) p tt part.entry.agent
+        (unguarded agent))
         (IsNotOnTape R.File.remaining (claim_of terms) p tt part.entry.agent) }
 {
     let OpenTape { tape, task } = open_tape(rt, &part, path, &terms)?;
@@ -70,8 +73,10 @@ fn open_tape<'a, R: Files + AllocGlobal>(
 ) -> Result<OpenTape<'a, R>, AgentFault>
 where
     R::File: LockFile,
-    ensures { (p : Plan) → IsTermsFor (claim_of terms.now) p terms.now → (tt : Timetable) → IsPartOf tt part.now → MatchResult result
-        (λ it. IsTapeOf R.File.remaining tt part.now.agent it.tape.tape × IsClaimed R.File.remaining (claim_of terms.now) p it.tape.tape)
+    ensures { (p : Plan) → IsTermsFor (claim_of terms.now) p terms.now → (tt : Timetable)
+        → IsPartOf tt part.now → MatchResult result
+        (λ it. IsTapeOf R.File.remaining tt part.now.agent it.tape.tape
+        × IsClaimed R.File.remaining (claim_of terms.now) p it.tape.tape)
         (IsNoTape R.File.remaining (claim_of terms.now) p tt part.now.agent) }
 {
     let moves = part.own_moves();
@@ -122,7 +127,8 @@ fn take_tape<R: Files + AllocGlobal>(
     terms: &Terms,
 ) -> Result<TakenTape<R::File>, AgentFault>
     ensures { (p : Plan) → IsTermsFor (claim_of terms.now) p terms.now → MatchResult result
-        (λ taken. IsTakenTape R.File.remaining (claim_of terms.now) p tape taken.tape) (IsNotTaken R.File.remaining (claim_of terms.now) p tape) }
+        (λ taken. IsTakenTape R.File.remaining (claim_of terms.now) p tape taken.tape)
+        (IsNotTaken R.File.remaining (claim_of terms.now) p tape) }
 {
     match terms {
         Terms::Any => take_any_tape(rt, path, tape),
@@ -153,7 +159,9 @@ fn take_new_tape<R: Files + AllocGlobal>(
     path: &str,
     mut tape: FileTape<R::File>,
 ) -> Result<TakenTape<R::File>, AgentFault>
-    ensures { (p : Plan) → MatchResult result (λ taken. IsTakenTape R.File.remaining TapeClaim.New p tape taken.tape) (IsNotTaken R.File.remaining TapeClaim.New p tape) }
+    ensures { (p : Plan)
+        → MatchResult result (λ taken. IsTakenTape R.File.remaining TapeClaim.New p tape taken.tape)
+        (IsNotTaken R.File.remaining TapeClaim.New p tape) }
 {
     if has_record(&tape) {
         return Err(AgentFault::TapeExists);
@@ -174,14 +182,17 @@ fn take_kept_tape<R: Files + AllocGlobal>(
     tape: FileTape<R::File>,
     plan: &Plan,
 ) -> Result<TakenTape<R::File>, AgentFault>
-    ensures { MatchResult result (λ taken. IsTakenTape R.File.remaining TapeClaim.Kept plan.now tape taken.tape) (IsNotTaken R.File.remaining TapeClaim.Kept plan.now tape) }
+    ensures { MatchResult result
+        (λ taken. IsTakenTape R.File.remaining TapeClaim.Kept plan.now tape taken.tape)
+        (IsNotTaken R.File.remaining TapeClaim.Kept plan.now tape) }
 {
     let task = look_beside_kept(rt, path, plan, has_record(&tape))?;
     keep_made_name(rt, path, &tape)?;
     Ok(TakenTape { tape, task })
 }
 
-/// Syncs the folder of a tape that has no record: the file may just have been made, and a power cut could take away a name that isn't synced.
+/// Syncs the folder of a tape that has no record: the file may just have been made, and a power cut
+/// could take away a name that isn't synced.
 fn keep_made_name<R: Files>(
     rt: &R,
     path: &str,

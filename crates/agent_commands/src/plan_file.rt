@@ -1,4 +1,5 @@
-//! The file beside a tape: which plan the tape belongs to, and whether a record was ever stored on it.
+//! The file beside a tape: which plan the tape belongs to, and whether a record was ever stored on
+//! it.
 ghost use Rattle.std.specs.Prelude.{◌≡◌, IfErr, IfOk, MatchResult};
 ghost use Rattle.text_io.specs.Counted.{counted_inner};
 ghost use Rattle.agent_commands.specs.KeptPlan.{IsKeptIn};
@@ -47,7 +48,9 @@ pub(crate) fn read_kept<F: Read>(
     alloc: Global,
     file: &mut Counted<F>,
 ) -> Result<KeptPlan, AgentFault>
-    ensures { MatchResult result (λ kept. IsKeptIn F.remaining (counted_inner file.old) kept.is_marked kept.plan) (IsNotRead F.remaining (counted_inner file.old)) }
+    ensures { MatchResult result
+        (λ kept. IsKeptIn F.remaining (counted_inner file.old) kept.is_marked kept.plan)
+        (IsNotRead F.remaining (counted_inner file.old)) }
 {
     plan_text::laws::one_reading();
     let Some(is_marked) = read_mark(file)? else {
@@ -78,7 +81,8 @@ fn blame_of(fault: PlanTextFault) -> AgentFault
 
 /// Reads whether the first line is marked; `None` where there is no such line.
 pub(crate) fn read_mark<F: Read>(file: &mut Counted<F>) -> Result<Option<bool>, FileTapeFault>
-    ensures ok { IfOk result (ReadsMark (F.remaining (counted_inner file.old)) (F.remaining (counted_inner file.new))) }
+    ensures ok { IfOk result
+        (ReadsMark (F.remaining (counted_inner file.old)) (F.remaining (counted_inner file.new))) }
     ensures err { IfErr result (λ fault. fault ≡ FileTapeFault.TapeFailed) }
 {
     let mut line = [0; 14];
@@ -95,7 +99,8 @@ pub(crate) fn read_mark<F: Read>(file: &mut Counted<F>) -> Result<Option<bool>, 
     })
 }
 
-/// Writes the file whole under another name, syncs it, and gives it its own. What an earlier program left under the other name is gone then.
+/// Writes the file whole under another name, syncs it, and gives it its own. What an earlier
+/// program left under the other name is gone then.
 pub(crate) fn write_kept<R: Files + AllocGlobal>(
     rt: &R,
     tape: &str,

@@ -1,7 +1,8 @@
 //! `mapf tape`: says what the tape of an agent keeps.
 ghost use Rattle.std.specs.Prelude.{◌≡◌, MatchResult};
 ghost use Rattle.ending.specs.Ending.{EndsAndTells, end_of};
-ghost use Rattle.agent_commands.specs.TapeCommand.{AnswersTape, EndsByTape, EndsWithoutTape, Inspects};
+ghost use Rattle.agent_commands.specs.TapeCommand.{AnswersTape, EndsByTape};
+ghost use Rattle.agent_commands.specs.TapeCommand.{EndsWithoutTape, Inspects};
 ghost use Rattle.agent_commands.specs.Code.Reports.{IsReported, outcome_of};
 
 use crate::agent_fault::AgentFault;
@@ -24,16 +25,18 @@ pub fn tape_cmd<M: Read, P: Read, T: Read, W: Write, E: Write>(
     out: &mut Counted<W>,
     err: &mut Counted<E>,
 ) -> u8
-    ensures { EndsAndTells (AnswersTape M.remaining P.remaining T.remaining W.contents id map.old map.new plan.old plan.new tape.old tape.new out.old out.new)
+    ensures { EndsAndTells
+        (AnswersTape M.remaining P.remaining T.remaining W.contents id map.old map.new plan.old
+        plan.new tape.old tape.new out.old out.new)
         E.contents err.old err.new result }
 {
     conclude(perform(alloc, map, plan, id, tape, out), err)
 }
 
 /// Reads a map from `map` and a plan from `plan`, checks the plan on the map, and then reads the
-/// file of a tape from `tape`. It writes to `out` where the agent with this number is by it, and how
-/// many whole records it has, as `agent_cmd` would find them. Nothing is locked or written, so it
-/// may be asked beside an agent that holds the file.
+/// file of a tape from `tape`. It writes to `out` where the agent with this number is by it, and
+/// how many whole records it has, as `agent_cmd` would find them. Nothing is locked or written, so
+/// it may be asked beside an agent that holds the file.
 pub fn perform<M: Read, P: Read, T: Read, W: Write>(
     alloc: Global,
     map: &mut Counted<M>,
@@ -42,7 +45,8 @@ pub fn perform<M: Read, P: Read, T: Read, W: Write>(
     tape: &mut Counted<T>,
     out: &mut Counted<W>,
 ) -> Ending
-    ensures { AnswersTape M.remaining P.remaining T.remaining W.contents id map.old map.new plan.old plan.new tape.old tape.new out.old out.new (end_of result) }
+    ensures { AnswersTape M.remaining P.remaining T.remaining W.contents id map.old map.new plan.old
+        plan.new tape.old tape.new out.old out.new (end_of result) }
 {
     let answer = inspect(alloc, map, plan, id, tape);
     show(answer, out)
@@ -63,7 +67,8 @@ fn inspect<M: Read, P: Read, T: Read>(
     id: u16,
     tape: &mut Counted<T>,
 ) -> Result<TapeReport, AgentFault>
-    ensures { Inspects M.remaining P.remaining T.remaining id map.old map.new plan.old plan.new tape.old tape.new (outcome_of result) }
+    ensures { Inspects M.remaining P.remaining T.remaining id map.old map.new plan.old plan.new
+        tape.old tape.new (outcome_of result) }
 {
     let Some(own) = read_part(alloc, map, plan, id)? else {
         return Err(AgentFault::Tape(OpenFault::NoSuchAgent));

@@ -83,7 +83,8 @@ fn not_opened(kind: ErrorKind) -> AgentFault
     }
 }
 
-/// Which file it is, if it is one like others. Reading a device or a pipe might wait for ever, and what was written there could not be read back.
+/// Which file it is, if it is one like others. Reading a device or a pipe might wait for ever, and
+/// what was written there could not be read back.
 fn regular_id<F: OpenFile>(file: &F) -> Option<FileId> {
     match file.metadata() {
         Ok(metadata) if metadata.is_file() => Some(FileId::of(&metadata)),

@@ -5,7 +5,8 @@ use robot::Guard;
 use std::fs;
 use std::rt::Files;
 
-/// Holds while a path names a file, also by links, and marks the file of the plan where a first record was stored.
+/// Holds while a path names a file, also by links, and marks the file of the plan where a first
+/// record was stored.
 #[derive(Drop)]
 pub(crate) struct TapeGuard<'a, R> {
     rt: &'a R,

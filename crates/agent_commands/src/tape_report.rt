@@ -1,5 +1,7 @@
 //! What the file of a tape keeps.
-ghost use Rattle.std.specs.Prelude.{◌≡◌, ◌+◌, ◌-◌, ◌*◌, ◌<◌, ◌≤◌, ◌^◌, [], ◌∷◌, ◌++◌, is_ok, length, take, IfOk, IfErr, OnOk, OnErr, MatchResult};
+ghost use Rattle.std.specs.Prelude.{◌≡◌, ◌+◌, ◌-◌, ◌*◌, ◌<◌, ◌≤◌};
+ghost use Rattle.std.specs.Prelude.{◌^◌, [], ◌∷◌, ◌++◌, is_ok, length};
+ghost use Rattle.std.specs.Prelude.{take, IfOk, IfErr, OnOk, OnErr, MatchResult};
 ghost use Rattle.std.specs.Io.KnownBytes.{Consumes, IsAtEnd};
 ghost use Rattle.text_io.specs.Counted.{counted_inner, failures_of, Rises};
 ghost use Rattle.text_io.specs.Sink.{held_back, Puts, Breaks};
@@ -9,7 +11,8 @@ ghost use Rattle.model.specs.Timetable.{Timetable};
 ghost use Rattle.depgraph.specs.AgentParts.{IsPartOf};
 ghost use Rattle.agent.specs.MemTape.{mem_state};
 ghost use Rattle.agent_commands.specs.TapeCommand.{HasRecords, IsNotShown, records_line};
-ghost use Rattle.agent_commands.specs.Code.Reports.{IsReported, IsImageOf, IsNoImage, IsReportOf, standing_of, report_text};
+ghost use Rattle.agent_commands.specs.Code.Reports.{IsReported, IsImageOf, IsNoImage};
+ghost use Rattle.agent_commands.specs.Code.Reports.{IsReportOf, standing_of, report_text};
 
 use crate::agent_fault::AgentFault;
 use agent::replies::reply_to_restart;
@@ -49,7 +52,8 @@ pub(crate) fn read_report<T: Read>(
 ) -> Result<TapeReport, AgentFault>
     ensures within { IfOk result (λ report. report.records ≤ 2 * length part.entry.needs) }
     ensures reports { (tt : Timetable) → IsPartOf tt part.entry
-        → MatchResult result (IsReported T.remaining tt part.entry.agent file.old file.new) (IsNotShown T.remaining tt part.entry.agent file.old file.new) }
+        → MatchResult result (IsReported T.remaining tt part.entry.agent file.old file.new)
+        (IsNotShown T.remaining tt part.entry.agent file.old file.new) }
 {
     let image = read_image(alloc, file, 2 * RECORD_LENGTH * part.own_moves())?;
     let TapeImage { tape, len } = image;
@@ -59,7 +63,8 @@ pub(crate) fn read_report<T: Read>(
     }
 }
 
-/// How many whole records the file of a tape has, on which the agent of a part is opened, or why none is.
+/// How many whole records the file of a tape has, on which the agent of a part is opened, or why
+/// none is.
 pub fn read_records<T: Read>(
     alloc: Global,
     part: Part<'_>,
@@ -67,7 +72,8 @@ pub fn read_records<T: Read>(
 ) -> Result<u32, AgentFault>
     ensures within { IfOk result (λ records. records ≤ 2 * length part.entry.needs) }
     ensures has { (tt : Timetable) → IsPartOf tt part.entry
-        → MatchResult result (HasRecords T.remaining tt part.entry.agent file.old file.new) (IsNotShown T.remaining tt part.entry.agent file.old file.new) }
+        → MatchResult result (HasRecords T.remaining tt part.entry.agent file.old file.new)
+        (IsNotShown T.remaining tt part.entry.agent file.old file.new) }
 {
     Ok(read_report(alloc, part, file)?.records)
 }
@@ -79,7 +85,8 @@ fn read_image<T: Read>(
     room: u32,
 ) -> Result<TapeImage, FileTapeFault>
     requires { room + 10 < 2 ^ 32 }
-    ensures { MatchResult result (IsImageOf T.remaining room file.old file.new) (IsNoImage T.remaining room file.old file.new) }
+    ensures { MatchResult result (IsImageOf T.remaining room file.old file.new)
+        (IsNoImage T.remaining room file.old file.new) }
 {
     let room_len = room as usize;
     let mut bytes = vec![in alloc; 0u8; room_len + TAIL + 1]?;
@@ -100,10 +107,14 @@ pub(crate) fn read_up_to<T: Read>(
     bytes: &mut [u8],
 ) -> Result<usize, FileTapeFault>
     ensures within { IfOk result (λ n. n ≤ length bytes.new) }
-    ensures bytes { IfOk result (λ n. Consumes (T.remaining (counted_inner file.old)) (T.remaining (counted_inner file.new)) (take n bytes.new)) }
-    ensures end { IfOk result (λ n. n < length bytes.new → IsAtEnd (T.remaining (counted_inner file.new))) }
+    ensures bytes { IfOk result
+        (λ n. Consumes (T.remaining (counted_inner file.old)) (T.remaining (counted_inner file.new))
+        (take n bytes.new)) }
+    ensures end { IfOk result (λ n. n < length bytes.new
+        → IsAtEnd (T.remaining (counted_inner file.new))) }
     ensures failures { OnOk result (failures_of file.new ≡ failures_of file.old) }
-    ensures failed { IfErr result (λ fault. (fault ≡ FileTapeFault.TapeFailed) × Rises (failures_of file.old) (failures_of file.new)) }
+    ensures failed { IfErr result (λ fault. (fault ≡ FileTapeFault.TapeFailed)
+        × Rises (failures_of file.old) (failures_of file.new)) }
 {
     let mut len = 0;
     'pieces: while len < bytes.len() {
@@ -119,7 +130,8 @@ pub(crate) fn read_up_to<T: Read>(
 /// Where the agent is, and what its tape's file of so many bytes has.
 fn report_of(agent: &Agent<'_, MemTape>, len: u32) -> TapeReport
     ensures within { result.records ≤ 2 * length agent.now.part.needs }
-    ensures reports { (tt : Timetable) → IsPartOf tt agent.now.part → IsReportOf tt agent.now len result }
+    ensures reports { (tt : Timetable) → IsPartOf tt agent.now.part
+        → IsReportOf tt agent.now len result }
 {
     let records = agent.tape().len() / RECORD_LENGTH;
     TapeReport {
@@ -137,7 +149,9 @@ pub(crate) fn write_report<W: Write>(
     report: TapeReport,
     writer: &mut Counted<W>,
 ) -> Result<(), WriteFault>
-    ensures { WritesText (is_ok result) (W.contents (counted_inner writer.old)) (W.contents (counted_inner writer.new)) (failures_of writer.old) (failures_of writer.new) (report_text report) }
+    ensures { WritesText (is_ok result) (W.contents (counted_inner writer.old))
+        (W.contents (counted_inner writer.new)) (failures_of writer.old) (failures_of writer.new)
+        (report_text report) }
 {
     let mut sink = Sink::new(writer);
     put_report(&mut sink, report)
@@ -156,8 +170,10 @@ fn put_report<W: Write>(sink: &mut Sink<'_, W>, report: TapeReport) -> Result<()
 
 /// Puts how many whole records there are, and how many bytes behind them.
 fn put_records<W: Write>(sink: &mut Sink<'_, W>, records: u32, torn: u32) -> Result<(), WriteFault>
-    ensures ok { OnOk result (Puts W.contents sink.old sink.new (records_line records torn ++ line_feed ∷ [])) }
-    ensures err { OnErr result (Breaks W.contents sink.old sink.new (records_line records torn ++ line_feed ∷ [])) }
+    ensures ok { OnOk result
+        (Puts W.contents sink.old sink.new (records_line records torn ++ line_feed ∷ [])) }
+    ensures err { OnErr result
+        (Breaks W.contents sink.old sink.new (records_line records torn ++ line_feed ∷ [])) }
 {
     put_number(sink, b"records", records as u64)?;
     put_number(sink, b" torn", torn as u64)?;

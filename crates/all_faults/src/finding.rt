@@ -30,7 +30,8 @@ pub struct Faults {
 /// then first and second agent. It takes time by the agents and by what it lists, not by all pairs
 /// of agents, and ends at the time at which it has found one fault more than are wanted.
 pub fn first_faults(alloc: Global, map: &Map, plan: &Plan, most: u32) -> Result<Faults, AllocError>
-    ensures { IfOk result (λ f. AreFirstFaults map.now plan.now most f.listed.items f.more f.agents) }
+    ensures { IfOk result
+        (λ f. AreFirstFaults map.now plan.now most f.listed.items f.more f.agents) }
 {
     let mut listing = Listing::new(alloc, most);
     let finder = Finder { alloc, map, plan };
@@ -59,7 +60,9 @@ impl Finder<'_> {
     fn list_all(&self, listing: &mut Listing) -> Result<(), AllocError>
         requires { IsListedTo self.now.map.now self.now.plan.now (key_with 0 0 0 0) listing.old }
         ensures most { OnOk result (listing.new.most ≡ listing.old.most) }
-        ensures listed { OnOk result (IsListedTo self.now.map.now self.now.plan.now (key_with (longest_of self.now.plan.now.courses + 1) 0 0 0) listing.new) }
+        ensures listed { OnOk result
+            (IsListedTo self.now.map.now self.now.plan.now
+            (key_with (longest_of self.now.plan.now.courses + 1) 0 0 0) listing.new) }
     {
         let courses = self.plan.courses();
         self.list_bad_starts(listing)?;
@@ -84,10 +87,14 @@ impl Finder<'_> {
     ) -> Result<Vec<Step>, AllocError>
         requires within { number < longest_of self.now.plan.now.courses }
         requires standing { AreSteps self.now.plan.now.courses number number standing.now }
-        requires listed { IsListedTo self.now.map.now self.now.plan.now (key_with (number + 1) 0 0 0) listing.old }
-        ensures standing { IfOk result (λ after. AreSteps self.now.plan.now.courses (number + 1) (number + 1) after.items) }
+        requires listed { IsListedTo self.now.map.now self.now.plan.now
+            (key_with (number + 1) 0 0 0) listing.old }
+        ensures standing { IfOk result
+            (λ after. AreSteps self.now.plan.now.courses (number + 1) (number + 1) after.items) }
         ensures most { OnOk result (listing.new.most ≡ listing.old.most) }
-        ensures listed { OnOk result (IsListedTo self.now.map.now self.now.plan.now (key_with (number + 2) 0 0 0) listing.new) }
+        ensures listed { OnOk result
+            (IsListedTo self.now.map.now self.now.plan.now (key_with (number + 2) 0 0 0)
+            listing.new) }
     {
         let steps = steps_after(self.alloc, self.plan.courses(), number, standing)?;
         self.list_bad_moves(number, &steps, listing)?;
@@ -100,7 +107,8 @@ impl Finder<'_> {
     fn list_bad_starts(&self, listing: &mut Listing) -> Result<(), AllocError>
         requires { IsListedTo self.now.map.now self.now.plan.now (key_with 0 0 0 0) listing.old }
         ensures most { OnOk result (listing.new.most ≡ listing.old.most) }
-        ensures listed { OnOk result (IsListedTo self.now.map.now self.now.plan.now (key_with 0 1 0 0) listing.new) }
+        ensures listed { OnOk result
+            (IsListedTo self.now.map.now self.now.plan.now (key_with 0 1 0 0) listing.new) }
     {
         let courses = self.plan.courses();
         for agent in 0..courses.len() {
@@ -118,9 +126,12 @@ impl Finder<'_> {
         listing: &mut Listing,
     ) -> Result<(), AllocError>
         requires steps { AreSteps self.now.plan.now.courses number (number + 1) steps.now }
-        requires listed { IsListedTo self.now.map.now self.now.plan.now (key_with (number + 1) 0 0 0) listing.old }
+        requires listed { IsListedTo self.now.map.now self.now.plan.now
+            (key_with (number + 1) 0 0 0) listing.old }
         ensures most { OnOk result (listing.new.most ≡ listing.old.most) }
-        ensures listed { OnOk result (IsListedTo self.now.map.now self.now.plan.now (key_with (number + 1) 1 0 0) listing.new) }
+        ensures listed { OnOk result
+            (IsListedTo self.now.map.now self.now.plan.now (key_with (number + 1) 1 0 0)
+            listing.new) }
     {
         let courses = self.plan.courses();
         for agent in 0..courses.len() {
@@ -140,9 +151,11 @@ impl Finder<'_> {
     ) -> Result<(), AllocError>
         requires within { time ≤ longest_of self.now.plan.now.courses }
         requires standing { AreSteps self.now.plan.now.courses time time standing.now }
-        requires listed { IsListedTo self.now.map.now self.now.plan.now (key_with time 1 0 0) listing.old }
+        requires listed { IsListedTo self.now.map.now self.now.plan.now (key_with time 1 0 0)
+            listing.old }
         ensures most { OnOk result (listing.new.most ≡ listing.old.most) }
-        ensures listed { OnOk result (IsListedTo self.now.map.now self.now.plan.now (key_with time 2 0 0) listing.new) }
+        ensures listed { OnOk result
+            (IsListedTo self.now.map.now self.now.plan.now (key_with time 2 0 0) listing.new) }
     {
         let agents = self.plan.agents();
         let links = Links::of(self.alloc, standing)?;
@@ -162,9 +175,12 @@ impl Finder<'_> {
     ) -> Result<(), AllocError>
         requires within { number < longest_of self.now.plan.now.courses }
         requires steps { AreSteps self.now.plan.now.courses number (number + 1) steps.now }
-        requires listed { IsListedTo self.now.map.now self.now.plan.now (key_with (number + 1) 2 0 0) listing.old }
+        requires listed { IsListedTo self.now.map.now self.now.plan.now
+            (key_with (number + 1) 2 0 0) listing.old }
         ensures most { OnOk result (listing.new.most ≡ listing.old.most) }
-        ensures listed { OnOk result (IsListedTo self.now.map.now self.now.plan.now (key_with (number + 1) 3 0 0) listing.new) }
+        ensures listed { OnOk result
+            (IsListedTo self.now.map.now self.now.plan.now (key_with (number + 1) 3 0 0)
+            listing.new) }
     {
         let agents = self.plan.agents();
         let links = Links::of(self.alloc, steps)?;
@@ -187,10 +203,14 @@ impl Finder<'_> {
     ) -> Result<(), AllocError>
         requires linked { AreLinked links.now.steps.now 0 links.now.links.items }
         requires first { first < length links.now.steps.now }
-        requires row { IsConflictRow self.now.map.now self.now.plan.now links.now.steps.now conflict first }
-        requires listed { IsListedTo self.now.map.now self.now.plan.now (key_in conflict first 0) listing.old }
+        requires row { IsConflictRow self.now.map.now self.now.plan.now links.now.steps.now
+            conflict first }
+        requires listed { IsListedTo self.now.map.now self.now.plan.now (key_in conflict first 0)
+            listing.old }
         ensures most { OnOk result (listing.new.most ≡ listing.old.most) }
-        ensures listed { OnOk result (IsListedTo self.now.map.now self.now.plan.now (key_in conflict (first + 1) 0) listing.new) }
+        ensures listed { OnOk result
+            (IsListedTo self.now.map.now self.now.plan.now (key_in conflict (first + 1) 0)
+            listing.new) }
     {
         let mut next = links.links[first as usize].opposite;
         while let Some(second) = next {

@@ -7,5 +7,6 @@ ghost use Rattle.all_faults.specs.AllFaults.{AreAllFaults};
 
 /// A plan has one list of all faults at the most.
 pub fn one_list_of_faults()
-    ensures { (m : Grid) (p : Plan) (faults others : List PlanFault) → AreAllFaults m p faults → AreAllFaults m p others → faults ≡ others }
+    ensures { (m : Grid) (p : Plan) (faults others : List PlanFault) → AreAllFaults m p faults
+        → AreAllFaults m p others → faults ≡ others }
 {}

@@ -15,7 +15,8 @@ pub(crate) struct Link {
     pub(crate) same: Option<u32>,
 }
 
-/// The steps of all agents, and the links of each, by which pairs are found without trying them all.
+/// The steps of all agents, and the links of each, by which pairs are found without trying them
+/// all.
 #[derive(Debug, Drop)]
 pub(crate) struct Links<'a> {
     pub(crate) steps: &'a [Step],

@@ -1,5 +1,6 @@
 //! The first faults of all.
-ghost use Rattle.std.specs.Prelude.{◌≡◌, ◌+◌, ◌<◌, ◌≤◌, ◌↔◌, [], ◌∷◌, ◌++◌, length, take, IsTrue, OnOk};
+ghost use Rattle.std.specs.Prelude.{◌≡◌, ◌+◌, ◌<◌, ◌≤◌, ◌↔◌, []};
+ghost use Rattle.std.specs.Prelude.{◌∷◌, ◌++◌, length, take, IsTrue, OnOk};
 
 use model::PlanFault;
 use std::alloc::{AllocError, Global};
@@ -39,7 +40,8 @@ impl Listing {
     pub(crate) fn push(&mut self, fault: PlanFault) -> Result<(), AllocError>
         requires { length self.old.faults.items ≤ self.old.most + 1 }
         ensures most { self.new.most ≡ self.old.most }
-        ensures faults { OnOk result (self.new.faults.items ≡ take (self.old.most + 1) (self.old.faults.items ++ fault ∷ [])) }
+        ensures faults { OnOk result
+            (self.new.faults.items ≡ take (self.old.most + 1) (self.old.faults.items ++ fault ∷ [])) }
     {
         if !self.is_full() {
             self.faults.push(fault)?;

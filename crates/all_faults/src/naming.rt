@@ -25,7 +25,8 @@ pub(crate) fn count_named(
 /// Marks the agents that the fault names.
 fn mark_named(fault: PlanFault, marks: &mut [bool])
     ensures count { length marks.new ≡ length marks.old }
-    ensures marks { (k : ℕ) → k < length marks.old → get_or marks.new k false ≡ (names_agent fault k || get_or marks.old k false) }
+    ensures marks { (k : ℕ) → k < length marks.old
+        → get_or marks.new k false ≡ (names_agent fault k || get_or marks.old k false) }
 {
     match fault {
         PlanFault::BadStart(agent) | PlanFault::BadMove(agent, _) => mark(agent, marks),
@@ -39,7 +40,8 @@ fn mark_named(fault: PlanFault, marks: &mut [bool])
 
 fn mark(agent: u32, marks: &mut [bool])
     ensures count { length marks.new ≡ length marks.old }
-    ensures marks { (k : ℕ) → k < length marks.old → get_or marks.new k false ≡ (agent == k || get_or marks.old k false) }
+    ensures marks { (k : ℕ) → k < length marks.old
+        → get_or marks.new k false ≡ (agent == k || get_or marks.old k false) }
 {
     if (agent as usize) < marks.len() {
         marks[agent as usize] = true;

@@ -3,7 +3,8 @@ ghost use Rattle.std.specs.Prelude.{◌≡◌, ◌+◌, map, IfOk};
 ghost use Rattle.model.specs.Plan.{position_of, moved};
 ghost use Rattle.plan_text.specs.Limits.{IsCourse};
 ghost use Rattle.std.specs.List.{AllByRecursion};
-ghost use Rattle.all_faults.specs.Code.Places.{as_position, reversed, stay_at, IsNear, IsNamedCell, ActLeads, AreSteps};
+ghost use Rattle.all_faults.specs.Code.Places.{as_position, reversed, stay_at, IsNear};
+ghost use Rattle.all_faults.specs.Code.Places.{IsNamedCell, ActLeads, AreSteps};
 
 use grid::Cell;
 use model::Act;

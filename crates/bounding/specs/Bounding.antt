@@ -1,4 +1,5 @@
--- What plans cost at least: no less than the least steps of each agent by itself, from its start to its last cell.
+-- What plans cost at least: no less than the least steps of each agent by itself, from its start to
+-- its last cell.
 use Rattle.std.specs.Prelude.{◌≡◌, ℕ, ◌≤◌, List, [], ◌∷◌, Some, max, sum}
 use Rattle.grid.specs.declared.cell.Cell.{Cell}
 use Rattle.grid.specs.Map.{Grid}
@@ -15,7 +16,8 @@ last_cell track = cell_at track (cost track)
 abbrev pub AreBounds : Grid → List Track → List ℕ → Type 0
 AreBounds m [] bounds = bounds ≡ []
 AreBounds m (track ∷ tracks) bounds =
-    (bound : ℕ) × (others : List ℕ) × (bounds ≡ bound ∷ others) × IsLeastSteps m track.start (last_cell track) (Some bound) × AreBounds m tracks others
+    (bound : ℕ) × (others : List ℕ) × (bounds ≡ bound ∷ others)
+    × IsLeastSteps m track.start (last_cell track) (Some bound) × AreBounds m tracks others
 
 -- each agent, by its number, goes from the same start to the same last cell
 abbrev pub HaveSameEnds : List Track → List Track → Type 0
@@ -29,8 +31,8 @@ abbrev pub greatest_bound : List ℕ → ℕ
 greatest_bound [] = 0
 greatest_bound (n ∷ numbers) = max n (greatest_bound numbers)
 
--- No valid plan on the map whose agents have these ends has a lesser sum of costs than the sum of the bounds, nor a lesser makespan than
--- the greatest of them.
+-- No valid plan on the map whose agents have these ends has a lesser sum of costs than the sum of
+-- the bounds, nor a lesser makespan than the greatest of them.
 abbrev pub BoundsAll : Grid → List Track → List ℕ → Type 0
 BoundsAll m tracks bounds =
     (p : Plan) (tt : Timetable) → IsValid m p → IsTimetableOf p tt → HaveSameEnds tracks tt.tracks

@@ -7,5 +7,6 @@ ghost use Rattle.bounding.specs.Bounding.{AreBounds, BoundsAll};
 /// No valid plan whose agents have these ends costs less than the least steps of each of them by
 /// itself.
 pub fn bounds_hold()
-    ensures { (m : Grid) (tracks : List Track) (bounds : List ℕ) → AreBounds m tracks bounds → BoundsAll m tracks bounds }
+    ensures { (m : Grid) (tracks : List Track) (bounds : List ℕ) → AreBounds m tracks bounds
+        → BoundsAll m tracks bounds }
 {}

@@ -8,7 +8,8 @@ use grid::Cell;
 
 /// Begins the agent's next move where nothing refuses it, and answers the cell that it enters.
 pub fn begin_move<T: Tape>(agent: &mut Agent<'_, T>) -> Result<Cell, Refusal>
-    ensures { (tt : Timetable) → IsPartOf tt agent.old.part → Starts T.state T.may_write tt agent.old agent.new result }
+    ensures { (tt : Timetable) → IsPartOf tt agent.old.part
+        → Starts T.state T.may_write tt agent.old agent.new result }
 {
     agent.start()
 }

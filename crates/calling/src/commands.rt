@@ -16,7 +16,9 @@ pub fn verdict_on<M: Read, P: Read, W: Write, E: Write>(
     out: &mut Counted<W>,
     err: &mut Counted<E>,
 ) -> u8
-    ensures { EndsAndTells (AnswersCheck M.remaining P.remaining W.contents (record { due = None; all = None; bound = false; no_rotation = false; json = false })
+    ensures { EndsAndTells
+        (AnswersCheck M.remaining P.remaining W.contents
+        (record { due = None; all = None; bound = false; no_rotation = false; json = false })
         map.old map.new plan.old plan.new out.old out.new)
         E.contents err.old err.new result }
 {

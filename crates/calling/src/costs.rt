@@ -1,4 +1,5 @@
-//! Calling `least_steps` and `bounding`: the shortest walk, what one agent needs at least, and what each of a plan does.
+//! Calling `least_steps` and `bounding`: the shortest walk, what one agent needs at least, and what
+//! each of a plan does.
 ghost use Rattle.std.specs.Prelude.{IfOk};
 ghost use Rattle.walks.specs.Certificate.{IsLeast};
 ghost use Rattle.least_steps.specs.LeastSteps.{IsLeastSteps};

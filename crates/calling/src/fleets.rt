@@ -15,7 +15,8 @@ pub fn cut_as_begun<R: Files + AllocGlobal, M: Read, P: Read, W: Write>(
     plan: &mut Counted<P>,
     out: &mut Counted<W>,
 ) -> Ending
-    ensures { AnswersHandover M.remaining P.remaining R.File.remaining W.contents map.old map.new plan.old plan.new out.old out.new (end_of result) }
+    ensures { AnswersHandover M.remaining P.remaining R.File.remaining W.contents map.old map.new
+        plan.old plan.new out.old out.new (end_of result) }
 {
     handover_command::perform(rt, map, plan, "%.tape", out)
 }

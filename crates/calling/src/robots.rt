@@ -19,7 +19,8 @@ pub fn converse<R: Read, W: Write, T: Tape>(
 ) -> Result<(), TalkFault>
     requires { IfSome talker.old.heeded (λ p. p ≡ talker.old.agent.part) }
     ensures { (tt : Timetable) → IsPartOf tt talker.old.agent.part
-        → Talks R.remaining W.contents T.state (is_some talker.old.heeded) tt input.old input.new output.old output.new talker.old.agent talker.new.agent result }
+        → Talks R.remaining W.contents T.state (is_some talker.old.heeded) tt input.old input.new
+        output.old output.new talker.old.agent talker.new.agent result }
 {
     talk(alloc, talker, input, output)
 }

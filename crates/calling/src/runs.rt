@@ -14,7 +14,8 @@ pub fn replies_to(
     plan: &CheckedPlan,
     events: &[Event],
 ) -> Result<Vec<Reply>, OutOfMemory>
-    ensures { IfOk result (λ replies. AreAnswered plan.now.timetable events.now (map answer_of replies.items)) }
+    ensures { IfOk result
+        (λ replies. AreAnswered plan.now.timetable events.now (map answer_of replies.items)) }
 {
     let graph = Graph::build(alloc, plan)?;
     run(alloc, &graph, events)

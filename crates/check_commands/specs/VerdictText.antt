@@ -1,5 +1,6 @@
 -- What is written for a plan that was checked.
-use Rattle.std.specs.Prelude.{ℕ, Bool, true, false, ◌||◌, ◌==◌, if◌then◌else◌, IsTrue, List, [], ◌∷◌, ◌++◌, codes, decimal, ⊤}
+use Rattle.std.specs.Prelude.{ℕ, Bool, true, false, ◌||◌, ◌==◌, if◌then◌else◌, IsTrue}
+use Rattle.std.specs.Prelude.{List, [], ◌∷◌, ◌++◌, codes, decimal, ⊤}
 use Rattle.std.specs.Char.{is_ascii_alphanumeric}
 use Rattle.std.specs.List.{list_all}
 use Rattle.text_io.specs.Text.{space, line_feed, spaced_numbers}
@@ -25,7 +26,10 @@ IsPlain (Rejected fault) = IsPlainText fault.now
 -- as `{"accepted":true,"agents":2,"cost":2,"makespan":1}`
 abbrev pub accepted_json : (agents cost makespan : ℕ) → List ℕ
 accepted_json agents cost makespan =
-    codes "{\"accepted\":true,\"agents\":" ++ (decimal agents ++ (codes ",\"cost\":" ++ (decimal cost ++ (codes ",\"makespan\":" ++ (decimal makespan ++ codes "}")))))
+    codes "{\"accepted\":true,\"agents\":"
+    ++ (decimal agents
+    ++ (codes ",\"cost\":"
+    ++ (decimal cost ++ (codes ",\"makespan\":" ++ (decimal makespan ++ codes "}")))))
 
 -- as `{"accepted":false,"fault":"Swap 0 1 0"}`
 abbrev pub rejected_json : List ℕ → List ℕ
@@ -40,7 +44,9 @@ verdict_json_text (Rejected fault) = rejected_json fault.now
 -- as `accepted agents 2 cost 2 makespan 1`
 abbrev pub accepted_text : (agents cost makespan : ℕ) → List ℕ
 accepted_text agents cost makespan =
-    codes "accepted agents " ++ (decimal agents ++ (codes " cost " ++ (decimal cost ++ (codes " makespan " ++ decimal makespan))))
+    codes "accepted agents "
+    ++ (decimal agents
+    ++ (codes " cost " ++ (decimal cost ++ (codes " makespan " ++ decimal makespan))))
 
 -- as `rejected Swap 0 1 0`
 abbrev pub rejected_text : List ℕ → List ℕ
@@ -51,22 +57,30 @@ rejected_text fault = codes "rejected " ++ fault
 -- the line of an accepted plan, in words or as JSON
 abbrev pub accepted_line : Bool → (agents cost makespan : ℕ) → List ℕ
 accepted_line json agents cost makespan =
-    (if json then accepted_json agents cost makespan else accepted_text agents cost makespan) ++ line_feed ∷ []
+    (if json then accepted_json agents cost makespan else accepted_text agents cost makespan)
+    ++ line_feed ∷ []
 
 -- the same with what such plans cost at least, as `accepted agents 2 cost 4 of 4 makespan 2 of 2`
 abbrev pub bounded_line : Bool → (agents cost makespan cost_bound makespan_bound : ℕ) → List ℕ
 bounded_line false agents cost makespan cost_bound makespan_bound =
-    pieces_text ((codes "accepted agents ", agents) ∷ (codes " cost ", cost) ∷ (codes " of ", cost_bound) ∷ (codes " makespan ", makespan)
+    pieces_text ((codes "accepted agents ", agents) ∷ (codes " cost ", cost) ∷ (
+      codes " of ",
+      cost_bound,
+    ) ∷ (codes " makespan ", makespan)
     ∷ (codes " of ", makespan_bound) ∷ [])
     ++ codes "\n"
 bounded_line true agents cost makespan cost_bound makespan_bound =
-    pieces_text ((codes "{\"accepted\":true,\"agents\":", agents) ∷ (codes ",\"cost\":", cost) ∷ (codes ",\"makespan\":", makespan)
+    pieces_text ((codes "{\"accepted\":true,\"agents\":", agents) ∷ (
+      codes ",\"cost\":",
+      cost,
+    ) ∷ (codes ",\"makespan\":", makespan)
     ∷ (codes ",\"cost_bound\":", cost_bound) ∷ (codes ",\"makespan_bound\":", makespan_bound) ∷ [])
     ++ codes "}\n"
 
 -- the same of a rejected one, by its fault's text
 abbrev pub rejected_line : Bool → List ℕ → List ℕ
-rejected_line json fault = (if json then rejected_json fault else rejected_text fault) ++ line_feed ∷ []
+rejected_line json fault =
+    (if json then rejected_json fault else rejected_text fault) ++ line_feed ∷ []
 
 -- the text of a rotation: its step and its agents, the least first
 abbrev pub turn_text : Turn → List ℕ

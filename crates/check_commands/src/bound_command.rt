@@ -22,7 +22,9 @@ pub fn bound_cmd<M: Read, P: Read, W: Write, E: Write>(
     out: &mut Counted<W>,
     err: &mut Counted<E>,
 ) -> u8
-    ensures { EndsAndTells (AnswersBound M.remaining P.remaining W.contents form.agents form.json map.old map.new plan.old plan.new out.old out.new)
+    ensures { EndsAndTells
+        (AnswersBound M.remaining P.remaining W.contents form.agents form.json map.old map.new
+        plan.old plan.new out.old out.new)
         E.contents err.old err.new result }
 {
     conclude(perform(alloc, map, plan, form, out), err)
@@ -37,7 +39,8 @@ pub fn perform<M: Read, P: Read, W: Write>(
     form: BoundForm,
     out: &mut Counted<W>,
 ) -> Ending
-    ensures { AnswersBound M.remaining P.remaining W.contents form.agents form.json map.old map.new plan.old plan.new out.old out.new (end_of result) }
+    ensures { AnswersBound M.remaining P.remaining W.contents form.agents form.json map.old map.new
+        plan.old plan.new out.old out.new (end_of result) }
 {
     let OnMap { map, checked } = match read_on_map(alloc, map, plan) {
         Ok(on_map) => on_map,
@@ -57,7 +60,8 @@ fn tell<W: Write>(
     form: BoundForm,
     out: &mut Counted<W>,
 ) -> Ending
-    ensures { EndsBounded W.contents form.agents form.json map.now plan.now out.old out.new (end_of result) }
+    ensures { EndsBounded W.contents form.agents form.json map.now plan.now out.old out.new
+        (end_of result) }
 {
     match bounds_of(alloc, map, plan) {
         Ok(bounds) => {

@@ -5,7 +5,10 @@ ghost use Rattle.text_io.specs.Sink.{held_back, Puts, Breaks};
 ghost use Rattle.text_io.specs.Writing.{WritesText};
 ghost use Rattle.bounding.specs.Bounding.{greatest_bound};
 ghost use Rattle.model.specs.Costs.{makespan, sum_of_costs};
-ghost use Rattle.check_commands.specs.BoundCommand.{agent_bound_line, agent_bound_lines, agent_bounds_json, bound_text, costs_and_bounds, sums_json, sums_line};
+ghost use Rattle.check_commands.specs.BoundCommand.{agent_bound_line, agent_bound_lines};
+ghost use Rattle.check_commands.specs.BoundCommand.{agent_bounds_json, bound_text};
+ghost use Rattle.check_commands.specs.BoundCommand.{costs_and_bounds, sums_json};
+ghost use Rattle.check_commands.specs.BoundCommand.{sums_line};
 ghost use Rattle.check_commands.specs.Code.Bounds.{comma_if, object_text};
 ghost use Rattle.check_commands.specs.VerdictText.{bounded_line};
 
@@ -24,8 +27,10 @@ pub(crate) fn write_bounded<W: Write>(
     json: bool,
     writer: &mut Counted<W>,
 ) -> Result<(), WriteFault>
-    ensures { WritesText (is_ok result) (W.contents (counted_inner writer.old)) (W.contents (counted_inner writer.new)) (failures_of writer.old) (failures_of writer.new)
-        (bounded_line json (length plan.now.timetable.tracks) (sum_of_costs plan.now.timetable) (makespan plan.now.timetable) (sum bounds.now) (greatest_bound bounds.now)) }
+    ensures { WritesText (is_ok result) (W.contents (counted_inner writer.old))
+        (W.contents (counted_inner writer.new)) (failures_of writer.old) (failures_of writer.new)
+        (bounded_line json (length plan.now.timetable.tracks) (sum_of_costs plan.now.timetable)
+        (makespan plan.now.timetable) (sum bounds.now) (greatest_bound bounds.now)) }
 {
     let mut sink = Sink::new(writer);
     put_bounded(&mut sink, plan, bounds, json)
@@ -37,9 +42,15 @@ fn put_bounded<W: Write>(
     bounds: &[u32],
     json: bool,
 ) -> Result<(), WriteFault>
-    ensures ok { OnOk result (Puts W.contents sink.old sink.new (bounded_line json (length plan.now.timetable.tracks) (sum_of_costs plan.now.timetable) (makespan plan.now.timetable) (sum bounds.now) (greatest_bound bounds.now))) }
+    ensures ok { OnOk result
+        (Puts W.contents sink.old sink.new
+        (bounded_line json (length plan.now.timetable.tracks) (sum_of_costs plan.now.timetable)
+        (makespan plan.now.timetable) (sum bounds.now) (greatest_bound bounds.now))) }
     ensures none_held { OnOk result (held_back sink.new ≡ []) }
-    ensures err { OnErr result (Breaks W.contents sink.old sink.new (bounded_line json (length plan.now.timetable.tracks) (sum_of_costs plan.now.timetable) (makespan plan.now.timetable) (sum bounds.now) (greatest_bound bounds.now))) }
+    ensures err { OnErr result
+        (Breaks W.contents sink.old sink.new
+        (bounded_line json (length plan.now.timetable.tracks) (sum_of_costs plan.now.timetable)
+        (makespan plan.now.timetable) (sum bounds.now) (greatest_bound bounds.now))) }
 {
     put_bounded_line(sink, plan, bounds, json)?;
     sink.hand_on()
@@ -51,8 +62,14 @@ fn put_bounded_line<W: Write>(
     bounds: &[u32],
     json: bool,
 ) -> Result<(), WriteFault>
-    ensures ok { OnOk result (Puts W.contents sink.old sink.new (bounded_line json (length plan.now.timetable.tracks) (sum_of_costs plan.now.timetable) (makespan plan.now.timetable) (sum bounds.now) (greatest_bound bounds.now))) }
-    ensures err { OnErr result (Breaks W.contents sink.old sink.new (bounded_line json (length plan.now.timetable.tracks) (sum_of_costs plan.now.timetable) (makespan plan.now.timetable) (sum bounds.now) (greatest_bound bounds.now))) }
+    ensures ok { OnOk result
+        (Puts W.contents sink.old sink.new
+        (bounded_line json (length plan.now.timetable.tracks) (sum_of_costs plan.now.timetable)
+        (makespan plan.now.timetable) (sum bounds.now) (greatest_bound bounds.now))) }
+    ensures err { OnErr result
+        (Breaks W.contents sink.old sink.new
+        (bounded_line json (length plan.now.timetable.tracks) (sum_of_costs plan.now.timetable)
+        (makespan plan.now.timetable) (sum bounds.now) (greatest_bound bounds.now))) }
 {
     if json {
         put_bounded_json(sink, plan, bounds)
@@ -66,8 +83,14 @@ fn put_bounded_json<W: Write>(
     plan: &CheckedPlan,
     bounds: &[u32],
 ) -> Result<(), WriteFault>
-    ensures ok { OnOk result (Puts W.contents sink.old sink.new (bounded_line true (length plan.now.timetable.tracks) (sum_of_costs plan.now.timetable) (makespan plan.now.timetable) (sum bounds.now) (greatest_bound bounds.now))) }
-    ensures err { OnErr result (Breaks W.contents sink.old sink.new (bounded_line true (length plan.now.timetable.tracks) (sum_of_costs plan.now.timetable) (makespan plan.now.timetable) (sum bounds.now) (greatest_bound bounds.now))) }
+    ensures ok { OnOk result
+        (Puts W.contents sink.old sink.new
+        (bounded_line true (length plan.now.timetable.tracks) (sum_of_costs plan.now.timetable)
+        (makespan plan.now.timetable) (sum bounds.now) (greatest_bound bounds.now))) }
+    ensures err { OnErr result
+        (Breaks W.contents sink.old sink.new
+        (bounded_line true (length plan.now.timetable.tracks) (sum_of_costs plan.now.timetable)
+        (makespan plan.now.timetable) (sum bounds.now) (greatest_bound bounds.now))) }
 {
     let pieces = [
         Piece::new(b"{\"accepted\":true,\"agents\":", u128::from(plan.agents())),
@@ -84,8 +107,14 @@ fn put_bounded_words<W: Write>(
     plan: &CheckedPlan,
     bounds: &[u32],
 ) -> Result<(), WriteFault>
-    ensures ok { OnOk result (Puts W.contents sink.old sink.new (bounded_line false (length plan.now.timetable.tracks) (sum_of_costs plan.now.timetable) (makespan plan.now.timetable) (sum bounds.now) (greatest_bound bounds.now))) }
-    ensures err { OnErr result (Breaks W.contents sink.old sink.new (bounded_line false (length plan.now.timetable.tracks) (sum_of_costs plan.now.timetable) (makespan plan.now.timetable) (sum bounds.now) (greatest_bound bounds.now))) }
+    ensures ok { OnOk result
+        (Puts W.contents sink.old sink.new
+        (bounded_line false (length plan.now.timetable.tracks) (sum_of_costs plan.now.timetable)
+        (makespan plan.now.timetable) (sum bounds.now) (greatest_bound bounds.now))) }
+    ensures err { OnErr result
+        (Breaks W.contents sink.old sink.new
+        (bounded_line false (length plan.now.timetable.tracks) (sum_of_costs plan.now.timetable)
+        (makespan plan.now.timetable) (sum bounds.now) (greatest_bound bounds.now))) }
 {
     let pieces = [
         Piece::new(b"accepted agents ", u128::from(plan.agents())),
@@ -113,8 +142,11 @@ pub(crate) fn write_bounds<W: Write>(
     form: BoundForm,
     writer: &mut Counted<W>,
 ) -> Result<(), WriteFault>
-    ensures { WritesText (is_ok result) (W.contents (counted_inner writer.old)) (W.contents (counted_inner writer.new)) (failures_of writer.old) (failures_of writer.new)
-        (bound_text form.agents form.json (costs_and_bounds plan.now.timetable.tracks bounds.now) (sum_of_costs plan.now.timetable) (sum bounds.now) (makespan plan.now.timetable) (greatest_bound bounds.now)) }
+    ensures { WritesText (is_ok result) (W.contents (counted_inner writer.old))
+        (W.contents (counted_inner writer.new)) (failures_of writer.old) (failures_of writer.new)
+        (bound_text form.agents form.json (costs_and_bounds plan.now.timetable.tracks bounds.now)
+        (sum_of_costs plan.now.timetable) (sum bounds.now) (makespan plan.now.timetable)
+        (greatest_bound bounds.now)) }
 {
     let mut sink = Sink::new(writer);
     put_bounds(&mut sink, plan, bounds, form)
@@ -126,9 +158,17 @@ fn put_bounds<W: Write>(
     bounds: &[u32],
     form: BoundForm,
 ) -> Result<(), WriteFault>
-    ensures ok { OnOk result (Puts W.contents sink.old sink.new (bound_text form.agents form.json (costs_and_bounds plan.now.timetable.tracks bounds.now) (sum_of_costs plan.now.timetable) (sum bounds.now) (makespan plan.now.timetable) (greatest_bound bounds.now))) }
+    ensures ok { OnOk result
+        (Puts W.contents sink.old sink.new
+        (bound_text form.agents form.json (costs_and_bounds plan.now.timetable.tracks bounds.now)
+        (sum_of_costs plan.now.timetable) (sum bounds.now) (makespan plan.now.timetable)
+        (greatest_bound bounds.now))) }
     ensures none_held { OnOk result (held_back sink.new ≡ []) }
-    ensures err { OnErr result (Breaks W.contents sink.old sink.new (bound_text form.agents form.json (costs_and_bounds plan.now.timetable.tracks bounds.now) (sum_of_costs plan.now.timetable) (sum bounds.now) (makespan plan.now.timetable) (greatest_bound bounds.now))) }
+    ensures err { OnErr result
+        (Breaks W.contents sink.old sink.new
+        (bound_text form.agents form.json (costs_and_bounds plan.now.timetable.tracks bounds.now)
+        (sum_of_costs plan.now.timetable) (sum bounds.now) (makespan plan.now.timetable)
+        (greatest_bound bounds.now))) }
 {
     put_bound_text(sink, plan, bounds, form)?;
     sink.hand_on()
@@ -140,8 +180,16 @@ fn put_bound_text<W: Write>(
     bounds: &[u32],
     form: BoundForm,
 ) -> Result<(), WriteFault>
-    ensures ok { OnOk result (Puts W.contents sink.old sink.new (bound_text form.agents form.json (costs_and_bounds plan.now.timetable.tracks bounds.now) (sum_of_costs plan.now.timetable) (sum bounds.now) (makespan plan.now.timetable) (greatest_bound bounds.now))) }
-    ensures err { OnErr result (Breaks W.contents sink.old sink.new (bound_text form.agents form.json (costs_and_bounds plan.now.timetable.tracks bounds.now) (sum_of_costs plan.now.timetable) (sum bounds.now) (makespan plan.now.timetable) (greatest_bound bounds.now))) }
+    ensures ok { OnOk result
+        (Puts W.contents sink.old sink.new
+        (bound_text form.agents form.json (costs_and_bounds plan.now.timetable.tracks bounds.now)
+        (sum_of_costs plan.now.timetable) (sum bounds.now) (makespan plan.now.timetable)
+        (greatest_bound bounds.now))) }
+    ensures err { OnErr result
+        (Breaks W.contents sink.old sink.new
+        (bound_text form.agents form.json (costs_and_bounds plan.now.timetable.tracks bounds.now)
+        (sum_of_costs plan.now.timetable) (sum bounds.now) (makespan plan.now.timetable)
+        (greatest_bound bounds.now))) }
 {
     match (form.json, form.agents) {
         (false, false) => put_sums(sink, plan, bounds),
@@ -157,8 +205,16 @@ fn put_lines<W: Write>(
     plan: &CheckedPlan,
     bounds: &[u32],
 ) -> Result<(), WriteFault>
-    ensures ok { OnOk result (Puts W.contents sink.old sink.new (bound_text true false (costs_and_bounds plan.now.timetable.tracks bounds.now) (sum_of_costs plan.now.timetable) (sum bounds.now) (makespan plan.now.timetable) (greatest_bound bounds.now))) }
-    ensures err { OnErr result (Breaks W.contents sink.old sink.new (bound_text true false (costs_and_bounds plan.now.timetable.tracks bounds.now) (sum_of_costs plan.now.timetable) (sum bounds.now) (makespan plan.now.timetable) (greatest_bound bounds.now))) }
+    ensures ok { OnOk result
+        (Puts W.contents sink.old sink.new
+        (bound_text true false (costs_and_bounds plan.now.timetable.tracks bounds.now)
+        (sum_of_costs plan.now.timetable) (sum bounds.now) (makespan plan.now.timetable)
+        (greatest_bound bounds.now))) }
+    ensures err { OnErr result
+        (Breaks W.contents sink.old sink.new
+        (bound_text true false (costs_and_bounds plan.now.timetable.tracks bounds.now)
+        (sum_of_costs plan.now.timetable) (sum bounds.now) (makespan plan.now.timetable)
+        (greatest_bound bounds.now))) }
 {
     put_agent_lines(sink, plan, bounds)?;
     put_sums(sink, plan, bounds)
@@ -170,8 +226,16 @@ fn put_all_json<W: Write>(
     plan: &CheckedPlan,
     bounds: &[u32],
 ) -> Result<(), WriteFault>
-    ensures ok { OnOk result (Puts W.contents sink.old sink.new (bound_text true true (costs_and_bounds plan.now.timetable.tracks bounds.now) (sum_of_costs plan.now.timetable) (sum bounds.now) (makespan plan.now.timetable) (greatest_bound bounds.now))) }
-    ensures err { OnErr result (Breaks W.contents sink.old sink.new (bound_text true true (costs_and_bounds plan.now.timetable.tracks bounds.now) (sum_of_costs plan.now.timetable) (sum bounds.now) (makespan plan.now.timetable) (greatest_bound bounds.now))) }
+    ensures ok { OnOk result
+        (Puts W.contents sink.old sink.new
+        (bound_text true true (costs_and_bounds plan.now.timetable.tracks bounds.now)
+        (sum_of_costs plan.now.timetable) (sum bounds.now) (makespan plan.now.timetable)
+        (greatest_bound bounds.now))) }
+    ensures err { OnErr result
+        (Breaks W.contents sink.old sink.new
+        (bound_text true true (costs_and_bounds plan.now.timetable.tracks bounds.now)
+        (sum_of_costs plan.now.timetable) (sum bounds.now) (makespan plan.now.timetable)
+        (greatest_bound bounds.now))) }
 {
     put_sums_json(sink, plan, bounds, b",\"agents\":[")?;
     put_objects(sink, plan, bounds)?;
@@ -184,8 +248,14 @@ fn put_sums<W: Write>(
     plan: &CheckedPlan,
     bounds: &[u32],
 ) -> Result<(), WriteFault>
-    ensures ok { OnOk result (Puts W.contents sink.old sink.new (sums_line (sum_of_costs plan.now.timetable) (sum bounds.now) (makespan plan.now.timetable) (greatest_bound bounds.now))) }
-    ensures err { OnErr result (Breaks W.contents sink.old sink.new (sums_line (sum_of_costs plan.now.timetable) (sum bounds.now) (makespan plan.now.timetable) (greatest_bound bounds.now))) }
+    ensures ok { OnOk result
+        (Puts W.contents sink.old sink.new
+        (sums_line (sum_of_costs plan.now.timetable) (sum bounds.now) (makespan plan.now.timetable)
+        (greatest_bound bounds.now))) }
+    ensures err { OnErr result
+        (Breaks W.contents sink.old sink.new
+        (sums_line (sum_of_costs plan.now.timetable) (sum bounds.now) (makespan plan.now.timetable)
+        (greatest_bound bounds.now))) }
 {
     let pieces = [
         Piece::new(b"cost ", u128::from(plan.sum_of_costs())),
@@ -203,8 +273,14 @@ fn put_sums_json<W: Write>(
     bounds: &[u32],
     end: &[u8],
 ) -> Result<(), WriteFault>
-    ensures ok { OnOk result (Puts W.contents sink.old sink.new (sums_json (sum_of_costs plan.now.timetable) (sum bounds.now) (makespan plan.now.timetable) (greatest_bound bounds.now) ++ end.now)) }
-    ensures err { OnErr result (Breaks W.contents sink.old sink.new (sums_json (sum_of_costs plan.now.timetable) (sum bounds.now) (makespan plan.now.timetable) (greatest_bound bounds.now) ++ end.now)) }
+    ensures ok { OnOk result
+        (Puts W.contents sink.old sink.new
+        (sums_json (sum_of_costs plan.now.timetable) (sum bounds.now) (makespan plan.now.timetable)
+        (greatest_bound bounds.now) ++ end.now)) }
+    ensures err { OnErr result
+        (Breaks W.contents sink.old sink.new
+        (sums_json (sum_of_costs plan.now.timetable) (sum bounds.now) (makespan plan.now.timetable)
+        (greatest_bound bounds.now) ++ end.now)) }
 {
     let pieces = [
         Piece::new(b"{\"cost\":", u128::from(plan.sum_of_costs())),
@@ -221,8 +297,12 @@ fn put_agent_lines<W: Write>(
     plan: &CheckedPlan,
     bounds: &[u32],
 ) -> Result<(), WriteFault>
-    ensures ok { OnOk result (Puts W.contents sink.old sink.new (agent_bound_lines 0 (costs_and_bounds plan.now.timetable.tracks bounds.now))) }
-    ensures err { OnErr result (Breaks W.contents sink.old sink.new (agent_bound_lines 0 (costs_and_bounds plan.now.timetable.tracks bounds.now))) }
+    ensures ok { OnOk result
+        (Puts W.contents sink.old sink.new
+        (agent_bound_lines 0 (costs_and_bounds plan.now.timetable.tracks bounds.now))) }
+    ensures err { OnErr result
+        (Breaks W.contents sink.old sink.new
+        (agent_bound_lines 0 (costs_and_bounds plan.now.timetable.tracks bounds.now))) }
 {
     for agent in 0..plan.agents() {
         let Some(cost) = plan.cost(agent) else {
@@ -242,8 +322,10 @@ fn put_agent_line<W: Write>(
     cost: u32,
     bound: u32,
 ) -> Result<(), WriteFault>
-    ensures ok { OnOk result (Puts W.contents sink.old sink.new (agent_bound_line agent (cost, bound))) }
-    ensures err { OnErr result (Breaks W.contents sink.old sink.new (agent_bound_line agent (cost, bound))) }
+    ensures ok { OnOk result
+        (Puts W.contents sink.old sink.new (agent_bound_line agent (cost, bound))) }
+    ensures err { OnErr result
+        (Breaks W.contents sink.old sink.new (agent_bound_line agent (cost, bound))) }
 {
     let pieces = [
         Piece::new(b"agent ", u128::from(agent)),
@@ -259,8 +341,12 @@ fn put_objects<W: Write>(
     plan: &CheckedPlan,
     bounds: &[u32],
 ) -> Result<(), WriteFault>
-    ensures ok { OnOk result (Puts W.contents sink.old sink.new (agent_bounds_json (costs_and_bounds plan.now.timetable.tracks bounds.now))) }
-    ensures err { OnErr result (Breaks W.contents sink.old sink.new (agent_bounds_json (costs_and_bounds plan.now.timetable.tracks bounds.now))) }
+    ensures ok { OnOk result
+        (Puts W.contents sink.old sink.new
+        (agent_bounds_json (costs_and_bounds plan.now.timetable.tracks bounds.now))) }
+    ensures err { OnErr result
+        (Breaks W.contents sink.old sink.new
+        (agent_bounds_json (costs_and_bounds plan.now.timetable.tracks bounds.now))) }
 {
     for agent in 0..plan.agents() {
         let Some(cost) = plan.cost(agent) else {
@@ -281,8 +367,10 @@ fn put_object<W: Write>(
     cost: u32,
     bound: u32,
 ) -> Result<(), WriteFault>
-    ensures ok { OnOk result (Puts W.contents sink.old sink.new (object_text follows (cost, bound))) }
-    ensures err { OnErr result (Breaks W.contents sink.old sink.new (object_text follows (cost, bound))) }
+    ensures ok { OnOk result
+        (Puts W.contents sink.old sink.new (object_text follows (cost, bound))) }
+    ensures err { OnErr result
+        (Breaks W.contents sink.old sink.new (object_text follows (cost, bound))) }
 {
     sink.put(separator(follows))?;
     let pieces = [

@@ -2,7 +2,8 @@
 ghost use Rattle.std.specs.Prelude.{◌≡◌, Err, MatchResult};
 ghost use Rattle.ending.specs.Ending.{EndsAndTells, end_of};
 ghost use Rattle.fitting.specs.declared.fit_fault.FitFault.TheVariants.{AgentCount};
-ghost use Rattle.check_commands.specs.CheckCommand.{AnswersCheck, AnswersCheckFit, HasCount, ReadsAndFits};
+ghost use Rattle.check_commands.specs.CheckCommand.{AnswersCheck, AnswersCheckFit};
+ghost use Rattle.check_commands.specs.CheckCommand.{HasCount, ReadsAndFits};
 ghost use Rattle.scenario.specs.ScenFault.{ReadsScen};
 
 use crate::check_fault::CheckFault;
@@ -27,7 +28,9 @@ pub fn check_cmd<M: Read, P: Read, W: Write, E: Write>(
     out: &mut Counted<W>,
     err: &mut Counted<E>,
 ) -> u8
-    ensures { EndsAndTells (AnswersCheck M.remaining P.remaining W.contents terms.now map.old map.new plan.old plan.new out.old out.new)
+    ensures { EndsAndTells
+        (AnswersCheck M.remaining P.remaining W.contents terms.now map.old map.new plan.old plan.new
+        out.old out.new)
         E.contents err.old err.new result }
 {
     conclude(perform(alloc, map, plan, terms, out), err)
@@ -44,14 +47,16 @@ pub fn check_fit_cmd<M: Read, P: Read, S: Read, W: Write, E: Write>(
     out: &mut Counted<W>,
     err: &mut Counted<E>,
 ) -> u8
-    ensures { EndsAndTells (AnswersCheckFit M.remaining P.remaining S.remaining W.contents terms.now map.old map.new plan.old plan.new scen.old scen.new out.old out.new)
+    ensures { EndsAndTells
+        (AnswersCheckFit M.remaining P.remaining S.remaining W.contents terms.now map.old map.new
+        plan.old plan.new scen.old scen.new out.old out.new)
         E.contents err.old err.new result }
 {
     conclude(perform_fit(alloc, map, plan, scen, terms, out), err)
 }
 
-/// Reads a map from `map` and a plan from `plan`, and writes the verdict on the plan to `out`: it is
-/// accepted only where it has what the terms ask for.
+/// Reads a map from `map` and a plan from `plan`, and writes the verdict on the plan to `out`: it
+/// is accepted only where it has what the terms ask for.
 pub fn perform<M: Read, P: Read, W: Write>(
     alloc: Global,
     map: &mut Counted<M>,
@@ -59,7 +64,8 @@ pub fn perform<M: Read, P: Read, W: Write>(
     terms: &CheckTerms,
     out: &mut Counted<W>,
 ) -> Ending
-    ensures { AnswersCheck M.remaining P.remaining W.contents terms.now map.old map.new plan.old plan.new out.old out.new (end_of result) }
+    ensures { AnswersCheck M.remaining P.remaining W.contents terms.now map.old map.new plan.old
+        plan.new out.old out.new (end_of result) }
 {
     let OnMap { map, checked } = match read_on_map(alloc, map, plan) {
         Ok(on_map) => on_map,
@@ -85,7 +91,8 @@ pub fn perform_fit<M: Read, P: Read, S: Read, W: Write>(
     terms: &CheckTerms,
     out: &mut Counted<W>,
 ) -> Ending
-    ensures { AnswersCheckFit M.remaining P.remaining S.remaining W.contents terms.now map.old map.new plan.old plan.new scen.old scen.new out.old out.new (end_of result) }
+    ensures { AnswersCheckFit M.remaining P.remaining S.remaining W.contents terms.now map.old
+        map.new plan.old plan.new scen.old scen.new out.old out.new (end_of result) }
 {
     let OnMap { map, checked } = match read_on_map(alloc, map, plan) {
         Ok(on_map) => on_map,
@@ -104,7 +111,8 @@ pub fn perform_fit<M: Read, P: Read, S: Read, W: Write>(
 
 /// Whether there are as many agents as are due.
 fn count(plan: &CheckedPlan, due: Option<u16>) -> Result<(), FitFault>
-    ensures { MatchResult result (λ _. HasCount due plan.now) (λ fault. (fault ≡ AgentCount) × (HasCount due plan.now → ⊥)) }
+    ensures { MatchResult result (λ _. HasCount due plan.now) (λ fault. (fault ≡ AgentCount)
+        × (HasCount due plan.now → ⊥)) }
 {
     match due {
         Some(count) if plan.agents() != u32::from(count) => Err(FitFault::AgentCount),
@@ -119,7 +127,8 @@ fn fit<S: Read>(
     scen: &mut Counted<S>,
     due: Option<u16>,
 ) -> Result<Result<(), FitFault>, ScenFault>
-    ensures { MatchResult result (ReadsAndFits S.remaining scen.old scen.new plan.now due) (λ fault. ReadsScen S.remaining scen.old scen.new (Err fault)) }
+    ensures { MatchResult result (ReadsAndFits S.remaining scen.old scen.new plan.now due)
+        (λ fault. ReadsScen S.remaining scen.old scen.new (Err fault)) }
 {
     let scenario = read_scen(alloc, scen)?;
     let count = match due {

@@ -40,7 +40,8 @@ impl CheckFault {
     /// The text of why a plan is rejected.
     pub(crate) fn text(self, alloc: Global) -> Result<String, AllocError>
         requires { is_rejection self ≡ true }
-        ensures text { IfOk result (λ text. string_bytes text ≡ words_text (check_fault_words self)) }
+        ensures text { IfOk result
+            (λ text. string_bytes text ≡ words_text (check_fault_words self)) }
         ensures plain { IfOk result (λ text. IsPlainText (string_bytes text)) }
     {
         self.to_string(alloc)

@@ -1,10 +1,12 @@
 //! The text of all that a plan has against it.
-ghost use Rattle.std.specs.Prelude.{◌≡◌, [], ◌∷◌, codes, if◌then◌else◌, map, is_ok, OnOk, OnErr, false};
+ghost use Rattle.std.specs.Prelude.{◌≡◌, [], ◌∷◌, codes, if◌then◌else◌};
+ghost use Rattle.std.specs.Prelude.{map, is_ok, OnOk, OnErr, false};
 ghost use Rattle.text_io.specs.Counted.{counted_inner, failures_of};
 ghost use Rattle.text_io.specs.Sink.{held_back, Puts, Breaks};
 ghost use Rattle.text_io.specs.Writing.{WritesText};
 ghost use Rattle.depgraph.specs.Rotations.{turn_of};
-ghost use Rattle.check_commands.specs.Code.Listing.{end_text, head_text, items_text, other_text, others_text, told_against};
+ghost use Rattle.check_commands.specs.Code.Listing.{end_text, head_text, items_text};
+ghost use Rattle.check_commands.specs.Code.Listing.{other_text, others_text, told_against};
 ghost use Rattle.check_commands.specs.VerdictText.{rejected_line, turn_text};
 ghost use Rattle.check_commands.specs.FaultsText.{comma, faults_text, of_plan};
 
@@ -16,7 +18,8 @@ use model::PlanFault;
 use std::io::Write;
 use text_io::{Counted, Sink, WriteFault};
 
-/// How many faults were listed, how many different agents are named in them, and whether there are more.
+/// How many faults were listed, how many different agents are named in them, and whether there are
+/// more.
 #[derive(Clone, Copy, Debug)]
 struct Ends {
     listed: usize,
@@ -32,7 +35,8 @@ pub(crate) fn write_faults<W: Write>(
     json: bool,
     writer: &mut Counted<W>,
 ) -> Result<(), WriteFault>
-    ensures { WritesText (is_ok result) (W.contents (counted_inner writer.old)) (W.contents (counted_inner writer.new)) (failures_of writer.old) (failures_of writer.new)
+    ensures { WritesText (is_ok result) (W.contents (counted_inner writer.old))
+        (W.contents (counted_inner writer.new)) (failures_of writer.old) (failures_of writer.new)
         (faults_text json (map of_plan faults.now.listed.items) faults.now.agents faults.now.more) }
 {
     let mut sink = Sink::new(writer);
@@ -44,9 +48,13 @@ fn put_faults<W: Write>(
     json: bool,
     faults: &Faults,
 ) -> Result<(), WriteFault>
-    ensures ok { OnOk result (Puts W.contents sink.old sink.new (faults_text json (map of_plan faults.now.listed.items) faults.now.agents faults.now.more)) }
+    ensures ok { OnOk result
+        (Puts W.contents sink.old sink.new
+        (faults_text json (map of_plan faults.now.listed.items) faults.now.agents faults.now.more)) }
     ensures none_held { OnOk result (held_back sink.new ≡ []) }
-    ensures err { OnErr result (Breaks W.contents sink.old sink.new (faults_text json (map of_plan faults.now.listed.items) faults.now.agents faults.now.more)) }
+    ensures err { OnErr result
+        (Breaks W.contents sink.old sink.new
+        (faults_text json (map of_plan faults.now.listed.items) faults.now.agents faults.now.more)) }
 {
     let ends = Ends {
         listed: faults.listed.len(),
@@ -59,7 +67,8 @@ fn put_faults<W: Write>(
     sink.hand_on()
 }
 
-/// Writes the one thing that a plan has against it, in which so many agents are named. The writer is not flushed.
+/// Writes the one thing that a plan has against it, in which so many agents are named. The writer
+/// is not flushed.
 // Compiled by itself, for its room on the stack.
 #[inline(never)]
 pub(crate) fn write_only<W: Write>(
@@ -68,7 +77,8 @@ pub(crate) fn write_only<W: Write>(
     json: bool,
     writer: &mut Counted<W>,
 ) -> Result<(), WriteFault>
-    ensures { WritesText (is_ok result) (W.contents (counted_inner writer.old)) (W.contents (counted_inner writer.new)) (failures_of writer.old) (failures_of writer.new)
+    ensures { WritesText (is_ok result) (W.contents (counted_inner writer.old))
+        (W.contents (counted_inner writer.new)) (failures_of writer.old) (failures_of writer.new)
         (faults_text json (told_against told.entry ∷ []) agents false) }
 {
     let mut sink = Sink::new(writer);
@@ -81,9 +91,13 @@ fn put_only<W: Write>(
     agents: u64,
     json: bool,
 ) -> Result<(), WriteFault>
-    ensures ok { OnOk result (Puts W.contents sink.old sink.new (faults_text json (told_against told.entry ∷ []) agents false)) }
+    ensures ok { OnOk result
+        (Puts W.contents sink.old sink.new
+        (faults_text json (told_against told.entry ∷ []) agents false)) }
     ensures none_held { OnOk result (held_back sink.new ≡ []) }
-    ensures err { OnErr result (Breaks W.contents sink.old sink.new (faults_text json (told_against told.entry ∷ []) agents false)) }
+    ensures err { OnErr result
+        (Breaks W.contents sink.old sink.new
+        (faults_text json (told_against told.entry ∷ []) agents false)) }
 {
     let ends = Ends {
         listed: 1,
@@ -104,7 +118,8 @@ pub(crate) fn write_turn<W: Write>(
     json: bool,
     writer: &mut Counted<W>,
 ) -> Result<(), WriteFault>
-    ensures { WritesText (is_ok result) (W.contents (counted_inner writer.old)) (W.contents (counted_inner writer.new)) (failures_of writer.old) (failures_of writer.new)
+    ensures { WritesText (is_ok result) (W.contents (counted_inner writer.old))
+        (W.contents (counted_inner writer.new)) (failures_of writer.old) (failures_of writer.new)
         (rejected_line json (turn_text (turn_of rotation.now))) }
 {
     let mut sink = Sink::new(writer);
@@ -116,9 +131,12 @@ fn put_turn_line<W: Write>(
     rotation: &Rotation,
     json: bool,
 ) -> Result<(), WriteFault>
-    ensures ok { OnOk result (Puts W.contents sink.old sink.new (rejected_line json (turn_text (turn_of rotation.now)))) }
+    ensures ok { OnOk result
+        (Puts W.contents sink.old sink.new (rejected_line json (turn_text (turn_of rotation.now)))) }
     ensures none_held { OnOk result (held_back sink.new ≡ []) }
-    ensures err { OnErr result (Breaks W.contents sink.old sink.new (rejected_line json (turn_text (turn_of rotation.now)))) }
+    ensures err { OnErr result
+        (Breaks W.contents sink.old sink.new
+        (rejected_line json (turn_text (turn_of rotation.now)))) }
 {
     put_turn(sink, turn_head(json), rotation, turn_end(json))?;
     sink.hand_on()
@@ -126,7 +144,9 @@ fn put_turn_line<W: Write>(
 
 /// What the step of a rotation follows.
 fn turn_head(json: bool) -> &'static [u8]
-    ensures { result.now ≡ (if json then codes "{\"accepted\":false,\"fault\":\"Rotation" else codes "rejected Rotation") }
+    ensures { result.now
+        ≡ (if json then codes "{\"accepted\":false,\"fault\":\"Rotation" else codes
+        "rejected Rotation") }
 {
     if json {
         b"{\"accepted\":false,\"fault\":\"Rotation"
@@ -158,8 +178,10 @@ fn put_items<W: Write>(
     json: bool,
     faults: &[PlanFault],
 ) -> Result<(), WriteFault>
-    ensures ok { OnOk result (Puts W.contents sink.old sink.new (items_text json (map of_plan faults.now))) }
-    ensures err { OnErr result (Breaks W.contents sink.old sink.new (items_text json (map of_plan faults.now))) }
+    ensures ok { OnOk result
+        (Puts W.contents sink.old sink.new (items_text json (map of_plan faults.now))) }
+    ensures err { OnErr result
+        (Breaks W.contents sink.old sink.new (items_text json (map of_plan faults.now))) }
 {
     let Some((first, others)) = faults.split_first() else {
         return Ok(());
@@ -174,8 +196,10 @@ fn put_others<W: Write>(
     json: bool,
     faults: &[PlanFault],
 ) -> Result<(), WriteFault>
-    ensures ok { OnOk result (Puts W.contents sink.old sink.new (others_text json (map of_plan faults.now))) }
-    ensures err { OnErr result (Breaks W.contents sink.old sink.new (others_text json (map of_plan faults.now))) }
+    ensures ok { OnOk result
+        (Puts W.contents sink.old sink.new (others_text json (map of_plan faults.now))) }
+    ensures err { OnErr result
+        (Breaks W.contents sink.old sink.new (others_text json (map of_plan faults.now))) }
 {
     for fault in faults {
         put_other(sink, json, *fault)?;
@@ -189,7 +213,8 @@ fn put_other<W: Write>(
     fault: PlanFault,
 ) -> Result<(), WriteFault>
     ensures ok { OnOk result (Puts W.contents sink.old sink.new (other_text json (of_plan fault))) }
-    ensures err { OnErr result (Breaks W.contents sink.old sink.new (other_text json (of_plan fault))) }
+    ensures err { OnErr result
+        (Breaks W.contents sink.old sink.new (other_text json (of_plan fault))) }
 {
     sink.put(separator(json))?;
     put_told(sink, json, Against::Plan(fault))
@@ -203,8 +228,12 @@ fn separator(json: bool) -> &'static [u8]
 }
 
 fn put_end<W: Write>(sink: &mut Sink<'_, W>, json: bool, ends: &Ends) -> Result<(), WriteFault>
-    ensures ok { OnOk result (Puts W.contents sink.old sink.new (end_text json ends.now.listed ends.now.agents ends.now.more)) }
-    ensures err { OnErr result (Breaks W.contents sink.old sink.new (end_text json ends.now.listed ends.now.agents ends.now.more)) }
+    ensures ok { OnOk result
+        (Puts W.contents sink.old sink.new
+        (end_text json ends.now.listed ends.now.agents ends.now.more)) }
+    ensures err { OnErr result
+        (Breaks W.contents sink.old sink.new
+        (end_text json ends.now.listed ends.now.agents ends.now.more)) }
 {
     if json {
         let agents = Piece::new(b"],\"agents\":", u128::from(ends.agents));
@@ -216,7 +245,8 @@ fn put_end<W: Write>(sink: &mut Sink<'_, W>, json: bool, ends: &Ends) -> Result<
 }
 
 fn json_end(more: bool) -> &'static [u8]
-    ensures { result.now ≡ (if more then codes ",\"more\":true}\n" else codes ",\"more\":false}\n") }
+    ensures { result.now
+        ≡ (if more then codes ",\"more\":true}\n" else codes ",\"more\":false}\n") }
 {
     if more {
         b",\"more\":true}\n"

@@ -1,4 +1,5 @@
-//! The commands that judge plans: whether they are valid, what is against them, and what they cost at least.
+//! The commands that judge plans: whether they are valid, what is against them, and what they cost
+//! at least.
 #![tactic(auto)]
 
 pub mod bound_command;

@@ -24,7 +24,8 @@ pub(crate) fn read_on_map<M: Read, P: Read>(
     map: &mut Counted<M>,
     plan: &mut Counted<P>,
 ) -> Result<OnMap, PlannedFault>
-    ensures { MatchResult result (ReadsOn M.remaining P.remaining map.old map.new plan.old plan.new) (ReadsNot M.remaining P.remaining map.old map.new plan.old plan.new) }
+    ensures { MatchResult result (ReadsOn M.remaining P.remaining map.old map.new plan.old plan.new)
+        (ReadsNot M.remaining P.remaining map.old map.new plan.old plan.new) }
 {
     let map = read_map(alloc, map)?;
     let plan = read_plan(alloc, plan)?;

@@ -4,7 +4,8 @@ ghost use Rattle.text_io.specs.Sink.{Puts, Breaks};
 ghost use Rattle.text_io.specs.Text.{separated, spaced_numbers};
 ghost use Rattle.depgraph.specs.Rotations.{turn_of};
 ghost use Rattle.check_commands.specs.Code.Listing.{told_against, told_text};
-ghost use Rattle.check_commands.specs.FaultsText.{fit_fault_json, listed_numbers, of_turn, plan_fault_json, told_json, line_of_told};
+ghost use Rattle.check_commands.specs.FaultsText.{fit_fault_json, listed_numbers, of_turn};
+ghost use Rattle.check_commands.specs.FaultsText.{plan_fault_json, told_json, line_of_told};
 
 use depgraph::Rotation;
 use ending::{Piece, put_ended, put_fault_line, put_pieces};
@@ -28,8 +29,10 @@ pub(crate) fn put_told<W: Write>(
     json: bool,
     told: Against<'_>,
 ) -> Result<(), WriteFault>
-    ensures ok { OnOk result (Puts W.contents sink.old sink.new (told_text json (told_against told.entry))) }
-    ensures err { OnErr result (Breaks W.contents sink.old sink.new (told_text json (told_against told.entry))) }
+    ensures ok { OnOk result
+        (Puts W.contents sink.old sink.new (told_text json (told_against told.entry))) }
+    ensures err { OnErr result
+        (Breaks W.contents sink.old sink.new (told_text json (told_against told.entry))) }
 {
     if json {
         put_json(sink, told)
@@ -39,8 +42,10 @@ pub(crate) fn put_told<W: Write>(
 }
 
 fn put_line<W: Write>(sink: &mut Sink<'_, W>, told: Against<'_>) -> Result<(), WriteFault>
-    ensures ok { OnOk result (Puts W.contents sink.old sink.new (line_of_told (told_against told.entry))) }
-    ensures err { OnErr result (Breaks W.contents sink.old sink.new (line_of_told (told_against told.entry))) }
+    ensures ok { OnOk result
+        (Puts W.contents sink.old sink.new (line_of_told (told_against told.entry))) }
+    ensures err { OnErr result
+        (Breaks W.contents sink.old sink.new (line_of_told (told_against told.entry))) }
 {
     match told {
         Against::Plan(fault) => put_fault_line(sink, b"rejected ", fault.words()),
@@ -56,8 +61,14 @@ pub(crate) fn put_turn<W: Write>(
     rotation: &Rotation,
     end: &[u8],
 ) -> Result<(), WriteFault>
-    ensures ok { OnOk result (Puts W.contents sink.old sink.new (head.now ++ spaced_numbers ((turn_of rotation.now).step ∷ (turn_of rotation.now).agents) ++ end.now)) }
-    ensures err { OnErr result (Breaks W.contents sink.old sink.new (head.now ++ spaced_numbers ((turn_of rotation.now).step ∷ (turn_of rotation.now).agents) ++ end.now)) }
+    ensures ok { OnOk result
+        (Puts W.contents sink.old sink.new
+        (head.now ++ spaced_numbers ((turn_of rotation.now).step ∷ (turn_of rotation.now).agents)
+        ++ end.now)) }
+    ensures err { OnErr result
+        (Breaks W.contents sink.old sink.new
+        (head.now ++ spaced_numbers ((turn_of rotation.now).step ∷ (turn_of rotation.now).agents)
+        ++ end.now)) }
 {
     sink.put(head)?;
     sink.put_number_after(b' ', u64::from(rotation.step))?;
@@ -72,7 +83,8 @@ fn put_agents<W: Write>(
     agents: &[u16],
 ) -> Result<(), WriteFault>
     ensures ok { OnOk result (Puts W.contents sink.old sink.new (separated separator agents.now)) }
-    ensures err { OnErr result (Breaks W.contents sink.old sink.new (separated separator agents.now)) }
+    ensures err { OnErr result
+        (Breaks W.contents sink.old sink.new (separated separator agents.now)) }
 {
     for agent in agents {
         sink.put_number_after(separator, u64::from(*agent))?;
@@ -81,8 +93,10 @@ fn put_agents<W: Write>(
 }
 
 fn put_json<W: Write>(sink: &mut Sink<'_, W>, told: Against<'_>) -> Result<(), WriteFault>
-    ensures ok { OnOk result (Puts W.contents sink.old sink.new (told_json (told_against told.entry))) }
-    ensures err { OnErr result (Breaks W.contents sink.old sink.new (told_json (told_against told.entry))) }
+    ensures ok { OnOk result
+        (Puts W.contents sink.old sink.new (told_json (told_against told.entry))) }
+    ensures err { OnErr result
+        (Breaks W.contents sink.old sink.new (told_json (told_against told.entry))) }
 {
     match told {
         Against::Plan(fault) => put_plan_fault(sink, fault),
@@ -146,8 +160,10 @@ fn put_fit_fault<W: Write>(sink: &mut Sink<'_, W>, fault: FitFault) -> Result<()
 }
 
 fn put_turn_json<W: Write>(sink: &mut Sink<'_, W>, rotation: &Rotation) -> Result<(), WriteFault>
-    ensures ok { OnOk result (Puts W.contents sink.old sink.new (told_json (of_turn (turn_of rotation.now)))) }
-    ensures err { OnErr result (Breaks W.contents sink.old sink.new (told_json (of_turn (turn_of rotation.now)))) }
+    ensures ok { OnOk result
+        (Puts W.contents sink.old sink.new (told_json (of_turn (turn_of rotation.now)))) }
+    ensures err { OnErr result
+        (Breaks W.contents sink.old sink.new (told_json (of_turn (turn_of rotation.now)))) }
 {
     let step = Piece::new(
         b"{\"kind\":\"Rotation\",\"step\":",

@@ -3,7 +3,8 @@ ghost use Rattle.std.specs.Prelude.{◌≡◌, length, string_bytes, IfOk};
 ghost use Rattle.model.specs.Costs.{sum_of_costs, makespan};
 ghost use Rattle.serde_json.specs.View.{view};
 ghost use Rattle.check_commands.specs.Code.Verdicts.{accepted_data, rejected_data, verdict_line};
-ghost use Rattle.check_commands.specs.VerdictText.{IsPlain, IsPlainText, accepted_json, rejected_json, verdict_json_text};
+ghost use Rattle.check_commands.specs.VerdictText.{IsPlain, IsPlainText, accepted_json};
+ghost use Rattle.check_commands.specs.VerdictText.{rejected_json, verdict_json_text};
 
 use checker::CheckedPlan;
 use serde_json::{Value, json};
@@ -12,7 +13,8 @@ use std::alloc::{AllocError, Global};
 /// What a plan comes to.
 #[derive(Clone, Copy, Debug, PartialEq, Eq)]
 pub enum Verdict<'a> {
-    /// The plan is accepted: how many agents it has, the sum of their costs, and the greatest of them.
+    /// The plan is accepted: how many agents it has, the sum of their costs, and the greatest of
+    /// them.
     Accepted {
         agents: u32,
         cost: u64,
@@ -25,7 +27,8 @@ pub enum Verdict<'a> {
 impl Verdict<'_> {
     /// The verdict on a plan that is accepted.
     pub(crate) fn accepted(plan: &CheckedPlan) -> Verdict<'static>
-        ensures { result ≡ Verdict.Accepted (length plan.now.timetable.tracks) (sum_of_costs plan.now.timetable) (makespan plan.now.timetable) }
+        ensures { result ≡ Verdict.Accepted (length plan.now.timetable.tracks)
+            (sum_of_costs plan.now.timetable) (makespan plan.now.timetable) }
     {
         Verdict::Accepted {
             agents: plan.agents(),
@@ -35,7 +38,8 @@ impl Verdict<'_> {
     }
 }
 
-/// The verdict as JSON, without an LF. A fault is told in letters, digits and spaces, of which none is escaped.
+/// The verdict as JSON, without an LF. A fault is told in letters, digits and spaces, of which none
+/// is escaped.
 pub fn verdict_json(alloc: Global, verdict: &Verdict<'_>) -> Result<String, AllocError>
     requires { IsPlain verdict.now }
     ensures { IfOk result (λ text. string_bytes text ≡ verdict_json_text verdict.now) }

@@ -4,7 +4,8 @@ ghost use Rattle.ending.specs.Ending.{end_of, rejected};
 ghost use Rattle.ending.specs.Rewriting.{EndsByLine};
 ghost use Rattle.text_io.specs.FaultWords.{words_text};
 ghost use Rattle.depgraph.specs.Rotations.{turn_of};
-ghost use Rattle.check_commands.specs.CheckCommand.{EndsAccepted, EndsByFaults, EndsByRefusal, EndsRejected, EndsValid, named_by};
+ghost use Rattle.check_commands.specs.CheckCommand.{EndsAccepted, EndsByFaults, EndsByRefusal};
+ghost use Rattle.check_commands.specs.CheckCommand.{EndsRejected, EndsValid, named_by};
 ghost use Rattle.check_commands.specs.Code.Verdicts.{is_rejection, verdict_line};
 ghost use Rattle.check_commands.specs.FaultWords.{check_fault_words, turn_words};
 ghost use Rattle.check_commands.specs.FaultsText.{of_fit, of_turn};
@@ -39,7 +40,8 @@ pub(crate) fn refuse<W: Write>(
     terms: &CheckTerms,
     out: &mut Counted<W>,
 ) -> Ending
-    ensures { EndsByRefusal W.contents terms.now.all terms.now.json map.now rejected.now.plan rejected.now.fault out.old out.new (end_of result) }
+    ensures { EndsByRefusal W.contents terms.now.all terms.now.json map.now rejected.now.plan
+        rejected.now.fault out.old out.new (end_of result) }
 {
     match (rejected.fault, terms.all) {
         (PlanFault::OutOfMemory, _) => Ending::gave_up(rejected.fault.words()),
@@ -75,7 +77,8 @@ fn list<W: Write>(
     listing: Listing,
     out: &mut Counted<W>,
 ) -> Ending
-    ensures { EndsByFaults W.contents listing.json map.now rejected.now.plan listing.most (plan_fault_words rejected.now.fault) out.old out.new (end_of result) }
+    ensures { EndsByFaults W.contents listing.json map.now rejected.now.plan listing.most
+        (plan_fault_words rejected.now.fault) out.old out.new (end_of result) }
 {
     match first_faults(alloc, map, &rejected.plan, listing.most) {
         Ok(faults) => {
@@ -93,7 +96,9 @@ pub(crate) fn differ<W: Write>(
     terms: &CheckTerms,
     out: &mut Counted<W>,
 ) -> Ending
-    ensures { EndsRejected W.contents terms.now (fit_fault_words fault) (words_text (fit_fault_words fault)) (of_fit fault) (named_by fault) out.old out.new (end_of result) }
+    ensures { EndsRejected W.contents terms.now (fit_fault_words fault)
+        (words_text (fit_fault_words fault)) (of_fit fault) (named_by fault) out.old out.new
+        (end_of result) }
 {
     match terms.all {
         None => reject(alloc, CheckFault::Unfit(fault), terms.json, out),
@@ -122,7 +127,8 @@ pub(crate) fn accept<W: Write>(
     terms: &CheckTerms,
     out: &mut Counted<W>,
 ) -> Ending
-    ensures { EndsValid W.contents terms.now.no_rotation terms.now map.now plan.now out.old out.new (end_of result) }
+    ensures { EndsValid W.contents terms.now.no_rotation terms.now map.now plan.now out.old out.new
+        (end_of result) }
 {
     if !terms.no_rotation {
         return tell_accepted(alloc, map, plan, terms, out);
@@ -138,7 +144,9 @@ pub(crate) fn accept<W: Write>(
 
 /// Answers for a plan with a rotation.
 fn turn_back<W: Write>(rotation: &Rotation, terms: &CheckTerms, out: &mut Counted<W>) -> Ending
-    ensures { EndsRejected W.contents terms.now (turn_words (turn_of rotation.now)) (turn_text (turn_of rotation.now)) (of_turn (turn_of rotation.now)) (length (turn_of rotation.now).agents) out.old out.new (end_of result) }
+    ensures { EndsRejected W.contents terms.now (turn_words (turn_of rotation.now))
+        (turn_text (turn_of rotation.now)) (of_turn (turn_of rotation.now))
+        (length (turn_of rotation.now).agents) out.old out.new (end_of result) }
 {
     let words = FaultWords::new(FaultName::Rotation, &[u64::from(rotation.step)]);
     let agents: &[u16] = &rotation.agents;
@@ -162,7 +170,8 @@ fn tell_accepted<W: Write>(
     terms: &CheckTerms,
     out: &mut Counted<W>,
 ) -> Ending
-    ensures { EndsAccepted W.contents terms.now.bound terms.now.json map.now plan.now out.old out.new (end_of result) }
+    ensures { EndsAccepted W.contents terms.now.bound terms.now.json map.now plan.now out.old
+        out.new (end_of result) }
 {
     if !terms.bound {
         let verdict = Verdict::accepted(plan);
@@ -181,7 +190,8 @@ fn tell_accepted<W: Write>(
 /// Writes the verdict on a plan that is rejected.
 fn reject<W: Write>(alloc: Global, fault: CheckFault, json: bool, out: &mut Counted<W>) -> Ending
     requires { is_rejection fault ≡ true }
-    ensures { EndsByLine W.contents out.old out.new (rejected (check_fault_words fault)) (end_of result) (rejected_line json (words_text (check_fault_words fault))) }
+    ensures { EndsByLine W.contents out.old out.new (rejected (check_fault_words fault))
+        (end_of result) (rejected_line json (words_text (check_fault_words fault))) }
 {
     match fault.text(alloc) {
         Ok(text) => {
@@ -201,7 +211,8 @@ fn tell<W: Write>(
     out: &mut Counted<W>,
 ) -> Ending
     requires { IsPlain verdict.now }
-    ensures { EndsByLine W.contents out.old out.new (end_of success) (end_of result) (verdict_line json verdict.now) }
+    ensures { EndsByLine W.contents out.old out.new (end_of success) (end_of result)
+        (verdict_line json verdict.now) }
 {
     match verdict_line(alloc, verdict, json) {
         Ok(line) => {

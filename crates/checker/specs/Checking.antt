@@ -4,7 +4,8 @@ use Rattle.std.specs.List.{AllByRecursion}
 use Rattle.grid.specs.declared.cell.Cell.{Cell}
 use Rattle.grid.specs.Map.{Grid, IsSize}
 use Rattle.model.specs.declared.plan_fault.PlanFault.{PlanFault}
-use Rattle.model.specs.declared.plan_fault.PlanFault.TheVariants.{BadStart, BadMove, Vertex, Swap, OutOfMemory}
+use Rattle.model.specs.declared.plan_fault.PlanFault.TheVariants.{BadStart, BadMove, Vertex}
+use Rattle.model.specs.declared.plan_fault.PlanFault.TheVariants.{Swap, OutOfMemory}
 use Rattle.model.specs.Costs.{AllEndAtRest}
 use Rattle.model.specs.Plan.{Plan, IsValid, IsLeastFault, IsTimetableOf}
 use Rattle.model.specs.Timetable.{Track, Timetable, Stands, IsConflictFree, IsSwapFree}
@@ -21,11 +22,13 @@ abbrev pub steps_in : List Track → ℕ
 steps_in [] = 0
 steps_in (track ∷ tracks) = length track.later + steps_in tracks
 
--- What every checked plan keeps: each cell is one of the map, nobody is ever in a cell with another, no two exchange cells, each
--- track ends where its agent comes to rest, and the limits of a plan.
+-- What every checked plan keeps: each cell is one of the map, nobody is ever in a cell with
+-- another, no two exchange cells, each track ends where its agent comes to rest, and the limits of
+-- a plan.
 pub record IsChecked (c : Checked) : Type 0 where
   pub size : IsSize c.width c.height
-  pub on_map : (i t : ℕ) (cell : Cell) → Stands c.timetable i t cell → (cell.x < c.width) × (cell.y < c.height)
+  pub on_map : (i t : ℕ) (cell : Cell) → Stands c.timetable i t cell → (cell.x < c.width)
+      × (cell.y < c.height)
   pub conflict_free : IsConflictFree c.timetable
   pub swap_free : IsSwapFree c.timetable
   pub at_rest : AllEndAtRest c.timetable

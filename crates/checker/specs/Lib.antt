@@ -1,5 +1,5 @@
--- What has to be believed, in the order in which to read it: each promise of the crate is made in these words, and in those of `model`
--- and `plan_text`.
+-- What has to be believed, in the order in which to read it: each promise of the crate is made in
+-- these words, and in those of `model` and `plan_text`.
 
 -- what a checked plan is, and what a checker answers
 pub mod Checking
@@ -7,5 +7,6 @@ pub mod Checking
 pub mod Moving
 -- The code's own words, of which no promise speaks.
 pub mod Code
--- What follows from these definitions, each with its proof: proofs of other crates cite it, and nothing of it has to be believed.
+-- What follows from these definitions, each with its proof: proofs of other crates cite it, and
+-- nothing of it has to be believed.
 pub mod Laws

@@ -38,11 +38,13 @@ impl ActRow {
     /// Puts the acts that the stretches have for the step, one after another, from the place on.
     pub(crate) fn put(&mut self, first: usize, stretches: &[[Act; BLOCK]], step: usize)
         requires step { step < block_steps }
-        requires stretches { (k : ℕ) → k < length stretches.now → length (get_or stretches.now k []) ≡ block_steps }
+        requires stretches { (k : ℕ) → k < length stretches.now → length (get_or stretches.now k [])
+            ≡ block_steps }
         requires room { first + length stretches.now ≤ length self.old }
         ensures count { length self.new ≡ length self.old }
         ensures before { (k : ℕ) → k < first → act_at self.new k ≡ act_at self.old k }
-        ensures own { (k : ℕ) → k < length stretches.now → act_at self.new (first + k) ≡ act_at (get_or stretches.now k []) step }
+        ensures own { (k : ℕ) → k < length stretches.now
+            → act_at self.new (first + k) ≡ act_at (get_or stretches.now k []) step }
     {
         // Where the acts stand is asked once, and not again after each of them.
         let acts = self.acts.as_mut_slice();

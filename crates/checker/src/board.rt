@@ -1,7 +1,9 @@
-//! The map as the checker looks at it: a square for each cell, and a rim of blocked squares around them, so that no step leads off it.
+//! The map as the checker looks at it: a square for each cell, and a rim of blocked squares around
+//! them, so that no step leads off it.
 ghost use Rattle.std.specs.Prelude.{◌≡◌, ◌+◌, ◌*◌, ◌<◌, ◌↔◌, IsTrue, IfOk};
 ghost use Rattle.checker.specs.Code.Standing.{IsOnGrid};
-ghost use Rattle.checker.specs.Code.Squares.{ground_in, mark_in, ground_by, most_marks, place_on, HasGround, IsLaid, IsOfStep};
+ghost use Rattle.checker.specs.Code.Squares.{ground_in, mark_in, ground_by, most_marks};
+ghost use Rattle.checker.specs.Code.Squares.{place_on, HasGround, IsLaid, IsOfStep};
 
 use grid::{Cell, Map};
 use std::alloc::{AllocError, Global};
@@ -18,8 +20,8 @@ pub(crate) const HELD: u8 = 3;
 /// Nobody came lately.
 pub(crate) const NOBODY: u8 = 0;
 
-/// A cell, or a part of the rim: its ground, one of the four above, and the mark of who came last. It is one byte, since the pace of the checker
-/// is that of the memory which it touches.
+/// A cell, or a part of the rim: its ground, one of the four above, and the mark of who came last.
+/// It is one byte, since the pace of the checker is that of the memory which it touches.
 #[derive(Clone, Copy, Debug)]
 pub(crate) struct Square {
     code: u8,
@@ -56,7 +58,8 @@ impl Square {
         requires { first < 50 }
         ensures { IsTrue result ↔ IsOfStep first (mark_in self) }
     {
-        // The mark isn't taken out of the code first. One comparison: a lesser code wraps, and is then far above.
+        // The mark isn't taken out of the code first. One comparison: a lesser code wraps, and is
+        // then far above.
         self.code.wrapping_sub(first * 4) < 20
     }
 }
@@ -77,7 +80,8 @@ pub(crate) fn ground_by(character: u8) -> u8
 
 /// The board of the map, on which nobody is yet.
 pub(crate) fn board(alloc: Global, map: &Map) -> Result<Vec<Square>, AllocError>
-    ensures { IfOk result (λ squares. IsLaid map.now squares.items (map.now.height * map.now.width)) }
+    ensures { IfOk result
+        (λ squares. IsLaid map.now squares.items (map.now.height * map.now.width)) }
 {
     let count = (map.height() as usize + 2) * (map.width() as usize + 2);
     let mut squares = vec![in alloc; Square::new(BLOCKED, NOBODY); count]?;

@@ -10,7 +10,8 @@ use grid::Cell;
 use plan_text::Course;
 use std::marker::Model;
 
-/// A plan that is valid on a map, with that map's size. What its agents wait at their ends is left out of their acts.
+/// A plan that is valid on a map, with that map's size. What its agents wait at their ends is left
+/// out of their acts.
 #[derive(Debug, Drop)]
 pub struct CheckedPlan {
     number: u32,
@@ -22,9 +23,17 @@ pub struct CheckedPlan {
 impl Model for CheckedPlan {
     ghost Value = { Checked };
 
-    ghost view = { λ c. record { width = c.width; height = c.height; timetable = record { number = c.number; tracks = map track_along c.courses.items } } };
+    ghost view = { λ c. record {
+      width = c.width;
+      height = c.height;
+      timetable = record { number = c.number; tracks = map track_along c.courses.items };
+    } };
 
-    ghost invariant = { λ c. IsChecked (record { width = c.width; height = c.height; timetable = record { number = c.number; tracks = map track_along c.courses.items } }) };
+    ghost invariant = { λ c. IsChecked (record {
+      width = c.width;
+      height = c.height;
+      timetable = record { number = c.number; tracks = map track_along c.courses.items };
+    }) };
 }
 
 impl CheckedPlan {
@@ -35,8 +44,17 @@ impl CheckedPlan {
         width: u32,
         height: u32,
     ) -> CheckedPlan
-        requires { IsChecked (record { width = width; height = height; timetable = record { number = number; tracks = map track_along courses.items } }) }
-        ensures { result ≡ record { width = width; height = height; timetable = record { number = number; tracks = map track_along courses.items } } }
+        requires { IsChecked
+            (record {
+              width = width;
+              height = height;
+              timetable = record { number = number; tracks = map track_along courses.items };
+            }) }
+        ensures { result ≡ record {
+          width = width;
+          height = height;
+          timetable = record { number = number; tracks = map track_along courses.items };
+        } }
     {
         CheckedPlan {
             number,
@@ -76,10 +94,11 @@ impl CheckedPlan {
         self.courses.len() as u32
     }
 
-    /// The cell in which an agent is at a time, also past its end; `None` where there is no such agent. It takes a step for each
-    /// act before the time.
+    /// The cell in which an agent is at a time, also past its end; `None` where there is no such
+    /// agent. It takes a step for each act before the time.
     pub fn position(&self, agent: u32, time: u32) -> Option<Cell>
-        ensures { result ≡ option_map (λ track. cell_at track time) (track_of self.now.timetable agent) }
+        ensures { result ≡ option_map (λ track. cell_at track time)
+            (track_of self.now.timetable agent) }
     {
         match self.course(agent) {
             Some(course) => Some(cell_after(course.start(), course.acts(), time)),
@@ -131,7 +150,8 @@ impl CheckedPlan {
 
     /// The cell in which an agent comes to rest.
     pub fn rest(&self, agent: u32) -> Option<Cell>
-        ensures { result ≡ option_map (λ track. cell_at track (cost track)) (track_of self.now.timetable agent) }
+        ensures { result ≡ option_map (λ track. cell_at track (cost track))
+            (track_of self.now.timetable agent) }
     {
         match self.cost(agent) {
             Some(cost) => self.position(agent, cost),

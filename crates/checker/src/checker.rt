@@ -27,14 +27,17 @@ use std::alloc::{AllocError, Global};
 /// A plan that was not accepted, and why.
 #[derive(Debug, Drop)]
 pub struct Rejected {
-    /// The least fault by time, then kind (a start or a move, a cell, a swap), then first and second agent.
+    /// The least fault by time, then kind (a start or a move, a cell, a swap), then first and
+    /// second agent.
     pub fault: PlanFault,
     pub plan: Plan,
 }
 
-/// Checks the plan on the map. It compares no pairs of agents, and an agent whose acts are over takes no more time.
+/// Checks the plan on the map. It compares no pairs of agents, and an agent whose acts are over
+/// takes no more time.
 pub fn check(alloc: Global, map: &Map, plan: Plan) -> Result<CheckedPlan, Rejected>
-    ensures { MatchResult result (λ c. IsCheckOf map.now plan c) (λ r. (r.plan ≡ plan) × IsRefusedFor map.now plan r.fault) }
+    ensures { MatchResult result (λ c. IsCheckOf map.now plan c) (λ r. (r.plan ≡ plan)
+        × IsRefusedFor map.now plan r.fault) }
 {
     match find_fault(alloc, map, &plan) {
         Ok(None) => Ok(timetable_of(map, plan)),
@@ -80,10 +83,12 @@ impl Checker<'_> {
         requires starts { ArePassable self.now.map.now self.now.plan.now.courses }
         requires board { IsBoard self.now.map.now squares.old }
         requires unmarked { AreUnmarked squares.old }
-        requires walkers { AreWalkers self.now.map.now self.now.plan.now.courses 0 walkers.old.items }
+        requires walkers { AreWalkers self.now.map.now self.now.plan.now.courses 0
+            walkers.old.items }
         requires agents { AreAllAgents (length self.now.plan.now.courses) walkers.old.items }
         requires rows { AreActRows (length self.now.plan.now.courses) rows.old }
-        requires waits { (k : ℕ) → k < length self.now.plan.now.courses → act_at (row_of_step rows.old 0) k ≡ wait }
+        requires waits { (k : ℕ) → k < length self.now.plan.now.courses
+            → act_at (row_of_step rows.old 0) k ≡ wait }
         ensures { IfOk result (IsVerdict self.now.map.now self.now.plan.now) }
     {
         let fault = self.take_starts(rows[0].acts(), walkers, squares)?;
@@ -135,7 +140,9 @@ impl Checker<'_> {
         requires rows { AreActRows (length self.now.plan.now.courses) rows.now }
         requires room { length walkers.old ≤ length self.now.plan.now.courses }
         requires acts { AreBlockActs self.now.plan.now.courses step walkers.old rows.now }
-        ensures seen { IfOk result (IsSeenAt self.now.map.now self.now.plan.now (step + block_steps) walkers.new squares.new) }
+        ensures seen { IfOk result
+            (IsSeenAt self.now.map.now self.now.plan.now (step + block_steps) walkers.new
+            squares.new) }
         ensures agents { AreSameAgents walkers.old walkers.new }
     {
         for taken in 0..BLOCK {
@@ -147,7 +154,8 @@ impl Checker<'_> {
         Ok(None)
     }
 
-    /// Takes the agents one step on, and answers the least fault of the step. It is looked for only where there may be one.
+    /// Takes the agents one step on, and answers the least fault of the step. It is looked for only
+    /// where there may be one.
     fn take_one(
         &self,
         step: u32,
@@ -160,7 +168,8 @@ impl Checker<'_> {
         requires seen { IsSeen self.now.map.now self.now.plan.now step walkers.old squares.old }
         requires room { length walkers.old ≤ length acts.now }
         requires acts { AreActs self.now.plan.now.courses step walkers.old acts.now }
-        ensures seen { IfOk result (IsSeenAt self.now.map.now self.now.plan.now (step + 1) walkers.new squares.new) }
+        ensures seen { IfOk result
+            (IsSeenAt self.now.map.now self.now.plan.now (step + 1) walkers.new squares.new) }
         ensures agents { AreSameAgents walkers.old walkers.new }
     {
         let turns = Turns::new(self.map.width() + 2, first_mark(step));
@@ -171,7 +180,8 @@ impl Checker<'_> {
         }
     }
 
-    /// Lets all agents wait at their starts, so that two that share one are seen as any that come to one square.
+    /// Lets all agents wait at their starts, so that two that share one are seen as any that come
+    /// to one square.
     fn take_starts(
         &self,
         waits: &[Act],
@@ -185,7 +195,8 @@ impl Checker<'_> {
         requires agents { AreAllAgents (length self.now.plan.now.courses) walkers.old }
         requires room { length walkers.old ≤ length waits.now }
         requires waits { (k : ℕ) → k < length walkers.old → act_at waits.now k ≡ wait }
-        ensures seen { IfOk result (IsSeenAt self.now.map.now self.now.plan.now 0 walkers.new squares.new) }
+        ensures seen { IfOk result
+            (IsSeenAt self.now.map.now self.now.plan.now 0 walkers.new squares.new) }
         ensures count { length walkers.new ≡ length walkers.old }
     {
         let turns = Turns::new(self.map.width() + 2, first_mark(1));

@@ -1,6 +1,9 @@
 //! Agents under way, and how a step takes them on.
 ghost use Rattle.std.specs.Prelude.{◌≡◌, ◌<◌, ◌≤◌, length, true, false};
-ghost use Rattle.checker.specs.Code.Crowd.{turn_by, led_to, AreMarks, AreActTurns, AreMarksOf, AreOldMarks, IsInside, AreInside, KeepGrounds, IsAllowed, IsActRefused, IsMarked, AreLed, AreAllowed, AreSuspect};
+ghost use Rattle.checker.specs.Code.Crowd.{turn_by, led_to, AreMarks, AreActTurns};
+ghost use Rattle.checker.specs.Code.Crowd.{AreMarksOf, AreOldMarks, IsInside, AreInside};
+ghost use Rattle.checker.specs.Code.Crowd.{KeepGrounds, IsAllowed, IsActRefused, IsMarked};
+ghost use Rattle.checker.specs.Code.Crowd.{AreLed, AreAllowed, AreSuspect};
 
 use crate::board::{NOBODY, Square};
 use model::Act;
@@ -85,9 +88,10 @@ impl Turns {
     }
 }
 
-/// Takes all walkers a step on, each by the act in its place. Where the answer is no, nothing is wrong in the step; where it is yes, two of
-/// the walkers are in one another's way, or one comes to ground that isn't its own. It is compiled by
-/// itself, since its loop, which takes most of the time of a check, needs all registers.
+/// Takes all walkers a step on, each by the act in its place. Where the answer is no, nothing is
+/// wrong in the step; where it is yes, two of the walkers are in one another's way, or one comes to
+/// ground that isn't its own. It is compiled by itself, since its loop, which takes most of the
+/// time of a check, needs all registers.
 #[inline(never)]
 pub(crate) fn take_step(
     turns: &Turns,
@@ -102,11 +106,13 @@ pub(crate) fn take_step(
     requires inside { AreInside turns.now (length squares.old) walkers.old }
     ensures led { AreLed turns.now acts.now walkers.old walkers.new }
     ensures grounds { KeepGrounds squares.old squares.new }
-    ensures allowed { result ≡ false → AreAllowed turns.now acts.now walkers.old squares.old (length walkers.old) }
+    ensures allowed { result ≡ false
+        → AreAllowed turns.now acts.now walkers.old squares.old (length walkers.old) }
     ensures suspect { result ≡ true → AreSuspect turns.now acts.now walkers.old squares.old }
     ensures marks { AreMarksOf turns.now.first walkers.new squares.new }
 {
-    // A copy of its own, which no write to a square can change: what all walkers need of it is read once.
+    // A copy of its own, which no write to a square can change: what all walkers need of it is read
+    // once.
     let turns = *turns;
     let mut may_be_wrong = false;
     for place in 0..walkers.len() {

@@ -1,5 +1,6 @@
 //! The least fault of a time, where there may be one.
-ghost use Rattle.std.specs.Prelude.{◌≡◌, ◌+◌, ◌*◌, ◌^◌, ◌<◌, ◌⊎◌, ℕ, length, All, Contains, IfOk, MatchOption};
+ghost use Rattle.std.specs.Prelude.{◌≡◌, ◌+◌, ◌*◌, ◌^◌, ◌<◌, ◌⊎◌};
+ghost use Rattle.std.specs.Prelude.{ℕ, length, All, Contains, IfOk, MatchOption};
 ghost use Rattle.plan_text.specs.Limits.{IsPlan};
 ghost use Rattle.model.specs.Plan.{IsLeastFault};
 ghost use Rattle.checker.specs.Code.Standing.{cell_in};
@@ -20,7 +21,8 @@ pub(crate) fn fault_at_start(
     plan: &Plan,
 ) -> Result<Option<PlanFault>, AllocError>
     requires { ArePassable map.now plan.now.courses }
-    ensures { IfOk result (λ fault. MatchOption fault (IsClean map.now plan.now 1) (IsLeastFault map.now plan.now)) }
+    ensures { IfOk result
+        (λ fault. MatchOption fault (IsClean map.now plan.now 1) (IsLeastFault map.now plan.now)) }
 {
     let courses = plan.courses();
     let cells = starts(alloc, courses)?;
@@ -42,7 +44,8 @@ pub(crate) fn fault_in_step(
     requires step { step + 1 < 2 ^ 32 }
     requires starts { ArePassable map.now plan.now.courses }
     requires clean { IsClean map.now plan.now (step + 1) }
-    ensures { IfOk result (λ fault. MatchOption fault (IsCleanUpTo map.now plan.now (step + 1)) (IsLeastFault map.now plan.now)) }
+    ensures { IfOk result (λ fault. MatchOption fault (IsCleanUpTo map.now plan.now (step + 1))
+        (IsLeastFault map.now plan.now)) }
 {
     let courses = plan.courses();
     let now = cells_at(alloc, map, courses, step)?;
@@ -78,7 +81,8 @@ fn take_step(
     requires next { IsAdvanced map.now plan.now.courses step.now.number step.now.after.now }
     requires agents { All (λ i. i < length step.now.before.now) agents.now }
     requires all { (i : ℕ) → i < length step.now.before.now → Contains agents.now i }
-    ensures { IsWatchedAt map.now plan.now (step.now.number + 1) step.now.after.now table.new result }
+    ensures { IsWatchedAt map.now plan.now (step.now.number + 1) step.now.after.now
+        table.new result }
 {
     // Before the table is changed.
     let swap = find_swap(map, step, agents, table);

@@ -1,6 +1,9 @@
 //! Agents that meet: two in one cell, or two that exchange cells.
-ghost use Rattle.std.specs.Prelude.{◌≡◌, ◌≢◌, ◌+◌, ◌*◌, ◌<◌, ◌⊎◌, ◌↔◌, ℕ, min, max, length, All, Contains, IsTrue, IfNone, IfSome, Some};
-ghost use Rattle.checker.specs.Code.Standing.{cell_in, place_in, entry_at, IsOnGrid, AreOnGrid, NoLater, AreTogether, AreSwapped, IsEntrySound, IsStandingTable, IsLeastPair};
+ghost use Rattle.std.specs.Prelude.{◌≡◌, ◌≢◌, ◌+◌, ◌*◌, ◌<◌, ◌⊎◌, ◌↔◌, ℕ, min};
+ghost use Rattle.std.specs.Prelude.{max, length, All, Contains, IsTrue, IfNone, IfSome, Some};
+ghost use Rattle.checker.specs.Code.Standing.{cell_in, place_in, entry_at, IsOnGrid};
+ghost use Rattle.checker.specs.Code.Standing.{AreOnGrid, NoLater, AreTogether, AreSwapped};
+ghost use Rattle.checker.specs.Code.Standing.{IsEntrySound, IsStandingTable, IsLeastPair};
 
 use grid::{Cell, Map};
 
@@ -19,13 +22,14 @@ pub(crate) struct Step<'a> {
     pub(crate) after: &'a [Cell],
 }
 
-/// Puts the agents into the table, each in its cell, and answers the least pair of all agents in one cell. An entry is the agent that
-/// was last put there; whether it is there is looked up.
+/// Puts the agents into the table, each in its cell, and answers the least pair of all agents in
+/// one cell. An entry is the agent that was last put there; whether it is there is looked up.
 pub(crate) fn enter(map: &Map, cells: &[Cell], agents: &[u16], table: &mut [u16]) -> Option<Pair>
     requires cells { AreOnGrid map.now cells.now }
     requires table { length table.old ≡ map.now.width * map.now.height }
     requires agents { All (λ i. i < length cells.now) agents.now }
-    requires others { (i : ℕ) → i < length cells.now → Contains agents.now i ⊎ entry_at map.now.width table.old (cell_in cells.now i) ≡ i }
+    requires others { (i : ℕ) → i < length cells.now → Contains agents.now i
+        ⊎ entry_at map.now.width table.old (cell_in cells.now i) ≡ i }
     ensures least { IsLeastPair (AreTogether cells.now) result }
     ensures table { IfNone result (IsStandingTable map.now.width cells.now table.new) }
 {
@@ -36,14 +40,18 @@ pub(crate) fn enter(map: &Map, cells: &[Cell], agents: &[u16], table: &mut [u16]
     best
 }
 
-/// Puts an agent into the table, and answers the lesser of the pair so far and that of the agent and the one that is there.
+/// Puts an agent into the table, and answers the lesser of the pair so far and that of the agent
+/// and the one that is there.
 fn put(map: &Map, cells: &[Cell], agent: u16, table: &mut [u16], best: Option<Pair>) -> Option<Pair>
     requires cells { AreOnGrid map.now cells.now }
     requires table { length table.old ≡ map.now.width * map.now.height }
     requires agent { agent < length cells.now }
-    ensures others { (i : ℕ) → i < length cells.now → IsEntrySound map.now.width cells.now table.old best i → IsEntrySound map.now.width cells.now table.new result i }
+    ensures others { (i : ℕ) → i < length cells.now
+        → IsEntrySound map.now.width cells.now table.old best i
+        → IsEntrySound map.now.width cells.now table.new result i }
     ensures own { IsEntrySound map.now.width cells.now table.new result agent }
-    ensures are_together { IfSome best (λ p. AreTogether cells.now p.first p.second) → IfSome result (λ p. AreTogether cells.now p.first p.second) }
+    ensures are_together { IfSome best (λ p. AreTogether cells.now p.first p.second)
+        → IfSome result (λ p. AreTogether cells.now p.first p.second) }
 {
     let cell = cells[usize::from(agent)];
     let place = place_of(map, cell);
@@ -63,7 +71,8 @@ pub(crate) fn find_swap(map: &Map, step: &Step<'_>, agents: &[u16], table: &[u16
     requires size { length table.now ≡ map.now.width * map.now.height }
     requires count { length step.now.after.now ≡ length step.now.before.now }
     requires agents { All (λ i. i < length step.now.before.now) agents.now }
-    requires others { (i : ℕ) → i < length step.now.before.now → Contains agents.now i ⊎ cell_in step.now.after.now i ≡ cell_in step.now.before.now i }
+    requires others { (i : ℕ) → i < length step.now.before.now → Contains agents.now i
+        ⊎ cell_in step.now.after.now i ≡ cell_in step.now.before.now i }
     requires table { IsStandingTable map.now.width step.now.before.now table.now }
     ensures { IsLeastPair (AreSwapped step.now.before.now step.now.after.now) result }
 {
@@ -82,9 +91,12 @@ fn cross(map: &Map, step: &Step<'_>, agent: u16, table: &[u16], best: Option<Pai
     requires agent { agent < length step.now.before.now }
     requires table { IsStandingTable map.now.width step.now.before.now table.now }
     ensures kept { (i j : ℕ) → NoLater best i j → NoLater result i j }
-    ensures first { (j : ℕ) → AreSwapped step.now.before.now step.now.after.now agent j → NoLater result agent j }
-    ensures second { (j : ℕ) → AreSwapped step.now.before.now step.now.after.now j agent → NoLater result j agent }
-    ensures are_swapped { IfSome best (λ p. AreSwapped step.now.before.now step.now.after.now p.first p.second) → IfSome result (λ p. AreSwapped step.now.before.now step.now.after.now p.first p.second) }
+    ensures first { (j : ℕ) → AreSwapped step.now.before.now step.now.after.now agent j
+        → NoLater result agent j }
+    ensures second { (j : ℕ) → AreSwapped step.now.before.now step.now.after.now j agent
+        → NoLater result j agent }
+    ensures are_swapped { IfSome best (λ p. AreSwapped step.now.before.now step.now.after.now p.first p.second)
+        → IfSome result (λ p. AreSwapped step.now.before.now step.now.after.now p.first p.second) }
 {
     let from = step.before[usize::from(agent)];
     let to = step.after[usize::from(agent)];

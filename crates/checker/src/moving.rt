@@ -3,7 +3,8 @@ ghost use Rattle.std.specs.Prelude.{◌≡◌, ◌<◌, ◌≤◌, ◌↔◌, le
 ghost use Rattle.grid.specs.Map.{terrain_at, AreJoined};
 ghost use Rattle.model.specs.Plan.{IsPassable};
 ghost use Rattle.plan_text.specs.Limits.{most_agents};
-ghost use Rattle.checker.specs.Moving.{IsOnGrid, IsFirst, ArePassable, HasBadStart, IsMoved, cell_by};
+ghost use Rattle.checker.specs.Moving.{IsOnGrid, IsFirst, ArePassable};
+ghost use Rattle.checker.specs.Moving.{HasBadStart, IsMoved, cell_by};
 ghost use Rattle.checker.specs.Code.Walking.{LeadsBeside, is_land_character, joins_by};
 
 use crate::meeting::place_of;
@@ -14,7 +15,8 @@ use plan_text::Course;
 /// The first agent whose start is off the map or blocked.
 pub fn bad_start(map: &Map, courses: &[Course]) -> Option<u32>
     requires { length courses.now ≤ most_agents }
-    ensures { MatchOption result (ArePassable map.now courses.now) (IsFirst (HasBadStart map.now courses.now)) }
+    ensures { MatchOption result (ArePassable map.now courses.now)
+        (IsFirst (HasBadStart map.now courses.now)) }
 {
     for agent in 0..courses.len() {
         if !is_passable(map, courses[agent].start()) {
@@ -42,7 +44,8 @@ pub fn moved(map: &Map, from: Cell, act: Act) -> Option<Cell>
     // A map is narrow enough for one cell more.
     let _width = map.width();
     let to = beside(from, act);
-    // The terrain first: it mostly joins, also where an agent waits, and then nobody asks which act it is.
+    // The terrain first: it mostly joins, also where an agent waits, and then nobody asks which act
+    // it is.
     if are_joined(map, from, to) {
         return Some(to);
     }
@@ -52,8 +55,9 @@ pub fn moved(map: &Map, from: Cell, act: Act) -> Option<Cell>
     }
 }
 
-/// The cell to which the act leads; beyond the north and the west there is none, and the answer is a cell that is on no map. It asks for
-/// each act by itself: which one comes can't be foreseen, and a choice between all of them would become a jump.
+/// The cell to which the act leads; beyond the north and the west there is none, and the answer is
+/// a cell that is on no map. It asks for each act by itself: which one comes can't be foreseen, and
+/// a choice between all of them would become a jump.
 fn beside(from: Cell, act: Act) -> Cell
     requires column { from.x < 65535 }
     requires row { from.y < 65535 }
@@ -103,8 +107,8 @@ fn is_land(character: u8) -> bool
     matches!(character, b'.' | b'G' | b'S')
 }
 
-/// The cell to which an act leads, on a map that is large enough. It adds and takes away, and asks for no act, since which one comes can't be
-/// foreseen.
+/// The cell to which an act leads, on a map that is large enough. It adds and takes away, and asks
+/// for no act, since which one comes can't be foreseen.
 pub fn next_cell(cell: Cell, act: Act) -> Cell
     requires column { (cell_by act cell).x < 65536 }
     requires row { (cell_by act cell).y < 65536 }

@@ -11,7 +11,8 @@ use grid::Map;
 use plan_text::Course;
 use std::alloc::{AllocError, Global};
 
-/// Whether an agent may have a bad move. Where the answer is no, none has. It takes memory for the map's board, and is much faster than to ask
+/// Whether an agent may have a bad move. Where the answer is no, none has. It takes memory for the
+/// map's board, and is much faster than to ask
 /// `moved` of each act.
 pub fn may_stray(alloc: Global, map: &Map, courses: &[Course]) -> Result<bool, AllocError>
     requires { ArePassable map.now courses.now }

@@ -3,7 +3,8 @@ ghost use Rattle.std.specs.Prelude.{◌≡◌, ◌+◌, ◌<◌, ◌≤◌, ◌^
 ghost use Rattle.model.specs.Plan.{position_of, position_at, IsPassable, IsBadMove};
 ghost use Rattle.plan_text.specs.Limits.{most_agents};
 ghost use Rattle.checker.specs.Code.Standing.{IsOnGrid, AreOnGrid};
-ghost use Rattle.checker.specs.Code.Walking.{AreAt, ArePassable, IsAhead, IsAdvanced, IsFirst, HasBadMove, HasNoBadMove};
+ghost use Rattle.checker.specs.Code.Walking.{AreAt, ArePassable, IsAhead, IsAdvanced};
+ghost use Rattle.checker.specs.Code.Walking.{IsFirst, HasBadMove, HasNoBadMove};
 
 use crate::moving::{moved, next_cell};
 use grid::{Cell, Map};
@@ -43,7 +44,8 @@ fn cell_at(map: &Map, course: &Course, step: u32) -> Cell
     cell
 }
 
-/// The cell after a step that isn't bad: no terrain is looked at, which takes most of the time of a step.
+/// The cell after a step that isn't bad: no terrain is looked at, which takes most of the time of a
+/// step.
 fn ahead(map: &Map, course: &Course, step: u32, from: Cell) -> Cell
     requires at { position_of from ≡ position_at course.now step }
     requires on_map { IsOnGrid map.now from }
@@ -65,7 +67,8 @@ pub(crate) fn advance(map: &Map, courses: &[Course], step: u32, cells: &mut [Cel
     requires agents { length courses.now ≤ most_agents }
     requires at { AreAt courses.now step cells.old }
     requires on_map { AreOnGrid map.now cells.old }
-    ensures { MatchOption result (IsAdvanced map.now courses.now step cells.new) (IsFirst (HasBadMove map.now courses.now step)) }
+    ensures { MatchOption result (IsAdvanced map.now courses.now step cells.new)
+        (IsFirst (HasBadMove map.now courses.now step)) }
 {
     for agent in 0..courses.len() {
         match after(map, &courses[agent], step, cells[agent]) {
@@ -80,7 +83,8 @@ pub(crate) fn advance(map: &Map, courses: &[Course], step: u32, cells: &mut [Cel
 fn after(map: &Map, course: &Course, step: u32, from: Cell) -> Option<Cell>
     requires at { position_of from ≡ position_at course.now step }
     requires on_map { IsOnGrid map.now from }
-    ensures { MatchOption result (IsBadMove map.now course.now step) (IsAhead map.now course.now step) }
+    ensures { MatchOption result (IsBadMove map.now course.now step)
+        (IsAhead map.now course.now step) }
 {
     let acts = course.acts();
     if (step as usize) < acts.len() {

@@ -15,7 +15,8 @@ use std::alloc::Global;
 /// Reads `agent` by the words that it was given.
 pub(crate) fn read_agent(alloc: Global, given: &ArgMatches<'_>) -> Result<Line, LineFault>
     ensures ok { IfOk result (IsCommand (codes "agent") (rows_of (found_of given.now))) }
-    ensures err { IfErr result (λ e. HasWords (codes "agent") (rows_of (found_of given.now)) → HasValues (codes "agent") (rows_of (found_of given.now))
+    ensures err { IfErr result (λ e. HasWords (codes "agent") (rows_of (found_of given.now))
+        → HasValues (codes "agent") (rows_of (found_of given.now))
         → e ≡ LineFault.OutOfMemory) }
     ensures refusal { IfErr result IsRefusal }
 {
@@ -31,7 +32,8 @@ pub(crate) fn read_agent(alloc: Global, given: &ArgMatches<'_>) -> Result<Line, 
 /// Reads `tape` by the words that it was given.
 pub(crate) fn read_tape(alloc: Global, given: &ArgMatches<'_>) -> Result<Line, LineFault>
     ensures ok { IfOk result (IsCommand (codes "tape") (rows_of (found_of given.now))) }
-    ensures err { IfErr result (λ e. HasWords (codes "tape") (rows_of (found_of given.now)) → HasValues (codes "tape") (rows_of (found_of given.now))
+    ensures err { IfErr result (λ e. HasWords (codes "tape") (rows_of (found_of given.now))
+        → HasValues (codes "tape") (rows_of (found_of given.now))
         → e ≡ LineFault.OutOfMemory) }
     ensures refusal { IfErr result IsRefusal }
 {
@@ -46,7 +48,8 @@ pub(crate) fn read_tape(alloc: Global, given: &ArgMatches<'_>) -> Result<Line, L
 /// Reads `status` by the words that it was given.
 pub(crate) fn read_status(alloc: Global, given: &ArgMatches<'_>) -> Result<Line, LineFault>
     ensures ok { IfOk result (IsCommand (codes "status") (rows_of (found_of given.now))) }
-    ensures err { IfErr result (λ e. HasWords (codes "status") (rows_of (found_of given.now)) → HasValues (codes "status") (rows_of (found_of given.now))
+    ensures err { IfErr result (λ e. HasWords (codes "status") (rows_of (found_of given.now))
+        → HasValues (codes "status") (rows_of (found_of given.now))
         → e ≡ LineFault.OutOfMemory) }
     ensures refusal { IfErr result IsRefusal }
 {
@@ -63,7 +66,8 @@ pub(crate) fn read_status(alloc: Global, given: &ArgMatches<'_>) -> Result<Line,
 /// Reads `handover` by the words that it was given.
 pub(crate) fn read_handover(alloc: Global, given: &ArgMatches<'_>) -> Result<Line, LineFault>
     ensures ok { IfOk result (IsCommand (codes "handover") (rows_of (found_of given.now))) }
-    ensures err { IfErr result (λ e. HasWords (codes "handover") (rows_of (found_of given.now)) → HasValues (codes "handover") (rows_of (found_of given.now))
+    ensures err { IfErr result (λ e. HasWords (codes "handover") (rows_of (found_of given.now))
+        → HasValues (codes "handover") (rows_of (found_of given.now))
         → e ≡ LineFault.OutOfMemory) }
     ensures refusal { IfErr result IsRefusal }
 {
@@ -78,7 +82,8 @@ pub(crate) fn read_handover(alloc: Global, given: &ArgMatches<'_>) -> Result<Lin
 /// Reads `anew` by the words that it was given.
 pub(crate) fn read_anew(alloc: Global, given: &ArgMatches<'_>) -> Result<Line, LineFault>
     ensures ok { IfOk result (IsCommand (codes "anew") (rows_of (found_of given.now))) }
-    ensures err { IfErr result (λ e. HasWords (codes "anew") (rows_of (found_of given.now)) → HasValues (codes "anew") (rows_of (found_of given.now))
+    ensures err { IfErr result (λ e. HasWords (codes "anew") (rows_of (found_of given.now))
+        → HasValues (codes "anew") (rows_of (found_of given.now))
         → e ≡ LineFault.OutOfMemory) }
     ensures refusal { IfErr result IsRefusal }
 {

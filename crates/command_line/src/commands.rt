@@ -6,8 +6,8 @@ ghost use Rattle.command_line.specs.Code.Parts.{shape_of_text, shapes_of};
 use crate::help::Word::{Cell as CellOption, Flag, Named, Required};
 use crate::help::{CommandText, EXPLAIN};
 
-/// The commands over maps and scenarios, in the order in which help lists them. Those over plans follow, and then those of runs: as one list they
-/// would be too much for one proof.
+/// The commands over maps and scenarios, in the order in which help lists them. Those over plans
+/// follow, and then those of runs: as one list they would be too much for one proof.
 pub(crate) fn text_commands() -> &'static [CommandText<'static>]
     ensures { map shape_of_text result.now ≡ shapes_of (take 4 commands) }
 {

@@ -63,7 +63,8 @@ pub enum Line {
     Fleet(FleetLine),
 }
 
-/// The rows from one up to before another; `straight` asks for the least numbers of straight steps, and `progress` for how far that has come.
+/// The rows from one up to before another; `straight` asks for the least numbers of straight steps,
+/// and `progress` for how far that has come.
 #[derive(Debug, Drop, PartialEq, Eq)]
 pub struct RowsLine {
     pub map: String,
@@ -74,7 +75,8 @@ pub struct RowsLine {
     pub progress: bool,
 }
 
-/// Perhaps the plan has to solve the first rows of a scenario, to have so many agents, or no rotation; `all` asks for its faults, up to so many,
+/// Perhaps the plan has to solve the first rows of a scenario, to have so many agents, or no
+/// rotation; `all` asks for its faults, up to so many,
 /// `bound` for what such plans cost at least, and `json` for the answer as JSON.
 #[derive(Debug, Drop, PartialEq, Eq)]
 pub struct CheckLine {
@@ -104,7 +106,8 @@ pub enum PlanQuery {
     Deps { cell: Option<Cell> },
     /// Where the agents are at each time, or where one of them is.
     Path { agent: Option<u16> },
-    /// What it costs, and at least, and perhaps each of its agents; `json` asks for the answer as JSON.
+    /// What it costs, and at least, and perhaps each of its agents; `json` asks for the answer as
+    /// JSON.
     Bound { agents: bool, json: bool },
     /// The plan without what its agents do from a time on.
     Cut { time: u32 },

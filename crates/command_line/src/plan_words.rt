@@ -13,7 +13,8 @@ use std::alloc::Global;
 /// Reads `deps` by the words that it was given.
 pub(crate) fn read_deps(alloc: Global, given: &ArgMatches<'_>) -> Result<Line, LineFault>
     ensures ok { IfOk result (IsCommand (codes "deps") (rows_of (found_of given.now))) }
-    ensures err { IfErr result (λ e. HasWords (codes "deps") (rows_of (found_of given.now)) → HasValues (codes "deps") (rows_of (found_of given.now))
+    ensures err { IfErr result (λ e. HasWords (codes "deps") (rows_of (found_of given.now))
+        → HasValues (codes "deps") (rows_of (found_of given.now))
         → e ≡ LineFault.OutOfMemory) }
     ensures refusal { IfErr result IsRefusal }
 {
@@ -29,7 +30,8 @@ pub(crate) fn read_deps(alloc: Global, given: &ArgMatches<'_>) -> Result<Line, L
 /// Reads `path` by the words that it was given.
 pub(crate) fn read_path(alloc: Global, given: &ArgMatches<'_>) -> Result<Line, LineFault>
     ensures ok { IfOk result (IsCommand (codes "path") (rows_of (found_of given.now))) }
-    ensures err { IfErr result (λ e. HasWords (codes "path") (rows_of (found_of given.now)) → HasValues (codes "path") (rows_of (found_of given.now))
+    ensures err { IfErr result (λ e. HasWords (codes "path") (rows_of (found_of given.now))
+        → HasValues (codes "path") (rows_of (found_of given.now))
         → e ≡ LineFault.OutOfMemory) }
     ensures refusal { IfErr result IsRefusal }
 {
@@ -45,7 +47,8 @@ pub(crate) fn read_path(alloc: Global, given: &ArgMatches<'_>) -> Result<Line, L
 /// Reads `bound` by the words that it was given.
 pub(crate) fn read_bound(alloc: Global, given: &ArgMatches<'_>) -> Result<Line, LineFault>
     ensures ok { IfOk result (IsCommand (codes "bound") (rows_of (found_of given.now))) }
-    ensures err { IfErr result (λ e. HasWords (codes "bound") (rows_of (found_of given.now)) → e ≡ LineFault.OutOfMemory) }
+    ensures err { IfErr result (λ e. HasWords (codes "bound") (rows_of (found_of given.now))
+        → e ≡ LineFault.OutOfMemory) }
     ensures refusal { IfErr result IsRefusal }
 {
     Ok(Line::Query {
@@ -61,7 +64,8 @@ pub(crate) fn read_bound(alloc: Global, given: &ArgMatches<'_>) -> Result<Line, 
 /// Reads `cut` by the words that it was given.
 pub(crate) fn read_cut(alloc: Global, given: &ArgMatches<'_>) -> Result<Line, LineFault>
     ensures ok { IfOk result (IsCommand (codes "cut") (rows_of (found_of given.now))) }
-    ensures err { IfErr result (λ e. HasWords (codes "cut") (rows_of (found_of given.now)) → HasValues (codes "cut") (rows_of (found_of given.now))
+    ensures err { IfErr result (λ e. HasWords (codes "cut") (rows_of (found_of given.now))
+        → HasValues (codes "cut") (rows_of (found_of given.now))
         → e ≡ LineFault.OutOfMemory) }
     ensures refusal { IfErr result IsRefusal }
 {
@@ -77,7 +81,8 @@ pub(crate) fn read_cut(alloc: Global, given: &ArgMatches<'_>) -> Result<Line, Li
 /// Reads `continues` by the words that it was given.
 pub(crate) fn read_continues(alloc: Global, given: &ArgMatches<'_>) -> Result<Line, LineFault>
     ensures ok { IfOk result (IsCommand (codes "continues") (rows_of (found_of given.now))) }
-    ensures err { IfErr result (λ e. HasWords (codes "continues") (rows_of (found_of given.now)) → e ≡ LineFault.OutOfMemory) }
+    ensures err { IfErr result (λ e. HasWords (codes "continues") (rows_of (found_of given.now))
+        → e ≡ LineFault.OutOfMemory) }
     ensures refusal { IfErr result IsRefusal }
 {
     Ok(Line::Continues {
@@ -90,7 +95,8 @@ pub(crate) fn read_continues(alloc: Global, given: &ArgMatches<'_>) -> Result<Li
 /// Reads `optimal` by the words that it was given.
 pub(crate) fn read_optimal(alloc: Global, given: &ArgMatches<'_>) -> Result<Line, LineFault>
     ensures ok { IfOk result (IsCommand (codes "optimal") (rows_of (found_of given.now))) }
-    ensures err { IfErr result (λ e. HasWords (codes "optimal") (rows_of (found_of given.now)) → e ≡ LineFault.OutOfMemory) }
+    ensures err { IfErr result (λ e. HasWords (codes "optimal") (rows_of (found_of given.now))
+        → e ≡ LineFault.OutOfMemory) }
     ensures refusal { IfErr result IsRefusal }
 {
     Ok(Line::Optimal(OptimalLine {

@@ -21,7 +21,8 @@ pub(crate) fn read_command(
     given: &ArgMatches<'_>,
 ) -> Result<Line, LineFault>
     ensures ok { IfOk result (IsCommand name.now (rows_of (found_of given.now))) }
-    ensures err { IfErr result (λ e. HasWords name.now (rows_of (found_of given.now)) → HasValues name.now (rows_of (found_of given.now))
+    ensures err { IfErr result (λ e. HasWords name.now (rows_of (found_of given.now))
+        → HasValues name.now (rows_of (found_of given.now))
         → e ≡ LineFault.OutOfMemory) }
     ensures refusal { IfErr result IsRefusal }
 {
@@ -54,7 +55,8 @@ pub(crate) fn read_command(
 /// Reads `row` by the words that it was given.
 fn read_row(alloc: Global, given: &ArgMatches<'_>) -> Result<Line, LineFault>
     ensures ok { IfOk result (IsCommand (codes "row") (rows_of (found_of given.now))) }
-    ensures err { IfErr result (λ e. HasWords (codes "row") (rows_of (found_of given.now)) → HasValues (codes "row") (rows_of (found_of given.now))
+    ensures err { IfErr result (λ e. HasWords (codes "row") (rows_of (found_of given.now))
+        → HasValues (codes "row") (rows_of (found_of given.now))
         → e ≡ LineFault.OutOfMemory) }
     ensures refusal { IfErr result IsRefusal }
 {
@@ -68,7 +70,8 @@ fn read_row(alloc: Global, given: &ArgMatches<'_>) -> Result<Line, LineFault>
 /// Reads `rows` by the words that it was given.
 fn read_rows(alloc: Global, given: &ArgMatches<'_>) -> Result<Line, LineFault>
     ensures ok { IfOk result (IsCommand (codes "rows") (rows_of (found_of given.now))) }
-    ensures err { IfErr result (λ e. HasWords (codes "rows") (rows_of (found_of given.now)) → HasValues (codes "rows") (rows_of (found_of given.now))
+    ensures err { IfErr result (λ e. HasWords (codes "rows") (rows_of (found_of given.now))
+        → HasValues (codes "rows") (rows_of (found_of given.now))
         → e ≡ LineFault.OutOfMemory) }
     ensures refusal { IfErr result IsRefusal }
 {
@@ -85,7 +88,8 @@ fn read_rows(alloc: Global, given: &ArgMatches<'_>) -> Result<Line, LineFault>
 /// Reads `check` by the words that it was given.
 fn read_check(alloc: Global, given: &ArgMatches<'_>) -> Result<Line, LineFault>
     ensures ok { IfOk result (IsCommand (codes "check") (rows_of (found_of given.now))) }
-    ensures err { IfErr result (λ e. HasWords (codes "check") (rows_of (found_of given.now)) → HasValues (codes "check") (rows_of (found_of given.now))
+    ensures err { IfErr result (λ e. HasWords (codes "check") (rows_of (found_of given.now))
+        → HasValues (codes "check") (rows_of (found_of given.now))
         → e ≡ LineFault.OutOfMemory) }
     ensures refusal { IfErr result IsRefusal }
 {
@@ -104,7 +108,8 @@ fn read_check(alloc: Global, given: &ArgMatches<'_>) -> Result<Line, LineFault>
 /// Reads `run` by the words that it was given.
 fn read_run(alloc: Global, given: &ArgMatches<'_>) -> Result<Line, LineFault>
     ensures ok { IfOk result (IsCommand (codes "run") (rows_of (found_of given.now))) }
-    ensures err { IfErr result (λ e. HasWords (codes "run") (rows_of (found_of given.now)) → e ≡ LineFault.OutOfMemory) }
+    ensures err { IfErr result (λ e. HasWords (codes "run") (rows_of (found_of given.now))
+        → e ≡ LineFault.OutOfMemory) }
     ensures refusal { IfErr result IsRefusal }
 {
     Ok(Line::Run {

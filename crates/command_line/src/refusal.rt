@@ -9,7 +9,8 @@ use std::alloc::{AllocError, Global};
 /// How `clap` begins its advice for a word that begins like a negative number.
 const TIP_OF_MINUS: &str = "  tip: to pass '-";
 
-/// What is said of these words, which `clap` refused with this error, or the help that they ask for.
+/// What is said of these words, which `clap` refused with this error, or the help that they ask
+/// for.
 pub(crate) fn refusal_text(
     alloc: Global,
     words: &[String],
@@ -117,7 +118,8 @@ fn are_exchanged(word: &[u8], command: &[u8]) -> bool {
     }
 }
 
-/// Says that a word is no option. Where numbers are wanted, `clap`'s advice for a negative one leads to another refusal.
+/// Says that a word is no option. Where numbers are wanted, `clap`'s advice for a negative one
+/// leads to another refusal.
 fn unknown_argument(
     alloc: Global,
     words: &[String],
@@ -154,7 +156,8 @@ fn around_minus_tip(text: &str) -> Option<(&str, &str)> {
     }
 }
 
-/// The text of `clap`, in which no byte of a word moves the cursor: it is asked again with the words as they are shown.
+/// The text of `clap`, in which no byte of a word moves the cursor: it is asked again with the
+/// words as they are shown.
 fn clap_text(alloc: Global, words: &[String], error: &ClapError) -> Result<String, AllocError> {
     if words.iter().all(|word| is_plain(word)) {
         return format!(in alloc; "{error}");

@@ -7,9 +7,11 @@ use std::alloc::{AllocError, Global};
 /// What `--all` alone stands for.
 const ALL: &str = "--all=1000";
 
-/// The words with `--all=1000` for `--all`, where they are those of `check`: so that its option takes a value behind `=` alone.
+/// The words with `--all=1000` for `--all`, where they are those of `check`: so that its option
+/// takes a value behind `=` alone.
 pub(crate) fn spelled_out(alloc: Global, words: &[String]) -> Result<Vec<String>, AllocError>
-    ensures { IfOk result (λ spelled. map string_bytes spelled.items ≡ spelled_out (map string_bytes words.now)) }
+    ensures { IfOk result (λ spelled. map string_bytes spelled.items
+        ≡ spelled_out (map string_bytes words.now)) }
 {
     let mut spelled = Vec::with_capacity(alloc, words.len())?;
     match words {
@@ -29,7 +31,8 @@ pub(crate) fn spelled_out(alloc: Global, words: &[String]) -> Result<Vec<String>
 
 /// Adds words as they are.
 fn push_all(spelled: &mut Vec<String>, words: &[String]) -> Result<(), AllocError>
-    ensures { IfOk result (λ _. map string_bytes spelled.new.items ≡ map string_bytes spelled.old.items ++ map string_bytes words.now) }
+    ensures { IfOk result (λ _. map string_bytes spelled.new.items
+        ≡ map string_bytes spelled.old.items ++ map string_bytes words.now) }
 {
     for word in words {
         spelled.push(word.clone()?)?;
@@ -43,7 +46,8 @@ fn push_spelled(
     spelled: &mut Vec<String>,
     words: &[String],
 ) -> Result<(), AllocError>
-    ensures { IfOk result (λ _. map string_bytes spelled.new.items ≡ map string_bytes spelled.old.items ++ with_all_spelled (map string_bytes words.now)) }
+    ensures { IfOk result (λ _. map string_bytes spelled.new.items
+        ≡ map string_bytes spelled.old.items ++ with_all_spelled (map string_bytes words.now)) }
 {
     for (at, word) in words.iter().enumerate() {
         if word.as_str() == "--" {

@@ -1,12 +1,22 @@
 //! The words of the command line.
-ghost use Rattle.std.specs.Prelude.{◌≡◌, ◌↔◌, ℕ, ◌^◌, ◌<◌, ◌≤◌, ◌==◌, [], codes, true, false, IfOk, IfErr, OnOk, OnErr, MatchOption, IsTrue, Some, is_some, map, option_map, fold, string_bytes};
+ghost use Rattle.std.specs.Prelude.{◌≡◌, ◌↔◌, ℕ, ◌^◌, ◌<◌, ◌≤◌, ◌==◌, []};
+ghost use Rattle.std.specs.Prelude.{codes, true, false, IfOk, IfErr, OnOk, OnErr, MatchOption};
+ghost use Rattle.std.specs.Prelude.{IsTrue, Some, is_some, map, option_map, fold, string_bytes};
 ghost use Rattle.std.specs.Char.{is_ascii_digit};
 ghost use Rattle.std.specs.List.{list_all, list_any};
-ghost use Rattle.clap.specs.Words.{app_of, with_subcommand, first_of, found_of, rows_of, rule_of, takes, fault_of};
+ghost use Rattle.clap.specs.Words.{app_of, with_subcommand, first_of, found_of};
+ghost use Rattle.clap.specs.Words.{rows_of, rule_of, takes, fault_of};
 ghost use Rattle.grid.specs.declared.cell.Cell.{Cell};
 ghost use Rattle.text_io.specs.Text.{SpellsNumber};
 ghost use Rattle.tape_claim.specs.declared.TapeClaim.{TapeClaim};
-ghost use Rattle.command_line.specs.Words.{program_app, AsksToExplain, IsFlagGiven, HasValues, GivesNumber, GivesNumberBelow, GiveValues, SpellsCell, MayGiveCell, GivesCells, GivesClaim, MakesClaim, SaysClaim, MayGiveNumber, GivesNumbers, IsAskedBy, IsLineBy, IsFaultBy, IsLineOf, IsFaultOf, GivesNumbersFrom, MayGiveNumberFrom, GivesPattern, spelled_out};
+ghost use Rattle.command_line.specs.Words.{program_app, AsksToExplain, IsFlagGiven};
+ghost use Rattle.command_line.specs.Words.{HasValues, GivesNumber, GivesNumberBelow};
+ghost use Rattle.command_line.specs.Words.{GiveValues, SpellsCell, MayGiveCell};
+ghost use Rattle.command_line.specs.Words.{GivesCells, GivesClaim, MakesClaim};
+ghost use Rattle.command_line.specs.Words.{SaysClaim, MayGiveNumber, GivesNumbers};
+ghost use Rattle.command_line.specs.Words.{IsAskedBy, IsLineBy, IsFaultBy};
+ghost use Rattle.command_line.specs.Words.{IsLineOf, IsFaultOf, GivesNumbersFrom};
+ghost use Rattle.command_line.specs.Words.{MayGiveNumberFrom, GivesPattern, spelled_out};
 ghost use Rattle.command_line.specs.Code.Parts.{HasWords, IsRefusal, rule_of_word, shape_of_text};
 
 use crate::command_line::refused;
@@ -25,8 +35,10 @@ use tape_claim::TapeClaim;
 /// Reads the words of the command line, the program's name first.
 pub fn line(alloc: Global, words: &[String]) -> Result<Asked, LineFault>
     ensures command { IfOk result (IsLineOf (map string_bytes words.now)) }
-    ensures taken { OnOk result (fault_of program_app (spelled_out (map string_bytes words.now)) ≡ []) }
-    ensures refused { IfErr result (λ e. takes program_app (spelled_out (map string_bytes words.now)) ≡ true
+    ensures taken { OnOk result
+        (fault_of program_app (spelled_out (map string_bytes words.now)) ≡ []) }
+    ensures refused { IfErr result
+        (λ e. takes program_app (spelled_out (map string_bytes words.now)) ≡ true
         → GiveValues (spelled_out (map string_bytes words.now)) → e ≡ LineFault.OutOfMemory) }
     ensures fault { IfErr result (IsFaultOf (map string_bytes words.now)) }
 {
@@ -56,7 +68,8 @@ fn read_line(alloc: Global, words: &[String]) -> Result<Asked, LineFault>
 /// Reads the command with this name, by the words that it was given, and whether more is asked for.
 fn read_asked(alloc: Global, name: &str, given: &ArgMatches<'_>) -> Result<Asked, LineFault>
     ensures ok { IfOk result (IsAskedBy name.now (rows_of (found_of given.now))) }
-    ensures err { IfErr result (λ e. HasWords name.now (rows_of (found_of given.now)) → HasValues name.now (rows_of (found_of given.now))
+    ensures err { IfErr result (λ e. HasWords name.now (rows_of (found_of given.now))
+        → HasValues name.now (rows_of (found_of given.now))
         → e ≡ LineFault.OutOfMemory) }
     ensures refusal { IfErr result IsRefusal }
 {
@@ -86,7 +99,8 @@ fn with_commands<'a>(
     bare: Command<'a>,
     texts: &[CommandText<'a>],
 ) -> Result<Command<'a>, AllocError>
-    ensures { IfOk result (λ c. app_of c ≡ fold with_subcommand (app_of bare.entry) (map shape_of_text texts.now)) }
+    ensures { IfOk result
+        (λ c. app_of c ≡ fold with_subcommand (app_of bare.entry) (map shape_of_text texts.now)) }
 {
     let mut program = bare;
     for text in texts {
@@ -101,7 +115,8 @@ fn with_command<'a>(
     program: Command<'a>,
     text: &CommandText<'a>,
 ) -> Result<Command<'a>, AllocError>
-    ensures { IfOk result (λ c. app_of c ≡ with_subcommand (app_of program.entry) (shape_of_text text.now)) }
+    ensures { IfOk result
+        (λ c. app_of c ≡ with_subcommand (app_of program.entry) (shape_of_text text.now)) }
 {
     let mut command = Command::new(alloc, text.name)
         .about(text.about)
@@ -140,7 +155,8 @@ pub(crate) fn long_number(
     text: &NumberText,
 ) -> Result<u32, LineFault>
     ensures ok { IfOk result (GivesNumber name.now (rows_of (found_of given.now))) }
-    ensures none { OnErr result (GivesNumberBelow (2 ^ 32) name.now (rows_of (found_of given.now)) → ⊥) }
+    ensures none { OnErr result
+        (GivesNumberBelow (2 ^ 32) name.now (rows_of (found_of given.now)) → ⊥) }
     ensures err { IfErr result IsRefusal }
 {
     match number(given, name) {
@@ -156,7 +172,8 @@ pub(crate) fn agent_id(
     text: &NumberText,
 ) -> Result<u16, LineFault>
     ensures ok { IfOk result (GivesNumber (codes "id") (rows_of (found_of given.now))) }
-    ensures none { OnErr result (GivesNumberBelow (2 ^ 16) (codes "id") (rows_of (found_of given.now)) → ⊥) }
+    ensures none { OnErr result
+        (GivesNumberBelow (2 ^ 16) (codes "id") (rows_of (found_of given.now)) → ⊥) }
     ensures err { IfErr result IsRefusal }
 {
     match short_number(given, "id") {
@@ -165,7 +182,8 @@ pub(crate) fn agent_id(
     }
 }
 
-/// The number that an option was given, if it was given one. The text is what is said of a word that is none.
+/// The number that an option was given, if it was given one. The text is what is said of a word
+/// that is none.
 pub(crate) fn optional_number(
     alloc: Global,
     given: &ArgMatches<'_>,
@@ -173,7 +191,8 @@ pub(crate) fn optional_number(
     text: &str,
 ) -> Result<Option<u16>, LineFault>
     ensures ok { IfOk result (MayGiveNumber name.now (rows_of (found_of given.now))) }
-    ensures none { OnErr result (GivesNumbers (2 ^ 16) name.now (rows_of (found_of given.now)) → ⊥) }
+    ensures none { OnErr result
+        (GivesNumbers (2 ^ 16) name.now (rows_of (found_of given.now)) → ⊥) }
     ensures err { IfErr result IsRefusal }
 {
     let Some(digits) = given.get_str(name) else {
@@ -194,7 +213,8 @@ pub(crate) fn optional_long_number(
     text: &str,
 ) -> Result<Option<u32>, LineFault>
     ensures ok { IfOk result (MayGiveNumberFrom least name.now (rows_of (found_of given.now))) }
-    ensures none { OnErr result (GivesNumbersFrom least name.now (rows_of (found_of given.now)) → ⊥) }
+    ensures none { OnErr result
+        (GivesNumbersFrom least name.now (rows_of (found_of given.now)) → ⊥) }
     ensures err { IfErr result IsRefusal }
 {
     let Some(digits) = given.get_str(name) else {
@@ -223,7 +243,8 @@ pub(crate) fn tape_claim(alloc: Global, given: &ArgMatches<'_>) -> Result<TapeCl
 
 /// The claim that a word makes, if it makes one.
 fn claim_of(word: &str) -> Option<TapeClaim>
-    ensures { MatchOption result ((claim : TapeClaim) → SaysClaim claim word.now → ⊥) (λ claim. SaysClaim claim word.now) }
+    ensures { MatchOption result ((claim : TapeClaim) → SaysClaim claim word.now → ⊥)
+        (λ claim. SaysClaim claim word.now) }
 {
     match word {
         "new" => Some(TapeClaim::New),
@@ -252,7 +273,8 @@ pub(crate) fn optional_cell(
 
 /// The cell whose column and row are spelled, if there are two such values.
 fn cell_of(values: &[&str]) -> Option<Cell>
-    ensures { MatchOption result ((cell : Cell) → cell.x < 2 ^ 16 → cell.y < 2 ^ 16 → SpellsCell cell (map (λ v. v.now) values.now) → ⊥)
+    ensures { MatchOption result ((cell : Cell) → cell.x < 2 ^ 16 → cell.y < 2 ^ 16
+        → SpellsCell cell (map (λ v. v.now) values.now) → ⊥)
         (λ cell. SpellsCell cell (map (λ v. v.now) values.now)) }
 {
     match values {
@@ -290,7 +312,8 @@ pub(crate) fn no_command(alloc: Global) -> LineFault
 
 /// The number below 2^16 that an argument was given, if that is one.
 fn short_number(given: &ArgMatches<'_>, name: &str) -> Option<u16>
-    ensures { MatchOption result (GivesNumberBelow (2 ^ 16) name.now (rows_of (found_of given.now)) → ⊥)
+    ensures { MatchOption result
+        (GivesNumberBelow (2 ^ 16) name.now (rows_of (found_of given.now)) → ⊥)
         (GivesNumber name.now (rows_of (found_of given.now))) }
 {
     u16::try_from(number(given, name)?).ok()
@@ -298,7 +321,8 @@ fn short_number(given: &ArgMatches<'_>, name: &str) -> Option<u16>
 
 /// The number that an argument was given, if that is one.
 fn number(given: &ArgMatches<'_>, name: &str) -> Option<u32>
-    ensures { MatchOption result (GivesNumberBelow (2 ^ 32) name.now (rows_of (found_of given.now)) → ⊥)
+    ensures { MatchOption result
+        (GivesNumberBelow (2 ^ 32) name.now (rows_of (found_of given.now)) → ⊥)
         (GivesNumber name.now (rows_of (found_of given.now))) }
 {
     spelled(given.get_str(name)?)
@@ -306,7 +330,8 @@ fn number(given: &ArgMatches<'_>, name: &str) -> Option<u32>
 
 /// The number that digits spell, if there is nothing but digits.
 fn spelled(digits: &str) -> Option<u32>
-    ensures { MatchOption result ((n : ℕ) → n < 2 ^ 32 → SpellsNumber n digits.now → ⊥) (λ n. SpellsNumber n digits.now) }
+    ensures { MatchOption result ((n : ℕ) → n < 2 ^ 32 → SpellsNumber n digits.now → ⊥)
+        (λ n. SpellsNumber n digits.now) }
 {
     if are_digits(digits) {
         digits.parse().ok()
@@ -317,7 +342,8 @@ fn spelled(digits: &str) -> Option<u32>
 
 /// The same of a number below 2^16.
 fn spelled_short(digits: &str) -> Option<u16>
-    ensures { MatchOption result ((n : ℕ) → n < 2 ^ 16 → SpellsNumber n digits.now → ⊥) (λ n. SpellsNumber n digits.now) }
+    ensures { MatchOption result ((n : ℕ) → n < 2 ^ 16 → SpellsNumber n digits.now → ⊥)
+        (λ n. SpellsNumber n digits.now) }
 {
     u16::try_from(spelled(digits)?).ok()
 }
@@ -339,8 +365,11 @@ fn are_digits(text: &str) -> bool
 
 /// The word that an argument was given.
 pub(crate) fn word(alloc: Global, given: &ArgMatches<'_>, name: &str) -> Result<String, LineFault>
-    ensures ok { IfOk result (λ s. first_of name.now (rows_of (found_of given.now)) ≡ Some (string_bytes s)) }
-    ensures err { IfErr result (λ e. IsTrue (is_some (first_of name.now (rows_of (found_of given.now)))) → e ≡ LineFault.OutOfMemory) }
+    ensures ok { IfOk result (λ s. first_of name.now (rows_of (found_of given.now))
+        ≡ Some (string_bytes s)) }
+    ensures err { IfErr result
+        (λ e. IsTrue (is_some (first_of name.now (rows_of (found_of given.now))))
+        → e ≡ LineFault.OutOfMemory) }
     ensures refusal { IfErr result IsRefusal }
 {
     match given.get_str(name) {
@@ -351,8 +380,11 @@ pub(crate) fn word(alloc: Global, given: &ArgMatches<'_>, name: &str) -> Result<
 
 /// The name of all tapes, in which numbers stand for `%`.
 pub(crate) fn tapes_word(alloc: Global, given: &ArgMatches<'_>) -> Result<String, LineFault>
-    ensures ok { IfOk result (λ s. first_of (codes "tapes") (rows_of (found_of given.now)) ≡ Some (string_bytes s)) }
-    ensures err { IfErr result (λ e. IsTrue (is_some (first_of (codes "tapes") (rows_of (found_of given.now)))) → GivesPattern (codes "tapes") (rows_of (found_of given.now))
+    ensures ok { IfOk result (λ s. first_of (codes "tapes") (rows_of (found_of given.now))
+        ≡ Some (string_bytes s)) }
+    ensures err { IfErr result
+        (λ e. IsTrue (is_some (first_of (codes "tapes") (rows_of (found_of given.now))))
+        → GivesPattern (codes "tapes") (rows_of (found_of given.now))
         → e ≡ LineFault.OutOfMemory) }
     ensures refusal { IfErr result IsRefusal }
 {
@@ -377,7 +409,8 @@ pub(crate) fn optional_word(
     given: &ArgMatches<'_>,
     name: &str,
 ) -> Result<Option<String>, AllocError>
-    ensures { IfOk result (λ s. first_of name.now (rows_of (found_of given.now)) ≡ option_map string_bytes s) }
+    ensures { IfOk result (λ s. first_of name.now (rows_of (found_of given.now))
+        ≡ option_map string_bytes s) }
 {
     match given.get_str(name) {
         Some(text) => Ok(Some(String::from_str(alloc, text)?)),

@@ -4,13 +4,14 @@ use Rattle.grid.specs.declared.cell.Cell.{Cell}
 use Rattle.model.specs.Plan.{Position, Course, Plan, IsAt, longest_of}
 use Rattle.model.specs.Timetable.{Timetable, Stands}
 
--- The plans have one number and as many agents, and up to the end of the longest course of the old one every agent is where that
--- has it. By then the agents of the old plan rest, so that what the new one has them do afterwards comes behind it. Waits at the
--- end of a course count.
+-- The plans have one number and as many agents, and up to the end of the longest course of the old
+-- one every agent is where that has it. By then the agents of the old plan rest, so that what the
+-- new one has them do afterwards comes behind it. Waits at the end of a course count.
 pub record Continues (old new : Plan) : Type 0 where
   pub number : new.number ≡ old.number
   pub agents : length new.courses ≡ length old.courses
-  pub same : (i t : ℕ) (place : Position) → t ≤ longest_of old.courses → IsAt old i t place → IsAt new i t place
+  pub same : (i t : ℕ) (place : Position) → t ≤ longest_of old.courses → IsAt old i t place
+      → IsAt new i t place
 
 -- Each of the plans continues the one before it, and the first of them this one.
 abbrev pub IsChain : Plan → List Plan → Type 0

@@ -2,7 +2,9 @@
 use Rattle.std.specs.Prelude.{[], ◌∷◌, codes}
 use Rattle.text_io.specs.FaultWords.{Words, text_fault}
 use Rattle.continuing.specs.declared.continue_fault.ContinueFault.{ContinueFault}
-use Rattle.continuing.specs.declared.continue_fault.ContinueFault.TheVariants.{OtherNumber, OtherCount, Departs}
+use Rattle.continuing.specs.declared.continue_fault.ContinueFault.TheVariants.{OtherNumber}
+use Rattle.continuing.specs.declared.continue_fault.ContinueFault.TheVariants.{OtherCount}
+use Rattle.continuing.specs.declared.continue_fault.ContinueFault.TheVariants.{Departs}
 
 -- as `Departs 0 5`: the agent and the time
 abbrev pub continue_fault_words : ContinueFault → Words

@@ -10,5 +10,6 @@ pub mod FaultWords
 pub mod Adding
 -- What contracts of private functions say, and only their proofs need.
 pub mod Code
--- What follows from these definitions, each with its proof: proofs of other crates cite it, and nothing of it has to be believed.
+-- What follows from these definitions, each with its proof: proofs of other crates cite it, and
+-- nothing of it has to be believed.
 pub mod Laws

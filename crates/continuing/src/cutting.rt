@@ -8,7 +8,8 @@ use model::Act;
 use plan_text::{Plan, PushFault};
 use std::alloc::Global;
 
-/// The plan without what its agents do from the time on; the plan itself goes on from it. Only memory can lack.
+/// The plan without what its agents do from the time on; the plan itself goes on from it. Only
+/// memory can lack.
 pub fn cut(alloc: Global, plan: &Plan, time: u32) -> Result<Plan, PushFault>
     ensures plan { IfOk result (λ kept. kept ≡ cut_at time plan.now) }
     ensures fault { IfErr result (λ fault. fault ≡ OutOfMemory) }

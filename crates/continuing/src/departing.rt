@@ -25,7 +25,8 @@ pub fn continues(old: &Plan, new: &Plan) -> Result<(), ContinueFault>
     }
 }
 
-/// The greatest number of acts: up to that time a plan has the agents' places, and another adds to it.
+/// The greatest number of acts: up to that time a plan has the agents' places, and another adds to
+/// it.
 pub fn longest(courses: &[Course]) -> usize
     ensures { result ≡ longest_of courses.now }
 {
@@ -36,7 +37,8 @@ pub fn longest(courses: &[Course]) -> usize
     longest
 }
 
-/// The first agent that is elsewhere before an end, and when, by time and then by number; without one the end.
+/// The first agent that is elsewhere before an end, and when, by time and then by number; without
+/// one the end.
 fn first_elsewhere(old: &[Course], new: &[Course], past: usize) -> (Option<usize>, usize)
     requires { length new.now ≡ length old.now }
     ensures { IsFirstOf old.now new.now (length old.now) past result.0 result.1 }

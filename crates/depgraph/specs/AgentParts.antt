@@ -1,11 +1,13 @@
--- What one agent needs of a graph: its path, what its moves wait for, how many moves each agent makes, and the plan's number.
+-- What one agent needs of a graph: its path, what its moves wait for, how many moves each agent
+-- makes, and the plan's number.
 use Rattle.std.specs.Prelude.{◌≡◌, ℕ, ◌<◌, List, length, map, Option, Some, slice_get}
 use Rattle.grid.specs.declared.cell.Cell.{Cell}
 use Rattle.model.specs.Dependency.{Need, need}
 use Rattle.model.specs.Timetable.{Track, Timetable, moves, path, track_of}
 use Rattle.depgraph.specs.Graphs.{IsGraphed}
 
--- the plan's number, the agent, how many moves each agent makes, the cells of the agent's path, and what each of its moves waits for
+-- the plan's number, the agent, how many moves each agent makes, the cells of the agent's path, and
+-- what each of its moves waits for
 pub record AgentPart : Type 0 where
   pub number : ℕ
   pub agent : ℕ

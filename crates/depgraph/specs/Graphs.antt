@@ -6,7 +6,8 @@ use Rattle.model.specs.Timetable.{Timetable, IsConflictFree, IsSwapFree}
 use Rattle.plan_text.specs.Limits.{most_agents, most_acts, most_acts_in_all}
 use Rattle.checker.specs.Checking.{steps_in}
 
--- Nobody is ever in a cell with another, no two exchange cells, each track ends where its agent comes to rest, and the limits of a plan.
+-- Nobody is ever in a cell with another, no two exchange cells, each track ends where its agent
+-- comes to rest, and the limits of a plan.
 pub record IsGraphed (tt : Timetable) : Type 0 where
   pub conflict_free : IsConflictFree tt
   pub swap_free : IsSwapFree tt

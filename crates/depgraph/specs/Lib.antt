@@ -1,4 +1,5 @@
--- What has to be believed of the crate, beside the definitions of `model`, in the order in which to read it.
+-- What has to be believed of the crate, beside the definitions of `model`, in the order in which to
+-- read it.
 
 -- what a graph says of an agent: its path, and the step and the need of each of its moves
 pub mod Routes
@@ -12,5 +13,6 @@ pub mod Graphs
 pub mod AgentParts
 -- the code's own words
 pub mod Code
--- What follows from these definitions, each with its proof: proofs of other crates cite it, and nothing of it has to be believed.
+-- What follows from these definitions, each with its proof: proofs of other crates cite it, and
+-- nothing of it has to be believed.
 pub mod Laws

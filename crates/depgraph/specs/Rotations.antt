@@ -19,10 +19,13 @@ turns_of rotations = map turn_of rotations
 -- a rotation comes before another: by step, and then by least agent
 abbrev pub TurnsBefore : Turn → Turn → Type 0
 TurnsBefore r s =
-    (r.step < s.step) ⊎ ((r.step ≡ s.step) × ((i j : ℕ) → slice_get r.agents 0 ≡ Some i → slice_get s.agents 0 ≡ Some j → i < j))
+    (r.step < s.step)
+    ⊎ ((r.step ≡ s.step)
+    × ((i j : ℕ) → slice_get r.agents 0 ≡ Some i → slice_get s.agents 0 ≡ Some j → i < j))
 
 -- Each rotation once, by step and then by least agent.
 pub record AreRotations (tt : Timetable) (turns : List Turn) : Type 0 where
   pub sound : (n : ℕ) (r : Turn) → slice_get turns n ≡ Some r → IsRotation tt r.step r.agents
   pub whole : (r : Turn) → IsRotation tt r.step r.agents → (n : ℕ) × (slice_get turns n ≡ Some r)
-  pub rising : (n m : ℕ) (r s : Turn) → n < m → slice_get turns n ≡ Some r → slice_get turns m ≡ Some s → TurnsBefore r s
+  pub rising : (n m : ℕ) (r s : Turn) → n < m → slice_get turns n ≡ Some r
+      → slice_get turns m ≡ Some s → TurnsBefore r s

@@ -1,10 +1,12 @@
 -- What a graph says of an agent: its path, and the step and the need of each of its moves.
-use Rattle.std.specs.Prelude.{◌≡◌, ℕ, ◌<◌, List, length, Option, Some, option_and_then, option_map, slice_get}
+use Rattle.std.specs.Prelude.{◌≡◌, ℕ, ◌<◌, List, length}
+use Rattle.std.specs.Prelude.{Option, Some, option_and_then, option_map, slice_get}
 use Rattle.grid.specs.declared.cell.Cell.{Cell}
 use Rattle.model.specs.Timetable.{Track, Timetable, moves, path, step_of}
 use Rattle.model.specs.Dependency.{Need, need}
 
--- the cells of a path, and for each move from one to the next its planned step and what it waits for
+-- the cells of a path, and for each move from one to the next its planned step and what it waits
+-- for
 pub record Route : Type 0 where
   pub cells : List Cell
   pub steps : List ℕ

@@ -14,7 +14,8 @@ pub record AreVisitsTo (tt : Timetable) (c : Cell) (visits : List Visit) : Type 
   pub some : 0 < length visits
   pub sound : (k : ℕ) (v : Visit) → slice_get visits k ≡ Some v → IsVisitTo tt c v
   pub whole : (v : Visit) → IsVisitTo tt c v → (k : ℕ) × (slice_get visits k ≡ Some v)
-  pub rising : (k l : ℕ) (v w : Visit) → k < l → slice_get visits k ≡ Some v → slice_get visits l ≡ Some w → v.time < w.time
+  pub rising : (k l : ℕ) (v w : Visit) → k < l → slice_get visits k ≡ Some v
+      → slice_get visits l ≡ Some w → v.time < w.time
 
 -- a visit comes before another: by time, and then by agent
 abbrev pub ComesBefore : Visit → Visit → Type 0
@@ -27,7 +28,10 @@ pub record Visited : Type 0 where
 
 -- Each visited cell once, with its visits, in the order of their first visits.
 pub record AreAllVisits (tt : Timetable) (cells : List Visited) : Type 0 where
-  pub sound : (n : ℕ) (at : Visited) → slice_get cells n ≡ Some at → AreVisitsTo tt at.cell at.visits
-  pub whole : (c : Cell) (v : Visit) → IsVisitTo tt c v → (n : ℕ) × (at : Visited) × (slice_get cells n ≡ Some at) × (at.cell ≡ c)
-  pub rising : (n m : ℕ) (at later : Visited) (v w : Visit) → n < m → slice_get cells n ≡ Some at → slice_get cells m ≡ Some later
+  pub sound
+      : (n : ℕ) (at : Visited) → slice_get cells n ≡ Some at → AreVisitsTo tt at.cell at.visits
+  pub whole : (c : Cell) (v : Visit) → IsVisitTo tt c v → (n : ℕ) × (at : Visited)
+      × (slice_get cells n ≡ Some at) × (at.cell ≡ c)
+  pub rising : (n m : ℕ) (at later : Visited) (v w : Visit) → n < m → slice_get cells n ≡ Some at
+      → slice_get cells m ≡ Some later
       → slice_get at.visits 0 ≡ Some v → slice_get later.visits 0 ≡ Some w → ComesBefore v w

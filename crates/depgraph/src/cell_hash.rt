@@ -7,8 +7,9 @@ use std::hash::{BuildHasher, Hasher};
 /// Odd, and 2^64 by the golden ratio, so that the uppermost bits of its multiples lie far apart.
 const SCATTER: u64 = 0x9E37_79B9_7F4A_7C15;
 
-/// A table's group holds twelve entries and nine at most on average, so cells share one by tiles of 4 x 2: agents that go on to cells beside theirs find
-/// the groups that they found before in the processor's caches. Tiles are scattered, since plans have patterns.
+/// A table's group holds twelve entries and nine at most on average, so cells share one by tiles of
+/// 4 x 2: agents that go on to cells beside theirs find the groups that they found before in the
+/// processor's caches. Tiles are scattered, since plans have patterns.
 #[derive(Clone, Copy, Debug)]
 pub(crate) struct CellHashing;
 
@@ -38,7 +39,8 @@ impl Hasher for CellHasher {
 
     ghost finish = { finished };
 
-    /// The lower 24 of 32 bits choose a group. By the upper 8 a group tells its entries apart: the place in the tile, and some of the tile.
+    /// The lower 24 of 32 bits choose a group. By the upper 8 a group tells its entries apart: the
+    /// place in the tile, and some of the tile.
     fn finish(&self) -> u64 {
         let tile = u64::from(self.y / 2) * 65_536 + u64::from(self.x / 4);
         let place = u64::from(self.y % 2 * 4 + self.x % 4);

@@ -1,5 +1,6 @@
 //! The cycles of entries that follow one another.
-ghost use Rattle.std.specs.Prelude.{◌≡◌, ◌<◌, ◌≤◌, ℕ, IfOk, IsTrue, [], length, get_or, slice_set as set};
+ghost use Rattle.std.specs.Prelude.{◌≡◌, ◌<◌, ◌≤◌, ℕ, IfOk};
+ghost use Rattle.std.specs.Prelude.{IsTrue, [], length, get_or, slice_set as set};
 ghost use Rattle.depgraph.specs.Code.Cycles.{LinksTo, AreLinks, IsCycleWalked};
 ghost use Rattle.depgraph.specs.Code.Links.{link_of, all_links, links_in, AreBound, AreLinksIn};
 ghost use Rattle.depgraph.specs.Code.Waits.{no_entry};
@@ -11,7 +12,8 @@ use std::alloc::{AllocError, Global};
 /// Stands for no entry.
 const NO_ENTRY: u32 = u32::MAX;
 
-/// What leads from the entry of a move to that of the move that it waits for, if both are made in one step.
+/// What leads from the entry of a move to that of the move that it waits for, if both are made in
+/// one step.
 #[derive(Debug, Drop)]
 pub(crate) struct Links<'a> {
     pub(crate) times: &'a [u16],
@@ -22,7 +24,8 @@ pub(crate) struct Links<'a> {
 }
 
 impl<'a> Links<'a> {
-    /// All links, by the times of the entries, where each agent's end, and what their moves wait for.
+    /// All links, by the times of the entries, where each agent's end, and what their moves wait
+    /// for.
     pub(crate) fn new(
         alloc: Global,
         times: &'a [u16],
@@ -44,7 +47,8 @@ impl<'a> Links<'a> {
         })
     }
 
-    /// The entry to which an entry's link leads, or `NO_ENTRY` where it has none or it was taken away.
+    /// The entry to which an entry's link leads, or `NO_ENTRY` where it has none or it was taken
+    /// away.
     #[inline(always)]
     fn of(&self, entry: u32) -> u32
         requires whole { AreLinksIn self.now }
@@ -59,7 +63,8 @@ impl<'a> Links<'a> {
         }
     }
 
-    /// Takes the link of an entry away. Gives the entry to which it led, or `NO_ENTRY` where there was none.
+    /// Takes the link of an entry away. Gives the entry to which it led, or `NO_ENTRY` where there
+    /// was none.
     fn take(&mut self, entry: u32) -> u32
         requires whole { AreLinksIn self.old }
         requires entry { entry < length (links_in self.old) }
@@ -91,9 +96,9 @@ impl<'a> Links<'a> {
     }
 }
 
-/// Walks from an entry to the one to which its link leads and on, taking the links away, until it is back or there is no link:
-/// each link is walked once, and a cycle is found from its least entry. Answers whether it came back; the trail has those that it
-/// passed.
+/// Walks from an entry to the one to which its link leads and on, taking the links away, until it
+/// is back or there is no link: each link is walked once, and a cycle is found from its least
+/// entry. Answers whether it came back; the trail has those that it passed.
 pub(crate) fn walk(
     first: u32,
     links: &mut Links<'_>,
@@ -104,7 +109,9 @@ pub(crate) fn walk(
     requires first { first < length (links_in links.old) }
     requires least { (i j : ℕ) → LinksTo (links_in links.old) i j → first ≤ i }
     requires trail { trail.old.items ≡ [] }
-    ensures walked { IfOk result (λ found. IsCycleWalked first (links_in links.old) (links_in links.new) trail.new.items (IsTrue found)) }
+    ensures walked { IfOk result
+        (λ found. IsCycleWalked first (links_in links.old) (links_in links.new) trail.new.items
+        (IsTrue found)) }
     ensures whole { AreLinksIn links.new }
 {
     // Of most moves none leads on: they wait for nobody, or for a move of another step.

@@ -1,5 +1,6 @@
 //! Who waits for whom: what a checked plan says of its moves.
-ghost use Rattle.std.specs.Prelude.{◌≡◌, length, slice_get, option_map, IsSomeAnd, MatchOption, IfOk};
+ghost use Rattle.std.specs.Prelude.{◌≡◌, length, slice_get, option_map};
+ghost use Rattle.std.specs.Prelude.{IsSomeAnd, MatchOption, IfOk};
 ghost use Rattle.model.specs.Timetable.{moves, track_of};
 ghost use Rattle.depgraph.specs.AgentParts.{IsPartOf};
 ghost use Rattle.depgraph.specs.Graphs.{IsGraphed};
@@ -22,7 +23,8 @@ use std::alloc::{AllocError, Global};
 use std::marker::Model;
 use text_io::OutOfMemory;
 
-/// What a checked plan says of who waits for whom. It keeps no visits, so it takes less time and memory than a graph.
+/// What a checked plan says of who waits for whom. It keeps no visits, so it takes less time and
+/// memory than a graph.
 #[derive(Debug, Drop)]
 pub struct Dependencies {
     number: u32,
@@ -47,10 +49,14 @@ impl Model for Dependencies {
 
     ghost Value = { Timetable };
 
-    ghost view = { λ d. timetable_by d.number (cells_by d.names.items d.numbers.items) d.times.items d.ends.items };
+    ghost view = { λ d. timetable_by d.number (cells_by d.names.items d.numbers.items) d.times.items
+        d.ends.items };
 
-    ghost invariant = { λ d. AreKept (timetable_by d.number (cells_by d.names.items d.numbers.items) d.times.items d.ends.items) (cells_by d.names.items d.numbers.items) d.times.items d.ends.items d.needs.items
-        × AreRotations (timetable_by d.number (cells_by d.names.items d.numbers.items) d.times.items d.ends.items) (turns_of d.rotations.items)
+    ghost invariant = { λ d. AreKept (timetable_by d.number (cells_by d.names.items d.numbers.items) d.times.items
+        d.ends.items) (cells_by d.names.items d.numbers.items) d.times.items d.ends.items
+        d.needs.items
+        × AreRotations (timetable_by d.number (cells_by d.names.items d.numbers.items) d.times.items
+        d.ends.items) (turns_of d.rotations.items)
         × AreKnown d.names.items d.numbers.items };
 }
 
@@ -67,7 +73,8 @@ impl Dependencies {
         Ok(Dependencies::of(alloc, plan, number, paths, needs)?)
     }
 
-    /// The dependencies of a plan with these paths and needs: its rotations are what is left to find.
+    /// The dependencies of a plan with these paths and needs: its rotations are what is left to
+    /// find.
     pub(crate) fn of(
         alloc: Global,
         plan: &CheckedPlan,
@@ -75,7 +82,8 @@ impl Dependencies {
         paths: Paths,
         needs: Vec<Wait>,
     ) -> Result<Dependencies, AllocError>
-        requires { AreFound plan.now.timetable number paths.names.items paths.numbers.items paths.times.items paths.ends.items needs.items }
+        requires { AreFound plan.now.timetable number paths.names.items paths.numbers.items
+            paths.times.items paths.ends.items needs.items }
         ensures { IfOk result (λ d. d ≡ plan.now.timetable) }
     {
         let Paths {
@@ -125,9 +133,11 @@ impl Dependencies {
         }
     }
 
-    /// The path of an agent, and the steps and needs of its moves; `None` where there is no such agent.
+    /// The path of an agent, and the steps and needs of its moves; `None` where there is no such
+    /// agent.
     pub fn route(&self, agent: u32) -> Option<Route<'_>>
-        ensures { MatchOption (track_of self.now agent) (result ≡ None) (λ track. IsSomeAnd result (λ route. IsRouteOf self.now agent track route)) }
+        ensures { MatchOption (track_of self.now agent) (result ≡ None)
+            (λ track. IsSomeAnd result (λ route. IsRouteOf self.now agent track route)) }
     {
         if (agent as usize) < self.ends.len() {
             Some(Route {
@@ -141,7 +151,8 @@ impl Dependencies {
 
     /// What an agent needs of the graph; `None` where there is no such agent.
     pub fn part(&self, agent: u16) -> Option<Part<'_>>
-        ensures { MatchOption result (track_of self.now agent ≡ None) (λ part. IsPartOf self.now part × (part.agent ≡ agent)) }
+        ensures { MatchOption result (track_of self.now agent ≡ None)
+            (λ part. IsPartOf self.now part × (part.agent ≡ agent)) }
     {
         if usize::from(agent) < self.ends.len() {
             let all = AllParts {
@@ -223,8 +234,8 @@ impl<'a> Route<'a> {
         self.dependencies.step(self.agent, number)
     }
 
-    /// Which agent, and how many moves it must have finished before the move with this number may begin; `None` where the move
-    /// waits for nobody, and past the last.
+    /// Which agent, and how many moves it must have finished before the move with this number may
+    /// begin; `None` where the move waits for nobody, and past the last.
     pub fn need(&self, number: u32) -> Option<(u16, u32)>
         ensures { result ≡ need_at self.now number }
     {

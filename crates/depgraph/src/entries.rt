@@ -1,4 +1,5 @@
-//! Where the cells of the agents' paths stand in one list of all. Of each agent it is known where its path ends there.
+//! Where the cells of the agents' paths stand in one list of all. Of each agent it is known where
+//! its path ends there.
 ghost use Rattle.std.specs.Prelude.{◌≡◌, ◌<◌, ◌≤◌, ℕ, length, get_or, MatchOption};
 ghost use Rattle.depgraph.specs.Code.Entries.{begin_in, IsEntry};
 
@@ -13,7 +14,8 @@ pub(crate) fn begin_in(ends: &[usize], agent: usize) -> usize
 /// The entry of the cell with this index in an agent's path, if there is one.
 pub(crate) fn entry_at(ends: &[usize], agent: u32, index: usize) -> Option<usize>
     requires { (i : ℕ) → i < length ends.now → begin_in ends.now i ≤ get_or ends.now i 0 }
-    ensures { MatchOption result ((e : ℕ) → IsEntry ends.now agent index e → ⊥) (λ e. IsEntry ends.now agent index e) }
+    ensures { MatchOption result ((e : ℕ) → IsEntry ends.now agent index e → ⊥)
+        (λ e. IsEntry ends.now agent index e) }
 {
     let end = *ends.get(agent as usize)?;
     let begin = begin_in(ends, agent as usize);

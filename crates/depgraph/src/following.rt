@@ -1,9 +1,14 @@
-//! What each move waits for, found along the times: that whoever came into its cell last before it has left.
-ghost use Rattle.std.specs.Prelude.{◌≡◌, ◌≢◌, ◌+◌, ◌<◌, ◌≤◌, ◌^◌, ℕ, length, get_or, slice_set as set, Some, None, IfOk, OnOk};
+//! What each move waits for, found along the times: that whoever came into its cell last before it
+//! has left.
+ghost use Rattle.std.specs.Prelude.{◌≡◌, ◌≢◌, ◌+◌, ◌<◌, ◌≤◌, ◌^◌, ℕ};
+ghost use Rattle.std.specs.Prelude.{length, get_or, slice_set as set, Some, None, IfOk, OnOk};
 ghost use Rattle.depgraph.specs.declared.placing.Arrival.{Arrival};
 ghost use Rattle.depgraph.specs.Code.Entries.{begin_in};
 ghost use Rattle.depgraph.specs.Code.Following.{AreEntries, AreFollowed};
-ghost use Rattle.depgraph.specs.Code.Meetings.{entry_by, noted, block_times, is_under_way, AreMeetings, IsNextMeeting, AllComing, HasAll, IsPassDone, ComesNextAt, AreAllUnderWay, AreAdded, AreBlock, NobodyComes};
+ghost use Rattle.depgraph.specs.Code.Meetings.{entry_by, noted, block_times, is_under_way};
+ghost use Rattle.depgraph.specs.Code.Meetings.{AreMeetings, IsNextMeeting, AllComing, HasAll};
+ghost use Rattle.depgraph.specs.Code.Meetings.{IsPassDone, ComesNextAt, AreAllUnderWay, AreAdded};
+ghost use Rattle.depgraph.specs.Code.Meetings.{AreBlock, NobodyComes};
 ghost use Rattle.depgraph.specs.Code.Waits.{no_wait};
 
 use crate::entries::begin_in;
@@ -19,7 +24,8 @@ const BLOCK: usize = 32;
 /// So many blocks have all times.
 const BLOCKS: usize = 2048;
 
-/// The entries of all paths, and which cells more than one agent comes into, by their numbers. Who comes into others waits for nobody.
+/// The entries of all paths, and which cells more than one agent comes into, by their numbers. Who
+/// comes into others waits for nobody.
 #[derive(Debug, Drop)]
 pub(crate) struct Meetings<'a> {
     times: &'a [u16],
@@ -118,13 +124,17 @@ impl Pass {
         requires agent { coming.arrival.agent < length ends.now }
         requires number { coming.number < length self.old.last.items }
         requires entry { entry_by ends.now coming < length self.old.waits.items }
-        requires left { (a : Arrival) → get_or self.old.last.items coming.number None ≡ Some a → (a.agent ≡ coming.arrival.agent → ⊥) → a.index + 1 < 2 ^ 16 }
+        requires left { (a : Arrival) → get_or self.old.last.items coming.number None ≡ Some a
+            → (a.agent ≡ coming.arrival.agent → ⊥) → a.index + 1 < 2 ^ 16 }
         ensures time { self.new.time ≡ self.old.time }
-        ensures last { self.new.last.items ≡ set self.old.last.items coming.number (Some coming.arrival) }
+        ensures last { self.new.last.items ≡ set self.old.last.items coming.number
+            (Some coming.arrival) }
         ensures count { length self.new.waits.items ≡ length self.old.waits.items }
         ensures own { get_or self.new.waits.items (entry_by ends.now coming) no_wait
-            ≡ noted coming.arrival.agent (get_or self.old.last.items coming.number None) (get_or self.old.waits.items (entry_by ends.now coming) no_wait) }
-        ensures others { (e : ℕ) → e ≢ entry_by ends.now coming → get_or self.new.waits.items e no_wait ≡ get_or self.old.waits.items e no_wait }
+            ≡ noted coming.arrival.agent (get_or self.old.last.items coming.number None)
+            (get_or self.old.waits.items (entry_by ends.now coming) no_wait) }
+        ensures others { (e : ℕ) → e ≢ entry_by ends.now coming
+            → get_or self.new.waits.items e no_wait ≡ get_or self.old.waits.items e no_wait }
     {
         let Coming { number, arrival } = coming;
         if let Some(before) = self.last[number as usize] {
@@ -140,7 +150,8 @@ impl Pass {
     }
 }
 
-/// What the moves into all entries wait for, by the entries' times, and the numbers of their cells, which are below a limit.
+/// What the moves into all entries wait for, by the entries' times, and the numbers of their cells,
+/// which are below a limit.
 pub(crate) fn waits_by_time(
     alloc: Global,
     times: &[u16],
@@ -236,7 +247,8 @@ fn is_under_way(ends: &[usize], follower: &Follower) -> bool
         && (follower.index as usize) < ends[agent].saturating_sub(begin_in(ends, agent))
 }
 
-/// Gathers those who come into shared cells at each time of the block from a time on, and takes them past the block.
+/// Gathers those who come into shared cells at each time of the block from a time on, and takes
+/// them past the block.
 fn gather(
     meetings: &Meetings<'_>,
     time: usize,
@@ -259,7 +271,8 @@ fn gather(
     Ok(())
 }
 
-/// Adds where an agent comes into shared cells in the block from a time on, and takes it past the block.
+/// Adds where an agent comes into shared cells in the block from a time on, and takes it past the
+/// block.
 fn look_ahead(
     meetings: &Meetings<'_>,
     time: usize,
@@ -272,7 +285,8 @@ fn look_ahead(
     requires count { length block.old ≡ block_times }
     ensures agent { OnOk result (follower.new.agent ≡ follower.old.agent) }
     ensures at { OnOk result (ComesNextAt meetings.now (time + block_times) follower.new) }
-    ensures added { OnOk result (AreAdded meetings.now time follower.old.agent block.old block.new) }
+    ensures added { OnOk result
+        (AreAdded meetings.now time follower.old.agent block.old block.new) }
 {
     let agent = follower.agent;
     let begin = begin_in(meetings.ends, usize::from(agent));
@@ -293,7 +307,8 @@ fn look_ahead(
     Ok(())
 }
 
-/// The first entry from one on that leads into a shared cell, or the last one's end where there is none.
+/// The first entry from one on that leads into a shared cell, or the last one's end where there is
+/// none.
 fn next_meeting(meetings: &Meetings<'_>, from: usize, end: usize) -> usize
     requires meetings { AreMeetings meetings.now }
     requires order { from ≤ end }

@@ -1,5 +1,6 @@
 //! The dependency graph.
-ghost use Rattle.std.specs.Prelude.{◌≡◌, List, length, None, slice_get, option_map, IsSomeAnd, MatchOption, IfOk};
+ghost use Rattle.std.specs.Prelude.{◌≡◌, List, length, None, slice_get};
+ghost use Rattle.std.specs.Prelude.{option_map, IsSomeAnd, MatchOption, IfOk};
 ghost use Rattle.model.specs.Timetable.{moves, track_of};
 ghost use Rattle.depgraph.specs.AgentParts.{IsPartOf};
 ghost use Rattle.depgraph.specs.Graphs.{IsGraphed};
@@ -97,16 +98,19 @@ impl Graph {
         self.dependencies.moves(agent)
     }
 
-    /// The path of an agent, and the steps and needs of its moves; `None` where there is no such agent.
+    /// The path of an agent, and the steps and needs of its moves; `None` where there is no such
+    /// agent.
     pub fn route(&self, agent: u32) -> Option<Route<'_>>
-        ensures { MatchOption (track_of self.now agent) (result ≡ None) (λ track. IsSomeAnd result (λ route. IsRouteOf self.now agent track route)) }
+        ensures { MatchOption (track_of self.now agent) (result ≡ None)
+            (λ track. IsSomeAnd result (λ route. IsRouteOf self.now agent track route)) }
     {
         self.dependencies.route(agent)
     }
 
     /// What an agent needs of the graph; `None` where there is no such agent.
     pub fn part(&self, agent: u16) -> Option<Part<'_>>
-        ensures { MatchOption result (track_of self.now agent ≡ None) (λ part. IsPartOf self.now part × (part.agent ≡ agent)) }
+        ensures { MatchOption result (track_of self.now agent ≡ None)
+            (λ part. IsPartOf self.now part × (part.agent ≡ agent)) }
     {
         self.dependencies.part(agent)
     }
@@ -118,18 +122,23 @@ impl Graph {
         self.cells.len() as u32
     }
 
-    /// The n-th visited cell, in order of first visit by time and then by agent, and its visits by time; `None` past the last.
+    /// The n-th visited cell, in order of first visit by time and then by agent, and its visits by
+    /// time; `None` past the last.
     pub fn visits(&self, n: u32) -> Option<(Cell, &[Visit])>
-        ensures { (cells : List Visited) × AreAllVisits self.now cells × (option_map (λ at. record { cell = at.0; visits = at.1.now }) result ≡ slice_get cells n) }
+        ensures { (cells : List Visited) × AreAllVisits self.now cells
+            × (option_map (λ at. record { cell = at.0; visits = at.1.now }) result
+            ≡ slice_get cells n) }
     {
         let (cell, number) = self.cells.get_index(n as usize)?;
         let visits = visits_of(&self.visits, &self.visit_ends, *number);
         Some((*cell, visits))
     }
 
-    /// The visits of a cell, as their times rise: who comes into it, in which order; `None` where nobody does.
+    /// The visits of a cell, as their times rise: who comes into it, in which order; `None` where
+    /// nobody does.
     pub fn visits_at(&self, cell: Cell) -> Option<&[Visit]>
-        ensures { MatchOption result ((v : Visit) → IsVisitTo self.now cell v → ⊥) (λ visits. AreVisitsTo self.now cell visits.now) }
+        ensures { MatchOption result ((v : Visit) → IsVisitTo self.now cell v → ⊥)
+            (λ visits. AreVisitsTo self.now cell visits.now) }
     {
         let number = *self.cells.get(&cell)?;
         Some(visits_of(&self.visits, &self.visit_ends, number))

@@ -6,6 +6,8 @@ ghost use Rattle.depgraph.specs.Visits.{Visited, AreAllVisits};
 
 /// A timetable has no more than one list of all visits, and one of all rotations.
 pub fn listings()
-    ensures visits { (tt : Timetable) (cells others : List Visited) → AreAllVisits tt cells → AreAllVisits tt others → cells ≡ others }
-    ensures rotations { (tt : Timetable) (turns others : List Turn) → AreRotations tt turns → AreRotations tt others → turns ≡ others }
+    ensures visits { (tt : Timetable) (cells others : List Visited) → AreAllVisits tt cells
+        → AreAllVisits tt others → cells ≡ others }
+    ensures rotations { (tt : Timetable) (turns others : List Turn) → AreRotations tt turns
+        → AreRotations tt others → turns ≡ others }
 {}

@@ -13,8 +13,8 @@ use checker::CheckedPlan;
 use model::Visit;
 use std::alloc::{AllocError, Global};
 
-/// The plan's number, its paths, what the move into each of their cells waits for, and all visits: those of each cell stand together and
-/// end there.
+/// The plan's number, its paths, what the move into each of their cells waits for, and all visits:
+/// those of each cell stand together and end there.
 #[derive(Debug, Drop)]
 pub(crate) struct Laid {
     pub(crate) number: u32,
@@ -26,7 +26,9 @@ pub(crate) struct Laid {
 
 /// Lays out the paths and the visits of a plan, and tells what each move waits for.
 pub(crate) fn lay_out(alloc: Global, plan: &CheckedPlan) -> Result<Laid, AllocError>
-    ensures { IfOk result (λ l. AreLaidOut plan.now.timetable l.number l.paths.names.items l.paths.numbers.items l.paths.times.items l.paths.ends.items
+    ensures { IfOk result
+        (λ l. AreLaidOut plan.now.timetable l.number l.paths.names.items l.paths.numbers.items
+        l.paths.times.items l.paths.ends.items
         l.needs.items l.visits.items l.visit_ends.items) }
 {
     let Found {
@@ -62,10 +64,19 @@ pub(crate) struct Found {
 /// Finds the paths of a plan, and what each move waits for.
 pub(crate) fn find(alloc: Global, plan: &CheckedPlan) -> Result<Found, AllocError>
     ensures number { IfOk result (λ f. f.number ≡ plan.now.timetable.number) }
-    ensures numbered { IfOk result (λ f. AreNumbered (cells_by f.paths.names.items f.paths.numbers.items) f.paths.names.items f.paths.numbers.items) }
-    ensures paths { IfOk result (λ f. ArePaths plan.now.timetable.tracks (cells_by f.paths.names.items f.paths.numbers.items) f.paths.times.items f.paths.ends.items) }
-    ensures followed { IfOk result (λ f. AreFollowed f.paths.times.items f.paths.ends.items f.paths.numbers.items f.needs.items) }
-    ensures found { IfOk result (λ f. AreFound plan.now.timetable f.number f.paths.names.items f.paths.numbers.items f.paths.times.items f.paths.ends.items f.needs.items) }
+    ensures numbered { IfOk result
+        (λ f. AreNumbered (cells_by f.paths.names.items f.paths.numbers.items) f.paths.names.items
+        f.paths.numbers.items) }
+    ensures paths { IfOk result
+        (λ f. ArePaths plan.now.timetable.tracks
+        (cells_by f.paths.names.items f.paths.numbers.items) f.paths.times.items
+        f.paths.ends.items) }
+    ensures followed { IfOk result
+        (λ f. AreFollowed f.paths.times.items f.paths.ends.items f.paths.numbers.items
+        f.needs.items) }
+    ensures found { IfOk result
+        (λ f. AreFound plan.now.timetable f.number f.paths.names.items f.paths.numbers.items
+        f.paths.times.items f.paths.ends.items f.needs.items) }
 {
     let number = plan.number();
     let paths = paths_of(alloc, plan)?;

@@ -31,7 +31,8 @@ impl Numbering {
         requires height { height < 2 ^ 16 }
         ensures numbering { IfOk result (λ n. IsNumbering n) }
         ensures none { IfOk result (λ n. n.numbers.items ≡ []) }
-        ensures covered { IfOk result (λ n. (cell : Cell) → cell.x < width → cell.y < height → IsCovered n.tiles cell) }
+        ensures covered { IfOk result (λ n. (cell : Cell) → cell.x < width → cell.y < height
+            → IsCovered n.tiles cell) }
     {
         Ok(Numbering {
             tiles: Tiles::new(alloc, width, height)?,
@@ -47,7 +48,8 @@ impl Numbering {
         requires few { length self.old.numbers.items + 1 < 2 ^ 32 }
         ensures numbering { OnOk result (IsNumbering self.new) }
         ensures map { OnOk result (IsSameMap self.old.tiles self.new.tiles) }
-        ensures count { OnOk result (length self.new.numbers.items ≡ length self.old.numbers.items + 1) }
+        ensures count { OnOk result
+            (length self.new.numbers.items ≡ length self.old.numbers.items + 1) }
         ensures cells { OnOk result (cells_in self.new ≡ cells_in self.old ++ cell ∷ []) }
     {
         let next = self.names.len() as u32;

@@ -29,7 +29,8 @@ pub(crate) struct AllParts<'g> {
     pub(crate) ends: &'g [usize],
 }
 
-/// What one agent needs of a graph: its path, what its moves wait for, how many moves each agent makes, and the plan's number.
+/// What one agent needs of a graph: its path, what its moves wait for, how many moves each agent
+/// makes, and the plan's number.
 #[derive(Debug, Drop)]
 pub struct Part<'g> {
     number: u32,
@@ -58,8 +59,10 @@ impl<'g> Model for Part<'g> {
 impl<'g> Part<'g> {
     /// The part of an agent among those of all.
     pub(crate) fn among(all: &AllParts<'g>, agent: u16) -> Part<'g>
-        requires { HasShare all.now.number agent all.now.names.now all.now.numbers.now all.now.needs.now all.now.ends.now }
-        ensures { result ≡ part_by all.now.number agent all.now.names.now (entries_among all.now.ends.now agent all.now.numbers.now)
+        requires { HasShare all.now.number agent all.now.names.now all.now.numbers.now
+            all.now.needs.now all.now.ends.now }
+        ensures { result ≡ part_by all.now.number agent all.now.names.now
+            (entries_among all.now.ends.now agent all.now.numbers.now)
             (entries_among all.now.ends.now agent all.now.needs.now) all.now.ends.now }
     {
         let begin = begin_in(all.ends, usize::from(agent));
@@ -134,8 +137,8 @@ impl<'g> Part<'g> {
         }
     }
 
-    /// Which agent, and how many moves it must have finished before the move with this number may begin; `None` where the move
-    /// waits for nobody, and past the last.
+    /// Which agent, and how many moves it must have finished before the move with this number may
+    /// begin; `None` where the move waits for nobody, and past the last.
     pub fn need(&self, number: u32) -> Option<(u16, u32)>
         ensures need { result ≡ asked_by (slice_get self.now.needs number) }
         ensures within { IsOfGraph self.now }
@@ -168,7 +171,8 @@ impl Model for OwnPart {
 
     ghost Value = { AgentPart };
 
-    ghost view = { λ p. part_by p.number p.agent p.names.items p.numbers.items p.needs.items p.ends.items };
+    ghost view = { λ p. part_by p.number p.agent p.names.items p.numbers.items p.needs.items
+        p.ends.items };
 
     ghost invariant = { λ p. IsShare p.number p.agent p.names.items p.numbers.items p.needs.items p.ends.items };
 }
@@ -219,7 +223,8 @@ fn numbered_anew(
 ) -> Result<NumberedCells, AllocError>
     requires known { AreKnown names.now numbers.now }
     requires few { length numbers.now < 2 ^ 32 }
-    ensures same { IfOk result (λ c. cells_by c.names.items c.numbers.items ≡ cells_by names.now numbers.now) }
+    ensures same { IfOk result (λ c. cells_by c.names.items c.numbers.items
+        ≡ cells_by names.now numbers.now) }
     ensures known { IfOk result (λ c. AreKnown c.names.items c.numbers.items) }
 {
     let mut cells = Vec::with_capacity(alloc, numbers.len())?;

@@ -11,8 +11,8 @@ use checker::{Cells, CheckedPlan};
 use grid::Cell;
 use std::alloc::{AllocError, Global};
 
-/// The paths of all agents, one after another: the numbers of their cells, the time at which each is entered, and where each agent's
-/// end; and the cell with each number.
+/// The paths of all agents, one after another: the numbers of their cells, the time at which each
+/// is entered, and where each agent's end; and the cell with each number.
 #[derive(Debug, Drop)]
 pub(crate) struct Paths {
     pub(crate) numbers: Vec<u32>,
@@ -23,8 +23,11 @@ pub(crate) struct Paths {
 
 /// The paths of a plan's agents.
 pub(crate) fn paths_of(alloc: Global, plan: &CheckedPlan) -> Result<Paths, AllocError>
-    ensures numbered { IfOk result (λ p. AreNumbered (cells_by p.names.items p.numbers.items) p.names.items p.numbers.items) }
-    ensures paths { IfOk result (λ p. ArePaths plan.now.timetable.tracks (cells_by p.names.items p.numbers.items) p.times.items p.ends.items) }
+    ensures numbered { IfOk result
+        (λ p. AreNumbered (cells_by p.names.items p.numbers.items) p.names.items p.numbers.items) }
+    ensures paths { IfOk result
+        (λ p. ArePaths plan.now.timetable.tracks (cells_by p.names.items p.numbers.items)
+        p.times.items p.ends.items) }
 {
     // An agent enters no more cells than it has steps before it rests, and its first.
     let room = (plan.sum_of_costs() as usize).saturating_add(plan.agents() as usize);
@@ -48,7 +51,8 @@ pub(crate) fn paths_of(alloc: Global, plan: &CheckedPlan) -> Result<Paths, Alloc
     })
 }
 
-/// Adds an agent's cells, each once while it stays, behind those of other agents, and the times at which the agent comes into them.
+/// Adds an agent's cells, each once while it stays, behind those of other agents, and the times at
+/// which the agent comes into them.
 fn follow(cells: Cells<'_>, path: &mut Numbering, times: &mut Vec<u16>) -> Result<(), AllocError>
     requires numbering { IsNumbering path.old }
     requires covered { All (IsCovered path.old.tiles) cells }
@@ -57,7 +61,8 @@ fn follow(cells: Cells<'_>, path: &mut Numbering, times: &mut Vec<u16>) -> Resul
     ensures numbering { OnOk result (IsNumbering path.new) }
     ensures map { OnOk result (IsSameMap path.old.tiles path.new.tiles) }
     ensures path { OnOk result (cells_in path.new ≡ cells_in path.old ++ entered None cells.entry) }
-    ensures times { OnOk result (times.new.items ≡ times.old.items ++ entry_times None cells.entry 0) }
+    ensures times { OnOk result
+        (times.new.items ≡ times.old.items ++ entry_times None cells.entry 0) }
 {
     let mut here = None;
     let mut time = 0u32;

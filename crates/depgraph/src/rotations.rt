@@ -11,8 +11,8 @@ use checker::CheckedPlan;
 use model::Rotation;
 use std::alloc::{AllocError, Global};
 
-/// All rotations of a plan's timetable, by step and then by least agent. `waits` has for each entry what the move into its cell
-/// waits for.
+/// All rotations of a plan's timetable, by step and then by least agent. `waits` has for each entry
+/// what the move into its cell waits for.
 pub(crate) fn find_rotations(
     alloc: Global,
     plan: &CheckedPlan,
@@ -21,7 +21,8 @@ pub(crate) fn find_rotations(
     waits: &[Wait],
 ) -> Result<Vec<Rotation>, AllocError>
     requires times { times.now ≡ all_times plan.now.timetable.tracks }
-    requires laid { AreLaid plan.now.timetable ends.now waits.now (all_links times.now ends.now waits.now) }
+    requires laid { AreLaid plan.now.timetable ends.now waits.now
+        (all_links times.now ends.now waits.now) }
     ensures { IfOk result (λ v. AreRotations plan.now.timetable (turns_of v.items)) }
 {
     let mut links = Links::new(alloc, times, ends, waits)?;
@@ -30,8 +31,8 @@ pub(crate) fn find_rotations(
     Ok(rotations)
 }
 
-/// The same by least agent, and then by step: the entries of a cycle have one time, so the least of them is that of its least
-/// agent, and each cycle is found from there. The links are taken away.
+/// The same by least agent, and then by step: the entries of a cycle have one time, so the least of
+/// them is that of its least agent, and each cycle is found from there. The links are taken away.
 fn rotations_by_agent(
     alloc: Global,
     plan: &CheckedPlan,
@@ -39,7 +40,8 @@ fn rotations_by_agent(
 ) -> Result<Vec<Rotation>, AllocError>
     requires times { links.old.times.now ≡ all_times plan.now.timetable.tracks }
     requires whole { AreLinksIn links.old }
-    requires laid { AreLaid plan.now.timetable links.old.ends.now links.old.waits.now (links_in links.old) }
+    requires laid { AreLaid plan.now.timetable links.old.ends.now links.old.waits.now
+        (links_in links.old) }
     ensures { IfOk result (λ v. AreAllRotations plan.now.timetable (turns_of v.items)) }
 {
     let times = links.times;

@@ -1,5 +1,6 @@
 //! Which cells more than one agent comes into.
-ghost use Rattle.std.specs.Prelude.{◌≡◌, ◌≢◌, ◌<◌, ◌^◌, ℕ, length, get_or, true, false, Some, None, IfOk};
+ghost use Rattle.std.specs.Prelude.{◌≡◌, ◌≢◌, ◌<◌, ◌^◌, ℕ, length};
+ghost use Rattle.std.specs.Prelude.{get_or, true, false, Some, None, IfOk};
 ghost use Rattle.depgraph.specs.Code.Following.{AreEntries, AreShared};
 ghost use Rattle.depgraph.specs.Code.Meetings.{IsOwnerSeen};
 

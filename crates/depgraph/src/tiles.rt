@@ -1,7 +1,10 @@
-//! Where the numbers of cells stand: those of a tile, 16 x 16 cells, side by side, so that the numbers along a path lie close.
-ghost use Rattle.std.specs.Prelude.{◌≡◌, ◌≢◌, ◌+◌, ◌/◌, ◌<◌, ◌≤◌, ◌^◌, ℕ, length, get_or, IfOk, OnOk};
+//! Where the numbers of cells stand: those of a tile, 16 x 16 cells, side by side, so that the
+//! numbers along a path lie close.
+ghost use Rattle.std.specs.Prelude.{◌≡◌, ◌≢◌, ◌+◌, ◌/◌, ◌<◌, ◌≤◌};
+ghost use Rattle.std.specs.Prelude.{◌^◌, ℕ, length, get_or, IfOk, OnOk};
 ghost use Rattle.grid.specs.declared.cell.Cell.{Cell};
-ghost use Rattle.depgraph.specs.Code.Tiles.{tile_of, offset_of, tile_part, place_of, number_held, AreTiles, IsCovered, IsSameMap, HasRoom, IsNumbered};
+ghost use Rattle.depgraph.specs.Code.Tiles.{tile_of, offset_of, tile_part, place_of, number_held};
+ghost use Rattle.depgraph.specs.Code.Tiles.{AreTiles, IsCovered, IsSameMap, HasRoom, IsNumbered};
 
 use grid::Cell;
 use std::alloc::{AllocError, Global};
@@ -16,7 +19,8 @@ const TILE: usize = SIDE * SIDE;
 pub(crate) struct Tiles {
     /// So many tiles lie side by side.
     across: usize,
-    /// For each tile, row after row, which part of `numbers` it has. The first part stands for all that have none yet.
+    /// For each tile, row after row, which part of `numbers` it has. The first part stands for all
+    /// that have none yet.
     parts: Vec<u32>,
     /// For each cell of each part one more than its number, and 0 where it has none yet.
     numbers: Vec<u32>,
@@ -28,7 +32,8 @@ impl Tiles {
         requires width { width < 2 ^ 16 }
         requires height { height < 2 ^ 16 }
         ensures tiles { IfOk result (λ t. AreTiles t) }
-        ensures covered { IfOk result (λ t. (c : Cell) → c.x < width → c.y < height → IsCovered t c) }
+        ensures covered { IfOk result (λ t. (c : Cell) → c.x < width → c.y < height
+            → IsCovered t c) }
         ensures none { IfOk result (λ t. (c : Cell) → number_held t c ≡ 0) }
         ensures size { IfOk result (λ t. length t.numbers.items ≡ 256) }
     {
@@ -50,8 +55,10 @@ impl Tiles {
         ensures tiles { OnOk result (AreTiles self.new) }
         ensures map { OnOk result (IsSameMap self.old self.new) }
         ensures number { IfOk result (λ n. IsNumbered self.old self.new cell next n) }
-        ensures others { OnOk result ((c : Cell) → IsCovered self.old c → c ≢ cell → number_held self.new c ≡ number_held self.old c) }
-        ensures size { OnOk result (length self.new.numbers.items ≤ length self.old.numbers.items + 256) }
+        ensures others { OnOk result ((c : Cell) → IsCovered self.old c → c ≢ cell
+            → number_held self.new c ≡ number_held self.old c) }
+        ensures size { OnOk result
+            (length self.new.numbers.items ≤ length self.old.numbers.items + 256) }
     {
         let place = self.place_of(cell)?;
         let known = self.numbers[place];
@@ -78,7 +85,8 @@ impl Tiles {
         Ok(self.parts[tile] as usize * TILE + offset_of(cell))
     }
 
-    /// Makes room for the tile of a cell, which has none. It is rare, so it is compiled by itself: the loop over all paths keeps its registers.
+    /// Makes room for the tile of a cell, which has none. It is rare, so it is compiled by itself:
+    /// the loop over all paths keeps its registers.
     #[inline(never)]
     fn make_room(&mut self, cell: Cell) -> Result<(), AllocError>
         requires tiles { AreTiles self.old }

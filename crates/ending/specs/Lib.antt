@@ -1,4 +1,5 @@
--- What has to be believed, in the order in which to read it: each promise of the crate is made in these words, and in those of `text_io`.
+-- What has to be believed, in the order in which to read it: each promise of the crate is made in
+-- these words, and in those of `text_io`.
 
 -- the exit statuses, and which one a fault ends with
 pub mod Status
@@ -12,5 +13,6 @@ pub mod Finishing
 pub mod Rewriting
 -- texts of words and numbers
 pub mod Pieces
--- What follows from these definitions, each with its proof: proofs of other crates cite it, and nothing of it has to be believed.
+-- What follows from these definitions, each with its proof: proofs of other crates cite it, and
+-- nothing of it has to be believed.
 pub mod Laws

@@ -18,9 +18,11 @@ headed_line head words = enclosed_words head words (line_feed ∷ [])
 abbrev pub fault_line : Words → List ℕ
 fault_line words = headed_line (codes "mapf: ") words
 
--- Nothing was said and the error output was not touched, or the line of the fault with these words was written, or a beginning of it
--- where the error output failed.
-abbrev pub Tells : {E : Type 0} → (E → Option (List ℕ)) → Counted E → Counted E → Option Words → Type 0
+-- Nothing was said and the error output was not touched, or the line of the fault with these words
+-- was written, or a beginning of it where the error output failed.
+abbrev pub Tells
+    : {E : Type 0} → (E → Option (List ℕ)) → Counted E → Counted E → Option Words → Type 0
 Tells contents old new None = new ≡ old
 Tells contents old new (Some words) =
-    (ok : Bool) × WritesText ok (contents (counted_inner old)) (contents (counted_inner new)) (failures_of old) (failures_of new) (fault_line words)
+    (ok : Bool) × WritesText ok (contents (counted_inner old)) (contents (counted_inner new))
+    (failures_of old) (failures_of new) (fault_line words)

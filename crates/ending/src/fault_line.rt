@@ -20,7 +20,9 @@ pub(crate) fn report<E: Write>(err: &mut Counted<E>, words: FaultWords)
 }
 
 fn write_line<E: Write>(err: &mut Counted<E>, words: FaultWords) -> Result<(), WriteFault>
-    ensures { WritesText (is_ok result) (E.contents (counted_inner err.old)) (E.contents (counted_inner err.new)) (failures_of err.old) (failures_of err.new) (fault_line (words_of words)) }
+    ensures { WritesText (is_ok result) (E.contents (counted_inner err.old))
+        (E.contents (counted_inner err.new)) (failures_of err.old) (failures_of err.new)
+        (fault_line (words_of words)) }
 {
     let mut sink = Sink::new(err);
     put_line(&mut sink, words)
@@ -42,8 +44,10 @@ pub fn put_fault_line<W: Write>(
     head: &[u8],
     words: FaultWords,
 ) -> Result<(), WriteFault>
-    ensures ok { OnOk result (Puts W.contents sink.old sink.new (headed_line head.now (words_of words))) }
-    ensures err { OnErr result (Breaks W.contents sink.old sink.new (headed_line head.now (words_of words))) }
+    ensures ok { OnOk result
+        (Puts W.contents sink.old sink.new (headed_line head.now (words_of words))) }
+    ensures err { OnErr result
+        (Breaks W.contents sink.old sink.new (headed_line head.now (words_of words))) }
 {
     put_fault_words(sink, head, words, b"\n")
 }
@@ -55,8 +59,10 @@ pub fn put_fault_words<W: Write>(
     words: FaultWords,
     end: &[u8],
 ) -> Result<(), WriteFault>
-    ensures ok { OnOk result (Puts W.contents sink.old sink.new (enclosed_words head.now (words_of words) end.now)) }
-    ensures err { OnErr result (Breaks W.contents sink.old sink.new (enclosed_words head.now (words_of words) end.now)) }
+    ensures ok { OnOk result
+        (Puts W.contents sink.old sink.new (enclosed_words head.now (words_of words) end.now)) }
+    ensures err { OnErr result
+        (Breaks W.contents sink.old sink.new (enclosed_words head.now (words_of words) end.now)) }
 {
     sink.put(head)?;
     sink.put(words.name().as_bytes())?;

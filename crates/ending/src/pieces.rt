@@ -24,8 +24,10 @@ impl Piece {
 
 /// Puts one piece after another.
 pub fn put_pieces<W: Write>(sink: &mut Sink<'_, W>, pieces: &[Piece]) -> Result<(), WriteFault>
-    ensures ok { OnOk result (Puts W.contents sink.old sink.new (pieces_text (pieces_of pieces.now))) }
-    ensures err { OnErr result (Breaks W.contents sink.old sink.new (pieces_text (pieces_of pieces.now))) }
+    ensures ok { OnOk result
+        (Puts W.contents sink.old sink.new (pieces_text (pieces_of pieces.now))) }
+    ensures err { OnErr result
+        (Breaks W.contents sink.old sink.new (pieces_text (pieces_of pieces.now))) }
 {
     for piece in pieces {
         put_piece(sink, piece)?;
@@ -39,16 +41,20 @@ pub fn put_ended<W: Write>(
     pieces: &[Piece],
     end: &[u8],
 ) -> Result<(), WriteFault>
-    ensures ok { OnOk result (Puts W.contents sink.old sink.new (pieces_text (pieces_of pieces.now) ++ end.now)) }
-    ensures err { OnErr result (Breaks W.contents sink.old sink.new (pieces_text (pieces_of pieces.now) ++ end.now)) }
+    ensures ok { OnOk result
+        (Puts W.contents sink.old sink.new (pieces_text (pieces_of pieces.now) ++ end.now)) }
+    ensures err { OnErr result
+        (Breaks W.contents sink.old sink.new (pieces_text (pieces_of pieces.now) ++ end.now)) }
 {
     put_pieces(sink, pieces)?;
     sink.put(end)
 }
 
 fn put_piece<W: Write>(sink: &mut Sink<'_, W>, piece: &Piece) -> Result<(), WriteFault>
-    ensures ok { OnOk result (Puts W.contents sink.old sink.new (piece.now.word.now ++ decimal piece.now.number)) }
-    ensures err { OnErr result (Breaks W.contents sink.old sink.new (piece.now.word.now ++ decimal piece.now.number)) }
+    ensures ok { OnOk result
+        (Puts W.contents sink.old sink.new (piece.now.word.now ++ decimal piece.now.number)) }
+    ensures err { OnErr result
+        (Breaks W.contents sink.old sink.new (piece.now.word.now ++ decimal piece.now.number)) }
 {
     sink.put(piece.word)?;
     sink.put(Buffer::new().format(piece.number).as_bytes())

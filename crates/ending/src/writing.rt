@@ -8,10 +8,13 @@ use std::io::Write;
 use text_io::{Counted, Sink, WriteFault};
 
 /// Writes a text. The writer is not flushed.
-// Compiled by itself: what it reads and writes has room on the stack, for which a caller would pay at each of its calls.
+// Compiled by itself: what it reads and writes has room on the stack, for which a caller would pay
+// at each of its calls.
 #[inline(never)]
 pub fn write_text<W: Write>(text: &[u8], writer: &mut Counted<W>) -> Result<(), WriteFault>
-    ensures { WritesText (is_ok result) (W.contents (counted_inner writer.old)) (W.contents (counted_inner writer.new)) (failures_of writer.old) (failures_of writer.new) text.now }
+    ensures { WritesText (is_ok result) (W.contents (counted_inner writer.old))
+        (W.contents (counted_inner writer.new)) (failures_of writer.old)
+        (failures_of writer.new) text.now }
 {
     let mut sink = Sink::new(writer);
     put_text(&mut sink, text)
@@ -34,8 +37,10 @@ pub fn put_number<W: Write>(
     word: &[u8],
     number: u64,
 ) -> Result<(), WriteFault>
-    ensures ok { OnOk result (Puts W.contents sink.old sink.new (word.now ++ codes " " ++ decimal number)) }
-    ensures err { OnErr result (Breaks W.contents sink.old sink.new (word.now ++ codes " " ++ decimal number)) }
+    ensures ok { OnOk result
+        (Puts W.contents sink.old sink.new (word.now ++ codes " " ++ decimal number)) }
+    ensures err { OnErr result
+        (Breaks W.contents sink.old sink.new (word.now ++ codes " " ++ decimal number)) }
 {
     sink.put(word)?;
     sink.put_number_after(b' ', number)

@@ -1,10 +1,13 @@
 -- The faults of a text of events, and where each stands.
 use Rattle.std.specs.Prelude.{◌≡◌, ℕ, ◌+◌, ◌<◌, ◌≤◌, ◌⊎◌, List, length, Vec, Result, Ok, Err}
-use Rattle.text_io.specs.Reading.{by_line_feed, Place, at_line_feed, at_byte, at_end, FaultAt, Outcome, is_value, is_fault, is_failed, is_refused}
+use Rattle.text_io.specs.Reading.{by_line_feed, Place, at_line_feed, at_byte, at_end, FaultAt}
+use Rattle.text_io.specs.Reading.{Outcome, is_value, is_fault, is_failed, is_refused}
 use Rattle.model.specs.declared.event.Event.{Event}
 use Rattle.model.specs.declared.version.Version.{Version}
 use Rattle.event_text.specs.declared.event_fault.EventFault.{EventFault}
-use Rattle.event_text.specs.declared.event_fault.EventFault.TheVariants.{NoHeader, BadEvent, Unfinished, ReadFailed, OutOfMemory}
+use Rattle.event_text.specs.declared.event_fault.EventFault.TheVariants.{NoHeader, BadEvent}
+use Rattle.event_text.specs.declared.event_fault.EventFault.TheVariants.{Unfinished, ReadFailed}
+use Rattle.event_text.specs.declared.event_fault.EventFault.TheVariants.{OutOfMemory}
 use Rattle.event_text.specs.declared.header.Headers.{Headers}
 use Rattle.event_text.specs.EventText.{SpellsEvent, IsHeader}
 
@@ -27,7 +30,8 @@ abbrev pub HasOtherEventForm : EventDue → List ℕ → Type 0
 HasOtherEventForm (event_header_due headers) line = IsHeader headers line → ⊥
 HasOtherEventForm event_due line = (event : Event) → SpellsEvent event line → ⊥
 
--- The line is wrong: at its LF it has not the form that is due, or it is too long, which is known at its first byte too many.
+-- The line is wrong: at its LF it has not the form that is due, or it is too long, which is known
+-- at its first byte too many.
 abbrev pub IsWrongAt : Place → EventDue → List ℕ → Type 0
 IsWrongAt at_line_feed due line = (length line ≤ longest_event_line) × HasOtherEventForm due line
 IsWrongAt at_byte due line = length line ≡ longest_event_line + 1
@@ -39,29 +43,35 @@ LacksLineFeed at_line_feed line = ⊥
 LacksLineFeed at_byte line = ⊥
 LacksLineFeed at_end line = length line ≤ longest_event_line
 
--- The fault of a line at a place, by what was due there; the row of the fault table that each fault has. Where the input ends and
--- nothing came of a line of an event, nothing is wrong.
+-- The fault of a line at a place, by what was due there; the row of the fault table that each fault
+-- has. Where the input ends and nothing came of a line of an event, nothing is wrong.
 abbrev pub HasEventFault : EventFault → Place → EventDue → ℕ → List ℕ → Type 0
-HasEventFault NoHeader place (event_header_due headers) number line = IsWrongAt place (event_header_due headers) line ⊎ LacksLineFeed place line
+HasEventFault NoHeader place (event_header_due headers) number line =
+    IsWrongAt place (event_header_due headers) line ⊎ LacksLineFeed place line
 HasEventFault NoHeader place event_due number line = ⊥
 HasEventFault (BadEvent at) place (event_header_due headers) number line = ⊥
-HasEventFault (BadEvent at) place event_due number line = (at ≡ number) × IsWrongAt place event_due line
+HasEventFault (BadEvent at) place event_due number line =
+    (at ≡ number) × IsWrongAt place event_due line
 HasEventFault (Unfinished at) place (event_header_due headers) number line = ⊥
-HasEventFault (Unfinished at) place event_due number line = (at ≡ number) × LacksLineFeed place line × (0 < length line)
+HasEventFault (Unfinished at) place event_due number line =
+    (at ≡ number) × LacksLineFeed place line × (0 < length line)
 HasEventFault ReadFailed place due number line = ⊥
 HasEventFault OutOfMemory place due number line = ⊥
 
--- the fault stands at the place where the text ends, and the lines before are right; each line needs its LF
+-- the fault stands at the place where the text ends, and the lines before are right; each line
+-- needs its LF
 abbrev pub EventFaultAt : Headers → EventFault → Place → List ℕ → Type 0
 EventFaultAt headers = FaultAt by_line_feed EventFollows HasEventFault (event_header_due headers)
 
 -- the events of an answer
-abbrev pub read_items : {A : Type 0} → Result (Vec Event A) EventFault → Result (List Event) EventFault
+abbrev pub read_items
+    : {A : Type 0} → Result (Vec Event A) EventFault → Result (List Event) EventFault
 read_items (Ok events) = Ok events.items
 read_items (Err fault) = Err fault
 
 -- the version and the events of an answer
-abbrev pub read_run : {A : Type 0} → Result (Version × Vec Event A) EventFault → Result (Version × List Event) EventFault
+abbrev pub read_run : {A : Type 0} → Result (Version × Vec Event A) EventFault
+    → Result (Version × List Event) EventFault
 read_run (Ok run) = Ok (run.0, run.1.items)
 read_run (Err fault) = Err fault
 

@@ -17,12 +17,14 @@ event_header Two = codes "mapf-events 2"
 
 -- a word and a number below 2^32, with one space between them
 abbrev pub NamesAgent : List ℕ → ℕ → List ℕ → Type 0
-NamesAgent word i line = (x : List ℕ) × (line ≡ join_with_byte space (word ∷ x ∷ [])) × IsNumeral i x × (i < 2 ^ 32)
+NamesAgent word i line =
+    (x : List ℕ) × (line ≡ join_with_byte space (word ∷ x ∷ [])) × IsNumeral i x × (i < 2 ^ 32)
 
 -- the same, and then one space and a second number, below a limit
 abbrev pub NamesAgentAnd : List ℕ → ℕ → ℕ → ℕ → List ℕ → Type 0
 NamesAgentAnd word i n limit line =
-    (x y : List ℕ) × (line ≡ join_with_byte space (word ∷ x ∷ y ∷ [])) × IsNumeral i x × (i < 2 ^ 32) × IsNumeral n y × (n < limit)
+    (x y : List ℕ) × (line ≡ join_with_byte space (word ∷ x ∷ y ∷ [])) × IsNumeral i x
+    × (i < 2 ^ 32) × IsNumeral n y × (n < limit)
 
 -- the line, without its LF, is that of the event
 abbrev pub SpellsEvent : Event → List ℕ → Type 0
@@ -37,9 +39,11 @@ SpellsEvent (Tear i n) line = NamesAgentAnd (codes "tear") i n (2 ^ 32) line
 abbrev pub AreEvents : List Event → List (List ℕ) → Type 0
 AreEvents events [] = events ≡ []
 AreEvents events (line ∷ lines) =
-    (event : Event) × (others : List Event) × (events ≡ event ∷ others) × SpellsEvent event line × AreEvents others lines
+    (event : Event) × (others : List Event) × (events ≡ event ∷ others) × SpellsEvent event line
+    × AreEvents others lines
 
--- The text spells the version and the events: its lines, each ended by an LF, are the version's header and one for each event.
+-- The text spells the version and the events: its lines, each ended by an LF, are the version's
+-- header and one for each event.
 pub record EventText (version : Version) (events : List Event) (text : List ℕ) : Type 0 where
   pub event_lines : List (List ℕ)
   pub lines : text ≡ ended (event_header version ∷ event_lines)
@@ -54,7 +58,8 @@ TakesHeader Either version = ⊤
 
 -- the line is a header that is taken
 abbrev pub IsHeader : Headers → List ℕ → Type 0
-IsHeader headers line = (version : Version) × TakesHeader headers version × (line ≡ event_header version)
+IsHeader headers line =
+    (version : Version) × TakesHeader headers version × (line ≡ event_header version)
 
 -- the text spells the run, a version and events, and its header is taken
 abbrev pub RunText : Headers → Version × List Event → List ℕ → Type 0

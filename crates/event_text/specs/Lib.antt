@@ -1,4 +1,5 @@
--- What has to be believed, in the order in which to read it: each promise of the crate is made in these words, and in those of `model`.
+-- What has to be believed, in the order in which to read it: each promise of the crate is made in
+-- these words, and in those of `model`.
 
 -- the grammar of a text of events, and which headers are taken
 pub mod EventText
@@ -16,5 +17,6 @@ pub mod ReplyText
 pub mod EventLine
 -- The code's own words, of which no promise speaks.
 pub mod Code
--- What follows from these definitions, each with its proof: proofs of other crates cite it, and nothing of it has to be believed.
+-- What follows from these definitions, each with its proof: proofs of other crates cite it, and
+-- nothing of it has to be believed.
 pub mod Laws

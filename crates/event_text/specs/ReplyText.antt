@@ -3,7 +3,10 @@ use Rattle.std.specs.Prelude.{ℕ, List, [], ◌∷◌, ◌++◌, map, codes}
 use Rattle.hex.specs.Hex.{encode_lower}
 use Rattle.text_io.specs.Text.{space, ended, spaced_numbers}
 use Rattle.model.specs.declared.why.Why.{Why}
-use Rattle.model.specs.declared.why.Why.TheVariants.{NoSuchAgent, NoSuchMessage, BadTear, Broken, AlreadyMoving, AtEnd, Waits, NotMoving, StoreFailed, BadLength, BadMagic, BadVersion, BadEntry, WrongPlan, TooMany}
+use Rattle.model.specs.declared.why.Why.TheVariants.{NoSuchAgent, NoSuchMessage, BadTear, Broken}
+use Rattle.model.specs.declared.why.Why.TheVariants.{AlreadyMoving, AtEnd, Waits, NotMoving}
+use Rattle.model.specs.declared.why.Why.TheVariants.{StoreFailed, BadLength, BadMagic, BadVersion}
+use Rattle.model.specs.declared.why.Why.TheVariants.{BadEntry, WrongPlan, TooMany}
 use Rattle.model.specs.History.{Answer, moving, arrived, said, heard, at, between, armed, refused}
 
 -- the name of a refusal
@@ -32,7 +35,8 @@ refusal_numbers _ = []
 
 -- where an agent stands after a restart, and how many moves it has finished
 abbrev pub standing_line : List ℕ → List ℕ → ℕ → List ℕ
-standing_line word places k = word ++ spaced_numbers places ++ codes " done" ++ spaced_numbers (k ∷ [])
+standing_line word places k =
+    word ++ spaced_numbers places ++ codes " done" ++ spaced_numbers (k ∷ [])
 
 -- the line of an answer, without its LF
 abbrev pub reply_line : Answer → List ℕ
@@ -43,7 +47,8 @@ reply_line (heard j n) = codes "heard" ++ spaced_numbers (j ∷ n ∷ [])
 reply_line (at c k) = standing_line (codes "at") (c.x ∷ c.y ∷ []) k
 reply_line (between u v k) = standing_line (codes "between") (u.x ∷ u.y ∷ v.x ∷ v.y ∷ []) k
 reply_line armed = codes "armed"
-reply_line (refused why) = codes "refused " ++ refusal_name why ++ spaced_numbers (refusal_numbers why)
+reply_line (refused why) =
+    codes "refused " ++ refusal_name why ++ spaced_numbers (refusal_numbers why)
 
 -- the text that is written for answers
 abbrev pub replies_text : List Answer → List ℕ

@@ -1,6 +1,7 @@
 //! The line of an event.
 ghost use Rattle.std.specs.Prelude.{◌≡◌, ◌^◌, ◌++◌, Some, None, IfSome, MatchOption};
-ghost use Rattle.event_text.specs.Code.EventLines.{cut_at_space, event_of, one_number, two_numbers, IsBehindEvent, BeginsWithEvent};
+ghost use Rattle.event_text.specs.Code.EventLines.{cut_at_space, event_of, one_number};
+ghost use Rattle.event_text.specs.Code.EventLines.{two_numbers, IsBehindEvent, BeginsWithEvent};
 ghost use Rattle.text_io.specs.Numerals.{numeral_below};
 
 use memchr::memchr;
@@ -31,7 +32,8 @@ pub(crate) fn read_event(line: &[u8]) -> Option<Event>
     Some(Event::Tear(small_numeral(agent)?, small_numeral(count)?))
 }
 
-/// The event whose line the bytes begin with, and how many bytes that line has with its LF. It is told without looking for the LF first;
+/// The event whose line the bytes begin with, and how many bytes that line has with its LF. It is
+/// told without looking for the LF first;
 /// `None` says nothing of the bytes, of which there may be too few.
 #[inline(always)]
 pub(crate) fn leading_event(bytes: &[u8]) -> Option<(Event, usize)>
@@ -73,7 +75,8 @@ fn split_event(bytes: &[u8]) -> Option<(Event, &[u8])>
     Some((Event::Tear(agent, count), rest))
 }
 
-/// What stands behind a word at the front. Where the word is known, so are its bytes, and they are compared one by one without a call.
+/// What stands behind a word at the front. Where the word is known, so are its bytes, and they are
+/// compared one by one without a call.
 #[inline(always)]
 fn behind<'a>(word: &[u8], bytes: &'a [u8]) -> Option<&'a [u8]>
     ensures { IfSome result (λ rest. bytes.now ≡ word.now ++ rest.now) }
@@ -91,7 +94,8 @@ fn behind<'a>(word: &[u8], bytes: &'a [u8]) -> Option<&'a [u8]>
 
 /// What stands before the first space, and what behind it.
 fn cut(bytes: &[u8]) -> Option<(&[u8], &[u8])>
-    ensures { MatchOption result (cut_at_space bytes.now ≡ None) (λ p. cut_at_space bytes.now ≡ Some (p.0.now, p.1.now)) }
+    ensures { MatchOption result (cut_at_space bytes.now ≡ None)
+        (λ p. cut_at_space bytes.now ≡ Some (p.0.now, p.1.now)) }
 {
     let place = memchr(b' ', bytes)?;
     Some((&bytes[..place], &bytes[place + 1..]))

@@ -12,8 +12,10 @@ ghost use Rattle.model.specs.declared.version.Version.TheVariants.{One};
 ghost use Rattle.event_text.specs.declared.header.Headers.{Headers};
 ghost use Rattle.event_text.specs.declared.header.Headers.TheVariants.{VersionOne, Either};
 ghost use Rattle.event_text.specs.EventText.{EventText, RunText};
-ghost use Rattle.event_text.specs.EventFault.{longest_event_line, EventFaultAt, read_items, read_run, event_outcome};
-ghost use Rattle.event_text.specs.Taking.{IsAtStart, HasReadEvents, VersionTaken, EventTaken, LeavesFewer};
+ghost use Rattle.event_text.specs.EventFault.{longest_event_line, EventFaultAt, read_items};
+ghost use Rattle.event_text.specs.EventFault.{read_run, event_outcome};
+ghost use Rattle.event_text.specs.Taking.{IsAtStart, HasReadEvents, VersionTaken};
+ghost use Rattle.event_text.specs.Taking.{EventTaken, LeavesFewer};
 
 use crate::EventFault;
 use crate::event_line::{leading_event, read_event};
@@ -61,16 +63,19 @@ impl EventReader {
         }
     }
 
-    /// The version of a source's header, which is read where it wasn't yet. After a fault there is nothing more to be read.
+    /// The version of a source's header, which is read where it wasn't yet. After a fault there is
+    /// nothing more to be read.
     #[inline(always)]
     pub fn version<R: Read>(
         &mut self,
         source: &mut Source<'_, R, PIECE>,
     ) -> Result<Version, EventFault>
         ensures same_reader { source.new.reader.ghost_name ≡ source.old.reader.ghost_name }
-        ensures taken { (headers : Headers) (first : Counted R) (events : List Event) → HasReadEvents headers R.remaining first source.old self.old events
+        ensures taken { (headers : Headers) (first : Counted R) (events : List Event)
+            → HasReadEvents headers R.remaining first source.old self.old events
             → VersionTaken headers R.remaining first source.new self.new events result }
-        ensures same_version { (version : Version) → self.old.version ≡ Some version → result ≡ Ok version }
+        ensures same_version { (version : Version) → self.old.version ≡ Some version
+            → result ≡ Ok version }
         ensures kept { IfOk result (λ version. self.new.version ≡ Some version) }
         ensures none_more { most_left source.new ≤ most_left source.old }
     {
@@ -80,15 +85,18 @@ impl EventReader {
         }
     }
 
-    /// The next event of a source, or none where the text ended well. After an end or a fault there is nothing more to be read.
+    /// The next event of a source, or none where the text ended well. After an end or a fault there
+    /// is nothing more to be read.
     pub fn next_event<R: Read>(
         &mut self,
         source: &mut Source<'_, R, PIECE>,
     ) -> Result<Option<Event>, EventFault>
         ensures same_reader { source.new.reader.ghost_name ≡ source.old.reader.ghost_name }
-        ensures next { (headers : Headers) (first : Counted R) (events : List Event) → HasReadEvents headers R.remaining first source.old self.old events
+        ensures next { (headers : Headers) (first : Counted R) (events : List Event)
+            → HasReadEvents headers R.remaining first source.old self.old events
             → EventTaken headers R.remaining first source.new self.new events result }
-        ensures same_version { (version : Version) → self.old.version ≡ Some version → self.new.version ≡ Some version }
+        ensures same_version { (version : Version) → self.old.version ≡ Some version
+            → self.new.version ≡ Some version }
         ensures fewer_left { LeavesFewer result (most_left source.old) (most_left source.new) }
     {
         let _version = self.version(source)?;
@@ -101,8 +109,10 @@ impl EventReader {
         source: &mut Source<'_, R, PIECE>,
     ) -> Result<Version, EventFault>
         ensures same_reader { source.new.reader.ghost_name ≡ source.old.reader.ghost_name }
-        ensures taken { (headers : Headers) (first : Counted R) (events : List Event) → HasReadEvents headers R.remaining first source.old self.old events
-            → self.old.version ≡ None → VersionTaken headers R.remaining first source.new self.new events result }
+        ensures taken { (headers : Headers) (first : Counted R) (events : List Event)
+            → HasReadEvents headers R.remaining first source.old self.old events
+            → self.old.version ≡ None
+            → VersionTaken headers R.remaining first source.new self.new events result }
         ensures kept { IfOk result (λ version. self.new.version ≡ Some version) }
         ensures none_more { most_left source.new ≤ most_left source.old }
     {
@@ -127,16 +137,19 @@ impl EventReader {
         &self.room[..count.min(LONGEST_LINE)]
     }
 
-    /// The event of the next line, behind the header. It is told from what is at hand of the source where that has all of the line.
+    /// The event of the next line, behind the header. It is told from what is at hand of the source
+    /// where that has all of the line.
     #[inline(always)]
     fn read_line<R: Read>(
         &mut self,
         source: &mut Source<'_, R, PIECE>,
     ) -> Result<Option<Event>, EventFault>
         ensures same_reader { source.new.reader.ghost_name ≡ source.old.reader.ghost_name }
-        ensures next { (headers : Headers) (first : Counted R) (events : List Event) (version : Version)
+        ensures next { (headers : Headers) (first : Counted R) (events : List Event)
+            (version : Version)
             → HasReadEvents headers R.remaining first source.old self.old events
-            → self.old.version ≡ Some version → EventTaken headers R.remaining first source.new self.new events result }
+            → self.old.version ≡ Some version
+            → EventTaken headers R.remaining first source.new self.new events result }
         ensures same_version { self.new.version ≡ self.old.version }
         ensures fewer_left { LeavesFewer result (most_left source.old) (most_left source.new) }
     {
@@ -161,9 +174,11 @@ impl EventReader {
         source: &mut Source<'_, R, PIECE>,
     ) -> Result<Option<Event>, EventFault>
         ensures same_reader { source.new.reader.ghost_name ≡ source.old.reader.ghost_name }
-        ensures next { (headers : Headers) (first : Counted R) (events : List Event) (version : Version)
+        ensures next { (headers : Headers) (first : Counted R) (events : List Event)
+            (version : Version)
             → HasReadEvents headers R.remaining first source.old self.old events
-            → self.old.version ≡ Some version → EventTaken headers R.remaining first source.new self.new events result }
+            → self.old.version ≡ Some version
+            → EventTaken headers R.remaining first source.new self.new events result }
         ensures same_version { self.new.version ≡ self.old.version }
         ensures fewer_left { LeavesFewer result (most_left source.old) (most_left source.new) }
     {
@@ -183,13 +198,14 @@ impl EventReader {
     }
 }
 
-/// Reads events of version 1, the whole text. The first fault is answered; a reader that fails is not read again, and the answer is
-/// then the fault that its bytes decide, or else `ReadFailed`.
+/// Reads events of version 1, the whole text. The first fault is answered; a reader that fails is
+/// not read again, and the answer is then the fault that its bytes decide, or else `ReadFailed`.
 pub fn read_events<R: Read>(
     alloc: Global,
     reader: &mut Counted<R>,
 ) -> Result<Vec<Event>, EventFault>
-    ensures { ReadsText (EventText One) (EventFaultAt VersionOne) (R.remaining (counted_inner reader.old)) (R.remaining (counted_inner reader.new))
+    ensures { ReadsText (EventText One) (EventFaultAt VersionOne)
+        (R.remaining (counted_inner reader.old)) (R.remaining (counted_inner reader.new))
         (failures_of reader.old) (failures_of reader.new) (event_outcome (read_items result)) }
 {
     let mut source = Source::new(reader);
@@ -202,7 +218,8 @@ pub fn read_events_any<R: Read>(
     alloc: Global,
     reader: &mut Counted<R>,
 ) -> Result<(Version, Vec<Event>), EventFault>
-    ensures { ReadsText (RunText Either) (EventFaultAt Either) (R.remaining (counted_inner reader.old)) (R.remaining (counted_inner reader.new))
+    ensures { ReadsText (RunText Either) (EventFaultAt Either)
+        (R.remaining (counted_inner reader.old)) (R.remaining (counted_inner reader.new))
         (failures_of reader.old) (failures_of reader.new) (event_outcome (read_run result)) }
 {
     let mut source = Source::new(reader);
@@ -217,8 +234,10 @@ fn read_all<R: Read>(
 ) -> Result<(Version, Vec<Event>), EventFault>
     requires { HasTaken R.remaining (source_reader source.old) source.old [] }
     ensures same_reader { source.new.reader.ghost_name ≡ source.old.reader.ghost_name }
-    ensures reads { ReadsText (RunText headers) (EventFaultAt headers) (R.remaining (counted_inner (source_reader source.old)))
-        (R.remaining (counted_inner (source_reader source.new))) (failures_of (source_reader source.old)) (failures_of (source_reader source.new))
+    ensures reads { ReadsText (RunText headers) (EventFaultAt headers)
+        (R.remaining (counted_inner (source_reader source.old)))
+        (R.remaining (counted_inner (source_reader source.new)))
+        (failures_of (source_reader source.old)) (failures_of (source_reader source.new))
         (event_outcome (read_run result)) }
 {
     let mut reader = EventReader::taking(headers);

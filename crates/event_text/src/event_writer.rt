@@ -11,8 +11,10 @@ use text_io::{Sink, WriteFault};
 
 /// Puts an event's line and its LF.
 pub fn put_event<W: Write>(sink: &mut Sink<'_, W>, event: &Event) -> Result<(), WriteFault>
-    ensures ok { OnOk result (Puts W.contents sink.old sink.new (event_line event.now ++ line_feed ∷ [])) }
-    ensures err { OnErr result (Breaks W.contents sink.old sink.new (event_line event.now ++ line_feed ∷ [])) }
+    ensures ok { OnOk result
+        (Puts W.contents sink.old sink.new (event_line event.now ++ line_feed ∷ [])) }
+    ensures err { OnErr result
+        (Breaks W.contents sink.old sink.new (event_line event.now ++ line_feed ∷ [])) }
 {
     put_line(sink, *event)?;
     sink.put_byte(b'\n')

@@ -13,7 +13,8 @@ pub(crate) enum Headers {
 
 /// The version of a line, if it is a header that is taken.
 pub(crate) fn version_of(headers: Headers, line: &[u8]) -> Option<Version>
-    ensures { MatchOption result (IsHeader headers line.now → ⊥) (λ version. TakesHeader headers version × (line.now ≡ event_header version)) }
+    ensures { MatchOption result (IsHeader headers line.now → ⊥)
+        (λ version. TakesHeader headers version × (line.now ≡ event_header version)) }
 {
     if line == b"mapf-events 1".as_slice() {
         return Some(Version::One);

@@ -1,5 +1,6 @@
 //! Writing replies as text.
-ghost use Rattle.std.specs.Prelude.{◌≡◌, ◌<◌, ◌≤◌, [], ◌∷◌, ◌++◌, length, map, slice_index, OnOk, OnErr, is_ok};
+ghost use Rattle.std.specs.Prelude.{◌≡◌, ◌<◌, ◌≤◌, [], ◌∷◌, ◌++◌};
+ghost use Rattle.std.specs.Prelude.{length, map, slice_index, OnOk, OnErr, is_ok};
 ghost use Rattle.hex.specs.Hex.{encode_lower, lower_digits};
 ghost use Rattle.text_io.specs.Counted.{counted_inner, failures_of};
 ghost use Rattle.text_io.specs.Text.{line_feed, spaced_numbers};
@@ -20,7 +21,8 @@ const PIECE: usize = 12;
 
 /// Writes the line of each reply. The writer is not flushed.
 pub fn write_replies<W: Write>(replies: &[Reply], writer: &mut Counted<W>) -> Result<(), WriteFault>
-    ensures { WritesText (is_ok result) (W.contents (counted_inner writer.old)) (W.contents (counted_inner writer.new)) (failures_of writer.old) (failures_of writer.new)
+    ensures { WritesText (is_ok result) (W.contents (counted_inner writer.old))
+        (W.contents (counted_inner writer.new)) (failures_of writer.old) (failures_of writer.new)
         (replies_text (map answer_of replies.now)) }
 {
     let mut sink = Sink::new(writer);
@@ -29,9 +31,11 @@ pub fn write_replies<W: Write>(replies: &[Reply], writer: &mut Counted<W>) -> Re
 
 /// Puts all lines, and hands them on.
 fn put_replies<W: Write>(sink: &mut Sink<'_, W>, replies: &[Reply]) -> Result<(), WriteFault>
-    ensures ok { OnOk result (Puts W.contents sink.old sink.new (replies_text (map answer_of replies.now))) }
+    ensures ok { OnOk result
+        (Puts W.contents sink.old sink.new (replies_text (map answer_of replies.now))) }
     ensures none_held { OnOk result (held_back sink.new ≡ []) }
-    ensures err { OnErr result (Breaks W.contents sink.old sink.new (replies_text (map answer_of replies.now))) }
+    ensures err { OnErr result
+        (Breaks W.contents sink.old sink.new (replies_text (map answer_of replies.now))) }
 {
     for reply in replies {
         put_reply(sink, reply)?;
@@ -42,8 +46,10 @@ fn put_replies<W: Write>(sink: &mut Sink<'_, W>, replies: &[Reply]) -> Result<()
 /// Puts a reply's line and its LF.
 #[inline(always)]
 pub fn put_reply<W: Write>(sink: &mut Sink<'_, W>, reply: &Reply) -> Result<(), WriteFault>
-    ensures ok { OnOk result (Puts W.contents sink.old sink.new (reply_line (answer_of reply.now) ++ line_feed ∷ [])) }
-    ensures err { OnErr result (Breaks W.contents sink.old sink.new (reply_line (answer_of reply.now) ++ line_feed ∷ [])) }
+    ensures ok { OnOk result
+        (Puts W.contents sink.old sink.new (reply_line (answer_of reply.now) ++ line_feed ∷ [])) }
+    ensures err { OnErr result
+        (Breaks W.contents sink.old sink.new (reply_line (answer_of reply.now) ++ line_feed ∷ [])) }
 {
     put_line(sink, reply)?;
     sink.put_byte(b'\n')
@@ -51,8 +57,10 @@ pub fn put_reply<W: Write>(sink: &mut Sink<'_, W>, reply: &Reply) -> Result<(), 
 
 #[inline(always)]
 fn put_line<W: Write>(sink: &mut Sink<'_, W>, reply: &Reply) -> Result<(), WriteFault>
-    ensures ok { OnOk result (Puts W.contents sink.old sink.new (reply_line (answer_of reply.now))) }
-    ensures err { OnErr result (Breaks W.contents sink.old sink.new (reply_line (answer_of reply.now))) }
+    ensures ok { OnOk result
+        (Puts W.contents sink.old sink.new (reply_line (answer_of reply.now))) }
+    ensures err { OnErr result
+        (Breaks W.contents sink.old sink.new (reply_line (answer_of reply.now))) }
 {
     match reply {
         Reply::Moving(c) => put_two(sink, b"moving", u64::from(c.x), u64::from(c.y)),
@@ -66,7 +74,8 @@ fn put_line<W: Write>(sink: &mut Sink<'_, W>, reply: &Reply) -> Result<(), Write
     }
 }
 
-/// Puts a word and two numbers. Their list has its place in memory here, and not in a function where another reply may have none.
+/// Puts a word and two numbers. Their list has its place in memory here, and not in a function
+/// where another reply may have none.
 #[inline(always)]
 fn put_two<W: Write>(
     sink: &mut Sink<'_, W>,
@@ -74,16 +83,20 @@ fn put_two<W: Write>(
     first: u64,
     second: u64,
 ) -> Result<(), WriteFault>
-    ensures ok { OnOk result (Puts W.contents sink.old sink.new (word.now ++ spaced_numbers (first ∷ second ∷ []))) }
-    ensures err { OnErr result (Breaks W.contents sink.old sink.new (word.now ++ spaced_numbers (first ∷ second ∷ []))) }
+    ensures ok { OnOk result
+        (Puts W.contents sink.old sink.new (word.now ++ spaced_numbers (first ∷ second ∷ []))) }
+    ensures err { OnErr result
+        (Breaks W.contents sink.old sink.new (word.now ++ spaced_numbers (first ∷ second ∷ []))) }
 {
     put_numbers(sink, word, &[first, second])
 }
 
 /// Puts a message's number and its bytes.
 fn put_said<W: Write>(sink: &mut Sink<'_, W>, number: u64, bytes: &[u8]) -> Result<(), WriteFault>
-    ensures ok { OnOk result (Puts W.contents sink.old sink.new (reply_line (said number bytes.now))) }
-    ensures err { OnErr result (Breaks W.contents sink.old sink.new (reply_line (said number bytes.now))) }
+    ensures ok { OnOk result
+        (Puts W.contents sink.old sink.new (reply_line (said number bytes.now))) }
+    ensures err { OnErr result
+        (Breaks W.contents sink.old sink.new (reply_line (said number bytes.now))) }
 {
     put_numbers(sink, b"said", &[number])?;
     sink.put_byte(b' ')?;
@@ -105,8 +118,10 @@ fn put_between<W: Write>(
     v: Cell,
     finished: u32,
 ) -> Result<(), WriteFault>
-    ensures ok { OnOk result (Puts W.contents sink.old sink.new (reply_line (between u v finished))) }
-    ensures err { OnErr result (Breaks W.contents sink.old sink.new (reply_line (between u v finished))) }
+    ensures ok { OnOk result
+        (Puts W.contents sink.old sink.new (reply_line (between u v finished))) }
+    ensures err { OnErr result
+        (Breaks W.contents sink.old sink.new (reply_line (between u v finished))) }
 {
     let places = [
         u64::from(u.x),
@@ -124,8 +139,10 @@ fn put_standing<W: Write>(
     places: &[u64],
     finished: u32,
 ) -> Result<(), WriteFault>
-    ensures ok { OnOk result (Puts W.contents sink.old sink.new (standing_line word.now places.now finished)) }
-    ensures err { OnErr result (Breaks W.contents sink.old sink.new (standing_line word.now places.now finished)) }
+    ensures ok { OnOk result
+        (Puts W.contents sink.old sink.new (standing_line word.now places.now finished)) }
+    ensures err { OnErr result
+        (Breaks W.contents sink.old sink.new (standing_line word.now places.now finished)) }
 {
     put_numbers(sink, word, places)?;
     put_numbers(sink, b" done", &[u64::from(finished)])
@@ -173,8 +190,10 @@ pub(crate) fn put_numbers<W: Write>(
     word: &[u8],
     numbers: &[u64],
 ) -> Result<(), WriteFault>
-    ensures ok { OnOk result (Puts W.contents sink.old sink.new (word.now ++ spaced_numbers numbers.now)) }
-    ensures err { OnErr result (Breaks W.contents sink.old sink.new (word.now ++ spaced_numbers numbers.now)) }
+    ensures ok { OnOk result
+        (Puts W.contents sink.old sink.new (word.now ++ spaced_numbers numbers.now)) }
+    ensures err { OnErr result
+        (Breaks W.contents sink.old sink.new (word.now ++ spaced_numbers numbers.now)) }
 {
     sink.put_numbers(word, b' ', numbers)
 }
@@ -209,8 +228,8 @@ fn put_digits<W: Write>(sink: &mut Sink<'_, W>, bytes: &[u8]) -> Result<(), Writ
     sink.put(digits)
 }
 
-/// The digits of as many bytes as a message of version 1 has. They are computed and not looked up, so that all are made side by side and
-/// none is put into memory by itself.
+/// The digits of as many bytes as a message of version 1 has. They are computed and not looked up,
+/// so that all are made side by side and none is put into memory by itself.
 #[inline(always)]
 fn digits_of(bytes: &[u8]) -> [u8; 2 * PIECE]
     requires { length bytes.now ≡ PIECE }

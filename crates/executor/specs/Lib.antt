@@ -1,4 +1,5 @@
--- What has to be believed of the crate, beside the definitions of `model` and `agent`, in the order in which to read it.
+-- What has to be believed of the crate, beside the definitions of `model` and `agent`, in the order
+-- in which to read it.
 
 -- the tape that tears where it is told to
 pub mod SimTape
@@ -16,5 +17,6 @@ pub mod Endings
 pub mod FaultWords
 -- the code's own words
 pub mod Code
--- What follows from these definitions, each with its proof: proofs of other crates cite it, and nothing of it has to be believed.
+-- What follows from these definitions, each with its proof: proofs of other crates cite it, and
+-- nothing of it has to be believed.
 pub mod Laws

@@ -13,7 +13,8 @@ pub record SaidMessages : Type 0 where
 
 -- the message of a note, of whose entries there are so many from the first on
 abbrev pub message_in : List Entry → Note → Message
-message_in entries note = record { sender = note.sender; entries = take note.count (drop note.first entries) }
+message_in entries note =
+    record { sender = note.sender; entries = take note.count (drop note.first entries) }
 
 -- at version 1 each entry is a message of its agent's own, and at version 2 each note is one
 abbrev pub messages_in : Version → List Entry → List Note → List Message

@@ -12,7 +12,8 @@ use thiserror::Error;
 /// Why a run is not completed.
 #[derive(Clone, Copy, Debug, PartialEq, Eq, Error)]
 pub enum CompleteFault {
-    /// The rotation with this number, counted from 0 as the graph lists them, has a move that isn't finished.
+    /// The rotation with this number, counted from 0 as the graph lists them, has a move that isn't
+    /// finished.
     Rotation(u32),
     OutOfMemory,
 }

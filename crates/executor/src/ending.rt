@@ -1,5 +1,6 @@
 //! Events that bring every agent of a run to its end.
-ghost use Rattle.std.specs.Prelude.{◌≡◌, ◌<◌, ◌≤◌, ◌+◌, ◌^◌, [], ◌∷◌, ◌++◌, length, None, Some, IfSome, IfNone, IfOk, OnOk, slice_get};
+ghost use Rattle.std.specs.Prelude.{◌≡◌, ◌<◌, ◌≤◌, ◌+◌, ◌^◌, [], ◌∷◌, ◌++◌};
+ghost use Rattle.std.specs.Prelude.{length, None, Some, IfSome, IfNone, IfOk, OnOk, slice_get};
 ghost use Rattle.model.specs.Ready.{rest_events};
 ghost use Rattle.executor.specs.Code.Leading.{is_opened_anew};
 ghost use Rattle.executor.specs.Code.Waiting.{HasNoRotation, CompletesFrom};
@@ -16,7 +17,8 @@ use std::marker::Model;
 pub struct Standing {
     /// How many moves it has finished.
     pub done: u32,
-    /// The number of the message that it said last, and how many moves that one tells; before the first none.
+    /// The number of the message that it said last, and how many moves that one tells; before the
+    /// first none.
     pub message: u64,
     pub told: u32,
     /// Where the place is kept of what its next move needs.
@@ -46,7 +48,8 @@ pub struct Ending<'r, 'g> {
     events: Vec<Event>,
     messages: u64,
     standings: Vec<Standing>,
-    /// For each move that was left, agent after agent, where in `heard` that stands of which its need asks.
+    /// For each move that was left, agent after agent, where in `heard` that stands of which its
+    /// need asks.
     places: Vec<u32>,
     heard: Vec<Heard>,
 }
@@ -57,18 +60,32 @@ impl<'r, 'g> Model for Ending<'r, 'g> {
 
     ghost Value = { EndingState };
 
-    ghost view = { λ e. record { timetable = e.graph.now; agents = e.agents.now; events = e.events.items; messages = e.messages; standings = e.standings.items; heard = e.heard.items } };
+    ghost view = { λ e. record {
+      timetable = e.graph.now;
+      agents = e.agents.now;
+      events = e.events.items;
+      messages = e.messages;
+      standings = e.standings.items;
+      heard =
+          e.heard.items;
+    } };
 
-    ghost invariant = { λ e. (length e.agents.now ≡ length e.graph.now.tracks) × (e.messages ≤ 2 ^ 63 + length e.events.items) };
+    ghost invariant = { λ e. (length e.agents.now ≡ length e.graph.now.tracks)
+        × (e.messages ≤ 2 ^ 63 + length e.events.items) };
 }
 
 impl<'r, 'g> Ending<'r, 'g> {
     ghost use Rattle.model.specs.Dependency.{IsRotation};
     ghost use Rattle.model.specs.Timetable.{Track, moves, track_of};
-    ghost use Rattle.executor.specs.Code.Waiting.{HasNoRotation, IsWaiting, last_of, HaveRisen, HasEndedMoves, way_left, GoesNearer};
-    ghost use Rattle.executor.specs.Code.Leading.{finished_in, told_in, LeadsOn, IsOf, HasStayed, Knows, Teaches, TeachesNeed, LeadsOnceKnown, NeedsNext, HasLeft, Awaits, HasMoved, AreUnheard, HasSameStandings};
+    ghost use Rattle.executor.specs.Code.Waiting.{HasNoRotation, IsWaiting, last_of, HaveRisen};
+    ghost use Rattle.executor.specs.Code.Waiting.{HasEndedMoves, way_left, GoesNearer};
+    ghost use Rattle.executor.specs.Code.Leading.{finished_in, told_in, LeadsOn, IsOf};
+    ghost use Rattle.executor.specs.Code.Leading.{HasStayed, Knows, Teaches, TeachesNeed};
+    ghost use Rattle.executor.specs.Code.Leading.{LeadsOnceKnown, NeedsNext, HasLeft, Awaits};
+    ghost use Rattle.executor.specs.Code.Leading.{HasMoved, AreUnheard, HasSameStandings};
 
-    /// Opens an agent anew that is broken or whose next write would fail, and finishes the move that it makes.
+    /// Opens an agent anew that is broken or whose next write would fail, and finishes the move
+    /// that it makes.
     fn rest(&mut self, id: u32) -> Result<(), AllocError>
         requires next { id ≡ length self.old.standings }
         requires there { id < length self.old.agents }
@@ -91,7 +108,8 @@ impl<'r, 'g> Ending<'r, 'g> {
         Ok(())
     }
 
-    /// Adds places for the needs of all moves that an agent has left, one for each agent of whom they ask.
+    /// Adds places for the needs of all moves that an agent has left, one for each agent of whom
+    /// they ask.
     fn add_places(&mut self, agent: u16, seen: &mut [Seen]) -> Result<(), AllocError>
         requires none_heard { AreUnheard self.old.heard }
         ensures same { OnOk result (HasSameStandings self.old self.new) }
@@ -156,7 +174,8 @@ impl<'r, 'g> Ending<'r, 'g> {
         Ok(place)
     }
 
-    /// How many moves of another an agent knows to be finished, by what it knew before all events and by what the events told it.
+    /// How many moves of another an agent knows to be finished, by what it knew before all events
+    /// and by what the events told it.
     fn known(&self, agent: u16, other: u16) -> u32
         requires there { agent < length self.now.agents }
         requires all { length self.now.standings ≡ length self.now.agents }
@@ -223,7 +242,8 @@ impl<'r, 'g> Ending<'r, 'g> {
         requires said { 0 < told_in self.old.standings from }
         ensures stayed { OnOk result (HasStayed self.old self.new) }
         ensures leads { OnOk result (LeadsOn self.old self.new) }
-        ensures teaches { OnOk result (Teaches self.old self.new to from (told_in self.old.standings from)) }
+        ensures teaches { OnOk result
+            (Teaches self.old self.new to from (told_in self.old.standings from)) }
     {
         let Standing { message, told, .. } = self.standings[usize::from(from)];
         let slot = self.slot(to);
@@ -314,7 +334,8 @@ impl<'r, 'g> Ending<'r, 'g> {
         requires all { length self.now.standings ≡ length self.now.agents }
         requires left { HasLeft self.now agent }
         ensures need { NeedsNext self.now agent result }
-        ensures there { IfSome result (λ asked. (asked.0 < length self.now.agents) × (0 < asked.1)) }
+        ensures there { IfSome result (λ asked. (asked.0 < length self.now.agents)
+            × (0 < asked.1)) }
     {
         let need = self.need_of(agent, self.standings[usize::from(agent)].done);
         // A graph has no vertex conflicts, so whoever is waited for is one of its agents.
@@ -332,7 +353,8 @@ impl<'r, 'g> Ending<'r, 'g> {
         self.graph.route(u32::from(agent)).unwrap().need(number)
     }
 
-    /// Lets an agent make all its moves, and others before it whatever those wait for. The list is empty before and after.
+    /// Lets an agent make all its moves, and others before it whatever those wait for. The list is
+    /// empty before and after.
     fn bring_to_end(&mut self, agent: u16, waiting: &mut Vec<u16>) -> Result<(), AllocError>
         requires there { agent < length self.old.agents }
         requires all { length self.old.standings ≡ length self.old.agents }
@@ -359,9 +381,11 @@ impl<'r, 'g> Ending<'r, 'g> {
         requires chain { IsWaiting self.old agent waiting.old.items }
         requires next { now ≡ last_of agent waiting.old.items }
         requires left { HasLeft self.old now }
-        ensures { OnOk result (GoesNearer agent self.old self.new waiting.old.items waiting.new.items) }
+        ensures { OnOk result
+            (GoesNearer agent self.old self.new waiting.old.items waiting.new.items) }
     {
-        // Without vertex conflicts, swaps and rotations nobody waits for itself, not even through others.
+        // Without vertex conflicts, swaps and rotations nobody waits for itself, not even through
+        // others.
         prove!(self.graph.agents() <= 10_000);
         let need = self.need(now);
         match self.awaited(now, need) {
@@ -377,12 +401,14 @@ impl<'r, 'g> Ending<'r, 'g> {
         }
     }
 
-    /// Who goes on while an agent is brought to its end: the last of those who are waited for, or the agent while it has moves left.
+    /// Who goes on while an agent is brought to its end: the last of those who are waited for, or
+    /// the agent while it has moves left.
     fn up_next(&self, agent: u16, waiting: &[u16]) -> Option<u16>
         requires there { agent < length self.now.agents }
         requires all { length self.now.standings ≡ length self.now.agents }
         requires chain { IsWaiting self.now agent waiting.now }
-        ensures next { IfSome result (λ now. (now ≡ last_of agent waiting.now) × HasLeft self.now now) }
+        ensures next { IfSome result (λ now. (now ≡ last_of agent waiting.now)
+            × HasLeft self.now now) }
         ensures none { IfNone result ((waiting.now ≡ []) × HasEndedMoves self.now agent) }
     {
         if let Some(last) = waiting.last() {
@@ -398,7 +424,8 @@ impl<'r, 'g> Ending<'r, 'g> {
     /// How many moves an agent has.
     fn moves(&self, agent: u16) -> u32
         requires there { agent < length self.now.agents }
-        ensures { (track : Track) × (track_of self.now.timetable agent ≡ Some track) × (result ≡ moves track) }
+        ensures { (track : Track) × (track_of self.now.timetable agent ≡ Some track)
+            × (result ≡ moves track) }
     {
         self.graph.moves(u32::from(agent)).unwrap()
     }
@@ -421,7 +448,8 @@ impl<'r, 'g> Ending<'r, 'g> {
 
 /// Puts the events behind the others by which an agent comes to rest.
 fn push_rest(events: &mut Vec<Event>, opened: bool, moving: bool, id: u32) -> Result<(), AllocError>
-    ensures put { OnOk result (events.new.items ≡ events.old.items ++ rest_events opened moving id) }
+    ensures put { OnOk result
+        (events.new.items ≡ events.old.items ++ rest_events opened moving id) }
     ensures more { length events.old.items ≤ length events.new.items }
 {
     if opened {
@@ -440,7 +468,8 @@ fn is_opened_anew(agent: &Agent<'_, CountedTape>) -> bool
     agent.is_broken() || agent.tape().armed().is_some()
 }
 
-/// Events that bring all agents of a graph to their ends, from where a run left them after so many messages.
+/// Events that bring all agents of a graph to their ends, from where a run left them after so many
+/// messages.
 pub(crate) fn bring_all_to_ends(
     alloc: Global,
     graph: &Dependencies,

@@ -1,5 +1,6 @@
-//! Replies to the common events. What is refused is told in functions of its own: the cell of a reply then stays in a register, and is not
-//! put into memory beside the numbers of other replies, where reading it would wait for them.
+//! Replies to the common events. What is refused is told in functions of its own: the cell of a
+//! reply then stays in a register, and is not put into memory beside the numbers of other replies,
+//! where reading it would wait for them.
 ghost use Rattle.std.specs.Prelude.{◌≡◌, None, Some, Err, MatchResult};
 ghost use Rattle.model.specs.History.{moving, arrived, refused};
 ghost use Rattle.model.specs.Replies.{answer_of};
@@ -36,7 +37,8 @@ pub(crate) fn reply_to_finish(answer: Result<Cell, Refusal>) -> Reply
 /// The reply to a delivery, unless memory was refused.
 #[inline(always)]
 pub(crate) fn reply_to_delivery(answer: Result<(u16, u32), HearFault>) -> Result<Reply, AllocError>
-    ensures { MatchResult result (λ reply. delivered answer ≡ Some (answer_of reply)) (λ _. delivered answer ≡ None) }
+    ensures { MatchResult result (λ reply. delivered answer ≡ Some (answer_of reply))
+        (λ _. delivered answer ≡ None) }
 {
     match answer {
         Ok((sender, known)) => Ok(Reply::Heard(sender, known)),
@@ -44,7 +46,8 @@ pub(crate) fn reply_to_delivery(answer: Result<(u16, u32), HearFault>) -> Result
     }
 }
 
-/// The reply to what is refused. It has its place in memory here, and none where the common events are answered.
+/// The reply to what is refused. It has its place in memory here, and none where the common events
+/// are answered.
 #[inline(always)]
 fn refused(refusal: Refusal) -> Reply
     ensures { answer_of result ≡ refused (why_of refusal) }
@@ -63,7 +66,8 @@ fn tell_refused(refusal: Refusal) -> Reply
 /// The same of a message that is not heard.
 #[inline(always)]
 fn not_heard(fault: HearFault) -> Result<Reply, AllocError>
-    ensures { MatchResult result (λ reply. delivered (Err fault) ≡ Some (answer_of reply)) (λ _. delivered (Err fault) ≡ None) }
+    ensures { MatchResult result (λ reply. delivered (Err fault) ≡ Some (answer_of reply))
+        (λ _. delivered (Err fault) ≡ None) }
 {
     let reply = tell_not_heard(fault);
     reply
@@ -71,7 +75,8 @@ fn not_heard(fault: HearFault) -> Result<Reply, AllocError>
 
 #[inline(never)]
 fn tell_not_heard(fault: HearFault) -> Result<Reply, AllocError>
-    ensures { MatchResult result (λ reply. delivered (Err fault) ≡ Some (answer_of reply)) (λ _. delivered (Err fault) ≡ None) }
+    ensures { MatchResult result (λ reply. delivered (Err fault) ≡ Some (answer_of reply))
+        (λ _. delivered (Err fault) ≡ None) }
 {
     replies::reply_to_delivery(Err(fault))
 }

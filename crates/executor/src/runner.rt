@@ -22,7 +22,8 @@ use std::marker::Model;
 use std::mem;
 use text_io::OutOfMemory;
 
-/// All agents of a graph, each over a tape that counts its records and tears where it is told to, and every message that was said.
+/// All agents of a graph, each over a tape that counts its records and tears where it is told to,
+/// and every message that was said.
 #[derive(Drop)]
 pub struct Runner<'g> {
     alloc: Global,
@@ -39,9 +40,15 @@ impl<'g> Model for Runner<'g> {
 
     ghost Value = { RunnerState };
 
-    ghost view = { λ r. record { timetable = r.graph.now; version = r.said.version; agents = r.agents.items; messages = r.said.messages } };
+    ghost view = { λ r. record {
+      timetable = r.graph.now;
+      version = r.said.version;
+      agents = r.agents.items;
+      messages = r.said.messages;
+    } };
 
-    ghost invariant = { λ r. (length r.agents.items ≡ length r.graph.now.tracks) × (length r.agents.items ≤ 10000) };
+    ghost invariant = { λ r. (length r.agents.items ≡ length r.graph.now.tracks)
+        × (length r.agents.items ≤ 10000) };
 }
 
 impl<'g> Runner<'g> {
@@ -105,16 +112,18 @@ impl<'g> Runner<'g> {
         })
     }
 
-    /// Answers an event. Memory is taken only where an agent says a message, and where one is delivered with an entry of an agent that was
-    /// not heard of since the last restart.
+    /// Answers an event. Memory is taken only where an agent says a message, and where one is
+    /// delivered with an entry of an agent that was not heard of since the last restart.
     #[inline(always)]
     pub fn step(&mut self, event: Event) -> Result<Reply, OutOfMemory>
-        ensures answered { IfOk result (λ reply. GoesOnWith self.old self.new event (answer_of reply)) }
+        ensures answered { IfOk result
+            (λ reply. GoesOnWith self.old self.new event (answer_of reply)) }
         ensures refused { OnErr result (self.new ≡ self.old) }
         ensures memory { OnErr result (WantsMemory self.old event) }
         ensures same_graph { self.new.timetable ≡ self.old.timetable }
         ensures same_version { self.new.version ≡ self.old.version }
-        ensures safe { (h : History) → StandsAt self.new h → IsSafeRun self.new.version self.new.timetable h }
+        ensures safe { (h : History) → StandsAt self.new h
+            → IsSafeRun self.new.version self.new.timetable h }
     {
         model::laws::every_run_is_safe();
         model::laws::rotations_never_begin();
@@ -130,18 +139,22 @@ impl<'g> Runner<'g> {
 
     /// The cells that an agent holds; `None` where there is no such agent.
     pub fn held(&self, agent: u32) -> Option<Held>
-        ensures held { (h : History) → StandsAt self.now h → result ≡ option_map (λ track. held track h agent) (track_of self.now.timetable agent) }
-        ensures safe { (h : History) → StandsAt self.now h → IsSafeRun self.now.version self.now.timetable h }
+        ensures held { (h : History) → StandsAt self.now h
+            → result ≡ option_map (λ track. held track h agent)
+            (track_of self.now.timetable agent) }
+        ensures safe { (h : History) → StandsAt self.now h
+            → IsSafeRun self.now.version self.now.timetable h }
     {
         model::laws::every_run_is_safe();
         model::laws::rotations_never_begin();
         Some(self.agents.get(agent as usize)?.held())
     }
 
-    /// Events that bring every agent to its end, answered after those before without a refusal, and none where all are there; or the rotation
-    /// that no events get out of.
+    /// Events that bring every agent to its end, answered after those before without a refusal, and
+    /// none where all are there; or the rotation that no events get out of.
     pub fn complete(&self) -> Result<Vec<Event>, CompleteFault>
-        ensures { (h : History) → StandsAt self.now h → IsEnding self.now.version self.now.timetable h result }
+        ensures { (h : History) → StandsAt self.now h
+            → IsEnding self.now.version self.now.timetable h result }
     {
         let is_free = self.graph.rotations().is_empty();
         if !is_free {
@@ -151,7 +164,8 @@ impl<'g> Runner<'g> {
         Ok(bring_all_to_ends(self.alloc, self.graph, &self.agents, messages)?)
     }
 
-    /// Takes a reply back that isn't needed any more: the memory of its bytes serves the next message.
+    /// Takes a reply back that isn't needed any more: the memory of its bytes serves the next
+    /// message.
     pub fn take_back(&mut self, reply: Reply)
         ensures { self.new ≡ self.old }
     {
@@ -188,7 +202,8 @@ impl<'g> Runner<'g> {
 
     #[inline(always)]
     fn say(&mut self, agent: u32) -> Result<Reply, AllocError>
-        ensures said { IfOk result (λ reply. GoesOnWith self.old self.new (event.Say agent) (answer_of reply)) }
+        ensures said { IfOk result
+            (λ reply. GoesOnWith self.old self.new (event.Say agent) (answer_of reply)) }
         ensures same_graph { self.new.timetable ≡ self.old.timetable }
         ensures same_version { self.new.version ≡ self.old.version }
         ensures err { OnErr result (self.new ≡ self.old) }
@@ -208,7 +223,8 @@ impl<'g> Runner<'g> {
     fn say_own(&mut self, agent: u32) -> Result<Reply, AllocError>
         requires there { agent < length self.old.agents }
         requires version { self.old.version ≡ One }
-        ensures said { IfOk result (λ reply. GoesOnWith self.old self.new (event.Say agent) (answer_of reply)) }
+        ensures said { IfOk result
+            (λ reply. GoesOnWith self.old self.new (event.Say agent) (answer_of reply)) }
         ensures same_graph { self.new.timetable ≡ self.old.timetable }
         ensures same_version { self.new.version ≡ self.old.version }
         ensures err { OnErr result (self.new ≡ self.old) }
@@ -234,7 +250,8 @@ impl<'g> Runner<'g> {
     fn tell(&mut self, agent: u32) -> Result<Reply, AllocError>
         requires there { agent < length self.old.agents }
         requires version { self.old.version ≡ Two }
-        ensures said { IfOk result (λ reply. GoesOnWith self.old self.new (event.Say agent) (answer_of reply)) }
+        ensures said { IfOk result
+            (λ reply. GoesOnWith self.old self.new (event.Say agent) (answer_of reply)) }
         ensures same_graph { self.new.timetable ≡ self.old.timetable }
         ensures same_version { self.new.version ≡ self.old.version }
         ensures err { OnErr result (self.new ≡ self.old) }
@@ -253,7 +270,8 @@ impl<'g> Runner<'g> {
 
     #[inline(always)]
     fn deliver(&mut self, agent: u32, message: u64) -> Result<Reply, AllocError>
-        ensures heard { IfOk result (λ reply. GoesOnWith self.old self.new (event.Deliver agent message) (answer_of reply)) }
+        ensures heard { IfOk result
+            (λ reply. GoesOnWith self.old self.new (event.Deliver agent message) (answer_of reply)) }
         ensures same_graph { self.new.timetable ≡ self.old.timetable }
         ensures same_version { self.new.version ≡ self.old.version }
         ensures err { OnErr result (self.new ≡ self.old) }
@@ -277,7 +295,8 @@ impl<'g> Runner<'g> {
         requires there { agent < length self.old.agents }
         requires said { message < length self.old.messages }
         requires version { self.old.version ≡ One }
-        ensures heard { IfOk result (λ reply. GoesOnWith self.old self.new (event.Deliver agent message) (answer_of reply)) }
+        ensures heard { IfOk result
+            (λ reply. GoesOnWith self.old self.new (event.Deliver agent message) (answer_of reply)) }
         ensures same_graph { self.new.timetable ≡ self.old.timetable }
         ensures same_version { self.new.version ≡ self.old.version }
         ensures err { OnErr result (self.new ≡ self.old) }
@@ -299,7 +318,8 @@ impl<'g> Runner<'g> {
         requires there { agent < length self.old.agents }
         requires said { message < length self.old.messages }
         requires version { self.old.version ≡ Two }
-        ensures heard { IfOk result (λ reply. GoesOnWith self.old self.new (event.Deliver agent message) (answer_of reply)) }
+        ensures heard { IfOk result
+            (λ reply. GoesOnWith self.old self.new (event.Deliver agent message) (answer_of reply)) }
         ensures same_graph { self.new.timetable ≡ self.old.timetable }
         ensures same_version { self.new.version ≡ self.old.version }
         ensures err { OnErr result (self.new ≡ self.old) }

@@ -9,9 +9,11 @@ use model::{Event, Reply, Version};
 use std::alloc::Global;
 use text_io::OutOfMemory;
 
-/// The replies to events, one for each, when all agents of a graph begin at their starts and say messages of version 1.
+/// The replies to events, one for each, when all agents of a graph begin at their starts and say
+/// messages of version 1.
 pub fn run(alloc: Global, graph: &Graph, events: &[Event]) -> Result<Vec<Reply>, OutOfMemory>
-    ensures { IfOk result (λ replies. AreAnswered graph.now events.now (map answer_of replies.items)) }
+    ensures { IfOk result
+        (λ replies. AreAnswered graph.now events.now (map answer_of replies.items)) }
 {
     run_with(alloc, graph, Version::One, events)
 }
@@ -23,7 +25,8 @@ pub fn run_with(
     version: Version,
     events: &[Event],
 ) -> Result<Vec<Reply>, OutOfMemory>
-    ensures { IfOk result (λ replies. AreAnsweredAt version graph.now events.now (map answer_of replies.items)) }
+    ensures { IfOk result
+        (λ replies. AreAnsweredAt version graph.now events.now (map answer_of replies.items)) }
 {
     model::laws::every_run_is_safe();
     model::laws::rotations_never_begin();

@@ -1,5 +1,6 @@
 //! Messages that were said.
-ghost use Rattle.std.specs.Prelude.{◌≡◌, ◌<◌, ◌^◌, [], ◌∷◌, ◌++◌, length, Some, IfOk, OnOk, OnErr, slice_get};
+ghost use Rattle.std.specs.Prelude.{◌≡◌, ◌<◌, ◌^◌, [], ◌∷◌, ◌++◌};
+ghost use Rattle.std.specs.Prelude.{length, Some, IfOk, OnOk, OnErr, slice_get};
 ghost use Rattle.model.specs.declared.version.Version.TheVariants.{One, Two};
 ghost use Rattle.model.specs.Messages.{own_message};
 ghost use Rattle.executor.specs.Code.Telling.{message_told};
@@ -9,7 +10,8 @@ use model::{Entry, Version};
 use std::alloc::{AllocError, Global};
 use std::marker::Model;
 
-/// A message of version 2: its sender, and which entries of all messages are its own, from the first on.
+/// A message of version 2: its sender, and which entries of all messages are its own, from the
+/// first on.
 #[derive(Clone, Copy, Debug)]
 pub struct Note {
     pub first: usize,
@@ -21,7 +23,8 @@ pub struct Note {
 #[derive(Debug, Drop)]
 pub struct Said {
     version: Version,
-    /// At version 1 the one entry of each message; at version 2 those of all messages, one message's behind the other's.
+    /// At version 1 the one entry of each message; at version 2 those of all messages, one
+    /// message's behind the other's.
     entries: Vec<Entry>,
     /// At version 2 which entries are each message's.
     notes: Vec<Note>,
@@ -33,7 +36,10 @@ impl Model for Said {
 
     ghost Value = { SaidMessages };
 
-    ghost view = { λ s. record { version = s.version; messages = messages_in s.version s.entries.items s.notes.items } };
+    ghost view = { λ s. record {
+      version = s.version;
+      messages = messages_in s.version s.entries.items s.notes.items;
+    } };
 
     ghost invariant = { λ s. AreNoted s.entries.items s.notes.items };
 }
@@ -70,7 +76,9 @@ impl Said {
     /// Keeps a message of version 1.
     pub(crate) fn keep_own(&mut self, entry: Entry) -> Result<(), AllocError>
         requires { self.old.version ≡ One }
-        ensures ok { OnOk result (self.new ≡ record self.old { messages = self.old.messages ++ own_message entry.agent entry.done ∷ [] }) }
+        ensures ok { OnOk result
+            (self.new ≡ record self.old
+            { messages = self.old.messages ++ own_message entry.agent entry.done ∷ [] }) }
         ensures err { OnErr result (self.new ≡ self.old) }
     {
         self.entries.push(entry)?;
@@ -80,7 +88,9 @@ impl Said {
     /// Keeps what an agent tells at version 2.
     pub(crate) fn keep_told(&mut self, teller: &Agent<'_, CountedTape>) -> Result<(), AllocError>
         requires { self.old.version ≡ Two }
-        ensures ok { OnOk result (self.new ≡ record self.old { messages = self.old.messages ++ message_told teller.now ∷ [] }) }
+        ensures ok { OnOk result
+            (self.new ≡ record self.old
+            { messages = self.old.messages ++ message_told teller.now ∷ [] }) }
         ensures err { OnErr result (self.new ≡ self.old) }
     {
         let first = self.entries.len();
@@ -104,7 +114,8 @@ impl Said {
     pub(crate) fn own(&self, message: u64) -> Entry
         requires version { self.now.version ≡ One }
         requires there { message < length self.now.messages }
-        ensures { slice_get self.now.messages message ≡ Some (own_message result.agent result.done) }
+        ensures { slice_get self.now.messages message
+            ≡ Some (own_message result.agent result.done) }
     {
         self.entries[message as usize]
     }
@@ -113,7 +124,8 @@ impl Said {
     pub(crate) fn told(&self, message: u64) -> (u16, &[Entry])
         requires version { self.now.version ≡ Two }
         requires there { message < length self.now.messages }
-        ensures { slice_get self.now.messages message ≡ Some (record { sender = result.0; entries = result.1.now }) }
+        ensures { slice_get self.now.messages message
+            ≡ Some (record { sender = result.0; entries = result.1.now }) }
     {
         let note = self.notes[message as usize];
         (

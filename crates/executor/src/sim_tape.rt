@@ -6,7 +6,8 @@ use agent::{MemTape, RECORD_SIZE, Scripted, Tape, TapeError};
 use std::alloc::Global;
 use text_io::OutOfMemory;
 
-/// A tape in memory, of which the next write fails where it was armed. It takes no memory after it was made.
+/// A tape in memory, of which the next write fails where it was armed. It takes no memory after it
+/// was made.
 #[derive(Debug, Drop)]
 pub struct SimTape {
     tape: MemTape,
@@ -20,7 +21,8 @@ impl SimTape {
 
     /// An empty tape with room for so many bytes, and nothing armed.
     pub fn new(alloc: Global, room: u32) -> Result<SimTape, OutOfMemory>
-        ensures state { IfOk result (λ t. sim_state t ≡ record { contents = []; room = room; failures = 0 }) }
+        ensures state { IfOk result
+            (λ t. sim_state t ≡ record { contents = []; room = room; failures = 0 }) }
         ensures armed { IfOk result (λ t. sim_armed t ≡ None) }
     {
         Ok(SimTape {
@@ -39,7 +41,8 @@ impl SimTape {
 }
 
 impl Tape for SimTape {
-    ghost use Rattle.executor.specs.SimTape.{sim_state, sim_reads, sim_writes, sim_within, sim_is_read, sim_is_write};
+    ghost use Rattle.executor.specs.SimTape.{sim_state, sim_reads, sim_writes};
+    ghost use Rattle.executor.specs.SimTape.{sim_within, sim_is_read, sim_is_write};
 
     ghost state = { sim_state };
 

@@ -20,8 +20,8 @@ enum Beginning {
     Unknown,
 }
 
-/// Says what the text begins like, where that is none of the format that it is read as. `line` is its first. The answer is whether that says all: its lines
-/// are none then.
+/// Says what the text begins like, where that is none of the format that it is read as. `line` is
+/// its first. The answer is whether that says all: its lines are none then.
 pub(crate) fn put_beginning<R: Files>(
     rt: &R,
     files: &[NamedFile<'_>],

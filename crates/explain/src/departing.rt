@@ -67,7 +67,8 @@ fn put_departure<R: Files>(
     }
 }
 
-/// Shows the line of an agent, with what leads it to where it is at a time, and answers where that is.
+/// Shows the line of an agent, with what leads it to where it is at a time, and answers where that
+/// is.
 fn put_agent<R: Files>(
     rt: &R,
     plan: NamedFile<'_>,
@@ -92,7 +93,8 @@ fn put_title(plan: NamedFile<'_>, line: &Line, page: &mut Page) {
     }
 }
 
-/// The last act before a time in an agent's line, or where it would be; the start where there is none.
+/// The last act before a time in an agent's line, or where it would be; the start where there is
+/// none.
 fn last_before(line: &[u8], time: u64) -> Option<Span> {
     let parts = Parts::at_spaces(line);
     let Some(step) = time.checked_sub(1) else {

@@ -57,7 +57,8 @@ fn put_unopened<R: Files>(
     false
 }
 
-/// Whether a file is opened where the one of that origin is: a tape and the plan beside it are opened together.
+/// Whether a file is opened where the one of that origin is: a tape and the plan beside it are
+/// opened together.
 fn is_opened_with(file: Origin, origin: Origin) -> bool {
     file == origin || (file == Origin::KeptPlan && origin == Origin::Tape)
 }
@@ -71,7 +72,8 @@ fn put_error(reason: &Reason, page: &mut Page) {
     }
 }
 
-/// Why the file can't be opened. What is no file of bytes is not opened once more, since it may wait for ever.
+/// Why the file can't be opened. What is no file of bytes is not opened once more, since it may
+/// wait for ever.
 fn reason_of<R: Files>(rt: &R, file: NamedFile<'_>) -> Option<Reason> {
     match fs::metadata(rt, file.path) {
         Err(error) if error.kind() == ErrorKind::NotFound && is_written(file.origin) => {

@@ -27,10 +27,10 @@ pub struct Subject<'a> {
     pub more: &'a str,
 }
 
-/// Writes for people what faults mean, behind the line that told the first. `files` are those that the
-/// command names, in the order in which it opens them, and behind a tape the plan that is kept beside
-/// it; `-` alone is standard input. Each fault says which of them it is of. They are read once more to
-/// be shown, and what isn't there any more is left out.
+/// Writes for people what faults mean, behind the line that told the first. `files` are those that
+/// the command names, in the order in which it opens them, and behind a tape the plan that is kept
+/// beside it; `-` alone is standard input. Each fault says which of them it is of. They are read
+/// once more to be shown, and what isn't there any more is left out.
 pub fn explain<R: Files, E: Write>(
     rt: &R,
     files: &[NamedFile<'_>],
@@ -58,7 +58,8 @@ fn write_page<E: Write>(text: &[u8], err: &mut Counted<E>) -> Result<(), WriteFa
 
 fn put_page<E: Write>(sink: &mut Sink<'_, E>, text: &[u8]) -> Result<(), WriteFault>
     ensures same_writer { sink.new.writer.ghost_name ≡ sink.old.writer.ghost_name }
-    ensures goes_on { AddsMore (E.contents (counted_inner (sink_writer sink.old))) (E.contents (counted_inner (sink_writer sink.new))) }
+    ensures goes_on { AddsMore (E.contents (counted_inner (sink_writer sink.old)))
+        (E.contents (counted_inner (sink_writer sink.new))) }
 {
     sink.put(text)?;
     sink.hand_on()

@@ -11,7 +11,8 @@ pub struct NamedFile<'a> {
 }
 
 impl NamedFile<'_> {
-    /// The line of the file that has this line of its plan. In the file of a kept plan another line stands first.
+    /// The line of the file that has this line of its plan. In the file of a kept plan another line
+    /// stands first.
     pub(crate) fn plan_line(self, number: u64) -> u64 {
         match self.origin {
             Origin::KeptPlan => number.saturating_add(1),
@@ -53,7 +54,8 @@ pub(crate) fn shown_path<'a>(file: NamedFile<'a>) -> &'a str {
     }
 }
 
-/// Opens a file once more. What is no file of bytes may wait for ever, and has lost what was read of it: so it is not opened.
+/// Opens a file once more. What is no file of bytes may wait for ever, and has lost what was read
+/// of it: so it is not opened.
 pub fn open_again<R: Files>(rt: &R, path: &str) -> Option<R::File> {
     let metadata = fs::metadata(rt, path).ok()?;
     if metadata.is_file() {

@@ -16,7 +16,8 @@ impl FaultHelp {
     }
 }
 
-/// Help on the fault of this name, or on all where the topic is `faults`, in small or capital letters. Any other topic has none.
+/// Help on the fault of this name, or on all where the topic is `faults`, in small or capital
+/// letters. Any other topic has none.
 pub fn fault_help(topic: &str) -> Option<FaultHelp> {
     let mut page = Page::new(Style::Plain);
     if topic.eq_ignore_ascii_case("faults") {

@@ -72,7 +72,8 @@ impl Page {
         }
     }
 
-    /// Adds a byte so that it moves no cursor: a tab as a space, and what is no character of ASCII escaped, as `\x00`.
+    /// Adds a byte so that it moves no cursor: a tab as a space, and what is no character of ASCII
+    /// escaped, as `\x00`.
     pub(crate) fn show_byte(&mut self, byte: u8) {
         match byte {
             b'\t' => self.say(" "),

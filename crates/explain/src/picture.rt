@@ -40,7 +40,8 @@ impl Window {
     }
 }
 
-/// The first and the last of so many numbers below `length` that have the middle among them, at its edge where that is near.
+/// The first and the last of so many numbers below `length` that have the middle among them, at its
+/// edge where that is near.
 fn part_of(length: u64, middle: i64, count: i64) -> (i64, i64) {
     let last = i64::try_from(length).unwrap_or(i64::MAX).saturating_sub(1);
     let first = middle

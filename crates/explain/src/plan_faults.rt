@@ -175,7 +175,8 @@ fn put_cell(place: Place, page: &mut Page) {
     page.fill("column {}, row {}", &[x, y]);
 }
 
-/// Says that a place off the map has its column and its row exchanged, where that may be; elsewhere it would be a guess.
+/// Says that a place off the map has its column and its row exchanged, where that may be; elsewhere
+/// it would be a guess.
 fn put_exchanged<R: Files>(rt: &R, map: &str, place: Place, page: &mut Page) {
     let Place { x, y } = place;
     let is_off = terrain_at(rt, map, place).is_none();

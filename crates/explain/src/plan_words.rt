@@ -56,7 +56,8 @@ fn bad_header(line: &Line, page: &mut Page) {
     });
 }
 
-/// The first part of an agent's line that is to be a number up to 65,535 and is none, else what follows the first word.
+/// The first part of an agent's line that is to be a number up to 65,535 and is none, else what
+/// follows the first word.
 fn faulty_number(line: &Line) -> Span {
     let parts = Parts::at_spaces(line.bytes());
     let first = parts.get(1).unwrap_or(content(line.bytes()));

@@ -27,7 +27,8 @@ pub(crate) fn find_first_line<R: Files>(rt: &R, path: &str, line: &mut Line) {
     find_filled(rt, path, 0, line);
 }
 
-/// Finds the line behind so many that hold more than blanks, and answers how many of these there are before it.
+/// Finds the line behind so many that hold more than blanks, and answers how many of these there
+/// are before it.
 pub(crate) fn find_filled<R: Files>(rt: &R, path: &str, count: u64, line: &mut Line) -> u64 {
     match open_again(rt, path) {
         Some(file) => {

@@ -8,7 +8,8 @@ const BEFORE: usize = 44;
 
 const ALL: usize = 72;
 
-/// Shows the line, cut around the place where it is long, and marks the place. A place behind the line is marked where it would be.
+/// Shows the line, cut around the place where it is long, and marks the place. A place behind the
+/// line is marked where it would be.
 pub(crate) fn show_line(page: &mut Page, line: &Line, place: Span) {
     let bytes = shown_part(line, place);
     let start = start_of_window(bytes, place.from);

@@ -107,7 +107,8 @@ impl Parts {
         parts
     }
 
-    /// The fields of a line of a scenario: runs of blanks divide them, with a tab in them where the line has one.
+    /// The fields of a line of a scenario: runs of blanks divide them, with a tab in them where the
+    /// line has one.
     pub(crate) fn fields(line: &[u8]) -> Parts {
         let has_tab = line.contains(&b'\t');
         let whole = content(line);

@@ -31,7 +31,8 @@ pub(crate) fn explain_text<R: Files>(
     }
 }
 
-/// Says what the text begins like, where that is none of its format. The answer is whether that says all.
+/// Says what the text begins like, where that is none of its format. The answer is whether that
+/// says all.
 fn begins_otherwise<R: Files>(
     rt: &R,
     files: &[NamedFile<'_>],
@@ -99,7 +100,8 @@ fn put_place(file: NamedFile<'_>, told: &Told<'_>, line: &Line, page: &mut Page)
     page.fill(", read as {}:\n", &[name]);
 }
 
-/// Says that the line ends as on Windows, where that is refused. The answer is whether that says all.
+/// Says that the line ends as on Windows, where that is refused. The answer is whether that says
+/// all.
 fn put_line_end(kind: Origin, fault: FaultName, line: &Line, page: &mut Page) -> bool {
     let bytes = line.bytes();
     if !matches!(

@@ -1,4 +1,5 @@
--- What has to be believed, in the order in which to read it: each promise of the crate is made in these words, and in those of `model`,
+-- What has to be believed, in the order in which to read it: each promise of the crate is made in
+-- these words, and in those of `model`,
 -- `scenario` and `checker`.
 
 -- when a plan solves the first rows of a scenario, and why not

@@ -7,7 +7,8 @@ use std::fmt;
 use text_io::{FaultName, FaultWords, Origin};
 use thiserror::Error;
 
-/// The first thing that differs: numbers first, and then row by row, counted from 0, the size, the start and the goal.
+/// The first thing that differs: numbers first, and then row by row, counted from 0, the size, the
+/// start and the goal.
 #[derive(Clone, Copy, Debug, PartialEq, Eq, Error)]
 pub enum FitFault {
     /// There are fewer rows than were asked for.

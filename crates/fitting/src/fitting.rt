@@ -8,7 +8,8 @@ use checker::CheckedPlan;
 use grid::Cell;
 use scenario::{Row, Scenario};
 
-/// Whether the plan solves the first rows: each agent the row of its number, on a map of the row's size.
+/// Whether the plan solves the first rows: each agent the row of its number, on a map of the row's
+/// size.
 pub fn fits(plan: &CheckedPlan, scenario: &Scenario, count: u32) -> Result<(), FitFault>
     ensures { AnswersFit plan.now scenario.now count result }
 {

@@ -22,11 +22,16 @@ most_free (deed ∷ deeds) = max (told_free deed) (most_free deeds)
 abbrev pub reach : Log → (ℕ → State) → ℕ → ℕ
 reach log states i = max (begun_moves (states i)) (most_free (deeds_of log i))
 
--- No two drives are in one cell, wherever each is on its agent's path, from the last move that is finished by the tape to the furthest that it may have begun.
+-- No two drives are in one cell, wherever each is on its agent's path, from the last move that is
+-- finished by the tape to the furthest that it may have begun.
 abbrev pub IsSafeAhead : Timetable → Log → (ℕ → State) → Type 0
 IsSafeAhead tt log states =
-    (i j : ℕ) (c : Cell) → MayBeIn tt (reach log states) (λ k. finished_moves (states k)) i c → MayBeIn tt (reach log states) (λ k. finished_moves (states k)) j c → i ≡ j
+    (i j : ℕ) (c : Cell) → MayBeIn tt (reach log states) (λ k. finished_moves (states k)) i c
+    → MayBeIn tt (reach log states) (λ k. finished_moves (states k)) j c → i ≡ j
 
--- each move that was told to be free was so by a timetable in which everybody is, up to the end of that move, where the last one has them
+-- each move that was told to be free was so by a timetable in which everybody is, up to the end of
+-- that move, where the last one has them
 abbrev pub LooksWithin : Timetable → DoneBy → Type 0
-LooksWithin last now = (k : ℕ) (track : Track) → k < told_free now.deed → track_of now.by now.agent ≡ Some track → SharesMoves last now.by now.agent track (k + 1)
+LooksWithin last now =
+    (k : ℕ) (track : Track) → k < told_free now.deed → track_of now.by now.agent ≡ Some track
+    → SharesMoves last now.by now.agent track (k + 1)

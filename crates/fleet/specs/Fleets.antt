@@ -1,5 +1,6 @@
 -- What a whole fleet did: agents that each run by themselves, over tapes that were empty at first.
-use Rattle.std.specs.Prelude.{◌≡◌, ℕ, ◌^◌, ◌<◌, ◌==◌, false, if◌then◌else◌, List, [], ◌∷◌, ◌++◌, length, None, Some, Ok, slice_get}
+use Rattle.std.specs.Prelude.{◌≡◌, ℕ, ◌^◌, ◌<◌, ◌==◌, false, if◌then◌else◌, List}
+use Rattle.std.specs.Prelude.{[], ◌∷◌, ◌++◌, length, None, Some, Ok, slice_get}
 use Rattle.model.specs.declared.version.Version.{Version}
 use Rattle.model.specs.declared.version.Version.TheVariants.{One, Two}
 use Rattle.model.specs.Timetable.{Track, Timetable, moves, track_of}
@@ -36,7 +37,8 @@ abbrev pub spoken : Log → List (List ℕ)
 spoken [] = []
 spoken (now ∷ log) = spoken log ++ bytes_of now.deed
 
--- an agent says messages of the fleet's version, and hears only what somebody said before: once, often or never, and in any order
+-- an agent says messages of the fleet's version, and hears only what somebody said before: once,
+-- often or never, and in any order
 abbrev pub IsHonest : Version → List (List ℕ) → Deed → Type 0
 IsHonest version before (says answer) = version ≡ One
 IsHonest version before (tells answer) = version ≡ Two
@@ -49,9 +51,12 @@ AreHonest version (now ∷ log) = IsHonest version (spoken log) now.deed × AreH
 
 -- ---- the fleet
 
--- A fleet did this, and its agents are in these states: what each of them did leads it there from an empty tape, and nothing was heard that was not said.
-pub record IsFleet (version : Version) (tt : Timetable) (log : Log) (states : ℕ → State) : Type 0 where
-  pub own : (i : ℕ) (track : Track) → track_of tt i ≡ Some track → DoesAll tt i track fresh (deeds_of log i) (states i)
+-- A fleet did this, and its agents are in these states: what each of them did leads it there from
+-- an empty tape, and nothing was heard that was not said.
+pub record IsFleet (version : Version) (tt : Timetable) (log : Log) (states : ℕ
+    → State) : Type 0 where
+  pub own : (i : ℕ) (track : Track) → track_of tt i ≡ Some track
+      → DoesAll tt i track fresh (deeds_of log i) (states i)
   pub nobody_else : (i : ℕ) → track_of tt i ≡ None → deeds_of log i ≡ []
   pub honest : AreHonest version log
 
@@ -59,7 +64,8 @@ pub record IsFleet (version : Version) (tt : Timetable) (log : Log) (states : �
 abbrev pub with_state : (ℕ → State) → ℕ → State → ℕ → State
 with_state states i s k = if i == k then s else states k
 
--- the numbers of its messages are such as their bytes can spell: those of every plan that the checker accepts are
+-- the numbers of its messages are such as their bytes can spell: those of every plan that the
+-- checker accepts are
 pub record IsTellable (tt : Timetable) : Type 0 where
   pub number : tt.number < 2 ^ 32
   pub agents : length tt.tracks < 2 ^ 16

@@ -1,4 +1,5 @@
--- What has to be believed of the crate, beside the definitions of `model` and `agent`, in the order in which to read it.
+-- What has to be believed of the crate, beside the definitions of `model` and `agent`, in the order
+-- in which to read it.
 
 -- what an agent of a fleet was asked and answered, and what befell it
 pub mod Deeds
@@ -16,5 +17,6 @@ pub mod Rounds
 pub mod OwnPlans
 -- where drives may be that go ahead of their agents' tapes
 pub mod Ahead
--- What follows from these definitions, each with its proof: proofs of other crates cite it, and nothing of it has to be believed.
+-- What follows from these definitions, each with its proof: proofs of other crates cite it, and
+-- nothing of it has to be believed.
 pub mod Laws

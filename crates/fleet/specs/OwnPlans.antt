@@ -1,5 +1,7 @@
--- What a fleet did whose processes run by plans of their own, while the fleet goes over to a last one.
-use Rattle.std.specs.Prelude.{◌≡◌, ◌≢◌, ℕ, ◌+◌, ◌≤◌, ◌⊎◌, zero, suc, true, List, [], ◌∷◌, ◌++◌, map, Some, Err}
+-- What a fleet did whose processes run by plans of their own, while the fleet goes over to a last
+-- one.
+use Rattle.std.specs.Prelude.{◌≡◌, ◌≢◌, ℕ, ◌+◌, ◌≤◌, ◌⊎◌, zero, suc}
+use Rattle.std.specs.Prelude.{true, List, [], ◌∷◌, ◌++◌, map, Some, Err}
 use Rattle.model.specs.declared.version.Version.{Version}
 use Rattle.model.specs.Plan.{Plan, IsTimetableOf}
 use Rattle.model.specs.Timetable.{Track, Timetable, moves, step_of, track_of}
@@ -8,7 +10,8 @@ use Rattle.agent.specs.declared.refusal.Refusal.TheVariants.{Broken, AtEnd, Wait
 use Rattle.agent.specs.declared.refusal.TellFault.TheVariants as tell_fault
 use Rattle.agent.specs.States.{State, begun_moves}
 use Rattle.continuing.specs.Continuing.{AgreesUpTo}
-use Rattle.fleet.specs.Deeds.{Deed, starts, finishes, says, tells, hears, looks, ends_starting, Does}
+use Rattle.fleet.specs.Deeds.{Deed, starts, finishes, says, tells}
+use Rattle.fleet.specs.Deeds.{hears, looks, ends_starting, Does}
 use Rattle.fleet.specs.Fleets.{Logged, Log, fresh, spoken, IsHonest}
 
 -- a deed, whose it is, and the timetable by which its process ran
@@ -28,9 +31,11 @@ logged now = record { agent = now.agent; deed = now.deed }
 abbrev pub log_of : Doings → Log
 log_of doings = map logged doings
 
--- A deed led its agent on, and nothing changed of the others; the timetable of its process fits whose it is, its track, and how many moves it has begun then.
--- Messages are of the fleet's version, and what is heard was said before.
-pub record IsLedOn (Fits : Timetable → ℕ → Track → ℕ → Type 0) (version : Version) (said : List (List ℕ)) (now : DoneBy) (old new : ℕ → State) : Type 0 where
+-- A deed led its agent on, and nothing changed of the others; the timetable of its process fits
+-- whose it is, its track, and how many moves it has begun then. Messages are of the fleet's
+-- version, and what is heard was said before.
+pub record IsLedOn (Fits : Timetable → ℕ → Track → ℕ → Type 0) (version : Version)
+    (said : List (List ℕ)) (now : DoneBy) (old new : ℕ → State) : Type 0 where
   pub track : Track
   pub is_track : track_of now.by now.agent ≡ Some track
   pub fits : Fits now.by now.agent track (begun_moves (new now.agent))
@@ -38,14 +43,18 @@ pub record IsLedOn (Fits : Timetable → ℕ → Track → ℕ → Type 0) (vers
   pub does : Does now.by now.agent track (old now.agent) now.deed (new now.agent)
   pub others : (k : ℕ) → k ≢ now.agent → new k ≡ old k
 
--- these deeds, the newest first, led a fleet on from where it stood when these messages had been said
-abbrev pub AreLedOn : (Timetable → ℕ → Track → ℕ → Type 0) → Version → List (List ℕ) → (ℕ → State) → Doings → (ℕ → State) → Type 0
+-- these deeds, the newest first, led a fleet on from where it stood when these messages had been
+-- said
+abbrev pub AreLedOn : (Timetable → ℕ → Track → ℕ → Type 0) → Version → List (List ℕ) → (ℕ → State)
+    → Doings → (ℕ → State) → Type 0
 AreLedOn Fits version said from [] states = (i : ℕ) → states i ≡ from i
 AreLedOn Fits version said from (now ∷ doings) states =
-    (mid : ℕ → State) × AreLedOn Fits version said from doings mid × IsLedOn Fits version (said ++ spoken (log_of doings)) now mid states
+    (mid : ℕ → State) × AreLedOn Fits version said from doings mid
+    × IsLedOn Fits version (said ++ spoken (log_of doings)) now mid states
 
 -- A fleet did this, over tapes that were empty at first, and its agents are in these states.
-abbrev pub IsFleetBy : (Timetable → ℕ → Track → ℕ → Type 0) → Version → Doings → (ℕ → State) → Type 0
+abbrev pub IsFleetBy
+    : (Timetable → ℕ → Track → ℕ → Type 0) → Version → Doings → (ℕ → State) → Type 0
 IsFleetBy Fits version doings states = AreLedOn Fits version [] (λ i. fresh) doings states
 
 -- ---- which timetables fit
@@ -55,7 +64,8 @@ abbrev pub end_of_moves : Track → ℕ → ℕ
 end_of_moves track zero = 0
 end_of_moves track (suc k) = step_of track k + 1
 
--- There are so many moves, and up to the end of the last of them everybody is, by the timetable, where the last one has them.
+-- There are so many moves, and up to the end of the last of them everybody is, by the timetable,
+-- where the last one has them.
 pub record SharesMoves (last by : Timetable) (i : ℕ) (track : Track) (count : ℕ) : Type 0 where
   pub has : count ≤ moves track
   pub agrees : AgreesUpTo (end_of_moves track count) by last
@@ -66,7 +76,8 @@ IsPlanAmong p plan [] = p ≡ plan
 IsPlanAmong p plan (next ∷ plans) = (p ≡ plan) ⊎ IsPlanAmong p next plans
 
 -- the timetable is that of one of the plans, which has so many moves
-pub record IsOfChain (plan : Plan) (plans : List Plan) (by : Timetable) (i : ℕ) (track : Track) (count : ℕ) : Type 0 where
+pub record IsOfChain (plan : Plan) (plans : List Plan) (by : Timetable) (i : ℕ) (track : Track)
+    (count : ℕ) : Type 0 where
   pub has : count ≤ moves track
   pub own : Plan
   pub among : IsPlanAmong own plan plans
@@ -74,8 +85,9 @@ pub record IsOfChain (plan : Plan) (plans : List Plan) (by : Timetable) (i : ℕ
 
 -- ---- what is left of it by the last plan
 
--- Refusals that hang on the end of a plan, and a start whose write failed, with what the agent refuses until it is opened again. By another plan they may be none; they
--- moved nobody. How far the way is free hangs on the plan too.
+-- Refusals that hang on the end of a plan, and a start whose write failed, with what the agent
+-- refuses until it is opened again. By another plan they may be none; they moved nobody. How far
+-- the way is free hangs on the plan too.
 abbrev pub MayBeLeftOut : Deed → Type 0
 MayBeLeftOut (starts (Err AtEnd)) = Unit {0}
 MayBeLeftOut (starts (Err (Waits agent count))) = Unit {0}
@@ -93,7 +105,9 @@ MayBeLeftOut _ = ⊥
 -- the second log is the first without some of these
 abbrev pub LeavesOut : Log → Log → Type 0
 LeavesOut [] kept = kept ≡ []
-LeavesOut (now ∷ log) kept = (MayBeLeftOut now.deed × LeavesOut log kept) ⊎ ((rest : Log) × (kept ≡ now ∷ rest) × LeavesOut log rest)
+LeavesOut (now ∷ log) kept =
+    (MayBeLeftOut now.deed × LeavesOut log kept)
+    ⊎ ((rest : Log) × (kept ≡ now ∷ rest) × LeavesOut log rest)
 
 -- the state is the other one, or that one with a write that failed
 abbrev pub StandsAs : State → State → Type 0

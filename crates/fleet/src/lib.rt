@@ -1,4 +1,5 @@
-//! Agents that each run by themselves, on robots of their own: whatever they do together is one run.
+//! Agents that each run by themselves, on robots of their own: whatever they do together is one
+//! run.
 #![tactic(auto)]
 
 pub mod laws;

@@ -4,7 +4,12 @@ use Rattle.text_io.specs.declared.failure.Failure.TheVariants as failure
 use Rattle.text_io.specs.FaultWords.{Words, text_fault, failed}
 use Rattle.planned.specs.FaultWords.{planned_fault_words}
 use Rattle.fleet_commands.specs.declared.handover_fault.HandoverFault.{HandoverFault}
-use Rattle.fleet_commands.specs.declared.handover_fault.HandoverFault.TheVariants.{Planned, NoSuchAgent, SameNumber, BadTape, NotOneRun, OutOfMemory}
+use Rattle.fleet_commands.specs.declared.handover_fault.HandoverFault.TheVariants.{Planned}
+use Rattle.fleet_commands.specs.declared.handover_fault.HandoverFault.TheVariants.{NoSuchAgent}
+use Rattle.fleet_commands.specs.declared.handover_fault.HandoverFault.TheVariants.{SameNumber}
+use Rattle.fleet_commands.specs.declared.handover_fault.HandoverFault.TheVariants.{BadTape}
+use Rattle.fleet_commands.specs.declared.handover_fault.HandoverFault.TheVariants.{NotOneRun}
+use Rattle.fleet_commands.specs.declared.handover_fault.HandoverFault.TheVariants.{OutOfMemory}
 
 -- those of the fault of the texts, or as `BadTape 3`: the agent
 abbrev pub handover_fault_words : HandoverFault → Words

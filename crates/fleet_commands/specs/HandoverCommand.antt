@@ -1,5 +1,6 @@
 -- What `mapf handover` does and answers.
-use Rattle.std.specs.Prelude.{◌≡◌, ◌≢◌, ℕ, ◌<◌, ◌&&◌, not, Bool, true, false, ⊤, List, [], length, Option, None, Result, Ok, Err}
+use Rattle.std.specs.Prelude.{◌≡◌, ◌≢◌, ℕ, ◌<◌, ◌&&◌, not, Bool, true, false}
+use Rattle.std.specs.Prelude.{⊤, List, [], length, Option, None, Result, Ok, Err}
 use Rattle.text_io.specs.declared.counted.Counted.{Counted}
 use Rattle.model.specs.Plan.{Plan}
 use Rattle.model.specs.Timetable.{Timetable}
@@ -17,7 +18,10 @@ use Rattle.fleet_commands.specs.LeftPlan.{is_left_out}
 use Rattle.fleet_commands.specs.StatusText.{run_lines}
 use Rattle.fleet_commands.specs.FaultWords.{handover_fault_words}
 use Rattle.fleet_commands.specs.declared.handover_fault.HandoverFault.{HandoverFault}
-use Rattle.fleet_commands.specs.declared.handover_fault.HandoverFault.TheVariants.{Planned, BadTape, NotOneRun, OutOfMemory}
+use Rattle.fleet_commands.specs.declared.handover_fault.HandoverFault.TheVariants.{Planned}
+use Rattle.fleet_commands.specs.declared.handover_fault.HandoverFault.TheVariants.{BadTape}
+use Rattle.fleet_commands.specs.declared.handover_fault.HandoverFault.TheVariants.{NotOneRun}
+use Rattle.fleet_commands.specs.declared.handover_fault.HandoverFault.TheVariants.{OutOfMemory}
 use Rattle.fleet_commands.specs.declared.status_line.StatusLine.{StatusLine}
 
 -- ---- what is known
@@ -36,43 +40,60 @@ pub record IsFirstUnknown (without : Option ℕ) (found : List Found) (i : ℕ) 
 
 -- ---- what comes of it
 
--- the tapes were read, but for an agent that is left out all are right, and these are the lines of what shows that they are not those of one run
-abbrev pub AreReadAs : {F : Type 0} → (F → Option (List ℕ)) → Timetable → Option ℕ → List Found → List StatusLine → Type 0
+-- the tapes were read, but for an agent that is left out all are right, and these are the lines of
+-- what shows that they are not those of one run
+abbrev pub AreReadAs : {F : Type 0} → (F → Option (List ℕ)) → Timetable → Option ℕ → List Found
+    → List StatusLine → Type 0
 AreReadAs file_left tt without found lines =
-    AreFoundIn file_left tt found × AreAllKnown without found × ((turns : List Turn) × AreRotations tt turns × (lines ≡ run_lines tt without turns found))
+    AreFoundIn file_left tt found × AreAllKnown without found
+    × ((turns : List Turn) × AreRotations tt turns × (lines ≡ run_lines tt without turns found))
 
 -- such lines there are
 abbrev pub IsNotOneRun : {F : Type 0} → (F → Option (List ℕ)) → Timetable → Option ℕ → Type 0
-IsNotOneRun file_left tt without = (found : List Found) × (lines : List StatusLine) × AreReadAs file_left tt without found lines × (lines ≢ [])
+IsNotOneRun file_left tt without =
+    (found : List Found) × (lines : List StatusLine) × AreReadAs file_left tt without found lines
+    × (lines ≢ [])
 
--- The tapes were read, they can be those of one run, and this is the plan cut at the time by which all is made that was begun; or no agent is opened on a tape, or the
--- tapes are not those of one run, or memory was refused.
-abbrev pub IsHandedOver : {F : Type 0} → (F → Option (List ℕ)) → PlanAtHand → Result Plan HandoverFault → Type 0
+-- The tapes were read, they can be those of one run, and this is the plan cut at the time by which
+-- all is made that was begun; or no agent is opened on a tape, or the tapes are not those of one
+-- run, or memory was refused.
+abbrev pub IsHandedOver
+    : {F : Type 0} → (F → Option (List ℕ)) → PlanAtHand → Result Plan HandoverFault → Type 0
 IsHandedOver file_left it (Ok kept) =
-    (found : List Found) × (time : ℕ) × AreReadAs file_left it.dependencies None found [] × IsCutTime it.dependencies found time × (kept ≡ cut_at time it.plan)
-IsHandedOver file_left it (Err (BadTape i)) = (found : List Found) × AreFoundIn file_left it.dependencies found × IsFirstUnknown None found i
+    (found : List Found) × (time : ℕ) × AreReadAs file_left it.dependencies None found []
+    × IsCutTime it.dependencies found time × (kept ≡ cut_at time it.plan)
+IsHandedOver file_left it (Err (BadTape i)) =
+    (found : List Found) × AreFoundIn file_left it.dependencies found × IsFirstUnknown None found i
 IsHandedOver file_left it (Err NotOneRun) = IsNotOneRun file_left it.dependencies None
 IsHandedOver file_left it (Err OutOfMemory) = ⊤
 IsHandedOver file_left it (Err _) = ⊥
 
 -- The texts were read and the plan was checked, and then this came of it; or there is no such plan.
 abbrev pub ReadsThen
-    : {M P : Type 0} → (M → Option (List ℕ)) → (P → Option (List ℕ)) → Counted M → Counted M → Counted P → Counted P
+    : {M P : Type 0} → (M → Option (List ℕ)) → (P → Option (List ℕ)) → Counted M → Counted M
+    → Counted P → Counted P
     → (PlanAtHand → Result Plan HandoverFault → Type 0) → Result Plan HandoverFault → Type 0
 ReadsThen map_left plan_left old_map new_map old_plan new_plan Comes (Err (Planned fault)) =
     ReadsTimetable map_left plan_left old_map new_map old_plan new_plan (Err fault)
 ReadsThen map_left plan_left old_map new_map old_plan new_plan Comes answer =
-    (it : PlanAtHand) × IsAtHand map_left plan_left old_map new_map old_plan new_plan it × Comes it answer
+    (it : PlanAtHand) × IsAtHand map_left plan_left old_map new_map old_plan new_plan it
+    × Comes it answer
 
--- What the output got and how the command ended: the canonical text of the plan, or a beginning of it where the output failed; nothing where
--- there is none.
-abbrev pub EndsByPlan : {W : Type 0} → (W → Option (List ℕ)) → Counted W → Counted W → End → Result Plan HandoverFault → Type 0
-EndsByPlan contents old new end (Ok p) = EndsWriting contents old new (answered_with Done) end (canonical_plan_text p)
-EndsByPlan contents old new end (Err fault) = (end ≡ gave_up (handover_fault_words fault)) × (new ≡ old)
+-- What the output got and how the command ended: the canonical text of the plan, or a beginning of
+-- it where the output failed; nothing where there is none.
+abbrev pub EndsByPlan : {W : Type 0} → (W → Option (List ℕ)) → Counted W → Counted W → End
+    → Result Plan HandoverFault → Type 0
+EndsByPlan contents old new end (Ok p) =
+    EndsWriting contents old new (answered_with Done) end (canonical_plan_text p)
+EndsByPlan contents old new end (Err fault) =
+    (end ≡ gave_up (handover_fault_words fault)) × (new ≡ old)
 
 pub record AnswersHandover
-    {M P F W : Type 0} (map_left : M → Option (List ℕ)) (plan_left : P → Option (List ℕ)) (file_left : F → Option (List ℕ)) (contents : W → Option (List ℕ))
-    (old_map new_map : Counted M) (old_plan new_plan : Counted P) (old_out new_out : Counted W) (end : End) : Type 0 where
+    {M P F W : Type 0} (map_left : M → Option (List ℕ)) (plan_left : P → Option (List ℕ))
+    (file_left : F → Option (List ℕ)) (contents : W → Option (List ℕ))
+    (old_map new_map : Counted M) (old_plan new_plan : Counted P) (old_out new_out : Counted W)
+    (end : End) : Type 0 where
   pub answer : Result Plan HandoverFault
-  pub reads : ReadsThen map_left plan_left old_map new_map old_plan new_plan (IsHandedOver file_left) answer
+  pub reads : ReadsThen map_left plan_left old_map new_map old_plan new_plan
+      (IsHandedOver file_left) answer
   pub ends : EndsByPlan contents old_out new_out end answer

@@ -1,5 +1,7 @@
 -- What is left of a plan where all moves that were begun are made.
-use Rattle.std.specs.Prelude.{ℕ, ◌-◌, ◌==◌, zero, suc, min, nat_lt, Bool, false, if◌then◌else◌, List, [], ◌∷◌, length, drop, Option, None, Some, option_map, unwrap_or}
+use Rattle.std.specs.Prelude.{ℕ, ◌-◌, ◌==◌, zero, suc, min, nat_lt}
+use Rattle.std.specs.Prelude.{Bool, false, if◌then◌else◌, List, [], ◌∷◌, length}
+use Rattle.std.specs.Prelude.{drop, Option, None, Some, option_map, unwrap_or}
 use Rattle.continuing.specs.Adding.{changes_cell}
 use Rattle.model.specs.declared.act.Act.{Act}
 use Rattle.model.specs.declared.act.Act.TheVariants.{Wait}
@@ -18,10 +20,12 @@ is_left_out without i = unwrap_or (option_map (λ other. other == i) without) fa
 -- in which step the agent has its next move, if it has one
 abbrev pub step_ahead : ℕ → Option Track → Option ℕ
 step_ahead begun None = None
-step_ahead begun (Some track) = if nat_lt begun (moves track) then Some (step_of track begun) else None
+step_ahead begun (Some track) =
+    if nat_lt begun (moves track) then Some (step_of track begun) else None
 
 abbrev pub next_step : Timetable → List Found → Option ℕ → ℕ → Option ℕ
-next_step tt found without i = if is_left_out without i then None else step_ahead (begun_by found i) (track_of tt i)
+next_step tt found without i =
+    if is_left_out without i then None else step_ahead (begun_by found i) (track_of tt i)
 
 abbrev pub sooner_step : Option ℕ → Option ℕ → Option ℕ
 sooner_step None other = other
@@ -35,7 +39,8 @@ soonest_of next (suc n) = sooner_step (soonest_of next n) (next n)
 
 -- the first step in which one of the agents has a move that it hasn't begun; 0 where none has one
 abbrev pub first_step : Timetable → List Found → Option ℕ → ℕ
-first_step tt found without = unwrap_or (soonest_of (next_step tt found without) (length tt.tracks)) 0
+first_step tt found without =
+    unwrap_or (soonest_of (next_step tt found without) (length tt.tracks)) 0
 
 -- ---- what is done from there
 
@@ -62,13 +67,20 @@ left_course track begun from acts = record {
 abbrev pub left_courses_by : (begun from : ℕ) → Option Track → Option Course → List Course
 left_courses_by begun from track None = []
 left_courses_by begun from None (Some course) = []
-left_courses_by begun from (Some track) (Some course) = left_course track begun from course.acts ∷ []
+left_courses_by begun from (Some track) (Some course) =
+    left_course track begun from course.acts ∷ []
 
 -- of an agent one, or none where it is left out
 abbrev pub left_courses : Plan → Timetable → List Found → Option ℕ → ℕ → List Course
 left_courses p tt found without i =
-    if is_left_out without i then [] else left_courses_by (begun_by found i) (first_step tt found without) (track_of tt i) (course_of p i)
+    if is_left_out without i then [] else left_courses_by (begun_by found i)
+    (first_step tt found without) (track_of tt i) (course_of p i)
 
 -- the plan of the agents that are not left out, in their order, under a number of its own
 abbrev pub left_plan : Plan → Timetable → List Found → Option ℕ → ℕ → Plan
-left_plan p tt found without number = record { number = number; courses = in_turn (left_courses p tt found without) (length tt.tracks) }
+left_plan p tt found without number =
+    record {
+      number = number;
+      courses = in_turn (left_courses p tt found without)
+          (length tt.tracks);
+    }

@@ -1,4 +1,5 @@
--- What has to be believed, in the order in which to read it: each promise of the crate is made in these words, and in those of
+-- What has to be believed, in the order in which to read it: each promise of the crate is made in
+-- these words, and in those of
 -- `planned`, `agent_commands` and `text_commands`.
 
 -- what the tapes of all agents were found to have

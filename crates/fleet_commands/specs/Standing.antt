@@ -1,22 +1,28 @@
 -- What keeps each agent by what all tapes have, and who keeps whom.
-use Rattle.std.specs.Prelude.{ℕ, ◌-◌, ◌/◌, ◌%◌, ◌==◌, ◌&&◌, zero, suc, Bool, false, if◌then◌else◌, nat_lt, List, length, map, count_by, Option, None, Some, Ok, unwrap_or, slice_get, slice_index_or}
+use Rattle.std.specs.Prelude.{ℕ, ◌-◌, ◌/◌, ◌%◌, ◌==◌, ◌&&◌, zero, suc}
+use Rattle.std.specs.Prelude.{Bool, false, if◌then◌else◌, nat_lt, List, length, map, count_by}
+use Rattle.std.specs.Prelude.{Option, None, Some, Ok, unwrap_or, slice_get, slice_index_or}
 use Rattle.std.specs.List.{list_all, list_any, range_with_len}
 use Rattle.model.specs.Dependency.{Need, need}
 use Rattle.model.specs.Timetable.{Track, Timetable, moves, step_of, track_of}
 use Rattle.depgraph.specs.Rotations.{Turn}
 use Rattle.fleet_commands.specs.FoundTapes.{Found, begun_by, finished_by, is_known}
 use Rattle.fleet_commands.specs.declared.keeping.Keeping.{Keeping}
-use Rattle.fleet_commands.specs.declared.keeping.Keeping.TheVariants.{Unknown, OwnMove, OwnEnd, Nothing, Other}
+use Rattle.fleet_commands.specs.declared.keeping.Keeping.TheVariants.{Unknown, OwnMove, OwnEnd}
+use Rattle.fleet_commands.specs.declared.keeping.Keeping.TheVariants.{Nothing, Other}
 
 abbrev pub kept_by_need : (ℕ → ℕ) → Option Need → Keeping
 kept_by_need finished None = Nothing
-kept_by_need finished (Some n) = if nat_lt (finished n.agent) n.count then Other n.agent n.count else Nothing
+kept_by_need finished (Some n) =
+    if nat_lt (finished n.agent) n.count then Other n.agent n.count else Nothing
 
--- what keeps an agent from its next move, whose tape has so many records, by how many moves each has finished
+-- what keeps an agent from its next move, whose tape has so many records, by how many moves each
+-- has finished
 abbrev pub kept_at : Timetable → (ℕ → ℕ) → ℕ → Track → ℕ → Keeping
 kept_at tt finished i track records =
     if records % 2 == 1 then OwnMove
-    else (if nat_lt (records / 2) (moves track) then kept_by_need finished (need tt i track (records / 2))
+    else (if nat_lt (records / 2) (moves track) then kept_by_need finished
+    (need tt i track (records / 2))
     else OwnEnd)
 
 abbrev pub kept_in : Timetable → List Found → ℕ → Option Track → Option Found → Keeping
@@ -35,9 +41,11 @@ waited_for _ = None
 
 -- the same of each agent
 abbrev pub waits_of : Timetable → List Found → List (Option ℕ)
-waits_of tt found = map (λ i. waited_for (kept_now tt found i)) (range_with_len 0 (length tt.tracks))
+waits_of tt found =
+    map (λ i. waited_for (kept_now tt found i)) (range_with_len 0 (length tt.tracks))
 
--- a step leads from an agent to the one for which it waits, and from one that waits for nobody nowhere else
+-- a step leads from an agent to the one for which it waits, and from one that waits for nobody
+-- nowhere else
 abbrev pub step_from : List (Option ℕ) → ℕ → ℕ
 step_from waits i = unwrap_or (slice_index_or waits i None) i
 
@@ -45,7 +53,8 @@ abbrev pub keeper_after : List (Option ℕ) → ℕ → ℕ → ℕ
 keeper_after waits i zero = i
 keeper_after waits i (suc n) = step_from waits (keeper_after waits i n)
 
--- to whom as many steps lead from each agent as there are agents: one that waits for nobody, or one of those that wait in a circle
+-- to whom as many steps lead from each agent as there are agents: one that waits for nobody, or one
+-- of those that wait in a circle
 abbrev pub keepers_of : List (Option ℕ) → List ℕ
 keepers_of waits = map (λ i. keeper_after waits i (length waits)) (range_with_len 0 (length waits))
 
@@ -61,7 +70,8 @@ is_planned_in step (Some track) k = nat_lt k (moves track) && (step_of track k =
 -- an agent is known to stand, and to have its move in this step before it
 abbrev pub is_at_step : Timetable → List Found → (step i : ℕ) → Bool
 is_at_step tt found step i =
-    is_known found i && ((begun_by found i == finished_by found i) && is_planned_in step (track_of tt i) (finished_by found i))
+    is_known found i && ((begun_by found i == finished_by found i) && is_planned_in step
+    (track_of tt i) (finished_by found i))
 
 -- the agents of a rotation are known to have all come to it, and none has begun its move in it
 abbrev pub has_come : Timetable → List Found → Turn → Bool

@@ -39,14 +39,18 @@ pub fn anew_cmd<R: Files + AllocGlobal, M: Read, P: Read, W: Write, E: Write>(
     out: &mut Counted<W>,
     err: &mut Counted<E>,
 ) -> u8
-    ensures { EndsAndTells (AnswersAnew M.remaining P.remaining R.File.remaining W.contents new.without new.number map.old map.new plan.old plan.new out.old out.new)
+    ensures { EndsAndTells
+        (AnswersAnew M.remaining P.remaining R.File.remaining W.contents new.without new.number
+        map.old map.new plan.old plan.new out.old out.new)
         E.contents err.old err.new result }
 {
     conclude(perform(rt, map, plan, tapes, new, out), err)
 }
 
-/// Reads a map from `map` and a plan from `plan`, checks the plan on the map, and then reads the tapes as
-/// `mapf status` does, each of which has to be right, but for that of an agent that is left out. It writes
+/// Reads a map from `map` and a plan from `plan`, checks the plan on the map, and then reads the
+/// tapes as
+/// `mapf status` does, each of which has to be right, but for that of an agent that is left out. It
+/// writes
 /// a plan to `out` of the moves that aren't begun, each in its step, from where the others lead.
 pub fn perform<R: Files + AllocGlobal, M: Read, P: Read, W: Write>(
     rt: &R,
@@ -56,7 +60,8 @@ pub fn perform<R: Files + AllocGlobal, M: Read, P: Read, W: Write>(
     new: NewPlan,
     out: &mut Counted<W>,
 ) -> Ending
-    ensures { AnswersAnew M.remaining P.remaining R.File.remaining W.contents new.without new.number map.old map.new plan.old plan.new out.old out.new (end_of result) }
+    ensures { AnswersAnew M.remaining P.remaining R.File.remaining W.contents new.without new.number
+        map.old map.new plan.old plan.new out.old out.new (end_of result) }
 {
     end_by(begin_anew(rt, map, plan, tapes, new), out)
 }
@@ -69,7 +74,8 @@ fn begin_anew<R: Files + AllocGlobal, M: Read, P: Read>(
     tapes: &str,
     new: NewPlan,
 ) -> Result<Plan, HandoverFault>
-    ensures { ReadsThen M.remaining P.remaining map.old map.new plan.old plan.new (IsBegunAnew R.File.remaining new.without new.number) result }
+    ensures { ReadsThen M.remaining P.remaining map.old map.new plan.old plan.new
+        (IsBegunAnew R.File.remaining new.without new.number) result }
 {
     let at_hand = read_at_hand(rt.alloc(), map, plan)?;
     leave(rt, &at_hand, tapes, new)

@@ -31,8 +31,10 @@ fn later_of(one: u32, other: u32) -> u32
 /// The time at which so many moves of an agent have ended.
 fn end_of_begun(dependencies: &Dependencies, agent: u32, begun: u32) -> u32
     requires there { agent < length dependencies.now.tracks }
-    requires within { (track : Track) → track_of dependencies.now agent ≡ Some track → begun ≤ moves track }
-    ensures { (track : Track) → track_of dependencies.now agent ≡ Some track → IsEndOf track begun result }
+    requires within { (track : Track) → track_of dependencies.now agent ≡ Some track
+        → begun ≤ moves track }
+    ensures { (track : Track) → track_of dependencies.now agent ≡ Some track
+        → IsEndOf track begun result }
 {
     if begun == 0 {
         return 0;

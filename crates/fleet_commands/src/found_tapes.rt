@@ -1,7 +1,8 @@
 //! What the tapes of all agents have.
 ghost use Rattle.std.specs.Prelude.{◌≡◌, ◌<◌, ◌≤◌, ◌*◌, Some, IfOk, length};
 ghost use Rattle.model.specs.Timetable.{Track, moves, track_of};
-ghost use Rattle.fleet_commands.specs.FoundTapes.{is_known, AreFoundIn, AreWithinMoves, IsFoundIn, begun_by, finished_by};
+ghost use Rattle.fleet_commands.specs.FoundTapes.{is_known, AreFoundIn, AreWithinMoves};
+ghost use Rattle.fleet_commands.specs.FoundTapes.{IsFoundIn, begun_by, finished_by};
 
 use agent_commands::{AgentFault, open_to_read, read_records};
 use depgraph::Dependencies;
@@ -10,13 +11,15 @@ use std::alloc::{AllocError, Global};
 use std::rt::Files;
 use text_io::Counted;
 
-/// Reads the tape of each agent, in the file that has this name with the agent's number in place of each `%`: how many whole records it has, or why no agent is opened on it.
+/// Reads the tape of each agent, in the file that has this name with the agent's number in place of
+/// each `%`: how many whole records it has, or why no agent is opened on it.
 pub(crate) fn read_tapes<R: Files + AllocGlobal>(
     rt: &R,
     dependencies: &Dependencies,
     name: &str,
 ) -> Result<Vec<Result<u32, AgentFault>>, AllocError>
-    ensures found { IfOk result (λ found. AreFoundIn R.File.remaining dependencies.now found.items) }
+    ensures found { IfOk result
+        (λ found. AreFoundIn R.File.remaining dependencies.now found.items) }
     ensures within { IfOk result (λ found. AreWithinMoves dependencies.now found.items) }
 {
     let mut found = Vec::new(rt.alloc());
@@ -42,7 +45,8 @@ fn read_tape<R: Files + AllocGlobal>(
 ) -> Result<Result<u32, AgentFault>, AllocError>
     requires { agent < length dependencies.now.tracks }
     ensures found { IfOk result (IsFoundIn R.File.remaining dependencies.now agent) }
-    ensures within { (track : Track) → track_of dependencies.now agent ≡ Some track → IfOk result (λ found. IfOk found (λ records. records ≤ 2 * moves track)) }
+    ensures within { (track : Track) → track_of dependencies.now agent ≡ Some track
+        → IfOk result (λ found. IfOk found (λ records. records ≤ 2 * moves track)) }
 {
     let mut file = match open_to_read(rt, path) {
         Ok(file) => Counted::new(file),

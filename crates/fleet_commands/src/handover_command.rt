@@ -1,6 +1,7 @@
 //! `mapf handover`: writes a plan as far as its agents have begun it.
 ghost use Rattle.ending.specs.Ending.{EndsAndTells, end_of};
-ghost use Rattle.fleet_commands.specs.HandoverCommand.{AnswersHandover, EndsByPlan, IsHandedOver, ReadsThen};
+ghost use Rattle.fleet_commands.specs.HandoverCommand.{AnswersHandover, EndsByPlan};
+ghost use Rattle.fleet_commands.specs.HandoverCommand.{IsHandedOver, ReadsThen};
 
 use crate::cut_time::cut_time;
 use crate::handover_fault::HandoverFault;
@@ -23,15 +24,20 @@ pub fn handover_cmd<R: Files + AllocGlobal, M: Read, P: Read, W: Write, E: Write
     out: &mut Counted<W>,
     err: &mut Counted<E>,
 ) -> u8
-    ensures { EndsAndTells (AnswersHandover M.remaining P.remaining R.File.remaining W.contents map.old map.new plan.old plan.new out.old out.new)
+    ensures { EndsAndTells
+        (AnswersHandover M.remaining P.remaining R.File.remaining W.contents map.old map.new
+        plan.old plan.new out.old out.new)
         E.contents err.old err.new result }
 {
     conclude(perform(rt, map, plan, tapes, out), err)
 }
 
-/// Reads a map from `map` and a plan from `plan`, checks the plan on the map, and then reads the tapes as
-/// `mapf status` does, each of which has to be right. It writes the plan to `out` without what is done from
-/// the time on by which every move that was begun has ended: each agent may be opened on its tape by that.
+/// Reads a map from `map` and a plan from `plan`, checks the plan on the map, and then reads the
+/// tapes as
+/// `mapf status` does, each of which has to be right. It writes the plan to `out` without what is
+/// done from
+/// the time on by which every move that was begun has ended: each agent may be opened on its tape
+/// by that.
 pub fn perform<R: Files + AllocGlobal, M: Read, P: Read, W: Write>(
     rt: &R,
     map: &mut Counted<M>,
@@ -39,7 +45,8 @@ pub fn perform<R: Files + AllocGlobal, M: Read, P: Read, W: Write>(
     tapes: &str,
     out: &mut Counted<W>,
 ) -> Ending
-    ensures { AnswersHandover M.remaining P.remaining R.File.remaining W.contents map.old map.new plan.old plan.new out.old out.new (end_of result) }
+    ensures { AnswersHandover M.remaining P.remaining R.File.remaining W.contents map.old map.new
+        plan.old plan.new out.old out.new (end_of result) }
 {
     end_by(hand_over(rt, map, plan, tapes), out)
 }
@@ -51,7 +58,8 @@ fn hand_over<R: Files + AllocGlobal, M: Read, P: Read>(
     plan: &mut Counted<P>,
     tapes: &str,
 ) -> Result<Plan, HandoverFault>
-    ensures { ReadsThen M.remaining P.remaining map.old map.new plan.old plan.new (IsHandedOver R.File.remaining) result }
+    ensures { ReadsThen M.remaining P.remaining map.old map.new plan.old plan.new
+        (IsHandedOver R.File.remaining) result }
 {
     let at_hand = read_at_hand(rt.alloc(), map, plan)?;
     cut_begun(rt, &at_hand, tapes)

@@ -22,7 +22,8 @@ pub enum HandoverFault {
     SameNumber,
     /// The tape of this agent has a fault.
     BadTape(u16),
-    /// The tapes are not those of one run of the plan: by them a move was begun too early, or two agents would meet.
+    /// The tapes are not those of one run of the plan: by them a move was begun too early, or two
+    /// agents would meet.
     NotOneRun,
     OutOfMemory,
 }

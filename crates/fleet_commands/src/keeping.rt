@@ -1,11 +1,15 @@
 //! What keeps each agent by what all tapes have, and who keeps whom.
-ghost use Rattle.std.specs.Prelude.{◌≡◌, ◌<◌, ◌≤◌, ℕ, None, length, map, slice_index_or, count_by, IfOk, IsTrue, All};
+ghost use Rattle.std.specs.Prelude.{◌≡◌, ◌<◌, ◌≤◌, ℕ, None, length};
+ghost use Rattle.std.specs.Prelude.{map, slice_index_or, count_by, IfOk, IsTrue, All};
 ghost use Rattle.model.specs.Timetable.{Timetable, moves, track_of};
 ghost use Rattle.model.specs.Dependency.{need};
 ghost use Rattle.depgraph.specs.AgentParts.{IsPartOf};
 ghost use Rattle.depgraph.specs.Rotations.{turn_of};
 ghost use Rattle.fleet_commands.specs.FoundTapes.{finished_by};
-ghost use Rattle.fleet_commands.specs.Standing.{keepers_of, has_come, is_at_step, is_planned_in, kept_at, kept_by_need, kept_count, kept_now, keeper_after, step_from, stuck_count, waited_for, waits_of};
+ghost use Rattle.fleet_commands.specs.Standing.{keepers_of, has_come, is_at_step, is_planned_in};
+ghost use Rattle.fleet_commands.specs.Standing.{kept_at, kept_by_need, kept_count, kept_now};
+ghost use Rattle.fleet_commands.specs.Standing.{keeper_after, step_from, stuck_count, waited_for};
+ghost use Rattle.fleet_commands.specs.Standing.{waits_of};
 
 use crate::found_tapes::{begun_by, finished_by, is_known};
 use agent_commands::AgentFault;
@@ -46,7 +50,8 @@ pub(crate) fn kept_now(
 
 /// What keeps an agent whose tape has so many records.
 fn kept_at(part: &Part<'_>, found: &[Result<u32, AgentFault>], records: u32) -> Keeping
-    ensures { (tt : Timetable) (is : IsPartOf tt part.now) → result ≡ kept_at tt (finished_by found.now) part.now.agent is.track records }
+    ensures { (tt : Timetable) (is : IsPartOf tt part.now)
+        → result ≡ kept_at tt (finished_by found.now) part.now.agent is.track records }
 {
     if records % 2 == 1 {
         return Keeping::OwnMove;
@@ -66,7 +71,8 @@ pub(crate) fn kept_by_need(
     number: u32,
 ) -> Keeping
     requires { number < length part.now.needs }
-    ensures { (tt : Timetable) (is : IsPartOf tt part.now) → result ≡ kept_by_need (finished_by found.now) (need tt part.now.agent is.track number) }
+    ensures { (tt : Timetable) (is : IsPartOf tt part.now)
+        → result ≡ kept_by_need (finished_by found.now) (need tt part.now.agent is.track number) }
 {
     match part.need(number) {
         Some((agent, count)) if finished_by(found, agent) < count => {
@@ -101,7 +107,8 @@ fn waited_for(keeping: Keeping) -> Option<u16>
     }
 }
 
-/// To whom as many steps lead from each agent as there are agents, each step to the one for which it waits.
+/// To whom as many steps lead from each agent as there are agents, each step to the one for which
+/// it waits.
 pub(crate) fn keepers_of(alloc: Global, waits: &[Option<u16>]) -> Result<Vec<u16>, AllocError>
     requires { length waits.now ≤ 65535 }
     ensures ends { IfOk result (λ ends. ends.items ≡ keepers_of waits.now) }

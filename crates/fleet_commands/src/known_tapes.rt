@@ -1,7 +1,8 @@
 //! Tapes each of which has to be right.
 ghost use Rattle.std.specs.Prelude.{◌≡◌, ◌≤◌, [], length, IfErr, IfOk, MatchOption};
 ghost use Rattle.fleet_commands.specs.FoundTapes.{AreWithinMoves};
-ghost use Rattle.fleet_commands.specs.HandoverCommand.{AreAllKnown, AreReadAs, IsFirstUnknown, is_unknown};
+ghost use Rattle.fleet_commands.specs.HandoverCommand.{AreAllKnown, AreReadAs};
+ghost use Rattle.fleet_commands.specs.HandoverCommand.{IsFirstUnknown, is_unknown};
 ghost use Rattle.fleet_commands.specs.LeftPlan.{is_left_out};
 ghost use Rattle.fleet_commands.specs.Code.Reading.{IsNotKnownBy};
 
@@ -12,14 +13,16 @@ use agent_commands::AgentFault;
 use depgraph::Dependencies;
 use std::rt::Files;
 
-/// Reads the tapes of all agents. But for that of an agent that is left out each has to be right, and nothing may show that they are not those of one run.
+/// Reads the tapes of all agents. But for that of an agent that is left out each has to be right,
+/// and nothing may show that they are not those of one run.
 pub(crate) fn read_known<R: Files + AllocGlobal>(
     rt: &R,
     dependencies: &Dependencies,
     tapes: &str,
     without: Option<u16>,
 ) -> Result<Vec<Result<u32, AgentFault>>, HandoverFault>
-    ensures known { IfOk result (λ found. AreReadAs R.File.remaining dependencies.now without found.items []) }
+    ensures known { IfOk result
+        (λ found. AreReadAs R.File.remaining dependencies.now without found.items []) }
     ensures fault { IfErr result (IsNotKnownBy R.File.remaining dependencies.now without) }
     ensures within { IfOk result (λ found. AreWithinMoves dependencies.now found.items) }
 {
@@ -47,7 +50,8 @@ pub(crate) fn read_known<R: Files + AllocGlobal>(
 /// The first agent that is not opened on its tape, but for one that is left out.
 fn first_unknown(found: &[Result<u32, AgentFault>], without: Option<u16>) -> Option<u16>
     requires { length found.now ≤ 65535 }
-    ensures { MatchOption result (AreAllKnown without found.now) (IsFirstUnknown without found.now) }
+    ensures { MatchOption result (AreAllKnown without found.now)
+        (IsFirstUnknown without found.now) }
 {
     for agent in 0..found.len() {
         if is_unknown(found, without, agent as u16) {

@@ -5,7 +5,9 @@ ghost use Rattle.model.specs.Timetable.{Track, Timetable, moves, track_of};
 ghost use Rattle.depgraph.specs.AgentParts.{IsPartOf};
 ghost use Rattle.fleet_commands.specs.FoundTapes.{AreWithinMoves};
 ghost use Rattle.fleet_commands.specs.declared.handover_fault.HandoverFault.TheVariants as handover_fault;
-ghost use Rattle.fleet_commands.specs.LeftPlan.{first_step, left_act, left_acts, left_course, left_courses_by, left_plan, made_behind, next_step, sooner_step};
+ghost use Rattle.fleet_commands.specs.LeftPlan.{first_step, left_act, left_acts};
+ghost use Rattle.fleet_commands.specs.LeftPlan.{left_course, left_courses_by, left_plan};
+ghost use Rattle.fleet_commands.specs.LeftPlan.{made_behind, next_step, sooner_step};
 
 use crate::found_tapes::begun_by;
 use crate::handover_fault::HandoverFault;
@@ -35,7 +37,9 @@ pub(crate) fn left_plan(
     number: u32,
 ) -> Result<Plan, HandoverFault>
     requires { AreWithinMoves at_hand.now.dependencies found.now }
-    ensures left { IfOk result (λ left. left ≡ left_plan at_hand.now.plan at_hand.now.dependencies found.now without number) }
+    ensures left { IfOk result
+        (λ left. left ≡ left_plan at_hand.now.plan at_hand.now.dependencies found.now
+        without number) }
     ensures fault { IfErr result (λ fault. fault ≡ handover_fault.OutOfMemory) }
 {
     let first = first_step(&at_hand.dependencies, found, without);
@@ -59,7 +63,8 @@ fn push_left(
     ahead: Ahead,
 ) -> Result<(), HandoverFault>
     requires there { agent < length at_hand.now.dependencies.tracks }
-    requires within { (track : Track) → track_of at_hand.now.dependencies agent ≡ Some track → ahead.begun ≤ moves track }
+    requires within { (track : Track) → track_of at_hand.now.dependencies agent ≡ Some track
+        → ahead.begun ≤ moves track }
     ensures fault { IfErr result (λ fault. fault ≡ handover_fault.OutOfMemory) }
     ensures left { IfOk result (λ _. left.new ≡ record left.old {
       courses = left.old.courses
@@ -82,7 +87,9 @@ fn acts_ahead(
     acts: &[Act],
     ahead: Ahead,
 ) -> Result<Vec<Act>, AllocError>
-    ensures { (tt : Timetable) (is : IsPartOf tt part.now) → IfOk result (λ left. left.items ≡ (left_course is.track ahead.begun ahead.first acts.now).acts) }
+    ensures { (tt : Timetable) (is : IsPartOf tt part.now)
+        → IfOk result (λ left. left.items
+        ≡ (left_course is.track ahead.begun ahead.first acts.now).acts) }
 {
     if ahead.begun < part.own_moves() {
         let left = left_acts(alloc, acts, ahead.begun)?;

@@ -6,7 +6,8 @@ ghost use Rattle.depgraph.specs.AgentParts.{IsPartOf};
 ghost use Rattle.depgraph.specs.Rotations.{turn_of, turns_of};
 ghost use Rattle.fleet_commands.specs.FoundTapes.{AreWithinMoves, begun_by, finished_by};
 ghost use Rattle.fleet_commands.specs.Standing.{kept_by_need};
-ghost use Rattle.fleet_commands.specs.OneRun.{counts, first_unmet, has_begun_in, has_reached, is_turn_begun, unmet_by, unmet_in};
+ghost use Rattle.fleet_commands.specs.OneRun.{counts, first_unmet, has_begun_in, has_reached};
+ghost use Rattle.fleet_commands.specs.OneRun.{is_turn_begun, unmet_by, unmet_in};
 ghost use Rattle.fleet_commands.specs.StatusText.{begun_line, run_lines, unmet_line};
 ghost use Rattle.fleet_commands.specs.Turns.{in_turn};
 
@@ -25,8 +26,8 @@ pub(crate) struct Unmet {
     pub(crate) count: u32,
 }
 
-/// Adds what shows that the tapes are not those of one run, but for an agent that is left out: a line for each agent that has begun a move too
-/// early, and one for each rotation that was begun.
+/// Adds what shows that the tapes are not those of one run, but for an agent that is left out: a
+/// line for each agent that has begun a move too early, and one for each rotation that was begun.
 pub(crate) fn push_run_lines(
     lines: &mut Vec<StatusLine>,
     dependencies: &Dependencies,
@@ -35,7 +36,9 @@ pub(crate) fn push_run_lines(
     without: Option<u16>,
 ) -> Result<(), AllocError>
     requires { AreWithinMoves dependencies.now found.now }
-    ensures { IfOk result (λ _. lines.new.items ≡ lines.old.items ++ run_lines dependencies.now without (turns_of rotations.now) found.now) }
+    ensures { IfOk result
+        (λ _. lines.new.items ≡ lines.old.items ++ run_lines dependencies.now without
+        (turns_of rotations.now) found.now) }
 {
     push_unmet(lines, dependencies, found, without)?;
     push_begun(lines, dependencies, rotations, found, without)
@@ -49,7 +52,10 @@ fn push_unmet(
     without: Option<u16>,
 ) -> Result<(), AllocError>
     requires { AreWithinMoves dependencies.now found.now }
-    ensures { IfOk result (λ _. lines.new.items ≡ lines.old.items ++ in_turn (unmet_line dependencies.now without found.now) (length dependencies.now.tracks)) }
+    ensures { IfOk result
+        (λ _. lines.new.items ≡ lines.old.items
+        ++ in_turn (unmet_line dependencies.now without found.now)
+        (length dependencies.now.tracks)) }
 {
     for agent in 0..dependencies.agents() {
         if let Some(unmet) = unmet_in(dependencies, found, without, agent) {
@@ -70,7 +76,10 @@ fn push_begun(
     found: &[Result<u32, AgentFault>],
     without: Option<u16>,
 ) -> Result<(), AllocError>
-    ensures { IfOk result (λ _. lines.new.items ≡ lines.old.items ++ in_turn (begun_line dependencies.now without found.now (turns_of rotations.now)) (length rotations.now)) }
+    ensures { IfOk result
+        (λ _. lines.new.items ≡ lines.old.items
+        ++ in_turn (begun_line dependencies.now without found.now (turns_of rotations.now))
+        (length rotations.now)) }
 {
     for number in 0..rotations.len() {
         if is_turn_begun(dependencies, found, without, &rotations[number]) {
@@ -91,7 +100,8 @@ fn unmet_in(
 ) -> Option<Unmet>
     requires there { agent < length dependencies.now.tracks }
     requires within { AreWithinMoves dependencies.now found.now }
-    ensures { result ≡ unmet_in dependencies.now without found.now agent (track_of dependencies.now agent) }
+    ensures { result ≡ unmet_in dependencies.now without found.now agent
+        (track_of dependencies.now agent) }
 {
     // There are few enough for their numbers.
     let _agents = dependencies.agents();
@@ -111,7 +121,10 @@ fn first_unmet(
     begun: u32,
 ) -> Option<Unmet>
     requires { begun ≤ length part.now.needs }
-    ensures { (tt : Timetable) (is : IsPartOf tt part.now) → result ≡ first_unmet (λ k. unmet_by without found.now (kept_by_need (finished_by found.now) (need tt part.now.agent is.track k))) begun }
+    ensures { (tt : Timetable) (is : IsPartOf tt part.now)
+        → result ≡ first_unmet
+        (λ k. unmet_by without found.now
+        (kept_by_need (finished_by found.now) (need tt part.now.agent is.track k))) begun }
 {
     for number in 0..begun {
         let unmet = unmet_by(found, without, kept_by_need(part, found, number));

@@ -1,7 +1,8 @@
 //! What the plans beside the tapes of a fleet come to together.
 ghost use Rattle.std.specs.Prelude.{◌≡◌, ◌≤◌, ◌++◌, List, Option, IfOk};
 ghost use Rattle.agent_commands.specs.KeptPlan.{IsFoundBeside};
-ghost use Rattle.fleet_commands.specs.PlansBeside.{AreCompared, ComparesNext, GoesFurther, parting_time};
+ghost use Rattle.fleet_commands.specs.PlansBeside.{AreCompared, ComparesNext};
+ghost use Rattle.fleet_commands.specs.PlansBeside.{GoesFurther, parting_time};
 ghost use Rattle.fleet_commands.specs.declared.status_line.StatusLine.{StatusLine};
 
 use crate::found_tapes::{name_of, unless_refused};
@@ -19,7 +20,8 @@ pub(crate) struct Foremost {
     pub(crate) plan: Plan,
 }
 
-/// Reads the plan beside the tape of each of so many agents, and adds a line for each that parts from the one that goes furthest before it, and for each that can't be read.
+/// Reads the plan beside the tape of each of so many agents, and adds a line for each that parts
+/// from the one that goes furthest before it, and for each that can't be read.
 pub(crate) fn push_plan_lines<R: Files + AllocGlobal>(
     rt: &R,
     lines: &mut Vec<StatusLine>,
@@ -27,7 +29,9 @@ pub(crate) fn push_plan_lines<R: Files + AllocGlobal>(
     tapes: &str,
 ) -> Result<(), AllocError>
     requires { agents ≤ 65535 }
-    ensures { IfOk result (λ _. (foremost : Option Foremost) × (more : List StatusLine) × AreCompared R.File.remaining agents foremost more × (lines.new.items ≡ lines.old.items ++ more)) }
+    ensures { IfOk result (λ _. (foremost : Option Foremost) × (more : List StatusLine)
+        × AreCompared R.File.remaining agents foremost more
+        × (lines.new.items ≡ lines.old.items ++ more)) }
 {
     let mut foremost = None;
     for agent in 0..agents {
@@ -45,7 +49,8 @@ fn compare_next(
     found: Result<Option<Plan>, AgentFault>,
     foremost: Option<Foremost>,
 ) -> Result<Option<Foremost>, AllocError>
-    ensures { IfOk result (λ after. ComparesNext agent found foremost after lines.old.items lines.new.items) }
+    ensures { IfOk result
+        (λ after. ComparesNext agent found foremost after lines.old.items lines.new.items) }
 {
     let plan = match found {
         Ok(Some(plan)) => plan,
@@ -62,13 +67,15 @@ fn compare_next(
     }
 }
 
-/// Which of two plans goes on from the other. Where they part a line is added, and the first one is kept.
+/// Which of two plans goes on from the other. Where they part a line is added, and the first one is
+/// kept.
 fn further_of(
     lines: &mut Vec<StatusLine>,
     first: Foremost,
     next: Foremost,
 ) -> Result<Foremost, AllocError>
-    ensures { IfOk result (λ further. GoesFurther first next further lines.old.items lines.new.items) }
+    ensures { IfOk result
+        (λ further. GoesFurther first next further lines.old.items lines.new.items) }
 {
     let Err(fault) = continues(&first.plan, &next.plan) else {
         return Ok(next);

@@ -3,7 +3,8 @@ ghost use Rattle.std.specs.Prelude.{◌≡◌, is_ok, IfOk, MatchResult};
 ghost use Rattle.std.specs.List.{list_any};
 ghost use Rattle.model.specs.Timetable.{Timetable};
 ghost use Rattle.ending.specs.Ending.{EndsAndTells, end_of};
-ghost use Rattle.fleet_commands.specs.StatusCommand.{AnswersStatus, AreAllLines, EndsByTapes, is_fault, status_by};
+ghost use Rattle.fleet_commands.specs.StatusCommand.{AnswersStatus, AreAllLines, EndsByTapes};
+ghost use Rattle.fleet_commands.specs.StatusCommand.{is_fault, status_by};
 
 use crate::found_tapes::read_tapes;
 use crate::one_run::push_run_lines;
@@ -29,17 +30,19 @@ pub fn status_cmd<R: Files + AllocGlobal, M: Read, P: Read, W: Write, E: Write>(
     out: &mut Counted<W>,
     err: &mut Counted<E>,
 ) -> u8
-    ensures { EndsAndTells (AnswersStatus M.remaining P.remaining R.File.remaining W.contents json map.old map.new plan.old plan.new out.old out.new)
+    ensures { EndsAndTells
+        (AnswersStatus M.remaining P.remaining R.File.remaining W.contents json map.old map.new
+        plan.old plan.new out.old out.new)
         E.contents err.old err.new result }
 {
     conclude(perform(rt, map, plan, tapes, json, out), err)
 }
 
-/// Reads a map from `map` and a plan from `plan`, checks the plan on the map, and then reads the tape of
-/// each agent, in the file that has the name `tapes` with the agent's number in place of each `%`. It
-/// writes to `out` where each agent is by its tape and what keeps it, then who keeps others, then what
-/// shows that the tapes are not those of one run, and then which plans beside them part.
-/// Nothing is locked or written else, so it may be asked beside the agents.
+/// Reads a map from `map` and a plan from `plan`, checks the plan on the map, and then reads the
+/// tape of each agent, in the file that has the name `tapes` with the agent's number in place of
+/// each `%`. It writes to `out` where each agent is by its tape and what keeps it, then who keeps
+/// others, then what shows that the tapes are not those of one run, and then which plans beside
+/// them part. Nothing is locked or written else, so it may be asked beside the agents.
 pub fn perform<R: Files + AllocGlobal, M: Read, P: Read, W: Write>(
     rt: &R,
     map: &mut Counted<M>,
@@ -48,7 +51,8 @@ pub fn perform<R: Files + AllocGlobal, M: Read, P: Read, W: Write>(
     json: bool,
     out: &mut Counted<W>,
 ) -> Ending
-    ensures { AnswersStatus M.remaining P.remaining R.File.remaining W.contents json map.old map.new plan.old plan.new out.old out.new (end_of result) }
+    ensures { AnswersStatus M.remaining P.remaining R.File.remaining W.contents json map.old map.new
+        plan.old plan.new out.old out.new (end_of result) }
 {
     match read_dependencies(rt.alloc(), map, plan) {
         Ok(dependencies) => tell(rt, &dependencies, tapes, json, out),
@@ -64,7 +68,8 @@ fn tell<R: Files + AllocGlobal, W: Write>(
     json: bool,
     out: &mut Counted<W>,
 ) -> Ending
-    ensures { EndsByTapes R.File.remaining W.contents json dependencies.now out.old out.new (end_of result) }
+    ensures { EndsByTapes R.File.remaining W.contents json dependencies.now out.old out.new
+        (end_of result) }
 {
     let Ok(lines) = all_lines(rt, dependencies, tapes) else {
         return Ending::gave_up(Failure::OutOfMemory.words());

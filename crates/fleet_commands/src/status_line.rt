@@ -6,7 +6,10 @@ ghost use Rattle.text_io.specs.Counted.{counted_inner, failures_of};
 ghost use Rattle.text_io.specs.Sink.{held_back, Puts, Breaks};
 ghost use Rattle.text_io.specs.Writing.{WritesText};
 ghost use Rattle.ending.specs.Pieces.{pieces_text};
-ghost use Rattle.fleet_commands.specs.StatusText.{agent_text, begun_text, counts_text, fault_text, held_pieces, keeping_text, keeps_text, parted_text, progress_text, said, status_line, unmet_text};
+ghost use Rattle.fleet_commands.specs.StatusText.{agent_text, begun_text, counts_text};
+ghost use Rattle.fleet_commands.specs.StatusText.{fault_text, held_pieces, keeping_text};
+ghost use Rattle.fleet_commands.specs.StatusText.{keeps_text, parted_text, progress_text};
+ghost use Rattle.fleet_commands.specs.StatusText.{said, status_line, unmet_text};
 
 use crate::keeping::Keeping;
 use crate::one_run::Unmet;
@@ -40,7 +43,8 @@ pub(crate) enum StatusLine {
     Unmet { agent: u16, unmet: Unmet },
     /// An agent has begun its move in a rotation.
     Begun { number: u64 },
-    /// The plan beside the tape of the other agent differs from this time on, and neither goes on from the other.
+    /// The plan beside the tape of the other agent differs from this time on, and neither goes on
+    /// from the other.
     Parted { agent: u16, other: u16, time: u32 },
     /// The plan beside a tape can't be read.
     BesideFault { agent: u16, fault: AgentFault },
@@ -54,7 +58,9 @@ pub(crate) fn write_lines<W: Write>(
     json: bool,
     writer: &mut Counted<W>,
 ) -> Result<(), WriteFault>
-    ensures { WritesText (is_ok result) (W.contents (counted_inner writer.old)) (W.contents (counted_inner writer.new)) (failures_of writer.old) (failures_of writer.new) (flat_map (status_line json) lines.now) }
+    ensures { WritesText (is_ok result) (W.contents (counted_inner writer.old))
+        (W.contents (counted_inner writer.new)) (failures_of writer.old) (failures_of writer.new)
+        (flat_map (status_line json) lines.now) }
 {
     let mut sink = Sink::new(writer);
     put_lines(&mut sink, json, lines)
@@ -66,9 +72,11 @@ fn put_lines<W: Write>(
     json: bool,
     lines: &[StatusLine],
 ) -> Result<(), WriteFault>
-    ensures ok { OnOk result (Puts W.contents sink.old sink.new (flat_map (status_line json) lines.now)) }
+    ensures ok { OnOk result
+        (Puts W.contents sink.old sink.new (flat_map (status_line json) lines.now)) }
     ensures none_held { OnOk result (held_back sink.new ≡ []) }
-    ensures err { OnErr result (Breaks W.contents sink.old sink.new (flat_map (status_line json) lines.now)) }
+    ensures err { OnErr result
+        (Breaks W.contents sink.old sink.new (flat_map (status_line json) lines.now)) }
 {
     put_all(sink, json, lines)?;
     sink.hand_on()
@@ -80,8 +88,10 @@ fn put_all<W: Write>(
     json: bool,
     lines: &[StatusLine],
 ) -> Result<(), WriteFault>
-    ensures ok { OnOk result (Puts W.contents sink.old sink.new (flat_map (status_line json) lines.now)) }
-    ensures err { OnErr result (Breaks W.contents sink.old sink.new (flat_map (status_line json) lines.now)) }
+    ensures ok { OnOk result
+        (Puts W.contents sink.old sink.new (flat_map (status_line json) lines.now)) }
+    ensures err { OnErr result
+        (Breaks W.contents sink.old sink.new (flat_map (status_line json) lines.now)) }
 {
     for line in lines {
         put_line(sink, json, line)?;
@@ -145,8 +155,12 @@ fn put_agent_line<W: Write>(
     json: bool,
     line: &AgentLine,
 ) -> Result<(), WriteFault>
-    ensures ok { OnOk result (Puts W.contents sink.old sink.new (progress_text json line.now ++ keeping_text json line.now.keeping)) }
-    ensures err { OnErr result (Breaks W.contents sink.old sink.new (progress_text json line.now ++ keeping_text json line.now.keeping)) }
+    ensures ok { OnOk result
+        (Puts W.contents sink.old sink.new
+        (progress_text json line.now ++ keeping_text json line.now.keeping)) }
+    ensures err { OnErr result
+        (Breaks W.contents sink.old sink.new
+        (progress_text json line.now ++ keeping_text json line.now.keeping)) }
 {
     put_progress(sink, json, line)?;
     put_keeping(sink, json, line.keeping)
@@ -159,8 +173,12 @@ fn put_fault<W: Write>(
     head: Piece,
     words: FaultWords,
 ) -> Result<(), WriteFault>
-    ensures ok { OnOk result (Puts W.contents sink.old sink.new (fault_text json head.word.now head.number (words_of words))) }
-    ensures err { OnErr result (Breaks W.contents sink.old sink.new (fault_text json head.word.now head.number (words_of words))) }
+    ensures ok { OnOk result
+        (Puts W.contents sink.old sink.new
+        (fault_text json head.word.now head.number (words_of words))) }
+    ensures err { OnErr result
+        (Breaks W.contents sink.old sink.new
+        (fault_text json head.word.now head.number (words_of words))) }
 {
     put_pieces(sink, &[head])?;
     let behind = said(json, b" ", b",\"fault\":\"");
@@ -194,8 +212,12 @@ fn put_place<W: Write>(
     json: bool,
     line: &AgentLine,
 ) -> Result<(), WriteFault>
-    ensures ok { OnOk result (Puts W.contents sink.old sink.new (agent_text json line.now.agent ++ pieces_text (held_pieces json line.now.held))) }
-    ensures err { OnErr result (Breaks W.contents sink.old sink.new (agent_text json line.now.agent ++ pieces_text (held_pieces json line.now.held))) }
+    ensures ok { OnOk result
+        (Puts W.contents sink.old sink.new
+        (agent_text json line.now.agent ++ pieces_text (held_pieces json line.now.held))) }
+    ensures err { OnErr result
+        (Breaks W.contents sink.old sink.new
+        (agent_text json line.now.agent ++ pieces_text (held_pieces json line.now.held))) }
 {
     put_agent(sink, json, line.agent)?;
     put_held(sink, json, line.held)
@@ -216,8 +238,10 @@ fn put_counts<W: Write>(
 
 /// Puts the cells that an agent holds.
 fn put_held<W: Write>(sink: &mut Sink<'_, W>, json: bool, held: Held) -> Result<(), WriteFault>
-    ensures ok { OnOk result (Puts W.contents sink.old sink.new (pieces_text (held_pieces json held))) }
-    ensures err { OnErr result (Breaks W.contents sink.old sink.new (pieces_text (held_pieces json held))) }
+    ensures ok { OnOk result
+        (Puts W.contents sink.old sink.new (pieces_text (held_pieces json held))) }
+    ensures err { OnErr result
+        (Breaks W.contents sink.old sink.new (pieces_text (held_pieces json held))) }
 {
     let comma = said(json, b" ", b",");
     match held {
@@ -267,8 +291,10 @@ fn put_keeps<W: Write>(
     head: Piece,
     keeps: u32,
 ) -> Result<(), WriteFault>
-    ensures ok { OnOk result (Puts W.contents sink.old sink.new (keeps_text json head.word.now head.number keeps)) }
-    ensures err { OnErr result (Breaks W.contents sink.old sink.new (keeps_text json head.word.now head.number keeps)) }
+    ensures ok { OnOk result
+        (Puts W.contents sink.old sink.new (keeps_text json head.word.now head.number keeps)) }
+    ensures err { OnErr result
+        (Breaks W.contents sink.old sink.new (keeps_text json head.word.now head.number keeps)) }
 {
     let word = said(json, b" keeps ", b",\"keeps\":");
     let pieces = [head, Piece::new(word, u128::from(keeps))];
@@ -282,8 +308,10 @@ fn put_unmet<W: Write>(
     agent: u16,
     unmet: Unmet,
 ) -> Result<(), WriteFault>
-    ensures ok { OnOk result (Puts W.contents sink.old sink.new (unmet_text json agent unmet.agent unmet.count)) }
-    ensures err { OnErr result (Breaks W.contents sink.old sink.new (unmet_text json agent unmet.agent unmet.count)) }
+    ensures ok { OnOk result
+        (Puts W.contents sink.old sink.new (unmet_text json agent unmet.agent unmet.count)) }
+    ensures err { OnErr result
+        (Breaks W.contents sink.old sink.new (unmet_text json agent unmet.agent unmet.count)) }
 {
     let head = said(
         json,
@@ -321,8 +349,10 @@ fn put_parted<W: Write>(
     other: u16,
     time: u32,
 ) -> Result<(), WriteFault>
-    ensures ok { OnOk result (Puts W.contents sink.old sink.new (parted_text json agent other time)) }
-    ensures err { OnErr result (Breaks W.contents sink.old sink.new (parted_text json agent other time)) }
+    ensures ok { OnOk result
+        (Puts W.contents sink.old sink.new (parted_text json agent other time)) }
+    ensures err { OnErr result
+        (Breaks W.contents sink.old sink.new (parted_text json agent other time)) }
 {
     let head = said(
         json,

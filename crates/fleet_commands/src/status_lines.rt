@@ -1,5 +1,6 @@
 //! Which lines `mapf status` has.
-ghost use Rattle.std.specs.Prelude.{◌≡◌, ◌<◌, ◌≤◌, ◌*◌, [], ◌++◌, false, length, map, slice_get, IfOk};
+ghost use Rattle.std.specs.Prelude.{◌≡◌, ◌<◌, ◌≤◌, ◌*◌, [], ◌++◌};
+ghost use Rattle.std.specs.Prelude.{false, length, map, slice_get, IfOk};
 ghost use Rattle.std.specs.List.{range_with_len};
 ghost use Rattle.model.specs.Timetable.{Timetable};
 ghost use Rattle.depgraph.specs.AgentParts.{IsPartOf};
@@ -26,7 +27,8 @@ pub(crate) fn status_lines(
 ) -> Result<Vec<StatusLine>, AllocError>
     requires all { length found.now ≡ length dependencies.now.tracks }
     requires within { AreWithinMoves dependencies.now found.now }
-    ensures { IfOk result (λ lines. lines.items ≡ status_lines dependencies.now (turns_of rotations.now) found.now) }
+    ensures { IfOk result
+        (λ lines. lines.items ≡ status_lines dependencies.now (turns_of rotations.now) found.now) }
 {
     let waits = waits_of(alloc, dependencies, found)?;
     let ends = keepers_of(alloc, &waits)?;
@@ -79,7 +81,9 @@ fn push_roots(
 ) -> Result<(), AllocError>
     requires waits { length waits.now ≤ 65535 }
     requires ends { length ends.now ≤ 65535 }
-    ensures { IfOk result (λ _. lines.new.items ≡ lines.old.items ++ in_turn (root_line ends.now waits.now) (length waits.now)) }
+    ensures { IfOk result
+        (λ _. lines.new.items ≡ lines.old.items ++ in_turn (root_line ends.now waits.now)
+        (length waits.now)) }
 {
     for agent in 0..waits.len() {
         if waits[agent].is_none() {
@@ -104,7 +108,10 @@ fn push_circles(
     rotations: &[Rotation],
 ) -> Result<(), AllocError>
     requires { length ends.now ≤ 65535 }
-    ensures { IfOk result (λ _. lines.new.items ≡ lines.old.items ++ in_turn (circle_line dependencies.now found.now ends.now (turns_of rotations.now)) (length rotations.now)) }
+    ensures { IfOk result
+        (λ _. lines.new.items ≡ lines.old.items
+        ++ in_turn (circle_line dependencies.now found.now ends.now (turns_of rotations.now))
+        (length rotations.now)) }
 {
     for number in 0..rotations.len() {
         let rotation = &rotations[number];
@@ -121,7 +128,9 @@ fn push_circles(
 /// What an agent holds whose tape has so many records.
 fn held_by(part: &Part<'_>, records: u32) -> Held
     requires { records ≤ 2 * length part.now.needs }
-    ensures { (tt : Timetable) (is : IsPartOf tt part.now) → result ≡ held_by_tape is.track (record { records = records; heard = []; broken = false }) }
+    ensures { (tt : Timetable) (is : IsPartOf tt part.now)
+        → result ≡ held_by_tape is.track
+        (record { records = records; heard = []; broken = false }) }
 {
     let at = part.cell(records / 2).unwrap();
     if records % 2 == 1 {

@@ -24,12 +24,15 @@ in_cell x y = record { x = x; y = y }
 abbrev did : ℕ → Deed → Logged
 did i deed = record { agent = i; deed = deed }
 
--- The leader of two that stand in a row moves on, and its process ends while it stores that it has arrived, which the next one finds on the tape and says. The follower, which
--- had to wait, hears it and moves too. The newest first.
+-- The leader of two that stand in a row moves on, and its process ends while it stores that it has
+-- arrived, which the next one finds on the tape and says. The follower, which had to wait, hears it
+-- and moves too. The newest first.
 abbrev pub led : Log
 led =
-    did 1 (starts (Ok (in_cell 1 0))) ∷ did 1 (hears (message_bytes 7 0 1) (Ok (0, 1))) ∷ did 1 (starts (Err (Waits 0 1))) ∷ did 1 (opens (At (in_cell 0 0)) 0)
-    ∷ did 0 (says (Ok (message_bytes 7 0 1))) ∷ did 0 (opens (At (in_cell 2 0)) 1) ∷ did 0 ends_finishing ∷ did 0 (starts (Ok (in_cell 2 0))) ∷ did 0 (opens (At (in_cell 1 0)) 0) ∷ []
+    did 1 (starts (Ok (in_cell 1 0))) ∷ did 1 (hears (message_bytes 7 0 1) (Ok (0, 1))) ∷ did 1
+    (starts (Err (Waits 0 1))) ∷ did 1 (opens (At (in_cell 0 0)) 0)
+    ∷ did 0 (says (Ok (message_bytes 7 0 1))) ∷ did 0 (opens (At (in_cell 2 0)) 1) ∷ did 0
+    ends_finishing ∷ did 0 (starts (Ok (in_cell 2 0))) ∷ did 0 (opens (At (in_cell 1 0)) 0) ∷ []
 
 abbrev pub led_states : ℕ → State
 led_states i =
@@ -38,7 +41,11 @@ led_states i =
 
 -- the leader has arrived, and nobody has heard it
 abbrev pub unheard_leader : History
-unheard_leader = record { event = Finish 0; answer = arrived (in_cell 2 0) } ∷ record { event = Start 0; answer = moving (in_cell 2 0) } ∷ []
+unheard_leader =
+    record { event = Finish 0; answer = arrived (in_cell 2 0) } ∷ record {
+      event = Start 0;
+      answer = moving (in_cell 2 0);
+    } ∷ []
 
 -- what would be a round if the follower had heard of the leader
 abbrev pub unheard_round : History
@@ -47,24 +54,36 @@ unheard_round = record { event = Start 1; answer = refused (why.Waits 0 1) } ∷
 -- nothing is stored in it, though the follower has not arrived
 abbrev pub UnheardRound : Type 0
 UnheardRound =
-    IsRun One row (unheard_round ++ unheard_leader) × IsCalm unheard_round × Occurs (Start 1) unheard_round
-    × (kept_starts (unheard_round ++ unheard_leader) 0 ≡ kept_starts unheard_leader 0) × (done (unheard_round ++ unheard_leader) 0 ≡ done unheard_leader 0)
-    × (kept_starts (unheard_round ++ unheard_leader) 1 ≡ kept_starts unheard_leader 1) × (done (unheard_round ++ unheard_leader) 1 ≡ done unheard_leader 1)
+    IsRun One row (unheard_round ++ unheard_leader) × IsCalm unheard_round
+    × Occurs (Start 1) unheard_round
+    × (kept_starts (unheard_round ++ unheard_leader) 0 ≡ kept_starts unheard_leader 0)
+    × (done (unheard_round ++ unheard_leader) 0 ≡ done unheard_leader 0)
+    × (kept_starts (unheard_round ++ unheard_leader) 1 ≡ kept_starts unheard_leader 1)
+    × (done (unheard_round ++ unheard_leader) 1 ≡ done unheard_leader 1)
     × (HasArrived (unheard_round ++ unheard_leader) 1 follower → ⊥)
 
 -- ---- plans of their own
 
 -- what is left of the plan of the two where it is cut at once
 abbrev pub bare_row : Timetable
-bare_row = record { number = 7; tracks = record { start = in_cell 1 0; later = [] } ∷ record { start = in_cell 0 0; later = [] } ∷ [] }
+bare_row =
+    record {
+      number = 7;
+      tracks = record { start = in_cell 1 0; later = [] } ∷ record {
+        start = in_cell 0 0;
+        later = [];
+      } ∷ [];
+    }
 
 abbrev did_by : Timetable → ℕ → Deed → DoneBy
 did_by table i deed = record { agent = i; deed = deed; by = table }
 
--- the follower still runs by the cut, where nobody has a move, while the leader begins to move by the whole plan
+-- the follower still runs by the cut, where nobody has a move, while the leader begins to move by
+-- the whole plan
 abbrev pub extended : Doings
 extended =
-    did_by row 0 (starts (Ok (in_cell 2 0))) ∷ did_by row 0 (opens (At (in_cell 1 0)) 0) ∷ did_by bare_row 1 (starts (Err AtEnd)) ∷ did_by bare_row 1 (opens (At (in_cell 0 0)) 0) ∷ []
+    did_by row 0 (starts (Ok (in_cell 2 0))) ∷ did_by row 0 (opens (At (in_cell 1 0)) 0) ∷ did_by
+    bare_row 1 (starts (Err AtEnd)) ∷ did_by bare_row 1 (opens (At (in_cell 0 0)) 0) ∷ []
 
 abbrev pub extended_states : ℕ → State
 extended_states i = record { records = if i == 0 then 1 else 0; heard = []; broken = false }
@@ -76,6 +95,8 @@ turned_off = record { start = in_cell 1 0; later = in_cell 1 1 ∷ [] }
 abbrev pub other_row : Timetable
 other_row = record { number = 7; tracks = turned_off ∷ follower ∷ [] }
 
--- whoever moves so doesn't drive with those who go on by the plan of the two; who has begun nothing may
+-- whoever moves so doesn't drive with those who go on by the plan of the two; who has begun nothing
+-- may
 abbrev pub OtherWays : Type 0
-OtherWays = (SharesMoves row other_row 0 turned_off 1 → ⊥) × SharesMoves row other_row 0 turned_off 0
+OtherWays =
+    (SharesMoves row other_row 0 turned_off 1 → ⊥) × SharesMoves row other_row 0 turned_off 0

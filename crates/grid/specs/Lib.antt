@@ -1,4 +1,5 @@
--- What has to be believed, in the order in which to read it: each promise of the crate is made in these words.
+-- What has to be believed, in the order in which to read it: each promise of the crate is made in
+-- these words.
 
 -- the kinds of terrain, their characters, and which a straight step joins
 pub mod Terrain

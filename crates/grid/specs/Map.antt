@@ -1,5 +1,7 @@
 -- What a caller sees of a map, and the steps on it.
-use Rattle.std.specs.Prelude.{◌≡◌, ℕ, ◌+◌, ◌*◌, ◌<◌, ◌≤◌, ◌⊎◌, IsTrue, ◌&&◌, if◌then◌else◌, nat_lt, List, length, Option, None, MatchOption, slice_get}
+use Rattle.std.specs.Prelude.{◌≡◌, ℕ, ◌+◌, ◌*◌, ◌<◌, ◌≤◌}
+use Rattle.std.specs.Prelude.{◌⊎◌, IsTrue, ◌&&◌, if◌then◌else◌, nat_lt, List}
+use Rattle.std.specs.Prelude.{length, Option, None, MatchOption, slice_get}
 use Rattle.grid.specs.declared.cell.Cell.{Cell}
 use Rattle.grid.specs.declared.terrain.Terrain.{Terrain}
 use Rattle.grid.specs.Terrain.{class_of, joins}
@@ -25,7 +27,9 @@ pub record IsMap (m : Grid) : Type 0 where
 
 -- the terrain at a cell, if it is on the map
 abbrev pub terrain_at : Grid → Cell → Option Terrain
-terrain_at m c = if nat_lt c.x m.width && nat_lt c.y m.height then slice_get m.terrain (c.y * m.width + c.x) else None
+terrain_at m c =
+    if nat_lt c.x m.width && nat_lt c.y m.height then slice_get m.terrain
+    (c.y * m.width + c.x) else None
 
 -- the numbers differ by one
 abbrev pub AreNext : ℕ → ℕ → Type 0
@@ -35,18 +39,21 @@ AreNext a b = (a ≡ b + 1) ⊎ (b ≡ a + 1)
 abbrev pub ShareSide : Cell → Cell → Type 0
 ShareSide u v = ((u.x ≡ v.x) × AreNext u.y v.y) ⊎ ((u.y ≡ v.y) × AreNext u.x v.x)
 
--- A straight step may lead from the one terrain to the other: their classes are land and land, land and swamp in either order,
--- swamp and swamp, or water and water. Off the map there is no terrain, and none leads there.
+-- A straight step may lead from the one terrain to the other: their classes are land and land, land
+-- and swamp in either order, swamp and swamp, or water and water. Off the map there is no terrain,
+-- and none leads there.
 abbrev pub AreJoined : Option Terrain → Option Terrain → Type 0
-AreJoined from to = MatchOption from ⊥ (λ t. MatchOption to ⊥ (λ u. IsTrue (joins (class_of t) (class_of u))))
+AreJoined from to =
+    MatchOption from ⊥ (λ t. MatchOption to ⊥ (λ u. IsTrue (joins (class_of t) (class_of u))))
 
--- A legal straight step: the cells share a side, and the terrain of the one joins that of the other.
+-- A legal straight step: the cells share a side, and the terrain of the one joins that of the
+-- other.
 pub record IsStraightStep (m : Grid) (u v : Cell) : Type 0 where
   pub side : ShareSide u v
   pub joined : AreJoined (terrain_at m u) (terrain_at m v)
 
--- A legal diagonal step: the cells differ by one in x and by one in y, and round each of the two cells beside both, two legal
--- straight steps lead from the one to the other.
+-- A legal diagonal step: the cells differ by one in x and by one in y, and round each of the two
+-- cells beside both, two legal straight steps lead from the one to the other.
 pub record IsDiagonalStep (m : Grid) (u v : Cell) : Type 0 where
   pub columns : AreNext u.x v.x
   pub rows : AreNext u.y v.y

@@ -1,5 +1,6 @@
 -- The text of a map of type `octile` (MovingAI, map format): which texts spell a map.
-use Rattle.std.specs.Prelude.{◌≡◌, ℕ, ◌⊎◌, Bool, true, false, ◌&&◌, ◌||◌, ◌==◌, IsTrue, List, [], ◌∷◌, ◌++◌, length, map, take, drop, zero, suc, codes, decimal}
+use Rattle.std.specs.Prelude.{◌≡◌, ℕ, ◌⊎◌, Bool, true, false, ◌&&◌, ◌||◌, ◌==◌, IsTrue, List}
+use Rattle.std.specs.Prelude.{[], ◌∷◌, ◌++◌, length, map, take, drop, zero, suc, codes, decimal}
 use Rattle.std.specs.List.{list_all, AllByRecursion}
 use Rattle.grid.specs.declared.terrain.Terrain.{Terrain}
 use Rattle.text_io.specs.Text.{carriage_return, is_blank, lines_of, ended, IsGap, SpellsNumber}
@@ -47,14 +48,16 @@ IsRowOf characters line = (line ≡ characters) ⊎ (line ≡ characters ++ carr
 abbrev pub AreRows : ℕ → List Terrain → List (List ℕ) → Type 0
 AreRows width terrain [] = terrain ≡ []
 AreRows width terrain (line ∷ lines) =
-    (row rest : List Terrain) × (terrain ≡ row ++ rest) × (length row ≡ width) × IsRowOf (map character_of row) line
+    (row rest : List Terrain) × (terrain ≡ row ++ rest) × (length row ≡ width)
+    × IsRowOf (map character_of row) line
     × AreRows width rest lines
 
 -- a blank or a CR
 abbrev pub is_rest_byte : ℕ → Bool
 is_rest_byte b = is_blank b || b == carriage_return
 
--- The text spells the map: its lines are four of the header, one for each row, and then lines with no more than blanks and CRs.
+-- The text spells the map: its lines are four of the header, one for each row, and then lines with
+-- no more than blanks and CRs.
 pub record MapText (m : Grid) (text : List ℕ) : Type 0 where
   pub type_line : List ℕ
   pub height_line : List ℕ
@@ -75,12 +78,16 @@ pub record MapText (m : Grid) (text : List ℕ) : Type 0 where
 -- the characters of so many rows, row by row
 abbrev pub rows_of : ℕ → ℕ → List ℕ → List (List ℕ)
 rows_of zero width characters = []
-rows_of (suc count) width characters = take width characters ∷ rows_of count width (drop width characters)
+rows_of (suc count) width characters =
+    take width characters ∷ rows_of count width (drop width characters)
 
 -- the header that is written
 abbrev pub header_lines : ℕ → ℕ → List (List ℕ)
-header_lines width height = codes "type octile" ∷ (codes "height " ++ decimal height) ∷ (codes "width " ++ decimal width) ∷ codes "map" ∷ []
+header_lines width height =
+    codes "type octile" ∷ (codes "height " ++ decimal height) ∷ (codes "width " ++ decimal width)
+    ∷ codes "map" ∷ []
 
 -- the one text that is written for a map
 abbrev pub canonical_map_text : Grid → List ℕ
-canonical_map_text m = ended (header_lines m.width m.height ++ rows_of m.height m.width (map character_of m.terrain))
+canonical_map_text m =
+    ended (header_lines m.width m.height ++ rows_of m.height m.width (map character_of m.terrain))

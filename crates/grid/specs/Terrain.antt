@@ -1,7 +1,9 @@
 -- Terrain (MovingAI, map format), its classes, and the steps between cells.
-use Rattle.std.specs.Prelude.{ℕ, Bool, true, false, ◌==◌, if◌then◌else◌, Option, Some, None, is_some, unwrap_or}
+use Rattle.std.specs.Prelude.{ℕ, Bool, true, false, ◌==◌, if◌then◌else◌}
+use Rattle.std.specs.Prelude.{Option, Some, None, is_some, unwrap_or}
 use Rattle.grid.specs.declared.terrain.Terrain.{Terrain}
-use Rattle.grid.specs.declared.terrain.Terrain.TheVariants.{Floor, Grass, Void, OutOfBounds, Trees, Swamp, Water}
+use Rattle.grid.specs.declared.terrain.Terrain.TheVariants.{Floor, Grass, Void, OutOfBounds}
+use Rattle.grid.specs.declared.terrain.Terrain.TheVariants.{Trees, Swamp, Water}
 
 -- the character of a terrain in a map text
 abbrev pub character_of : Terrain → ℕ

@@ -1,7 +1,10 @@
-//! A line of a map's header, followed a byte at a time: blanks and leading zeros make it as long as they like, so it is not kept.
+//! A line of a map's header, followed a byte at a time: blanks and leading zeros make it as long as
+//! they like, so it is not kept.
 ghost use Rattle.std.specs.Prelude.{◌≡◌, ◌≤◌};
 ghost use Rattle.text_io.specs.Text.{is_blank};
-ghost use Rattle.grid.specs.Code.HeaderLine.{word_of, broken, tail_step, octile_step, with_digit, size_step, after_gap, after_word, header_step, word_saying, saying_at};
+ghost use Rattle.grid.specs.Code.HeaderLine.{word_of, broken, tail_step, octile_step};
+ghost use Rattle.grid.specs.Code.HeaderLine.{with_digit, size_step, after_gap, after_word};
+ghost use Rattle.grid.specs.Code.HeaderLine.{header_step, word_saying, saying_at};
 
 /// The lines of a map's header.
 #[derive(Clone, Copy)]
@@ -23,7 +26,8 @@ pub(crate) enum Progress {
     GapReturn,
     /// The word, blanks, and so many bytes of `octile`.
     Octile(usize),
-    /// The word, blanks, and digits of a number, which past the greatest size is kept as one past it.
+    /// The word, blanks, and digits of a number, which past the greatest size is kept as one past
+    /// it.
     Number(u32),
     /// All that the line has to say, its number, and blanks.
     Tail(Option<u32>),

@@ -8,10 +8,13 @@ ghost use Rattle.grid.specs.MapFault.{MapFaultAt};
 
 /// Each text has exactly one reading as a map: one map that it spells, or one first fault.
 pub fn one_reading()
-    ensures some { (text : List ℕ) → ((m : Grid) × MapText m text) ⊎ ((f : MapFault) × IsFirstFault MapFaultAt f text) }
+    ensures some { (text : List ℕ) → ((m : Grid) × MapText m text)
+        ⊎ ((f : MapFault) × IsFirstFault MapFaultAt f text) }
     ensures one_map { (text : List ℕ) (m n : Grid) → MapText m text → MapText n text → m ≡ n }
-    ensures one_fault { (text : List ℕ) (f g : MapFault) → IsFirstFault MapFaultAt f text → IsFirstFault MapFaultAt g text → f ≡ g }
-    ensures never_both { (text : List ℕ) (m : Grid) (f : MapFault) → MapText m text → IsFirstFault MapFaultAt f text → ⊥ }
+    ensures one_fault { (text : List ℕ) (f g : MapFault) → IsFirstFault MapFaultAt f text
+        → IsFirstFault MapFaultAt g text → f ≡ g }
+    ensures never_both { (text : List ℕ) (m : Grid) (f : MapFault) → MapText m text
+        → IsFirstFault MapFaultAt f text → ⊥ }
 {}
 
 /// The text that is written for a map spells that map, and no other.

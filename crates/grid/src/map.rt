@@ -18,7 +18,11 @@ pub struct Map {
 impl Model for Map {
     ghost Value = { Grid };
 
-    ghost view = { λ m. record { width = m.width; height = m.height; terrain = map kind_of m.characters.items } };
+    ghost view = { λ m. record {
+      width = m.width;
+      height = m.height;
+      terrain = map kind_of m.characters.items;
+    } };
 
     ghost invariant = { λ m. IsSize m.width m.height × (vec_len m.characters ≡ m.width * m.height)
         × IsTrue (list_all is_terrain m.characters.items) };
@@ -61,7 +65,11 @@ impl Map {
         requires size { IsSize width height }
         requires count { vec_len characters ≡ width * height }
         requires terrain { IsTrue (list_all is_terrain characters.items) }
-        ensures { result ≡ record { width = width; height = height; terrain = map kind_of characters.items } }
+        ensures { result ≡ record {
+          width = width;
+          height = height;
+          terrain = map kind_of characters.items;
+        } }
     {
         Map {
             width,

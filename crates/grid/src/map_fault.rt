@@ -9,7 +9,8 @@ use std::fmt;
 use text_io::{Failure, FaultName, FaultWords, Origin};
 use thiserror::Error;
 
-/// The first fault of a map text, with its line and column from 1 on, or why the text was not read to that point.
+/// The first fault of a map text, with its line and column from 1 on, or why the text was not read
+/// to that point.
 #[derive(Clone, Copy, Debug, PartialEq, Eq, Error)]
 pub enum MapFault {
     BadHeader(u64),

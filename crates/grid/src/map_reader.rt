@@ -1,5 +1,6 @@
 //! Reading the text of a map.
-ghost use Rattle.std.specs.Prelude.{◌≡◌, ℕ, ◌+◌, ◌*◌, ◌^◌, ◌<◌, ◌≤◌, ◌⊎◌, zero, suc, min, false, List, [], ◌++◌, length, IsTrue, MatchResult};
+ghost use Rattle.std.specs.Prelude.{◌≡◌, ℕ, ◌+◌, ◌*◌, ◌^◌, ◌<◌, ◌≤◌, ◌⊎◌, zero};
+ghost use Rattle.std.specs.Prelude.{suc, min, false, List, [], ◌++◌, length, IsTrue, MatchResult};
 ghost use Rattle.text_io.specs.Counted.{greatest, counted_inner, failures_of};
 ghost use Rattle.std.specs.List.{list_all};
 ghost use Rattle.grid.specs.Terrain.{is_terrain};
@@ -9,7 +10,9 @@ ghost use Rattle.grid.specs.MapFault.{MapFaultAt, type_due, rows_due, map_outcom
 ghost use Rattle.grid.specs.Map.{IsSize};
 ghost use Rattle.text_io.specs.Source.{Takes, GoesOn, IsAtEnd, has_failed, at_hand, source_reader};
 ghost use Rattle.grid.specs.Code.HeaderLine.{saying_of};
-ghost use Rattle.grid.specs.Code.Following.{TakesLine, TakesRight, StopsReading, FailsInLine, SaysNoWords, SaysNoSize, HasNoTerrain, EndsRow, StopsRow, TakesRow, TakesRows};
+ghost use Rattle.grid.specs.Code.Following.{TakesLine, TakesRight, StopsReading, FailsInLine};
+ghost use Rattle.grid.specs.Code.Following.{SaysNoWords, SaysNoSize, HasNoTerrain, EndsRow};
+ghost use Rattle.grid.specs.Code.Following.{StopsRow, TakesRow, TakesRows};
 
 use crate::header_line::{HeaderLine, Progress, Saying};
 use crate::terrain_scan::terrain_run;
@@ -24,10 +27,12 @@ const MOST_SIDE: u32 = 65_535;
 /// The greatest number of cells.
 const MOST_CELLS: u32 = 4_194_304;
 
-/// Reads a map of type `octile`, the whole text. The first faulty place is answered; a reader that fails is not read again, and
-/// the answer is then the fault that its bytes decide, or else `ReadFailed`.
+/// Reads a map of type `octile`, the whole text. The first faulty place is answered; a reader that
+/// fails is not read again, and the answer is then the fault that its bytes decide, or else
+/// `ReadFailed`.
 pub fn read_map<R: Read>(alloc: Global, reader: &mut Counted<R>) -> Result<Map, MapFault>
-    ensures { ReadsText MapText MapFaultAt (R.remaining (counted_inner reader.old)) (R.remaining (counted_inner reader.new))
+    ensures { ReadsText MapText MapFaultAt (R.remaining (counted_inner reader.old))
+        (R.remaining (counted_inner reader.new))
         (failures_of reader.old) (failures_of reader.new) (map_outcome result) }
 {
     let mut source = Source::new(reader);
@@ -41,8 +46,11 @@ fn read_text<R: Read>(
 ) -> Result<Map, MapFault>
     requires fresh { (at_hand source.old ≡ []) × GoesOn source.old }
     ensures same_reader { source.new.reader.ghost_name ≡ source.old.reader.ghost_name }
-    ensures reads { ReadsText MapText MapFaultAt (R.remaining (counted_inner (source_reader source.old))) (R.remaining (counted_inner (source_reader source.new)))
-        (failures_of (source_reader source.old)) (failures_of (source_reader source.new)) (map_outcome result) }
+    ensures reads { ReadsText MapText MapFaultAt
+        (R.remaining (counted_inner (source_reader source.old)))
+        (R.remaining (counted_inner (source_reader source.new)))
+        (failures_of (source_reader source.old)) (failures_of (source_reader source.new))
+        (map_outcome result) }
 {
     let (width, height) = read_header(source)?;
     let characters = read_rows(alloc, source, width, height)?;
@@ -76,9 +84,11 @@ fn read_words<R: Read>(
     number: u64,
 ) -> Result<(), MapFault>
     ensures { MatchResult result
-        (λ _. (bytes : List ℕ) × TakesLine R.remaining source.old source.new bytes × (saying_of line bytes ≡ Saying.Whole))
+        (λ _. (bytes : List ℕ) × TakesLine R.remaining source.old source.new bytes
+        × (saying_of line bytes ≡ Saying.Whole))
         (λ fault. ((fault ≡ MapFault.ReadFailed) × FailsInLine R.remaining source.old source.new)
-        ⊎ ((fault ≡ MapFault.BadHeader number) × (bytes : List ℕ) × TakesLine R.remaining source.old source.new bytes × SaysNoWords line bytes)) }
+        ⊎ ((fault ≡ MapFault.BadHeader number) × (bytes : List ℕ)
+        × TakesLine R.remaining source.old source.new bytes × SaysNoWords line bytes)) }
 {
     match read_header_line(source, line)? {
         Saying::Whole => Ok(()),
@@ -94,9 +104,12 @@ fn read_size<R: Read>(
     most: u32,
 ) -> Result<u32, MapFault>
     ensures { MatchResult result
-        (λ n. (0 < n) × (n ≤ most) × (bytes : List ℕ) × TakesLine R.remaining source.old source.new bytes × (saying_of line bytes ≡ Saying.Size n))
+        (λ n. (0 < n) × (n ≤ most) × (bytes : List ℕ)
+        × TakesLine R.remaining source.old source.new bytes
+        × (saying_of line bytes ≡ Saying.Size n))
         (λ fault. ((fault ≡ MapFault.ReadFailed) × FailsInLine R.remaining source.old source.new)
-        ⊎ ((bytes : List ℕ) × TakesLine R.remaining source.old source.new bytes × SaysNoSize line most number bytes fault)) }
+        ⊎ ((bytes : List ℕ) × TakesLine R.remaining source.old source.new bytes
+        × SaysNoSize line most number bytes fault)) }
 {
     match read_header_line(source, line)? {
         Saying::Size(0) | Saying::NoSize => Err(MapFault::BadNumber(number)),
@@ -112,7 +125,8 @@ fn read_header_line<R: Read>(
     line: HeaderLine,
 ) -> Result<Saying, MapFault>
     ensures { MatchResult result
-        (λ saying. (bytes : List ℕ) × TakesLine R.remaining source.old source.new bytes × (saying ≡ saying_of line bytes))
+        (λ saying. (bytes : List ℕ) × TakesLine R.remaining source.old source.new bytes
+        × (saying ≡ saying_of line bytes))
         (λ fault. (fault ≡ MapFault.ReadFailed) × FailsInLine R.remaining source.old source.new) }
 {
     let mut progress = Progress::Word(0);
@@ -155,9 +169,11 @@ fn read_row<R: Read>(
 ) -> Result<(), MapFault>
     requires { 0 < width }
     ensures { MatchResult result
-        (λ _. (row : List ℕ) × (characters.new.items ≡ characters.old.items ++ row) × TakesRow R.remaining source.old source.new width row)
+        (λ _. (row : List ℕ) × (characters.new.items ≡ characters.old.items ++ row)
+        × TakesRow R.remaining source.old source.new width row)
         (λ fault. (count skipped : ℕ) → number ≡ min (skipped + 1) greatest
-        → StopsReading R.remaining source.old source.new (rows_due width (suc count)) skipped fault) }
+        → StopsReading R.remaining source.old source.new (rows_due width (suc count))
+        skipped fault) }
 {
     let mut count = 0;
     while count < width {
@@ -175,7 +191,8 @@ fn read_row<R: Read>(
     }
 }
 
-/// Takes the terrain characters at hand, up to so many. None are taken where another byte comes, or none at all.
+/// Takes the terrain characters at hand, up to so many. None are taken where another byte comes, or
+/// none at all.
 fn take_terrain<R: Read>(
     source: &mut Source<'_, R, LARGE_PIECE>,
     most: u32,
@@ -183,10 +200,13 @@ fn take_terrain<R: Read>(
 ) -> Result<u32, MapFault>
     requires { 0 < most }
     ensures { MatchResult result
-        (λ count. (count ≤ most) × (run : List ℕ) × (length run ≡ count) × IsTrue (list_all is_terrain run)
-        × (characters.new.items ≡ characters.old.items ++ run) × Takes R.remaining source.old source.new run
+        (λ count. (count ≤ most) × (run : List ℕ) × (length run ≡ count)
+        × IsTrue (list_all is_terrain run)
+        × (characters.new.items ≡ characters.old.items ++ run)
+        × Takes R.remaining source.old source.new run
         × (count ≡ 0 → HasNoTerrain source.new))
-        (λ fault. (fault ≡ MapFault.OutOfMemory) × GoesOn source.new × Takes R.remaining source.old source.new []) }
+        (λ fault. (fault ≡ MapFault.OutOfMemory) × GoesOn source.new
+        × Takes R.remaining source.old source.new []) }
 {
     if source.fill().is_some() {
         return Ok(0);
@@ -248,7 +268,9 @@ fn read_rest<R: Read>(
     first: u64,
 ) -> Result<(), MapFault>
     ensures { MatchResult result
-        (λ _. IsAtEnd source.new × (lines : List (List ℕ)) × TakesRight R.remaining source.old source.new (rows_due width zero) (rows_due width zero) lines)
+        (λ _. IsAtEnd source.new × (lines : List (List ℕ))
+        × TakesRight R.remaining source.old source.new (rows_due width zero)
+        (rows_due width zero) lines)
         (λ fault. (skipped : ℕ) → first ≡ min (skipped + 1) greatest
         → StopsReading R.remaining source.old source.new (rows_due width zero) skipped fault) }
 {

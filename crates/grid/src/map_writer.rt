@@ -11,10 +11,12 @@ use itoa::Buffer;
 use std::io::Write;
 use text_io::{Counted, Sink, WriteFault};
 
-/// Writes a map in canonical form: one space between words, no leading zero, an LF after each line, nothing after the last.
-/// The writer is not flushed.
+/// Writes a map in canonical form: one space between words, no leading zero, an LF after each line,
+/// nothing after the last. The writer is not flushed.
 pub fn write_map<W: Write>(map: &Map, writer: &mut Counted<W>) -> Result<(), WriteFault>
-    ensures { WritesText (is_ok result) (W.contents (counted_inner writer.old)) (W.contents (counted_inner writer.new)) (failures_of writer.old) (failures_of writer.new) (canonical_map_text map.now) }
+    ensures { WritesText (is_ok result) (W.contents (counted_inner writer.old))
+        (W.contents (counted_inner writer.new)) (failures_of writer.old) (failures_of writer.new)
+        (canonical_map_text map.now) }
 {
     let mut sink = Sink::new(writer);
     put_map(&mut sink, map)
@@ -32,8 +34,10 @@ fn put_map<W: Write>(sink: &mut Sink<'_, W>, map: &Map) -> Result<(), WriteFault
 }
 
 fn put_header<W: Write>(sink: &mut Sink<'_, W>, width: u32, height: u32) -> Result<(), WriteFault>
-    ensures ok { OnOk result (Puts W.contents sink.old sink.new (ended (header_lines width height))) }
-    ensures err { OnErr result (Breaks W.contents sink.old sink.new (ended (header_lines width height))) }
+    ensures ok { OnOk result
+        (Puts W.contents sink.old sink.new (ended (header_lines width height))) }
+    ensures err { OnErr result
+        (Breaks W.contents sink.old sink.new (ended (header_lines width height))) }
 {
     put_line(sink, b"type octile")?;
     put_size(sink, b"height ", height)?;
@@ -48,8 +52,10 @@ fn put_rows<W: Write>(
     characters: &[u8],
 ) -> Result<(), WriteFault>
     requires { length characters.now ≡ width * height }
-    ensures ok { OnOk result (Puts W.contents sink.old sink.new (ended (rows_of height width characters.now))) }
-    ensures err { OnErr result (Breaks W.contents sink.old sink.new (ended (rows_of height width characters.now))) }
+    ensures ok { OnOk result
+        (Puts W.contents sink.old sink.new (ended (rows_of height width characters.now))) }
+    ensures err { OnErr result
+        (Breaks W.contents sink.old sink.new (ended (rows_of height width characters.now))) }
 {
     let mut rest = characters;
     for _row in 0..height {
@@ -62,8 +68,10 @@ fn put_rows<W: Write>(
 
 /// Puts a word and a number as a line.
 fn put_size<W: Write>(sink: &mut Sink<'_, W>, word: &[u8], size: u32) -> Result<(), WriteFault>
-    ensures ok { OnOk result (Puts W.contents sink.old sink.new ((word.now ++ decimal size) ++ line_feed ∷ [])) }
-    ensures err { OnErr result (Breaks W.contents sink.old sink.new ((word.now ++ decimal size) ++ line_feed ∷ [])) }
+    ensures ok { OnOk result
+        (Puts W.contents sink.old sink.new ((word.now ++ decimal size) ++ line_feed ∷ [])) }
+    ensures err { OnErr result
+        (Breaks W.contents sink.old sink.new ((word.now ++ decimal size) ++ line_feed ∷ [])) }
 {
     sink.put(word)?;
     put_line(sink, Buffer::new().format(size).as_bytes())

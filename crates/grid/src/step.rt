@@ -4,15 +4,16 @@ ghost use Rattle.grid.specs.Map.{AreNext, ShareSide, AreJoined, IsStraightStep, 
 
 use crate::{Cell, Map, Terrain};
 
-/// Whether a legal straight step leads from the one cell to the other (MovingAI, map format). Off the map there is none.
+/// Whether a legal straight step leads from the one cell to the other (MovingAI, map format). Off
+/// the map there is none.
 pub fn step4(map: &Map, from: Cell, to: Cell) -> bool
     ensures { IsTrue result ↔ IsStraightStep map.now from to }
 {
     share_side(from, to) && are_joined(map.terrain(from), map.terrain(to))
 }
 
-/// Whether a legal straight or diagonal step leads from the one cell to the other (MovingAI, scenario format): a diagonal one
-/// cuts no corner.
+/// Whether a legal straight or diagonal step leads from the one cell to the other (MovingAI,
+/// scenario format): a diagonal one cuts no corner.
 pub fn step8(map: &Map, from: Cell, to: Cell) -> bool
     ensures { IsTrue result ↔ (IsStraightStep map.now from to ⊎ IsDiagonalStep map.now from to) }
 {
@@ -37,7 +38,8 @@ fn share_corner(from: Cell, to: Cell) -> bool
 
 /// Whether straight steps lead by way of the middle cell.
 fn leads_round(map: &Map, from: Cell, middle: Cell, to: Cell) -> bool
-    ensures { IsTrue result ↔ (IsStraightStep map.now from middle × IsStraightStep map.now middle to) }
+    ensures { IsTrue result
+        ↔ (IsStraightStep map.now from middle × IsStraightStep map.now middle to) }
 {
     step4(map, from, middle) && step4(map, middle, to)
 }
@@ -55,7 +57,8 @@ fn are_next(a: u16, b: u16) -> bool
     a.abs_diff(b) == 1
 }
 
-/// Whether a straight step may lead from the one terrain to the other; `None` stands for a cell off the map.
+/// Whether a straight step may lead from the one terrain to the other; `None` stands for a cell off
+/// the map.
 fn are_joined(from: Option<Terrain>, to: Option<Terrain>) -> bool
     ensures { IsTrue result ↔ AreJoined from to }
 {

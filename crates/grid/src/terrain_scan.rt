@@ -19,7 +19,8 @@ pub(crate) fn terrain_run(bytes: &[u8]) -> usize
     bytes.len()
 }
 
-/// Whether each byte is a terrain character. The loop has no early exit, so that the compiler tests many bytes at once.
+/// Whether each byte is a terrain character. The loop has no early exit, so that the compiler tests
+/// many bytes at once.
 fn is_all_terrain(bytes: &[u8]) -> bool
     ensures { result ≡ list_all is_terrain bytes.now }
 {

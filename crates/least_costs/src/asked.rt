@@ -12,7 +12,8 @@ use optimality::Constraint;
 /// Whether the step from the time on, or the cell to which it leads, is forbidden.
 #[inline(always)]
 pub(crate) fn is_forbidden(rules: &[Constraint], time: u32, from: Cell, to: Cell) -> bool
-    ensures { result ≡ true → (track : Track) → ((k : ℕ) (rule : Constraint) → slice_get rules.now k ≡ Some rule → Meets track rule)
+    ensures { result ≡ true → (track : Track)
+        → ((k : ℕ) (rule : Constraint) → slice_get rules.now k ≡ Some rule → Meets track rule)
         → cell_at track time ≡ from → cell_at track (time + 1) ≡ to → ⊥ }
 {
     for rule in rules {
@@ -25,7 +26,8 @@ pub(crate) fn is_forbidden(rules: &[Constraint], time: u32, from: Cell, to: Cell
 
 #[inline(always)]
 pub(crate) fn forbids(rule: Constraint, time: u32, from: Cell, to: Cell) -> bool
-    ensures { result ≡ true → (track : Track) → Meets track rule → cell_at track time ≡ from → cell_at track (time + 1) ≡ to → ⊥ }
+    ensures { result ≡ true → (track : Track) → Meets track rule → cell_at track time ≡ from
+        → cell_at track (time + 1) ≡ to → ⊥ }
 {
     match rule {
         Constraint::Away(at, cell) => at > 0 && at - 1 == time && to == cell,
@@ -38,7 +40,8 @@ pub(crate) fn forbids(rule: Constraint, time: u32, from: Cell, to: Cell) -> bool
 
 /// Whether it is forbidden to begin in the cell.
 pub(crate) fn forbid_start(asked: &[Constraint], start: Cell) -> bool
-    ensures { result ≡ true → (track : Track) → MeetsAll asked.now track → cell_at track 0 ≡ start → ⊥ }
+    ensures { result ≡ true → (track : Track) → MeetsAll asked.now track
+        → cell_at track 0 ≡ start → ⊥ }
 {
     for constraint in asked {
         if forbids_start(*constraint, start) {
@@ -49,7 +52,8 @@ pub(crate) fn forbid_start(asked: &[Constraint], start: Cell) -> bool
 }
 
 fn forbids_start(constraint: Constraint, start: Cell) -> bool
-    ensures { result ≡ true → (track : Track) → Meets track constraint → cell_at track 0 ≡ start → ⊥ }
+    ensures { result ≡ true → (track : Track) → Meets track constraint
+        → cell_at track 0 ≡ start → ⊥ }
 {
     match constraint {
         Constraint::Away(0, cell) => cell == start,
@@ -62,7 +66,8 @@ fn forbids_start(constraint: Constraint, start: Cell) -> bool
 /// What a walk to the goal costs at least that is as it is asked; the greatest number where there
 /// is none.
 pub(crate) fn lowest(asked: &[Constraint], goal: Cell) -> u32
-    ensures { (track : Track) → MeetsAll asked.now track → cell_at track (cost track) ≡ goal → result ≤ cost track }
+    ensures { (track : Track) → MeetsAll asked.now track → cell_at track (cost track) ≡ goal
+        → result ≤ cost track }
 {
     let mut lowest = 0;
     for constraint in asked {
@@ -72,7 +77,8 @@ pub(crate) fn lowest(asked: &[Constraint], goal: Cell) -> u32
 }
 
 fn low(constraint: Constraint, goal: Cell) -> u32
-    ensures { (track : Track) → Meets track constraint → cell_at track (cost track) ≡ goal → result ≤ cost track }
+    ensures { (track : Track) → Meets track constraint → cell_at track (cost track) ≡ goal
+        → result ≤ cost track }
 {
     model::laws::costs();
     match constraint {
@@ -91,7 +97,8 @@ fn low(constraint: Constraint, goal: Cell) -> u32
 pub(crate) fn highest(asked: &[Constraint], limit: u32) -> u32
     requires { 0 < limit }
     ensures below { result < limit }
-    ensures most { (track : Track) → MeetsAll asked.now track → cost track < limit → cost track ≤ result }
+    ensures most { (track : Track) → MeetsAll asked.now track → cost track < limit
+        → cost track ≤ result }
 {
     let mut highest = limit - 1;
     for constraint in asked {
@@ -102,7 +109,8 @@ pub(crate) fn highest(asked: &[Constraint], limit: u32) -> u32
 
 fn high(constraint: Constraint, highest: u32) -> u32
     ensures less { result ≤ highest }
-    ensures most { (track : Track) → Meets track constraint → cost track ≤ highest → cost track ≤ result }
+    ensures most { (track : Track) → Meets track constraint → cost track ≤ highest
+        → cost track ≤ result }
 {
     match constraint {
         Constraint::Within(most) => highest.min(most),

@@ -25,7 +25,8 @@ pub struct Least {
     pub walk: Vec<Cell>,
 }
 
-/// What is known of an agent beforehand: it costs so much at least, and perhaps a walk that was as fewer things asked.
+/// What is known of an agent beforehand: it costs so much at least, and perhaps a walk that was as
+/// fewer things asked.
 #[derive(Clone, Copy, Debug)]
 pub struct Known<'a> {
     pub cost: u32,
@@ -61,10 +62,15 @@ impl CostSearch {
         limit: u32,
     ) -> Result<Least, StepFault>
         ensures same { goal.new ≡ goal.old }
-        ensures bound { CostsAtLeast goal.old.map (record { start = start; goal = goal.old.goal }) asked.now known.now.cost
-            → IfOk result (λ l. CostsAtLeast goal.old.map (record { start = start; goal = goal.old.goal }) asked.now l.cost) }
-        ensures walk { CostsAtLeast goal.old.map (record { start = start; goal = goal.old.goal }) asked.now known.now.cost
-            → IfOk result (λ l. 0 < length l.walk.items → IsLeastCost goal.old.map (record { start = start; goal = goal.old.goal }) asked.now l.cost) }
+        ensures bound { CostsAtLeast goal.old.map (record { start = start; goal = goal.old.goal })
+            asked.now known.now.cost
+            → IfOk result (λ l. CostsAtLeast goal.old.map
+            (record { start = start; goal = goal.old.goal }) asked.now l.cost) }
+        ensures walk { CostsAtLeast goal.old.map (record { start = start; goal = goal.old.goal })
+            asked.now known.now.cost
+            → IfOk result (λ l. 0 < length l.walk.items
+            → IsLeastCost goal.old.map (record { start = start; goal = goal.old.goal })
+            asked.now l.cost) }
         ensures limit { IfOk result (λ l. length l.walk.items ≡ 0 → limit ≤ l.cost) }
     {
         let legal = goal.legal();
@@ -110,7 +116,8 @@ impl CostSearch {
     }
 }
 
-/// A walk that was found, if it leads from the start to the goal, is as it is asked and costs so much.
+/// A walk that was found, if it leads from the start to the goal, is as it is asked and costs so
+/// much.
 fn walked(
     legal: &LegalSteps<'_>,
     ends: Ends,
@@ -118,7 +125,8 @@ fn walked(
     walk: Vec<Cell>,
     cost: u32,
 ) -> Result<Least, StepFault>
-    ensures least { CostsAtLeast legal.now ends asked.now cost → IfOk result (λ l. IsLeastCost legal.now ends asked.now l.cost) }
+    ensures least { CostsAtLeast legal.now ends asked.now cost
+        → IfOk result (λ l. IsLeastCost legal.now ends asked.now l.cost) }
     ensures walk { IfOk result (λ l. 0 < length l.walk.items) }
 {
     let is_least = walk.len() == cost as usize + 1;

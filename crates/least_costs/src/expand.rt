@@ -1,7 +1,8 @@
 //! The steps from a state of a search.
 ghost use Rattle.std.specs.Prelude.{◌≡◌, ◌+◌, ◌-◌, ◌^◌, ◌<◌, IfOk, false, true};
 ghost use Rattle.model.specs.Timetable.{Track, cell_at};
-ghost use Rattle.least_costs.specs.Code.Searching.{AllGoOn, IsLookedAt, IsOffered, IsPosed, IsWanted, HasComeOn, PassesOn, wanted};
+ghost use Rattle.least_costs.specs.Code.Searching.{AllGoOn, IsLookedAt, IsOffered, IsPosed};
+ghost use Rattle.least_costs.specs.Code.Searching.{IsWanted, HasComeOn, PassesOn, wanted};
 ghost use Rattle.least_costs.specs.Code.Tables.{IsEstimate};
 ghost use Rattle.least_costs.specs.GoalView.{GoalView};
 
@@ -14,8 +15,8 @@ use grid::Cell;
 use optimality::Constraint;
 use std::alloc::AllocError;
 
-/// What is looked for: a walk from the start to the goal that is as it is asked, rests no sooner than `lowest`, and costs
-/// no more than `highest`.
+/// What is looked for: a walk from the start to the goal that is as it is asked, rests no sooner
+/// than `lowest`, and costs no more than `highest`.
 #[derive(Clone, Copy)]
 pub(crate) struct Query<'a> {
     pub(crate) start: Cell,
@@ -25,8 +26,9 @@ pub(crate) struct Query<'a> {
     pub(crate) highest: u32,
 }
 
-/// The state from which steps are taken: its cell and time, its place among the closed ones, and what is asked of who
-/// comes to a cell next, if anything. Walks are looked for that cost no more than the budget.
+/// The state from which steps are taken: its cell and time, its place among the closed ones, and
+/// what is asked of who comes to a cell next, if anything. Walks are looked for that cost no more
+/// than the budget.
 #[derive(Clone, Copy)]
 pub(crate) struct Turn {
     pub(crate) cell: Cell,
@@ -54,8 +56,10 @@ pub(crate) fn expand(
 ) -> Result<bool, AllocError>
     requires ready { IsPosed goal.now query.now }
     requires time { turn.time < 2 ^ 32 - 1 }
-    ensures leads { IfOk result (λ found. found ≡ false → HasComeOn (wanted goal.now query.now) turn.budget front.old front.new) }
-    ensures goes { IfOk result (λ found. found ≡ false → AllGoOn (wanted goal.now query.now) front.new turn.cell turn.time) }
+    ensures leads { IfOk result (λ found. found ≡ false
+        → HasComeOn (wanted goal.now query.now) turn.budget front.old front.new) }
+    ensures goes { IfOk result (λ found. found ≡ false
+        → AllGoOn (wanted goal.now query.now) front.new turn.cell turn.time) }
 {
     let ways = goal.ways(turn.cell);
     let sides = sides_of(turn.cell);
@@ -80,8 +84,8 @@ pub(crate) fn expand(
     Ok(found)
 }
 
-/// A cell to which a step may lead, and how many steps it is from the goal at least; the greatest number where the way
-/// there isn't open.
+/// A cell to which a step may lead, and how many steps it is from the goal at least; the greatest
+/// number where the way there isn't open.
 #[inline(always)]
 fn look(goal: &GoalSteps<'_>, is_open: bool, cell: Cell) -> Beside
     ensures cell { result.cell ≡ cell }
@@ -96,7 +100,8 @@ fn look(goal: &GoalSteps<'_>, is_open: bool, cell: Cell) -> Beside
     Beside { cell, steps }
 }
 
-/// Takes a step, unless it leads too far or is forbidden. The answer is whether it comes to the goal, to rest there.
+/// Takes a step, unless it leads too far or is forbidden. The answer is whether it comes to the
+/// goal, to rest there.
 #[inline(always)]
 fn offer(
     query: &Query<'_>,
@@ -108,7 +113,8 @@ fn offer(
     requires ready { IsPosed goal.now query.now }
     requires time { turn.time < 2 ^ 32 - 1 }
     requires beside { IsLookedAt goal.now to }
-    ensures leads { IfOk result (λ found. found ≡ false → HasComeOn (wanted goal.now query.now) turn.budget front.old front.new) }
+    ensures leads { IfOk result (λ found. found ≡ false
+        → HasComeOn (wanted goal.now query.now) turn.budget front.old front.new) }
     ensures goes { IfOk result (λ found. found ≡ false → IsEstimate goal.now to.cell to.steps
         → IsOffered (wanted goal.now query.now) front.new turn.time turn.cell to.cell) }
 {
@@ -136,7 +142,8 @@ fn offer(
 #[inline(always)]
 fn is_ruled_out(query: &Query<'_>, turn: Turn, to: Cell) -> bool
     requires { turn.time < 2 ^ 32 - 1 }
-    ensures { result ≡ true → (g : GoalView) (track : Track) → IsPosed g query.now → IsWanted (wanted g query.now) track
+    ensures { result ≡ true → (g : GoalView) (track : Track) → IsPosed g query.now
+        → IsWanted (wanted g query.now) track
         → cell_at track turn.time ≡ turn.cell → cell_at track (turn.time + 1) ≡ to → ⊥ }
 {
     query.rules.forbid(turn.moment, turn.time, turn.cell, to)

@@ -10,9 +10,10 @@ use std::alloc::{AllocError, Global};
 use std::mem;
 use walks::put_last;
 
-/// The states that a search has reached: those from which it went on, and those that wait by what walks through them cost
-/// at least, which is as much as is looked for, or less, or one more, or still more. Of each the last is taken first, so
-/// that the search goes straight on where nothing is in the way.
+/// The states that a search has reached: those from which it went on, and those that wait by what
+/// walks through them cost at least, which is as much as is looked for, or less, or one more, or
+/// still more. Of each the last is taken first, so that the search goes straight on where nothing
+/// is in the way.
 #[derive(Debug, Drop)]
 pub(crate) struct Frontier {
     pub(crate) closed: ClosedStates,
@@ -59,7 +60,8 @@ impl Frontier {
     fn put_known(&mut self, cell: Cell, time: u32) -> Result<(), AllocError>
         ensures closed { self.new.closed ≡ self.old.closed }
         ensures waiting { IfOk result (λ _. HasState self.new.waiting.items cell time) }
-        ensures keeps { (c : cell_type) (t : ℕ) → HasState self.old.waiting.items c t → HasState self.new.waiting.items c t }
+        ensures keeps { (c : cell_type) (t : ℕ) → HasState self.old.waiting.items c t
+            → HasState self.new.waiting.items c t }
         ensures next { self.new.next ≡ self.old.next }
         ensures after { self.new.after ≡ self.old.after }
     {
@@ -88,8 +90,8 @@ impl Frontier {
         }
     }
 
-    /// Goes on to walks that cost one more. The answer is whether any state waits. What was put first comes up first: the
-    /// search began where the walk that was known went furthest.
+    /// Goes on to walks that cost one more. The answer is whether any state waits. What was put
+    /// first comes up first: the search began where the walk that was known went furthest.
     pub(crate) fn raise(&mut self) -> bool
         requires { self.old.waiting.items ≡ [] }
         ensures { IsRaised self.old self.new result }

@@ -1,7 +1,8 @@
 //! A search from a goal toward a start, which goes on when it is asked for more.
 ghost use Rattle.std.specs.Prelude.{◌≡◌, ℕ, ◌+◌, ◌-◌, ◌≤◌, IfOk, IfSome, [], true};
 ghost use Rattle.grid.specs.Map.{Grid};
-ghost use Rattle.least_costs.specs.Code.GoalSearches.{AreBeyond, HasSpread, IsGoalSearch, IsPending, LowersMarks};
+ghost use Rattle.least_costs.specs.Code.GoalSearches.{AreBeyond, HasSpread, IsGoalSearch};
+ghost use Rattle.least_costs.specs.Code.GoalSearches.{IsPending, LowersMarks};
 ghost use Rattle.least_costs.specs.Code.Places.{between};
 ghost use Rattle.least_costs.specs.Code.Marks.{mark_at};
 ghost use Rattle.least_costs.specs.Code.Tables.{IsEstimate};
@@ -85,7 +86,8 @@ impl GoalSearch {
     /// How many steps the cell is from the goal, if that is settled.
     #[inline(always)]
     pub(crate) fn settled(&self, cell: Cell) -> Option<u32>
-        ensures { IfSome result (λ n. (m : Grid) → IsGoalSearch m self.now → IsEstimate (record { map = m; goal = self.now.goal }) cell n) }
+        ensures { IfSome result (λ n. (m : Grid) → IsGoalSearch m self.now
+            → IsEstimate (record { map = m; goal = self.now.goal }) cell n) }
     {
         model::laws::costs();
         let mark = self.marks.at(cell);
@@ -99,7 +101,8 @@ impl GoalSearch {
     /// How many steps the cell is from the goal, at least.
     #[inline(always)]
     pub(crate) fn at_least(&self, cell: Cell) -> u32
-        ensures { (m : Grid) → IsGoalSearch m self.now → IsEstimate (record { map = m; goal = self.now.goal }) cell result }
+        ensures { (m : Grid) → IsGoalSearch m self.now
+            → IsEstimate (record { map = m; goal = self.now.goal }) cell result }
     {
         model::laws::costs();
         self.marks.at(cell).min(self.found_within(cell))
@@ -120,7 +123,8 @@ impl GoalSearch {
         requires { IsGoalSearch legal.now self.old }
         ensures search { IsGoalSearch legal.now self.new }
         ensures goal { self.new.goal ≡ self.old.goal }
-        ensures estimate { IfOk result (IsEstimate (record { map = legal.now; goal = self.old.goal }) cell) }
+        ensures estimate { IfOk result
+            (IsEstimate (record { map = legal.now; goal = self.old.goal }) cell) }
     {
         model::laws::costs();
         for _ in 0..u64::MAX {
@@ -180,7 +184,8 @@ impl GoalSearch {
         Ok(())
     }
 
-    /// Reaches the cells beside one, which waits on until all are reached: memory may run out in between.
+    /// Reaches the cells beside one, which waits on until all are reached: memory may run out in
+    /// between.
     #[inline(always)]
     fn spread(&mut self, legal: &LegalSteps<'_>, waiting: Waiting) -> Result<(), StepFault>
         requires search { IsGoalSearch legal.now self.old }

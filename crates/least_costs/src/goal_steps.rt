@@ -65,8 +65,8 @@ impl<'a> GoalSteps<'a> {
         self.search.seek(self.legal, cell)
     }
 
-    /// Adds the cells of a shortest way from a cell to the goal, without that cell itself. They are tried, so no promise is
-    /// made of them.
+    /// Adds the cells of a shortest way from a cell to the goal, without that cell itself. They are
+    /// tried, so no promise is made of them.
     pub(crate) fn follow(&self, from: Cell, walk: &mut Vec<Cell>) -> Result<(), AllocError> {
         let steps = self.at_least(from);
         let mut cell = from;

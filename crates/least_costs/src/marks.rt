@@ -15,8 +15,8 @@ pub(crate) struct MarkRow {
     marks: Vec<u32>,
 }
 
-/// A mark for each cell, row by row: how many steps lead from it to the goal on the best way found. A row takes memory once
-/// a cell of it is reached.
+/// A mark for each cell, row by row: how many steps lead from it to the goal on the best way found.
+/// A row takes memory once a cell of it is reached.
 #[derive(Debug, Drop)]
 pub(crate) struct Marks {
     alloc: Global,

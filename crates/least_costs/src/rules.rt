@@ -15,15 +15,16 @@ use grid::Cell;
 use optimality::Constraint;
 use std::alloc::{AllocError, Global};
 
-/// Something that is asked of who comes to a cell at a time, and the place of what is asked at the same time beside.
+/// Something that is asked of who comes to a cell at a time, and the place of what is asked at the
+/// same time beside.
 #[derive(Clone, Copy, Debug)]
 pub(crate) struct Timed {
     pub(crate) constraint: Constraint,
     pub(crate) beside: Option<u32>,
 }
 
-/// What is asked at a time: the place of the first of it, and that of the next cell where the agent has to be, at this
-/// time or later.
+/// What is asked at a time: the place of the first of it, and that of the next cell where the agent
+/// has to be, at this time or later.
 #[derive(Clone, Copy, Debug)]
 pub(crate) struct Moment {
     pub(crate) first: Option<u32>,
@@ -67,7 +68,8 @@ impl Rules {
     }
 
     fn add(&mut self, constraint: Constraint) -> Result<(), AllocError>
-        ensures { (asked : List Constraint) → IsImplied asked constraint → AreRules asked self.old → IfOk result (λ _. AreRules asked self.new) }
+        ensures { (asked : List Constraint) → IsImplied asked constraint → AreRules asked self.old
+            → IfOk result (λ _. AreRules asked self.new) }
     {
         match arrival_of(constraint) {
             Some(time) => self.add_timed(time, constraint),
@@ -81,7 +83,8 @@ impl Rules {
     }
 
     fn add_timed(&mut self, time: usize, constraint: Constraint) -> Result<(), AllocError>
-        ensures { (asked : List Constraint) → IsImplied asked constraint → AreRules asked self.old → IfOk result (λ _. AreRules asked self.new) }
+        ensures { (asked : List Constraint) → IsImplied asked constraint → AreRules asked self.old
+            → IfOk result (λ _. AreRules asked self.new) }
     {
         self.make_moment(time)?;
         let place = u32::try_from(self.timed.len()).ok();
@@ -157,7 +160,8 @@ impl Rules {
     /// Whether the step from the time on, or the cell to which it leads, is forbidden.
     #[inline(always)]
     pub(crate) fn forbid(&self, moment: Moment, time: u32, from: Cell, to: Cell) -> bool
-        ensures { result ≡ true → (asked : List Constraint) (track : Track) → AreRules asked self.now → MeetsAll asked track
+        ensures { result ≡ true → (asked : List Constraint) (track : Track)
+            → AreRules asked self.now → MeetsAll asked track
             → cell_at track time ≡ from → cell_at track (time + 1) ≡ to → ⊥ }
     {
         if moment.first.is_some() && self.forbid_now(moment.first, time, from, to) {
@@ -168,7 +172,8 @@ impl Rules {
 
     #[inline(never)]
     fn forbid_now(&self, first: Option<u32>, time: u32, from: Cell, to: Cell) -> bool
-        ensures { result ≡ true → (asked : List Constraint) (track : Track) → AreRules asked self.now → MeetsAll asked track
+        ensures { result ≡ true → (asked : List Constraint) (track : Track)
+            → AreRules asked self.now → MeetsAll asked track
             → cell_at track time ≡ from → cell_at track (time + 1) ≡ to → ⊥ }
     {
         let mut next = first;
@@ -190,7 +195,8 @@ impl Rules {
     /// Whether a walk that is in the cell at the time can be in time where it has to be next.
     #[inline(always)]
     pub(crate) fn let_come(&self, moment: Moment, time: u32, cell: Cell) -> bool
-        ensures { result ≡ false → (asked : List Constraint) (m : Grid) (ends : ends_type) (track : Track) → AreRules asked self.now
+        ensures { result ≡ false → (asked : List Constraint) (m : Grid) (ends : ends_type)
+            (track : Track) → AreRules asked self.now
             → IsAgentWalk m ends track → MeetsAll asked track → cell_at track time ≡ cell → ⊥ }
     {
         match moment.due {
@@ -201,7 +207,8 @@ impl Rules {
 
     #[inline(always)]
     fn let_come_to(&self, place: u32, time: u32, cell: Cell) -> bool
-        ensures { result ≡ false → (asked : List Constraint) (m : Grid) (ends : ends_type) (track : Track) → AreRules asked self.now
+        ensures { result ≡ false → (asked : List Constraint) (m : Grid) (ends : ends_type)
+            (track : Track) → AreRules asked self.now
             → IsAgentWalk m ends track → MeetsAll asked track → cell_at track time ≡ cell → ⊥ }
     {
         match self.timed.get(place as usize) {
@@ -214,7 +221,8 @@ impl Rules {
 /// Whether a walk that is in the cell at the time can be in time where it has to be.
 #[inline(always)]
 fn lets_come(rule: Constraint, time: u32, cell: Cell) -> bool
-    ensures { result ≡ false → (m : Grid) (ends : ends_type) (track : Track) → IsAgentWalk m ends track → Meets track rule → cell_at track time ≡ cell → ⊥ }
+    ensures { result ≡ false → (m : Grid) (ends : ends_type) (track : Track)
+        → IsAgentWalk m ends track → Meets track rule → cell_at track time ≡ cell → ⊥ }
 {
     match rule {
         Constraint::There(at, there) if at >= time => steps_between(cell, there) <= at - time,

@@ -1,6 +1,7 @@
 //! A search for a walk that costs least.
 ghost use Rattle.std.specs.Prelude.{◌≡◌, ◌-◌, ◌^◌, ◌<◌, ◌≤◌, IfOk, [], MatchOption};
-ghost use Rattle.least_costs.specs.Code.Searching.{AllCost, IsPosed, IsCostSearch, IsUnwalked, HasGoneOn, IsPutOff, wanted};
+ghost use Rattle.least_costs.specs.Code.Searching.{AllCost, IsPosed, IsCostSearch, IsUnwalked};
+ghost use Rattle.least_costs.specs.Code.Searching.{HasGoneOn, IsPutOff, wanted};
 
 use crate::expand::{Query, Turn, expand};
 use crate::frontier::Frontier;
@@ -11,8 +12,8 @@ use grid::Cell;
 use least_steps::StepFault;
 use std::alloc::AllocError;
 
-/// That a walk comes to the goal at a time, and the place among the closed states of one from which shortest steps lead
-/// there.
+/// That a walk comes to the goal at a time, and the place among the closed states of one from which
+/// shortest steps lead there.
 #[derive(Clone, Copy, Debug)]
 pub(crate) struct Arrival {
     pub(crate) time: u32,
@@ -30,7 +31,8 @@ enum Advance {
     Exhausted,
 }
 
-/// The arrival of a walk of least cost, if there is one. It begins with walks that cost no more than `first`.
+/// The arrival of a walk of least cost, if there is one. It begins with walks that cost no more
+/// than `first`.
 pub(crate) fn seek(
     query: &Query<'_>,
     goal: &mut GoalSteps<'_>,
@@ -43,7 +45,8 @@ pub(crate) fn seek(
     ensures same { goal.new ≡ goal.old }
     ensures found { AllCost (wanted goal.old query.now) first → IfOk result (λ found.
         MatchOption found (IsUnwalked (wanted goal.old query.now))
-        (λ arrival. (arrival.time ≤ query.now.highest) × AllCost (wanted goal.old query.now) arrival.time)) }
+        (λ arrival. (arrival.time ≤ query.now.highest)
+        × AllCost (wanted goal.old query.now) arrival.time)) }
 {
     front.begin(query.start, known, steps_kept(query, known))?;
     for budget in first..query.highest + 1 {
@@ -57,7 +60,8 @@ pub(crate) fn seek(
     Ok(None)
 }
 
-/// Goes on from all states through which a walk may cost no more than the budget, until one comes to the goal.
+/// Goes on from all states through which a walk may cost no more than the budget, until one comes
+/// to the goal.
 fn exhaust(
     query: &Query<'_>,
     goal: &mut GoalSteps<'_>,
@@ -69,7 +73,8 @@ fn exhaust(
     requires budget { budget ≤ query.now.highest }
     ensures same { goal.new ≡ goal.old }
     ensures search { IfOk result (λ found. MatchOption found
-        (IsCostSearch (wanted goal.old query.now) budget front.new × (front.new.waiting.items ≡ [])) (λ _. Unit {0})) }
+        (IsCostSearch (wanted goal.old query.now) budget front.new × (front.new.waiting.items ≡ []))
+        (λ _. Unit {0})) }
 {
     for _ in 0..u64::MAX {
         match go_on(query, goal, front, budget)? {
@@ -81,7 +86,8 @@ fn exhaust(
     Err(StepFault::NotTight)
 }
 
-/// Goes on from the state that was put there last, if walks through it may cost no more than the budget.
+/// Goes on from the state that was put there last, if walks through it may cost no more than the
+/// budget.
 #[inline(always)]
 fn go_on(
     query: &Query<'_>,
@@ -144,7 +150,8 @@ fn put_off(
     through: u64,
     budget: u32,
 ) -> Result<(), AllocError>
-    ensures { IfOk result (λ _. IsPutOff front.old front.new state through budget query.now.highest) }
+    ensures { IfOk result
+        (λ _. IsPutOff front.old front.new state through budget query.now.highest) }
 {
     if through <= u64::from(query.highest) {
         front.put(state, through, budget)?;
@@ -152,7 +159,8 @@ fn put_off(
     Ok(())
 }
 
-/// How many steps of a walk that was known are as it is asked, and leave the time to be where it has to be.
+/// How many steps of a walk that was known are as it is asked, and leave the time to be where it
+/// has to be.
 fn steps_kept(query: &Query<'_>, known: &[Cell]) -> usize {
     let mut count = steps_allowed(known, query.asked);
     for _ in 0..count {

@@ -10,8 +10,8 @@ use walks::put_last;
 /// So many slots there are at first: a power of two.
 const FIRST_SLOTS: usize = 1024;
 
-/// Where a walk may be at a time, and the place among the closed states of the one before it; `None` where it has come
-/// as the walk that was known.
+/// Where a walk may be at a time, and the place among the closed states of the one before it;
+/// `None` where it has come as the walk that was known.
 #[derive(Clone, Copy, Debug)]
 pub(crate) struct State {
     pub(crate) cell: Cell,
@@ -41,8 +41,9 @@ enum Found {
     Free(usize),
 }
 
-/// The closed states of a search, each cell and time once. Each has a slot, at the place that its cell and time give or
-/// behind it; of the slots half are free at least. Those of searches before have another turn: none is cleared.
+/// The closed states of a search, each cell and time once. Each has a slot, at the place that its
+/// cell and time give or behind it; of the slots half are free at least. Those of searches before
+/// have another turn: none is cleared.
 #[derive(Debug, Drop)]
 pub(crate) struct ClosedStates {
     alloc: Global,
@@ -100,11 +101,13 @@ impl ClosedStates {
         &self.states
     }
 
-    /// Closes a state, unless one in its cell at its time is closed. The answer is whether none was.
+    /// Closes a state, unless one in its cell at its time is closed. The answer is whether none
+    /// was.
     #[inline(always)]
     pub(crate) fn add(&mut self, state: State) -> Result<bool, AllocError>
         ensures new { IfOk result (λ is_new. is_new ≡ true → self.new ≡ self.old ++ state ∷ []) }
-        ensures old { IfOk result (λ is_new. is_new ≡ false → (self.new ≡ self.old) × HasState self.old state.cell state.time) }
+        ensures old { IfOk result (λ is_new. is_new ≡ false → (self.new ≡ self.old)
+            × HasState self.old state.cell state.time) }
     {
         match self.look(state.cell, state.time) {
             Found::Closed => Ok(false),
@@ -177,7 +180,8 @@ impl ClosedStates {
 /// A turn past all others. At first, and once in very many, the slots are made anew.
 fn next_turn(alloc: Global, slots: &mut Vec<Slot>, last: u32) -> Result<u32, AllocError>
     requires { (k : ℕ) (s : slot_type) → slice_get slots.old.items k ≡ Some s → s.turn ≤ last }
-    ensures next { IfOk result (λ turn. (k : ℕ) (s : slot_type) → slice_get slots.new.items k ≡ Some s → s.turn < turn) }
+    ensures next { IfOk result (λ turn. (k : ℕ) (s : slot_type)
+        → slice_get slots.new.items k ≡ Some s → s.turn < turn) }
     ensures same { IfErr result (λ _. slots.new ≡ slots.old) }
 {
     if last < u32::MAX && !slots.is_empty() {
@@ -190,7 +194,8 @@ fn next_turn(alloc: Global, slots: &mut Vec<Slot>, last: u32) -> Result<u32, All
 
 /// So many slots that no search has taken.
 fn fresh_slots(alloc: Global, count: usize) -> Result<Vec<Slot>, AllocError>
-    ensures { IfOk result (λ slots. (k : ℕ) (s : slot_type) → slice_get slots.items k ≡ Some s → s.turn ≡ 0) }
+    ensures { IfOk result (λ slots. (k : ℕ) (s : slot_type) → slice_get slots.items k ≡ Some s
+        → s.turn ≡ 0) }
 {
     let slots = vec![in alloc; EMPTY; count]?;
     Ok(slots)

@@ -1,5 +1,6 @@
 //! A walk, a cell a time, and whether it is as it is asked.
-ghost use Rattle.std.specs.Prelude.{◌≡◌, ◌+◌, ◌<◌, ◌≤◌, ℕ, true, length, slice_get, Some, None, MatchOption};
+ghost use Rattle.std.specs.Prelude.{◌≡◌, ◌+◌, ◌<◌, ◌≤◌, ℕ, true};
+ghost use Rattle.std.specs.Prelude.{length, slice_get, Some, None, MatchOption};
 ghost use Rattle.grid.specs.declared.cell.Cell.{Cell};
 ghost use Rattle.model.specs.Costs.{cost};
 ghost use Rattle.model.specs.Timetable.{cell_at};
@@ -39,7 +40,8 @@ pub(crate) fn meets_all(walk: &[Cell], asked: &[Constraint]) -> bool
 /// The cell at the time; `None` where there are no cells at all.
 #[inline(always)]
 fn cell_of(walk: &[Cell], time: u32) -> Option<Cell>
-    ensures { MatchOption result (length walk.now ≡ 0) (λ cell. cell_at (along walk.now) time ≡ cell) }
+    ensures { MatchOption result (length walk.now ≡ 0)
+        (λ cell. cell_at (along walk.now) time ≡ cell) }
 {
     if walk.is_empty() {
         return None;
@@ -67,7 +69,8 @@ fn is_elsewhere(walk: &[Cell], time: u32, cell: Cell) -> bool
 }
 
 fn is_not_taken(walk: &[Cell], time: u32, from: Cell, to: Cell) -> bool
-    ensures { result ≡ true → cell_at (along walk.now) time ≡ from → cell_at (along walk.now) (time + 1) ≡ to → ⊥ }
+    ensures { result ≡ true → cell_at (along walk.now) time ≡ from
+        → cell_at (along walk.now) (time + 1) ≡ to → ⊥ }
 {
     is_elsewhere(walk, time, from) || is_elsewhere_after(walk, time, to)
 }
@@ -83,7 +86,8 @@ fn is_elsewhere_after(walk: &[Cell], time: u32, cell: Cell) -> bool
 
 /// Whether the walk isn't in the cell at the time, nor later.
 fn is_away_from(walk: &[Cell], time: u32, cell: Cell) -> bool
-    ensures { result ≡ true → (later : ℕ) → time ≤ later → cell_at (along walk.now) later ≡ cell → ⊥ }
+    ensures { result ≡ true → (later : ℕ) → time ≤ later
+        → cell_at (along walk.now) later ≡ cell → ⊥ }
 {
     for at in time as usize..walk.len() {
         if walk[at] == cell {

@@ -1,5 +1,6 @@
 //! Whether a walk leads from a start to a goal.
-ghost use Rattle.std.specs.Prelude.{◌≡◌, ◌+◌, ◌<◌, ◌↔◌, ℕ, false, true, length, slice_get, Some, IsTrue};
+ghost use Rattle.std.specs.Prelude.{◌≡◌, ◌+◌, ◌<◌, ◌↔◌, ℕ, false};
+ghost use Rattle.std.specs.Prelude.{true, length, slice_get, Some, IsTrue};
 ghost use Rattle.grid.specs.declared.cell.Cell.{Cell};
 ghost use Rattle.model.specs.Costs.{cost};
 ghost use Rattle.model.specs.Plan.{IsPassable};
@@ -40,7 +41,9 @@ pub(crate) fn is_way(
 
 /// Whether a walk may begin in the cell.
 pub(crate) fn may_start(map: &Map, start: Cell, asked: &[Constraint]) -> bool
-    ensures { result ≡ false → (goal : Cell) (track : Track) → IsAgentWalk map.now (record { start = start; goal = goal }) track → MeetsAll asked.now track → ⊥ }
+    ensures { result ≡ false → (goal : Cell) (track : Track)
+        → IsAgentWalk map.now (record { start = start; goal = goal }) track
+        → MeetsAll asked.now track → ⊥ }
 {
     if !is_passable(map, start) {
         return false;
@@ -53,7 +56,8 @@ pub(crate) fn may_start(map: &Map, start: Cell, asked: &[Constraint]) -> bool
 
 /// Whether each cell may follow the one before it.
 fn are_steps(legal: &LegalSteps<'_>, walk: &[Cell]) -> bool
-    ensures { result ≡ true → (k : ℕ) (u v : Cell) → slice_get walk.now k ≡ Some u → slice_get walk.now (k + 1) ≡ Some v → MayFollow legal.now u v }
+    ensures { result ≡ true → (k : ℕ) (u v : Cell) → slice_get walk.now k ≡ Some u
+        → slice_get walk.now (k + 1) ≡ Some v → MayFollow legal.now u v }
 {
     for at in 1..walk.len() {
         let from = walk[at - 1];

@@ -3,7 +3,8 @@ ghost use Rattle.std.specs.Prelude.{◌≡◌, ◌+◌, IfOk, IsTrue, Some};
 ghost use Rattle.walks.specs.Walk.{IsOn};
 ghost use Rattle.least_steps.specs.Code.Estimate.{least_number};
 ghost use Rattle.least_steps.specs.Code.Reaching.{IsFound, IsLeastNumber};
-ghost use Rattle.least_steps.specs.Code.Waiting.{AreBehind, AreSound, IsBehind, IsFar, IsInBucket, IsPlace, IsSearch, IsSoundList, IsOpenPlace};
+ghost use Rattle.least_steps.specs.Code.Waiting.{AreBehind, AreSound, IsBehind, IsFar, IsInBucket};
+ghost use Rattle.least_steps.specs.Code.Waiting.{IsPlace, IsSearch, IsSoundList, IsOpenPlace};
 
 use crate::distance::distance;
 use crate::open_list::{Open, OpenList};
@@ -23,7 +24,8 @@ pub(crate) fn answer(
     requires on { IsOn reached.now.map start }
     requires goal { IsOn reached.now.map goal }
     requires search { IsSearch reached.now waiting.now goal }
-    ensures { IfOk result (IsLeastNumber reached.now.map reached.now.aslant reached.now.start goal) }
+    ensures { IfOk result
+        (IsLeastNumber reached.now.map reached.now.aslant reached.now.start goal) }
 {
     let found = reached.number(goal);
     if is_shortest(reached, start, goal, found) {
@@ -48,7 +50,8 @@ pub(crate) fn is_shortest(reached: &Reached, start: Cell, goal: Cell, found: Opt
 fn are_all_behind(reached: &Reached, waiting: &OpenList, goal: Cell, found: Option<u64>) -> bool
     requires sound { IsSoundList reached.now waiting.now }
     requires found { IsFound reached.now.map reached.now.base reached.now.marks goal found }
-    ensures { IsTrue result → (p : Open) → IsOpenPlace waiting.entry.now p → IsBehind reached.now goal p }
+    ensures { IsTrue result → (p : Open) → IsOpenPlace waiting.entry.now p
+        → IsBehind reached.now goal p }
 {
     if !are_behind(reached, &waiting.now, goal, found) {
         return false;

@@ -11,7 +11,8 @@ use crate::step_fault::StepFault;
 use crate::steps::{cell_after, first_of, onward, weight_of, without};
 use walks::STRAIGHT;
 
-/// No least walk on a map has a number as great: for each diagonal step it leaves out two cells of its own.
+/// No least walk on a map has a number as great: for each diagonal step it leaves out two cells of
+/// its own.
 const MOST_STEPPED: u64 = 4_194_304 * STRAIGHT;
 
 /// Takes the legal steps from a place, but for those in whose place the cell before has others.
@@ -40,7 +41,8 @@ pub(crate) fn expand(
     Ok(())
 }
 
-/// Takes a legal step from a place: keeps that a walk leads on by it, unless one is known that is no longer.
+/// Takes a legal step from a place: keeps that a walk leads on by it, unless one is known that is
+/// no longer.
 #[inline(always)]
 fn go(
     reached: &mut Reached,
@@ -56,7 +58,8 @@ fn go(
     requires legal { IsLegalStep reached.old.map from.cell step }
     requires kind { reached.old.aslant ≡ false → step < 4 }
     ensures goes { Goes reached.old waiting.old reached.new waiting.new }
-    ensures has { IfOk result (λ _. Has reached.new (cell_behind step from.cell) (from.number + weight step)) }
+    ensures has { IfOk result
+        (λ _. Has reached.new (cell_behind step from.cell) (from.number + weight step)) }
 {
     let number = from.number + weight_of(step);
     let cell = cell_after(reached.map(), from.cell, step);

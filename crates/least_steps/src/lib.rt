@@ -1,5 +1,5 @@
-//! The least walks between two cells of a map, of straight steps alone or with diagonal ones, proved to be the least by what
-//! the search itself leaves.
+//! The least walks between two cells of a map, of straight steps alone or with diagonal ones,
+//! proved to be the least by what the search itself leaves.
 #![tactic(auto)]
 
 mod answer;

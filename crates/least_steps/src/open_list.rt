@@ -11,7 +11,8 @@ use walks::{STRAIGHT, put_last};
 /// A bucket is as wide as this number, which is less than a step's.
 const BUCKET_WIDTH: u64 = 4_194_304;
 
-/// More buckets than a step leads on: it adds two diagonal steps at most to the least number of a walk.
+/// More buckets than a step leads on: it adds two diagonal steps at most to the least number of a
+/// walk.
 const BUCKET_COUNT: usize = 8;
 
 /// A cell, the number that it had when it was put here, and the step that led there.
@@ -25,11 +26,12 @@ pub(crate) struct Open {
 /// Whither a search goes on.
 #[derive(Clone, Copy, Debug, PartialEq, Eq)]
 pub(crate) enum Course {
-    /// Toward the goal: the places are in buckets by the least number that a walk through them can have, and those of the bucket at hand are
-    /// taken from the end, so that one walk is followed as long as that helps.
+    /// Toward the goal: the places are in buckets by the least number that a walk through them can
+    /// have, and those of the bucket at hand are taken from the end, so that one walk is followed
+    /// as long as that helps.
     Toward,
-    /// In all directions: the places are in waves by their numbers, each as wide as a straight step. It leads from one into the next, and a
-    /// diagonal one into that or the one after it.
+    /// In all directions: the places are in waves by their numbers, each as wide as a straight
+    /// step. It leads from one into the next, and a diagonal one into that or the one after it.
     Around,
 }
 
@@ -119,15 +121,16 @@ impl OpenList {
     /// The place of the bucket at hand that came last.
     #[inline(always)]
     pub(crate) fn pop(&mut self) -> Option<Open>
-        ensures keeps { (p : Open) → IsOpenPlace self.old p → IsOpenPlace self.new p ⊎ (result ≡ Some p) }
+        ensures keeps { (p : Open) → IsOpenPlace self.old p → IsOpenPlace self.new p
+            ⊎ (result ≡ Some p) }
         ensures only { (p : Open) → IsOpenPlace self.new p → IsOpenPlace self.old p }
         ensures some { IfSome result (IsOpenPlace self.old) }
     {
         self.now.pop()
     }
 
-    /// Makes the next bucket the one at hand, once this one is empty. The answer is whether a walk through a place that waits may have a
-    /// lesser number than the one that was found.
+    /// Makes the next bucket the one at hand, once this one is empty. The answer is whether a walk
+    /// through a place that waits may have a lesser number than the one that was found.
     pub(crate) fn next_bucket(&mut self, found: Option<u64>) -> bool
         ensures { IsSame self.old self.new }
     {
@@ -141,8 +144,8 @@ impl OpenList {
         !is_past && (!self.now.is_empty() || self.buckets.iter().any(|bucket| !bucket.is_empty()))
     }
 
-    /// Whether walks through the bucket at hand are more than twice as long as the least that is to be thought of. Then a search in all
-    /// directions is quicker.
+    /// Whether walks through the bucket at hand are more than twice as long as the least that is to
+    /// be thought of. Then a search in all directions is quicker.
     pub(crate) fn is_astray(&self, start: Cell) -> bool {
         let least = STRAIGHT + distance(self.aslant, self.goal, start);
         self.at_hand.saturating_mul(BUCKET_WIDTH) > 2 * least
@@ -150,7 +153,8 @@ impl OpenList {
 
     /// Makes the next wave the one at hand.
     pub(crate) fn next_wave(&mut self, wave: &mut Vec<Open>)
-        ensures keeps { (p : Open) → IsOpenPlace self.old p → IsOpenPlace self.new p ⊎ IsPlaceAmong wave.new.items p }
+        ensures keeps { (p : Open) → IsOpenPlace self.old p → IsOpenPlace self.new p
+            ⊎ IsPlaceAmong wave.new.items p }
         ensures only { (p : Open) → IsOpenPlace self.new p → IsOpenPlace self.old p }
         ensures wave { (p : Open) → IsPlaceAmong wave.new.items p → IsOpenPlace self.old p }
     {
@@ -160,7 +164,8 @@ impl OpenList {
         self.later_from = self.later_from.saturating_add(STRAIGHT);
     }
 
-    /// Whether a walk through a place that waits may have a lesser number than the one that was found.
+    /// Whether a walk through a place that waits may have a lesser number than the one that was
+    /// found.
     pub(crate) fn has_waves(&self, found: Option<u64>) -> bool {
         let is_past = match found {
             Some(number) => number.saturating_add(STRAIGHT) <= self.later_from,

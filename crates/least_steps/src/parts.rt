@@ -5,7 +5,8 @@ use crate::step_fault::StepFault;
 use scenario::Length;
 use walks::{DIAGONAL, STRAIGHT};
 
-/// Times `DIAGONAL` this is 1 above a multiple of `STRAIGHT`, so it reads the diagonal steps back from a number.
+/// Times `DIAGONAL` this is 1 above a multiple of `STRAIGHT`, so it reads the diagonal steps back
+/// from a number.
 const DIAGONAL_INVERSE: u64 = 3_880_899;
 
 /// No length has a number as great. Below it no two lengths have one number.

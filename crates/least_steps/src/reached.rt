@@ -19,8 +19,9 @@ const NUMBER_LIMIT: u64 = 1 << 45;
 /// The base of marks when none was made yet.
 const GREATEST_BASE: u64 = 1 << 63;
 
-/// The cells that a search from a start has reached, with diagonal steps or without. The mark of a cell is the number of a walk to it, and a base
-/// that is so much less for each search that marks of those before it compare as if no walk led there: nothing of the map's size is cleared.
+/// The cells that a search from a start has reached, with diagonal steps or without. The mark of a
+/// cell is the number of a walk to it, and a base that is so much less for each search that marks
+/// of those before it compare as if no walk led there: nothing of the map's size is cleared.
 /// `legal` has the legal steps from each cell, once they were asked for.
 #[derive(Debug, Drop)]
 pub(crate) struct Reached<'a> {
@@ -37,7 +38,13 @@ impl<'a> Model for Reached<'a> {
 
     ghost Value = { Exploration };
 
-    ghost view = { λ r. record { map = r.map.now; aslant = r.aslant; start = r.start; base = r.base; marks = r.marks.items } };
+    ghost view = { λ r. record {
+      map = r.map.now;
+      aslant = r.aslant;
+      start = r.start;
+      base = r.base;
+      marks = r.marks.items;
+    } };
 
     ghost invariant = { λ r. IsExploration r.map.now r.aslant r.start r.base r.marks.items r.legal.items };
 }
@@ -79,7 +86,8 @@ impl<'a> Reached<'a> {
         ensures map { self.new.map ≡ self.old.map }
         ensures start { self.new.start ≡ start }
         ensures aslant { self.new.aslant ≡ aslant }
-        ensures above { (c : Cell) (n : ℕ) → IsOn self.new.map c → n < 2 ^ 45 → IsAbove self.new.map self.new.base self.new.marks c n }
+        ensures above { (c : Cell) (n : ℕ) → IsOn self.new.map c → n < 2 ^ 45
+            → IsAbove self.new.map self.new.base self.new.marks c n }
     {
         self.make_room();
         self.base -= NUMBER_LIMIT;
@@ -104,7 +112,8 @@ impl<'a> Reached<'a> {
     pub(crate) fn number(&self, cell: Cell) -> Option<u64>
         requires { IsOn self.now.map cell }
         ensures found { IsFound self.now.map self.now.base self.now.marks cell result }
-        ensures walks { (c : Cell) (n : ℕ) → IsOn self.now.map c → IsNumberOf self.now c n → Comes self.now c n }
+        ensures walks { (c : Cell) (n : ℕ) → IsOn self.now.map c → IsNumberOf self.now c n
+            → Comes self.now c n }
     {
         let number = self.marks[number_of(self.map, cell)] - self.base;
         if number < NUMBER_LIMIT {
@@ -124,13 +133,15 @@ impl<'a> Reached<'a> {
         self.marks[number_of(self.map, place.cell)] - self.base == place.number
     }
 
-    /// Whether no walk to the cell, whose mark is at this index, is known that has at most this number.
+    /// Whether no walk to the cell, whose mark is at this index, is known that has at most this
+    /// number.
     #[inline(always)]
     pub(crate) fn is_above(&self, at: usize, cell: Cell, number: u64) -> bool
         requires at { at ≡ number_in self.now.map cell }
         requires on { IsOn self.now.map cell }
         requires limit { number < 2 ^ 45 }
-        ensures yes { IsTrue result → IsAbove self.now.map self.now.base self.now.marks cell number }
+        ensures yes { IsTrue result
+            → IsAbove self.now.map self.now.base self.now.marks cell number }
         ensures no { result ≡ false → Has self.now cell number }
     {
         self.marks[at] > self.base + number

@@ -72,7 +72,8 @@ impl StepSearch<'_> {
         }
     }
 
-    /// The shortest length of a walk of straight and diagonal steps from one cell to another; `None` where none leads there, and off the map.
+    /// The shortest length of a walk of straight and diagonal steps from one cell to another;
+    /// `None` where none leads there, and off the map.
     pub fn shortest(&mut self, start: Cell, goal: Cell) -> Result<Option<Length>, StepFault>
         ensures map { self.new ≡ self.old }
         ensures answer { IfOk result (IsLeast self.old start goal) }
@@ -137,7 +138,8 @@ fn begin(
     Ok(())
 }
 
-/// Goes toward the goal until it is reached by the least number, or all is. The answer is whether that was worth it.
+/// Goes toward the goal until it is reached by the least number, or all is. The answer is whether
+/// that was worth it.
 #[inline(never)]
 fn approach(
     reached: &mut Reached,

@@ -3,7 +3,10 @@ ghost use Rattle.std.specs.Prelude.{◌≡◌, ◌^◌, ◌<◌, ◌↔◌, IsTr
 ghost use Rattle.grid.specs.Map.{IsDiagonalStep, IsMap};
 ghost use Rattle.walks.specs.Walk.{IsOn};
 ghost use Rattle.std.specs.Int.Bits.{bit_and, bit_xor};
-ghost use Rattle.least_steps.specs.Code.Steps.{AreLegal, IsAlongColumn, IsAlongRow, HasStep, IsLegalStep, cell_behind, lead, not_back, onward_of, set_with, side_of, turn_behind, weight};
+ghost use Rattle.least_steps.specs.Code.Steps.{AreLegal, IsAlongColumn, IsAlongRow, HasStep};
+ghost use Rattle.least_steps.specs.Code.Steps.{IsLegalStep, cell_behind, lead, not_back};
+ghost use Rattle.least_steps.specs.Code.Steps.{onward_of, set_with, side_of, turn_behind};
+ghost use Rattle.least_steps.specs.Code.Steps.{weight};
 
 use crate::joining::{are_joined, is_step};
 use grid::{Cell, Map};
@@ -38,7 +41,8 @@ struct Lead {
     row: u16,
 }
 
-/// The steps that go on behind one: those that always do, and to each side those that do so only where a third one is not legal.
+/// The steps that go on behind one: those that always do, and to each side those that do so only
+/// where a third one is not legal.
 #[derive(Clone, Copy)]
 struct Turn {
     always: u8,
@@ -128,7 +132,8 @@ pub(crate) fn legal_steps(map: &Map, cell: Cell) -> u8
     diagonal * 16 + straight
 }
 
-/// Whether a legal diagonal step leads from the one cell to the other, by whether straight ones lead into the same row, and into the same column.
+/// Whether a legal diagonal step leads from the one cell to the other, by whether straight ones
+/// lead into the same row, and into the same column.
 fn leads_aslant(map: &Map, from: Cell, to: Cell, row: bool, column: bool) -> bool
     requires on { IsOn map.now from }
     requires row { IsAlongRow map.now from to row }
@@ -144,7 +149,8 @@ fn set_of(first: bool, second: bool, third: bool, fourth: bool) -> u8
     u8::from(first) + 2 * u8::from(second) + 4 * u8::from(third) + 8 * u8::from(fourth)
 }
 
-/// Of the legal steps from a cell those that are to be taken where this step led there: the cell before leads as soon to where the others do.
+/// Of the legal steps from a cell those that are to be taken where this step led there: the cell
+/// before leads as soon to where the others do.
 #[inline(always)]
 pub(crate) fn onward(by: u32, legal: u8, aslant: bool) -> u8
     ensures aslant { aslant ≡ true → result ≡ onward_of by legal }

@@ -1,4 +1,5 @@
-//! The program `mapf`: gives the words of the command line to `mapf_cmd`, with the files and streams of the system.
+//! The program `mapf`: gives the words of the command line to `mapf_cmd`, with the files and
+//! streams of the system.
 #![tactic(auto)]
 
 use mapf_cmd::{LineFault, Screen, Style, refuse, run};
@@ -30,7 +31,8 @@ fn main(rt: HostRuntime) -> ExitCode {
     ExitCode::from(status)
 }
 
-/// The words of the command line, the program's name first. Words that are no text are a bad command line.
+/// The words of the command line, the program's name first. Words that are no text are a bad
+/// command line.
 fn words(rt: &HostRuntime) -> Result<Vec<String>, LineFault> {
     match env::args(rt) {
         Ok(words) => Ok(words.collect(rt.alloc())?),

@@ -1,5 +1,6 @@
 -- What the program does with the words of its command line.
-use Rattle.std.specs.Prelude.{◌≡◌, ℕ, ◌⊎◌, ◌||◌, Bool, true, false, List, [], ◌∷◌, Option, None, Some, codes, string_bytes}
+use Rattle.std.specs.Prelude.{◌≡◌, ℕ, ◌⊎◌, ◌||◌, Bool, true, false, List}
+use Rattle.std.specs.Prelude.{[], ◌∷◌, Option, None, Some, codes, string_bytes}
 use Rattle.text_io.specs.declared.failure.Failure.TheVariants as failure
 use Rattle.text_io.specs.FaultWords.{Words, failed}
 use Rattle.text_io.specs.declared.counted.Counted.{Counted}
@@ -16,7 +17,8 @@ use Rattle.command_line.specs.declared.lines.Line.TheVariants as line
 use Rattle.command_line.specs.declared.lines.PlanQuery.{PlanQuery}
 use Rattle.command_line.specs.declared.lines.PlanQuery.TheVariants as query
 use Rattle.command_line.specs.declared.command_line.LineFault.{LineFault}
-use Rattle.command_line.specs.declared.command_line.LineFault.TheVariants.{Help, BadCommand, OutOfMemory}
+use Rattle.command_line.specs.declared.command_line.LineFault.TheVariants.{Help, BadCommand}
+use Rattle.command_line.specs.declared.command_line.LineFault.TheVariants.{OutOfMemory}
 use Rattle.command_line.specs.Words.{IsLineOf, IsFaultOf}
 use Rattle.ending.specs.declared.status.Status.TheVariants as status
 use Rattle.ending.specs.Ending.{End, EndsAndTells, answered_with, gave_up, Concludes}
@@ -44,15 +46,18 @@ use Rattle.fleet_commands.specs.HandoverCommand.{AnswersHandover}
 use Rattle.fleet_commands.specs.StatusCommand.{AnswersStatus}
 use Rattle.explain.specs.Explaining.{AddsMore}
 
--- ---- files, each as it was opened and as it was left: which file was opened for which word no clause can say
+-- ---- files, each as it was opened and as it was left: which file was opened for which word no
+-- clause can say
 
 abbrev pub OnFile : {F : Type 0} → (Counted F → Counted F → Type 0) → Type 0
 OnFile {F} Does = (a b : Counted F) × Does a b
 
-abbrev pub OnTwoFiles : {F : Type 0} → (Counted F → Counted F → Counted F → Counted F → Type 0) → Type 0
+abbrev pub OnTwoFiles
+    : {F : Type 0} → (Counted F → Counted F → Counted F → Counted F → Type 0) → Type 0
 OnTwoFiles {F} Does = (a b c d : Counted F) × Does a b c d
 
-abbrev pub OnThreeFiles : {F : Type 0} → (Counted F → Counted F → Counted F → Counted F → Counted F → Counted F → Type 0) → Type 0
+abbrev pub OnThreeFiles : {F : Type 0}
+    → (Counted F → Counted F → Counted F → Counted F → Counted F → Counted F → Type 0) → Type 0
 OnThreeFiles {F} Does = (a b c d e f : Counted F) × Does a b c d e f
 
 -- the name that stands for the standard input
@@ -60,9 +65,11 @@ abbrev pub input_name : Text
 input_name = codes "-"
 
 -- the input was read where the one file of a command is `-`, and else the file, and no input
-abbrev pub OnFileOrInput : {F I : Type 0} → Text → (Counted I → Counted I → Type 0) → (Counted F → Counted F → Type 0) → Counted I → Counted I → Type 0
+abbrev pub OnFileOrInput : {F I : Type 0} → Text → (Counted I → Counted I → Type 0)
+    → (Counted F → Counted F → Type 0) → Counted I → Counted I → Type 0
 OnFileOrInput file DoesInput DoesFile old_in new_in =
-    ((file ≡ input_name) × DoesInput old_in new_in) ⊎ ((file ≡ input_name → ⊥) × OnFile DoesFile × (new_in ≡ old_in))
+    ((file ≡ input_name) × DoesInput old_in new_in)
+    ⊎ ((file ≡ input_name → ⊥) × OnFile DoesFile × (new_in ≡ old_in))
 
 -- ---- commands
 
@@ -72,80 +79,117 @@ rows_asked l = record { from = l.from; to = l.to; straight = l.straight; progres
 
 -- what is asked of a plan
 abbrev pub terms_of : CheckLine → CheckTerms
-terms_of l = record { due = l.agents; all = l.all; bound = l.bound; no_rotation = l.no_rotation; json = l.json }
+terms_of l =
+    record {
+      due = l.agents;
+      all = l.all;
+      bound = l.bound;
+      no_rotation = l.no_rotation;
+      json = l.json;
+    }
 
 -- `check` read a map and a plan, and a scenario where one is named
 abbrev pub CheckOn
-    : {F W S : Type 0} → (F → Option (List ℕ)) → (W → Option (List ℕ)) → Option S → CheckTerms → Counted W → Counted W → End → Type 0
+    : {F W S : Type 0} → (F → Option (List ℕ)) → (W → Option (List ℕ)) → Option S → CheckTerms
+    → Counted W → Counted W → End → Type 0
 CheckOn remaining contents None terms old new end =
     OnTwoFiles (λ a b c d. AnswersCheck remaining remaining contents terms a b c d old new end)
 CheckOn remaining contents (Some scen) terms old new end =
-    OnThreeFiles (λ a b c d e f. AnswersCheckFit remaining remaining remaining contents terms a b c d e f old new end)
+    OnThreeFiles (λ a b c d e f. AnswersCheckFit remaining remaining remaining contents terms a b c
+    d e f old new end)
 
 -- what was asked of a plan on a map was answered, by what was read of both
 abbrev pub AnswersQuery
-    : {M P W : Type 0} → (M → Option (List ℕ)) → (P → Option (List ℕ)) → (W → Option (List ℕ)) → PlanQuery
+    : {M P W : Type 0} → (M → Option (List ℕ)) → (P → Option (List ℕ))
+    → (W → Option (List ℕ)) → PlanQuery
     → Counted M → Counted M → Counted P → Counted P → Counted W → Counted W → End → Type 0
-AnswersQuery map_left plan_left contents (query.Deps None) a b c d old new end = AnswersDeps map_left plan_left contents a b c d old new end
+AnswersQuery map_left plan_left contents (query.Deps None) a b c d old new end =
+    AnswersDeps map_left plan_left contents a b c d old new end
 AnswersQuery map_left plan_left contents (query.Deps (Some cell)) a b c d old new end =
     AnswersDepsCell map_left plan_left contents cell a b c d old new end
 AnswersQuery map_left plan_left contents (query.Path agent) a b c d old new end =
     AnswersPath map_left plan_left contents agent a b c d old new end
 AnswersQuery map_left plan_left contents (query.Bound agents json) a b c d old new end =
     AnswersBound map_left plan_left contents agents json a b c d old new end
-AnswersQuery map_left plan_left contents (query.Cut time) a b c d old new end = AnswersCut map_left plan_left contents time a b c d old new end
+AnswersQuery map_left plan_left contents (query.Cut time) a b c d old new end =
+    AnswersCut map_left plan_left contents time a b c d old new end
 
 -- and what was asked of its agents' tapes, by what was read of these too
 abbrev pub AnswersFleet
-    : {M P F W : Type 0} → (M → Option (List ℕ)) → (P → Option (List ℕ)) → (F → Option (List ℕ)) → (W → Option (List ℕ)) → FleetQuery
+    : {M P F W : Type 0} → (M → Option (List ℕ)) → (P → Option (List ℕ)) → (F → Option (List ℕ))
+    → (W → Option (List ℕ)) → FleetQuery
     → Counted M → Counted M → Counted P → Counted P → Counted W → Counted W → End → Type 0
 AnswersFleet map_left plan_left file_left contents (fleet_query.Status json) a b c d old new end =
     AnswersStatus map_left plan_left file_left contents json a b c d old new end
 AnswersFleet map_left plan_left file_left contents fleet_query.Handover a b c d old new end =
     AnswersHandover map_left plan_left file_left contents a b c d old new end
-AnswersFleet map_left plan_left file_left contents (fleet_query.Anew number without) a b c d old new end =
+AnswersFleet map_left plan_left file_left contents (fleet_query.Anew number without) a b c d
+    old new end =
     AnswersAnew map_left plan_left file_left contents without number a b c d old new end
 
--- The command ended by what it read of its files. Only an agent reads the input, and a command whose one file is it.
+-- The command ended by what it read of its files. Only an agent reads the input, and a command
+-- whose one file is it.
 abbrev pub PerformsOn
-    : {F I W : Type 0} → (F → Option (List ℕ)) → (I → Option (List ℕ)) → (W → Option (List ℕ)) → Line
+    : {F I W : Type 0} → (F → Option (List ℕ)) → (I → Option (List ℕ))
+    → (W → Option (List ℕ)) → Line
     → Counted I → Counted I → Counted W → Counted W → End → Type 0
 PerformsOn remaining input_left contents (line.Map file) old_in new_in old new end =
-    OnFileOrInput (string_bytes file) (λ a b. RewritesMap input_left contents a b old new end) (λ a b. RewritesMap remaining contents a b old new end)
+    OnFileOrInput (string_bytes file) (λ a b. RewritesMap input_left contents a b old new end)
+    (λ a b. RewritesMap remaining contents a b old new end)
     old_in new_in
 PerformsOn remaining input_left contents (line.Scen file) old_in new_in old new end =
-    OnFileOrInput (string_bytes file) (λ a b. RewritesScen input_left contents a b old new end) (λ a b. RewritesScen remaining contents a b old new end)
+    OnFileOrInput (string_bytes file) (λ a b. RewritesScen input_left contents a b old new end)
+    (λ a b. RewritesScen remaining contents a b old new end)
     old_in new_in
-PerformsOn remaining input_left contents (line.Row map_file scen_file row) old_in new_in old new end =
-    OnTwoFiles (λ a b c d. AnswersRow remaining remaining contents a b c d row old new end) × (new_in ≡ old_in)
+PerformsOn remaining input_left contents (line.Row map_file scen_file row) old_in new_in
+    old new end =
+    OnTwoFiles (λ a b c d. AnswersRow remaining remaining contents a b c d row old new end)
+    × (new_in ≡ old_in)
 PerformsOn remaining input_left contents (line.Rows l) old_in new_in old new end =
-    OnTwoFiles (λ a b c d. AnswersRows remaining remaining contents (rows_asked l) a b c d old new end) × (new_in ≡ old_in)
+    OnTwoFiles (λ a b c d. AnswersRows remaining remaining contents (rows_asked l) a b c d old new
+    end) × (new_in ≡ old_in)
 PerformsOn remaining input_left contents (line.Check l) old_in new_in old new end =
     CheckOn remaining contents l.scen (terms_of l) old new end × (new_in ≡ old_in)
-PerformsOn remaining input_left contents (line.Query map_file plan_file query) old_in new_in old new end =
-    OnTwoFiles (λ a b c d. AnswersQuery remaining remaining contents query a b c d old new end) × (new_in ≡ old_in)
-PerformsOn remaining input_left contents (line.Continues map_file old_file new_file) old_in new_in old new end =
-    OnThreeFiles (λ a b c d e f. AnswersContinues remaining remaining remaining contents a b c d e f old new end) × (new_in ≡ old_in)
+PerformsOn remaining input_left contents (line.Query map_file plan_file query) old_in new_in
+    old new end =
+    OnTwoFiles (λ a b c d. AnswersQuery remaining remaining contents query a b c d old new end)
+    × (new_in ≡ old_in)
+PerformsOn remaining input_left contents (line.Continues map_file old_file new_file) old_in new_in
+    old new end =
+    OnThreeFiles (λ a b c d e f. AnswersContinues remaining remaining remaining contents a b c d e f
+    old new end) × (new_in ≡ old_in)
 PerformsOn remaining input_left contents (line.Optimal l) old_in new_in old new end =
-    OnThreeFiles (λ a b c d e f. AnswersOptimal remaining remaining remaining contents l.json a b c d e f old new end) × (new_in ≡ old_in)
-PerformsOn remaining input_left contents (line.Run map_file plan_file events_file complete) old_in new_in old new end =
-    OnThreeFiles (λ a b c d e f. AnswersRun remaining remaining remaining contents a b c d e f complete old new end) × (new_in ≡ old_in)
-PerformsOn remaining input_left contents (line.Agent map_file plan_file id tape_file claim) old_in new_in old new end =
-    OnTwoFiles (λ a b c d. AnswersAgent remaining remaining remaining input_left contents claim id a b c d old_in new_in old new end)
-PerformsOn remaining input_left contents (line.Tape map_file plan_file id tape_file) old_in new_in old new end =
-    (OnThreeFiles (λ a b c d e f. AnswersTape remaining remaining remaining contents id a b c d e f old new end) ⊎ (EndsWithoutTape end × (new ≡ old)))
+    OnThreeFiles (λ a b c d e f. AnswersOptimal remaining remaining remaining contents l.json a b c
+    d e f old new end) × (new_in ≡ old_in)
+PerformsOn remaining input_left contents (line.Run map_file plan_file events_file complete) old_in
+    new_in old new end =
+    OnThreeFiles (λ a b c d e f. AnswersRun remaining remaining remaining contents a b c d e f
+    complete old new end) × (new_in ≡ old_in)
+PerformsOn remaining input_left contents (line.Agent map_file plan_file id tape_file claim) old_in
+    new_in old new end =
+    OnTwoFiles (λ a b c d. AnswersAgent remaining remaining remaining input_left contents claim id a
+    b c d old_in new_in old new end)
+PerformsOn remaining input_left contents (line.Tape map_file plan_file id tape_file) old_in new_in
+    old new end =
+    (OnThreeFiles (λ a b c d e f. AnswersTape remaining remaining remaining contents id a b c d e f
+    old new end) ⊎ (EndsWithoutTape end × (new ≡ old)))
     × (new_in ≡ old_in)
 PerformsOn remaining input_left contents (line.Fleet l) old_in new_in old new end =
-    OnTwoFiles (λ a b c d. AnswersFleet remaining remaining remaining contents l.query a b c d old new end) × (new_in ≡ old_in)
+    OnTwoFiles (λ a b c d. AnswersFleet remaining remaining remaining contents l.query a b c d old
+    new end) × (new_in ≡ old_in)
 
--- Where the error output is a terminal, or that is asked for, `rows` says there how far it has come. No other command writes there before it ends.
-abbrev pub ShowsOn : {E : Type 0} → (E → Option (List ℕ)) → (is_watched : Bool) → Line → Counted E → Counted E → Type 0
-ShowsOn told is_watched (line.Rows l) old new = ShowsProgress told (l.progress || is_watched) old new
+-- Where the error output is a terminal, or that is asked for, `rows` says there how far it has
+-- come. No other command writes there before it ends.
+abbrev pub ShowsOn : {E : Type 0} → (E → Option (List ℕ)) → (is_watched : Bool) → Line → Counted E
+    → Counted E → Type 0
+ShowsOn told is_watched (line.Rows l) old new =
+    ShowsProgress told (l.progress || is_watched) old new
 ShowsOn told is_watched line old new = new ≡ old
 
 -- the command was performed, or a file of it could not be opened, and nothing was read or written
 abbrev pub Performs
-    : {F I W : Type 0} → (F → Option (List ℕ)) → (I → Option (List ℕ)) → (W → Option (List ℕ)) → Line
+    : {F I W : Type 0} → (F → Option (List ℕ)) → (I → Option (List ℕ))
+    → (W → Option (List ℕ)) → Line
     → Counted I → Counted I → Counted W → Counted W → End → Type 0
 Performs remaining input_left contents line old_in new_in old new end =
     PerformsOn remaining input_left contents line old_in new_in old new end
@@ -157,15 +201,18 @@ explained_of true end = end.explained
 explained_of false end = None
 
 -- an explanation goes behind what the error output has; where there is none, that is left alone
-abbrev pub Explains : {E : Type 0} → (E → Option (List ℕ)) → Option Words → Counted E → Counted E → Type 0
+abbrev pub Explains
+    : {E : Type 0} → (E → Option (List ℕ)) → Option Words → Counted E → Counted E → Type 0
 Explains told None old new = new ≡ old
 Explains told (Some words) old new = AddsMore (told (counted_inner old)) (told (counted_inner new))
 
--- The command was performed, with its progress on the error output, what is told of its ending left that so, and an explanation is behind it, where one
--- is asked for.
+-- The command was performed, with its progress on the error output, what is told of its ending left
+-- that so, and an explanation is behind it, where one is asked for.
 pub record AnswersLine
-    {F I W E : Type 0} (remaining : F → Option (List ℕ)) (input_left : I → Option (List ℕ)) (contents : W → Option (List ℕ))
-    (told : E → Option (List ℕ)) (is_watched : Bool) (asked : Asked) (old_in new_in : Counted I) (old new : Counted W) (old_err new_err : Counted E)
+    {F I W E : Type 0} (remaining : F → Option (List ℕ)) (input_left : I → Option (List ℕ))
+    (contents : W → Option (List ℕ))
+    (told : E → Option (List ℕ)) (is_watched : Bool) (asked : Asked) (old_in new_in : Counted I)
+    (old new : Counted W) (old_err new_err : Counted E)
     (code : ℕ) : Type 0 where
   pub end : End
   pub performs : Performs remaining input_left contents asked.line old_in new_in old new end
@@ -177,36 +224,50 @@ pub record AnswersLine
 
 -- ---- words that are no command
 
--- How the program ends that has no command: it shows its help on the output; or it writes to the error output what is wrong with its
--- words, or a beginning of that where the error output failed.
+-- How the program ends that has no command: it shows its help on the output; or it writes to the
+-- error output what is wrong with its words, or a beginning of that where the error output failed.
 abbrev pub EndsRefused
-    : {W E : Type 0} → (W → Option (List ℕ)) → (E → Option (List ℕ)) → LineFault → Counted W → Counted W → Counted E → Counted E → ℕ → Type 0
+    : {W E : Type 0} → (W → Option (List ℕ)) → (E → Option (List ℕ)) → LineFault → Counted W
+    → Counted W → Counted E → Counted E → ℕ → Type 0
 EndsRefused contents told (Help text) old new old_err new_err code =
-    EndsAndTells (λ end. EndsWriting contents old new (answered_with status.Done) end (string_bytes text)) told old_err new_err code
+    EndsAndTells (λ end. EndsWriting contents old new (answered_with status.Done) end
+    (string_bytes text)) told old_err new_err code
 EndsRefused contents told (BadCommand text) old new old_err new_err code =
     (code ≡ code_of status.BadCommand) × (new ≡ old)
-    × ((ok : Bool) × WritesText ok (told (counted_inner old_err)) (told (counted_inner new_err)) (failures_of old_err) (failures_of new_err) (string_bytes text))
+    × ((ok : Bool) × WritesText ok (told (counted_inner old_err)) (told (counted_inner new_err))
+    (failures_of old_err) (failures_of new_err) (string_bytes text))
 EndsRefused contents told OutOfMemory old new old_err new_err code =
-    EndsAndTells (λ end. (end ≡ gave_up (failed failure.OutOfMemory)) × (new ≡ old)) told old_err new_err code
+    EndsAndTells (λ end. (end ≡ gave_up (failed failure.OutOfMemory)) × (new ≡ old)) told
+    old_err new_err code
 
 -- the words, which are a bad command line to clap, ask for help on something that is no command
 abbrev pub AsksForFaultHelp : List Text → LineFault → Type 0
-AsksForFaultHelp words (BadCommand said) = (name : Text) × (topic : Text) × (words ≡ name ∷ codes "help" ∷ topic ∷ [])
+AsksForFaultHelp words (BadCommand said) =
+    (name : Text) × (topic : Text) × (words ≡ name ∷ codes "help" ∷ topic ∷ [])
 AsksForFaultHelp words _ = ⊥
 
--- How the program ends that has no command: it shows help on a fault, where the words ask for that, or else as said above.
+-- How the program ends that has no command: it shows help on a fault, where the words ask for that,
+-- or else as said above.
 abbrev pub EndsUnperformed
     : {W E : Type 0} → (W → Option (List ℕ)) → (E → Option (List ℕ)) → List Text → LineFault
     → Counted W → Counted W → Counted E → Counted E → ℕ → Type 0
 EndsUnperformed contents told words fault old new old_err new_err code =
     (AsksForFaultHelp words fault
-    × ((text : List ℕ) × EndsAndTells (λ end. EndsWriting contents old new (answered_with status.Done) end text) told old_err new_err code))
+    × ((text : List ℕ)
+    × EndsAndTells (λ end. EndsWriting contents old new (answered_with status.Done) end text)
+    told old_err new_err code))
     ⊎ EndsRefused contents told fault old new old_err new_err code
 
 -- the words are a command, which was performed, or none, and then nothing was read
 abbrev pub AnswersWords
-    : {F I W E : Type 0} → (F → Option (List ℕ)) → (I → Option (List ℕ)) → (W → Option (List ℕ)) → (E → Option (List ℕ)) → (is_watched : Bool)
+    : {F I W E : Type 0} → (F → Option (List ℕ)) → (I → Option (List ℕ)) → (W → Option (List ℕ))
+    → (E → Option (List ℕ)) → (is_watched : Bool)
     → List Text → Counted I → Counted I → Counted W → Counted W → Counted E → Counted E → ℕ → Type 0
-AnswersWords remaining input_left contents told is_watched words old_in new_in old new old_err new_err code =
-    ((asked : Asked) × IsLineOf words asked × AnswersLine remaining input_left contents told is_watched asked old_in new_in old new old_err new_err code)
-    ⊎ ((fault : LineFault) × IsFaultOf words fault × EndsUnperformed contents told words fault old new old_err new_err code × (new_in ≡ old_in))
+AnswersWords remaining input_left contents told is_watched words old_in new_in old new old_err
+    new_err code =
+    ((asked : Asked) × IsLineOf words asked
+    × AnswersLine remaining input_left contents told is_watched asked old_in new_in old new
+    old_err new_err code)
+    ⊎ ((fault : LineFault) × IsFaultOf words fault
+    × EndsUnperformed contents told words fault old new old_err new_err code
+    × (new_in ≡ old_in))

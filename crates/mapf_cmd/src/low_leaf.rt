@@ -5,7 +5,8 @@ use proof_commands::{leaf_text, least_cost, read_leaf};
 use std::rt::Files;
 use text_io::{Counted, FaultName, FaultWords};
 
-/// What the leaf of a fault says to people, where the fault is that it is too low, and all files are read as before.
+/// What the leaf of a fault says to people, where the fault is that it is too low, and all files
+/// are read as before.
 // Compiled by itself, for its room on the stack.
 #[inline(never)]
 pub(crate) fn leaf_again<R: Files + AllocGlobal>(

@@ -1,5 +1,7 @@
-//! Each command on its files, which are opened in the order of its words. An error is the file that can't be opened.
-ghost use Rattle.std.specs.Prelude.{◌≡◌, ◌⊎◌, ◌||◌, MatchBool, MatchOption, MatchResult, string_bytes};
+//! Each command on its files, which are opened in the order of its words. An error is the file that
+//! can't be opened.
+ghost use Rattle.std.specs.Prelude.{◌≡◌, ◌⊎◌, ◌||◌, MatchBool};
+ghost use Rattle.std.specs.Prelude.{MatchOption, MatchResult, string_bytes};
 ghost use Rattle.ending.specs.Ending.{end_of};
 ghost use Rattle.text_commands.specs.MapCommand.{RewritesMap};
 ghost use Rattle.text_commands.specs.RowCommand.{AnswersRow};
@@ -10,7 +12,9 @@ ghost use Rattle.proof_commands.specs.OptimalCommand.{AnswersOptimal};
 ghost use Rattle.run_commands.specs.RunCommand.{AnswersRun};
 ghost use Rattle.agent_commands.specs.AgentCommand.{AnswersAgent};
 ghost use Rattle.agent_commands.specs.TapeCommand.{AnswersTape, EndsWithoutTape};
-ghost use Rattle.mapf_cmd.specs.Program.{AnswersFleet, AnswersQuery, CheckOn, OnFileOrInput, OnTwoFiles, OnThreeFiles, PerformsOn, ShowsOn, rows_asked, terms_of};
+ghost use Rattle.mapf_cmd.specs.Program.{AnswersFleet, AnswersQuery, CheckOn, OnFileOrInput};
+ghost use Rattle.mapf_cmd.specs.Program.{OnTwoFiles, OnThreeFiles, PerformsOn, ShowsOn};
+ghost use Rattle.mapf_cmd.specs.Program.{rows_asked, terms_of};
 
 use agent_commands::{AgentFault, Seat, agent_command, open_to_read, tape_command};
 use check_commands::{BoundForm, CheckTerms, bound_command, check_command};
@@ -29,7 +33,8 @@ use tape_claim::LockFile;
 use text_commands::{RowsAsked, map_command, row_command, rows_command, scen_command};
 use text_io::{Counted, Origin};
 
-/// Performs a command on its files. Where `is_watched` is set, `rows` says on `err` how far it has come.
+/// Performs a command on its files. Where `is_watched` is set, `rows` says on `err` how far it has
+/// come.
 pub(crate) fn perform_on_files<R: Files + AllocGlobal, I: Read, W: Write, E: Write>(
     rt: &R,
     line: &Line,
@@ -40,7 +45,9 @@ pub(crate) fn perform_on_files<R: Files + AllocGlobal, I: Read, W: Write, E: Wri
 ) -> Result<Ending, Origin>
 where
     R::File: LockFile,
-    ensures { MatchResult result (λ ending. PerformsOn R.File.remaining I.remaining W.contents line.now input.old input.new out.old out.new (end_of ending)
+    ensures { MatchResult result
+        (λ ending. PerformsOn R.File.remaining I.remaining W.contents line.now input.old input.new
+        out.old out.new (end_of ending)
         × ShowsOn E.contents is_watched line.now err.old err.new)
         (λ _. (input.new ≡ input.old) × (out.new ≡ out.old) × (err.new ≡ err.old)) }
 {
@@ -100,8 +107,11 @@ fn map_on_file<R: Files + AllocGlobal, I: Read, W: Write>(
     input: &mut Counted<I>,
     out: &mut Counted<W>,
 ) -> Result<Ending, Origin>
-    ensures { MatchResult result (λ ending. OnFileOrInput file.now (λ a b. RewritesMap I.remaining W.contents a b out.old out.new (end_of ending))
-        (λ a b. RewritesMap R.File.remaining W.contents a b out.old out.new (end_of ending)) input.old input.new)
+    ensures { MatchResult result
+        (λ ending. OnFileOrInput file.now
+        (λ a b. RewritesMap I.remaining W.contents a b out.old out.new (end_of ending))
+        (λ a b. RewritesMap R.File.remaining W.contents a b out.old out.new (end_of ending))
+        input.old input.new)
         (λ _. (input.new ≡ input.old) × (out.new ≡ out.old)) }
 {
     match file {
@@ -122,8 +132,11 @@ fn scen_on_file<R: Files + AllocGlobal, I: Read, W: Write>(
     input: &mut Counted<I>,
     out: &mut Counted<W>,
 ) -> Result<Ending, Origin>
-    ensures { MatchResult result (λ ending. OnFileOrInput file.now (λ a b. RewritesScen I.remaining W.contents a b out.old out.new (end_of ending))
-        (λ a b. RewritesScen R.File.remaining W.contents a b out.old out.new (end_of ending)) input.old input.new)
+    ensures { MatchResult result
+        (λ ending. OnFileOrInput file.now
+        (λ a b. RewritesScen I.remaining W.contents a b out.old out.new (end_of ending))
+        (λ a b. RewritesScen R.File.remaining W.contents a b out.old out.new (end_of ending))
+        input.old input.new)
         (λ _. (input.new ≡ input.old) × (out.new ≡ out.old)) }
 {
     match file {
@@ -142,7 +155,10 @@ fn row_on_files<R: Files + AllocGlobal, W: Write>(
     row: u32,
     out: &mut Counted<W>,
 ) -> Result<Ending, Origin>
-    ensures { MatchResult result (λ ending. OnTwoFiles (λ a b c d. AnswersRow R.File.remaining R.File.remaining W.contents a b c d row out.old out.new (end_of ending)))
+    ensures { MatchResult result
+        (λ ending. OnTwoFiles
+        (λ a b c d. AnswersRow R.File.remaining R.File.remaining W.contents a b c d row out.old
+        out.new (end_of ending)))
         (λ _. out.new ≡ out.old) }
 {
     let mut map = Counted::new(open_file(rt, map, Origin::Map)?);
@@ -157,7 +173,9 @@ fn rows_on_files<R: Files + AllocGlobal, W: Write, E: Write>(
     out: &mut Counted<W>,
     err: &mut Counted<E>,
 ) -> Result<Ending, Origin>
-    ensures { MatchResult result (λ ending. OnTwoFiles (λ a b c d. AnswersRows R.File.remaining R.File.remaining W.contents (rows_asked line.now) a b c d out.old out.new (end_of ending))
+    ensures { MatchResult result
+        (λ ending. OnTwoFiles (λ a b c d. AnswersRows R.File.remaining R.File.remaining W.contents
+        (rows_asked line.now) a b c d out.old out.new (end_of ending))
         × ShowsProgress E.contents (line.now.progress || is_watched) err.old err.new)
         (λ _. (out.new ≡ out.old) × (err.new ≡ err.old)) }
 {
@@ -184,7 +202,9 @@ fn check_on_files<R: Files + AllocGlobal, W: Write>(
     line: &CheckLine,
     out: &mut Counted<W>,
 ) -> Result<Ending, Origin>
-    ensures { MatchResult result (λ ending. CheckOn R.File.remaining W.contents line.now.scen (terms_of line.now) out.old out.new (end_of ending)) (λ _. out.new ≡ out.old) }
+    ensures { MatchResult result
+        (λ ending. CheckOn R.File.remaining W.contents line.now.scen (terms_of line.now) out.old
+        out.new (end_of ending)) (λ _. out.new ≡ out.old) }
 {
     let terms = CheckTerms {
         due: line.agents,
@@ -211,7 +231,10 @@ fn query_on_files<R: Files + AllocGlobal, W: Write>(
     query: PlanQuery,
     out: &mut Counted<W>,
 ) -> Result<Ending, Origin>
-    ensures { MatchResult result (λ ending. OnTwoFiles (λ a b c d. AnswersQuery R.File.remaining R.File.remaining W.contents query a b c d out.old out.new (end_of ending)))
+    ensures { MatchResult result
+        (λ ending. OnTwoFiles
+        (λ a b c d. AnswersQuery R.File.remaining R.File.remaining W.contents query a b c d out.old
+        out.new (end_of ending)))
         (λ _. out.new ≡ out.old) }
 {
     let mut map = Counted::new(open_file(rt, map, Origin::Map)?);
@@ -227,7 +250,8 @@ fn answer_query<M: Read, P: Read, W: Write>(
     query: PlanQuery,
     out: &mut Counted<W>,
 ) -> Ending
-    ensures { AnswersQuery M.remaining P.remaining W.contents query map.old map.new plan.old plan.new out.old out.new (end_of result) }
+    ensures { AnswersQuery M.remaining P.remaining W.contents query map.old map.new plan.old
+        plan.new out.old out.new (end_of result) }
 {
     match query {
         PlanQuery::Deps { cell: None } => {
@@ -254,7 +278,10 @@ fn continues_on_files<R: Files + AllocGlobal, W: Write>(
     paths: [&str; 3],
     out: &mut Counted<W>,
 ) -> Result<Ending, Origin>
-    ensures { MatchResult result (λ ending. OnThreeFiles (λ a b c d e f. AnswersContinues R.File.remaining R.File.remaining R.File.remaining W.contents a b c d e f out.old out.new (end_of ending)))
+    ensures { MatchResult result
+        (λ ending. OnThreeFiles
+        (λ a b c d e f. AnswersContinues R.File.remaining R.File.remaining R.File.remaining
+        W.contents a b c d e f out.old out.new (end_of ending)))
         (λ _. out.new ≡ out.old) }
 {
     let [map, old, new] = paths;
@@ -269,7 +296,10 @@ fn optimal_on_files<R: Files + AllocGlobal, W: Write>(
     line: &OptimalLine,
     out: &mut Counted<W>,
 ) -> Result<Ending, Origin>
-    ensures { MatchResult result (λ ending. OnThreeFiles (λ a b c d e f. AnswersOptimal R.File.remaining R.File.remaining R.File.remaining W.contents line.now.json a b c d e f out.old out.new (end_of ending)))
+    ensures { MatchResult result
+        (λ ending. OnThreeFiles
+        (λ a b c d e f. AnswersOptimal R.File.remaining R.File.remaining R.File.remaining W.contents
+        line.now.json a b c d e f out.old out.new (end_of ending)))
         (λ _. out.new ≡ out.old) }
 {
     let mut map = Counted::new(open_file(rt, &line.map, Origin::Map)?);
@@ -284,7 +314,10 @@ fn run_on_files<R: Files + AllocGlobal, W: Write>(
     complete: bool,
     out: &mut Counted<W>,
 ) -> Result<Ending, Origin>
-    ensures { MatchResult result (λ ending. OnThreeFiles (λ a b c d e f. AnswersRun R.File.remaining R.File.remaining R.File.remaining W.contents a b c d e f complete out.old out.new (end_of ending)))
+    ensures { MatchResult result
+        (λ ending. OnThreeFiles
+        (λ a b c d e f. AnswersRun R.File.remaining R.File.remaining R.File.remaining W.contents a b
+        c d e f complete out.old out.new (end_of ending)))
         (λ _. out.new ≡ out.old) }
 {
     let [map, plan, events] = paths;
@@ -304,7 +337,11 @@ fn agent_on_files<R: Files + AllocGlobal, I: Read, W: Write>(
 ) -> Result<Ending, Origin>
 where
     R::File: LockFile,
-    ensures { MatchResult result (λ ending. OnTwoFiles (λ a b c d. AnswersAgent R.File.remaining R.File.remaining R.File.remaining I.remaining W.contents seat.entry.claim seat.entry.id a b c d input.old input.new out.old out.new (end_of ending)))
+    ensures { MatchResult result
+        (λ ending. OnTwoFiles
+        (λ a b c d. AnswersAgent R.File.remaining R.File.remaining R.File.remaining I.remaining
+        W.contents seat.entry.claim seat.entry.id a b c d input.old input.new out.old out.new
+        (end_of ending)))
         (λ _. (input.new ≡ input.old) × (out.new ≡ out.old)) }
 {
     let [map, plan] = paths;
@@ -320,7 +357,10 @@ fn tape_on_files<R: Files + AllocGlobal, W: Write>(
     id: u16,
     out: &mut Counted<W>,
 ) -> Result<Ending, Origin>
-    ensures { MatchResult result (λ ending. OnThreeFiles (λ a b c d e f. AnswersTape R.File.remaining R.File.remaining R.File.remaining W.contents id a b c d e f out.old out.new (end_of ending))
+    ensures { MatchResult result
+        (λ ending. OnThreeFiles
+        (λ a b c d e f. AnswersTape R.File.remaining R.File.remaining R.File.remaining W.contents id
+        a b c d e f out.old out.new (end_of ending))
         ⊎ (EndsWithoutTape (end_of ending) × (out.new ≡ out.old))) (λ _. out.new ≡ out.old) }
 {
     let [map, plan, tape] = paths;
@@ -342,7 +382,10 @@ fn fleet_on_files<R: Files + AllocGlobal, W: Write>(
     line: &FleetLine,
     out: &mut Counted<W>,
 ) -> Result<Ending, Origin>
-    ensures { MatchResult result (λ ending. OnTwoFiles (λ a b c d. AnswersFleet R.File.remaining R.File.remaining R.File.remaining W.contents line.now.query a b c d out.old out.new (end_of ending)))
+    ensures { MatchResult result
+        (λ ending. OnTwoFiles
+        (λ a b c d. AnswersFleet R.File.remaining R.File.remaining R.File.remaining W.contents
+        line.now.query a b c d out.old out.new (end_of ending)))
         (λ _. out.new ≡ out.old) }
 {
     let mut map = Counted::new(open_file(rt, &line.map, Origin::Map)?);
@@ -365,7 +408,8 @@ fn fleet_on_files<R: Files + AllocGlobal, W: Write>(
     }
 }
 
-/// The files that a command names, up to three, in the order in which it opens them. Those of a fleet that have tapes are as many as its plan has agents.
+/// The files that a command names, up to three, in the order in which it opens them. Those of a
+/// fleet that have tapes are as many as its plan has agents.
 pub(crate) fn files_of(
     line: &Line,
 ) -> (NamedFile<'_>, Option<NamedFile<'_>>, Option<NamedFile<'_>>) {

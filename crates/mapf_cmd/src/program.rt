@@ -17,7 +17,8 @@ use std::rt::Files;
 use tape_claim::{LockFile, TapeClaim};
 use text_io::{Counted, Failure, FaultWords, Origin};
 
-/// What is known of the error output: how explanations look there, and whether somebody watches it, who wants to see progress.
+/// What is known of the error output: how explanations look there, and whether somebody watches it,
+/// who wants to see progress.
 #[derive(Clone, Copy, Debug)]
 pub struct Screen {
     pub style: Style,
@@ -27,8 +28,8 @@ pub struct Screen {
 /// Answers the words of the command line, the program's name first, over the files of `rt`: what a
 /// command writes goes to `out`, and the line of a fault to `err`, with an explanation behind it in
 /// the screen's style, where one is asked for. `rows` says there how far it has come, if somebody
-/// watches. An agent reads `input`, and so do `map` and `scen` where their file is `-`. The answer is
-/// the exit status.
+/// watches. An agent reads `input`, and so do `map` and `scen` where their file is `-`. The answer
+/// is the exit status.
 pub fn run<R: Files + AllocGlobal, I: Read, W: Write, E: Write>(
     rt: &R,
     words: &[String],
@@ -39,7 +40,8 @@ pub fn run<R: Files + AllocGlobal, I: Read, W: Write, E: Write>(
 ) -> u8
 where
     R::File: LockFile,
-    ensures { AnswersWords R.File.remaining I.remaining W.contents E.contents screen.is_watched (map string_bytes words.now) input.old input.new out.old out.new err.old err.new result }
+    ensures { AnswersWords R.File.remaining I.remaining W.contents E.contents screen.is_watched
+        (map string_bytes words.now) input.old input.new out.old out.new err.old err.new result }
 {
     match line(rt.alloc(), words) {
         Ok(asked) => answer(rt, &asked, screen, input, out, err),
@@ -58,7 +60,8 @@ fn answer<R: Files + AllocGlobal, I: Read, W: Write, E: Write>(
 ) -> u8
 where
     R::File: LockFile,
-    ensures { AnswersLine R.File.remaining I.remaining W.contents E.contents screen.is_watched asked.now input.old input.new out.old out.new err.old err.new result }
+    ensures { AnswersLine R.File.remaining I.remaining W.contents E.contents screen.is_watched
+        asked.now input.old input.new out.old out.new err.old err.new result }
 {
     let ending = perform(rt, &asked.line, screen.is_watched, input, out, err);
     let status = conclude(ending, err);
@@ -92,7 +95,8 @@ fn perform<R: Files + AllocGlobal, I: Read, W: Write, E: Write>(
 ) -> Ending
 where
     R::File: LockFile,
-    ensures performs { Performs R.File.remaining I.remaining W.contents line.now input.old input.new out.old out.new (end_of result) }
+    ensures performs { Performs R.File.remaining I.remaining W.contents line.now input.old input.new
+        out.old out.new (end_of result) }
     ensures shows { ShowsOn E.contents is_watched line.now err.old err.new }
 {
     match perform_on_files(rt, line, is_watched, input, out, err) {
@@ -128,7 +132,8 @@ fn explain_fault<R: Files + AllocGlobal, E: Write>(
     }
 }
 
-/// Explains the fault of an agent by a map, a plan and a tape, beside which another plan may be kept.
+/// Explains the fault of an agent by a map, a plan and a tape, beside which another plan may be
+/// kept.
 fn explain_agent<R: Files + AllocGlobal, E: Write>(
     rt: &R,
     paths: [&str; 3],

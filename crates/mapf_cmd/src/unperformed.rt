@@ -10,7 +10,8 @@ use explain::{FaultHelp, fault_help};
 use std::io::Write;
 use text_io::{Counted, Failure};
 
-/// Shows help on a fault, where the words ask for that, and else what `refuse` does. The answer is the exit status.
+/// Shows help on a fault, where the words ask for that, and else what `refuse` does. The answer is
+/// the exit status.
 // Compiled by itself, for its room on the stack.
 #[inline(never)]
 pub(crate) fn end_unperformed<W: Write, E: Write>(
@@ -19,7 +20,8 @@ pub(crate) fn end_unperformed<W: Write, E: Write>(
     out: &mut Counted<W>,
     err: &mut Counted<E>,
 ) -> u8
-    ensures { EndsUnperformed W.contents E.contents (map string_bytes words.now) fault out.old out.new err.old err.new result }
+    ensures { EndsUnperformed W.contents E.contents (map string_bytes words.now) fault out.old
+        out.new err.old err.new result }
 {
     match fault_help_of(words, &fault) {
         Some(help) => show(help.as_bytes(), out, err),
@@ -40,7 +42,8 @@ fn fault_help_of(words: &[String], fault: &LineFault) -> Option<FaultHelp>
     }
 }
 
-/// Shows the help that was asked for, or says why the words are no command. The answer is the exit status.
+/// Shows the help that was asked for, or says why the words are no command. The answer is the exit
+/// status.
 pub fn refuse<W: Write, E: Write>(
     fault: LineFault,
     out: &mut Counted<W>,
@@ -60,7 +63,9 @@ pub fn refuse<W: Write, E: Write>(
 
 /// Shows a text on the output.
 fn show<W: Write, E: Write>(text: &[u8], out: &mut Counted<W>, err: &mut Counted<E>) -> u8
-    ensures { EndsAndTells (λ end. EndsWriting W.contents out.old out.new (answered_with Status.Done) end text.now) E.contents err.old err.new result }
+    ensures { EndsAndTells
+        (λ end. EndsWriting W.contents out.old out.new (answered_with Status.Done) end text.now)
+        E.contents err.old err.new result }
 {
     let written = write_text(text, out);
     conclude(

@@ -1,5 +1,7 @@
--- What a plan costs (Stern et al. 2019, "Objective functions"), when its tracks end at rest, and when it solves given tasks.
-use Rattle.std.specs.Prelude.{◌≡◌, ℕ, ◌+◌, ◌<◌, ◌≤◌, ◌==◌, ◌&&◌, if◌then◌else◌, List, [], ◌∷◌, length, take, max, All, Some, slice_get}
+-- What a plan costs (Stern et al. 2019, "Objective functions"), when its tracks end at rest, and
+-- when it solves given tasks.
+use Rattle.std.specs.Prelude.{◌≡◌, ℕ, ◌+◌, ◌<◌, ◌≤◌, ◌==◌, ◌&&◌, if◌then◌else◌, List}
+use Rattle.std.specs.Prelude.{[], ◌∷◌, length, take, max, All, Some, slice_get}
 use Rattle.grid.specs.declared.cell.Cell.{Cell}
 use Rattle.model.specs.Timetable.{Track, Timetable, same_cell, cell_at}
 
@@ -15,7 +17,8 @@ pub record IsCost (track : Track) (t : ℕ) : Type 0 where
 -- that time: the cells, but for the last of them that are alike
 abbrev pub cost_after : Cell → List Cell → ℕ
 cost_after c [] = 0
-cost_after c (d ∷ cells) = if (cost_after d cells == 0) && same_cell c d then 0 else cost_after d cells + 1
+cost_after c (d ∷ cells) =
+    if (cost_after d cells == 0) && same_cell c d then 0 else cost_after d cells + 1
 
 abbrev pub cost : Track → ℕ
 cost track = cost_after track.start track.later
@@ -60,10 +63,12 @@ pub record Solves (width height : ℕ) (track : Track) (task : Task) : Type 0 wh
 abbrev pub Fits : (width height : ℕ) → List Track → List Task → Type 0
 Fits width height [] tasks = tasks ≡ []
 Fits width height (track ∷ tracks) tasks =
-    (task : Task) × (others : List Task) × (tasks ≡ task ∷ others) × Solves width height track task × Fits width height tracks others
+    (task : Task) × (others : List Task) × (tasks ≡ task ∷ others) × Solves width height track task
+    × Fits width height tracks others
 
 -- there are k agents, and each solves the task of its number; tasks after the first k are nobody's
-pub record FitsFirst (width height : ℕ) (tracks : List Track) (tasks : List Task) (k : ℕ) : Type 0 where
+pub record FitsFirst (width height : ℕ) (tracks : List Track) (tasks : List Task)
+    (k : ℕ) : Type 0 where
   pub agents : length tracks ≡ k
   pub enough : k ≤ length tasks
   pub fits : Fits width height tracks (take k tasks)
@@ -71,4 +76,5 @@ pub record FitsFirst (width height : ℕ) (tracks : List Track) (tasks : List Ta
 -- there are an agent and a task with the number, and the agent solves the task
 abbrev pub SolvesAt : (width height : ℕ) → List Track → List Task → ℕ → Type 0
 SolvesAt width height tracks tasks i =
-    (track : Track) × (task : Task) × (slice_get tracks i ≡ Some track) × (slice_get tasks i ≡ Some task) × Solves width height track task
+    (track : Track) × (task : Task) × (slice_get tracks i ≡ Some track)
+    × (slice_get tasks i ≡ Some task) × Solves width height track task

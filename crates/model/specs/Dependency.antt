@@ -1,7 +1,10 @@
 -- Which move waits for which (Hönig et al. 2019, "Action Dependency Graph"), one dependency a move.
-use Rattle.std.specs.Prelude.{◌≡◌, ℕ, ◌+◌, ◌<◌, ◌≤◌, ◌==◌, ◌⊎◌, zero, suc, if◌then◌else◌, nat_lt, List, [], ◌∷◌, length, Option, None, Some, MatchOption, slice_get}
+use Rattle.std.specs.Prelude.{◌≡◌, ℕ, ◌+◌, ◌<◌, ◌≤◌, ◌==◌, ◌⊎◌}
+use Rattle.std.specs.Prelude.{zero, suc, if◌then◌else◌, nat_lt, List, [], ◌∷◌}
+use Rattle.std.specs.Prelude.{length, Option, None, Some, MatchOption, slice_get}
 use Rattle.grid.specs.declared.cell.Cell.{Cell}
-use Rattle.model.specs.Timetable.{Track, Timetable, same_cell, cell_at, moves_before, moves, step_of, track_of, Stands}
+use Rattle.model.specs.Timetable.{Track, Timetable, same_cell, cell_at, moves_before}
+use Rattle.model.specs.Timetable.{moves, step_of, track_of, Stands}
 
 -- an agent, and how many moves it must have finished
 pub record Need : Type 0 where
@@ -16,7 +19,8 @@ pub record Stand : Type 0 where
 -- the first of the tracks that is in the cell at the time, with its number
 abbrev pub stander_among : List Track → ℕ → ℕ → Cell → Option ℕ
 stander_among [] i t c = None
-stander_among (track ∷ tracks) i t c = if same_cell (cell_at track t) c then Some i else stander_among tracks (i + 1) t c
+stander_among (track ∷ tracks) i t c =
+    if same_cell (cell_at track t) c then Some i else stander_among tracks (i + 1) t c
 
 abbrev pub stander : Timetable → ℕ → Cell → Option ℕ
 stander tt t c = stander_among tt.tracks 0 t c
@@ -38,20 +42,25 @@ moves_in (Some track) t = moves_before track t
 abbrev pub moves_to : Timetable → ℕ → ℕ → ℕ
 moves_to tt j t = moves_in (track_of tt j) t
 
--- what the last stand asks of an agent: nothing where it was its own, else that the other has made all its moves up to the step in which it left
+-- what the last stand asks of an agent: nothing where it was its own, else that the other has made
+-- all its moves up to the step in which it left
 abbrev pub need_by : Timetable → ℕ → Option Stand → Option Need
 need_by tt i None = None
-need_by tt i (Some s) = if s.agent == i then None else Some (record { agent = s.agent; count = moves_to tt s.agent (s.time + 1) })
+need_by tt i (Some s) =
+    if s.agent == i then None else Some
+    (record { agent = s.agent; count = moves_to tt s.agent (s.time + 1) })
 
 -- the need of a move: at its step, who was last in the cell that it enters
 abbrev pub need : Timetable → ℕ → Track → ℕ → Option Need
-need tt i track k = need_by tt i (last_stand tt (cell_at track (step_of track k + 1)) (step_of track k))
+need tt i track k =
+    need_by tt i (last_stand tt (cell_at track (step_of track k + 1)) (step_of track k))
 
 -- the moves that a need asks for are finished, by how many each agent has finished
 abbrev pub IsMet : (ℕ → ℕ) → Option Need → Type 0
 IsMet finished o = MatchOption o (Unit {0}) (λ n. n.count ≤ finished n.agent)
 
--- The next move of the one agent waits for a move of the other that isn't finished, by how many each has finished.
+-- The next move of the one agent waits for a move of the other that isn't finished, by how many
+-- each has finished.
 pub record WaitsFor (tt : Timetable) (finished : ℕ → ℕ) (i j : ℕ) : Type 0 where
   pub track : Track
   pub count : ℕ
@@ -62,13 +71,16 @@ pub record WaitsFor (tt : Timetable) (finished : ℕ → ℕ) (i j : ℕ) : Type
 
 -- ---- what need and last stand come to, in words without a computation
 
--- nobody stands in the cell at a time up to this one, or this is the greatest such time and who stands there
+-- nobody stands in the cell at a time up to this one, or this is the greatest such time and who
+-- stands there
 abbrev pub IsLastStand : Timetable → Cell → ℕ → Option Stand → Type 0
 IsLastStand tt c t o =
     MatchOption o ((r j : ℕ) → r ≤ t → Stands tt j r c → ⊥)
-    (λ s. Stands tt s.agent s.time c × (s.time ≤ t) × ((r j : ℕ) → s.time < r → r ≤ t → Stands tt j r c → ⊥))
+    (λ s. Stands tt s.agent s.time c × (s.time ≤ t)
+    × ((r j : ℕ) → s.time < r → r ≤ t → Stands tt j r c → ⊥))
 
--- The need of a move: at the step of the move, what the last stand in the cell that it enters asks of the agent.
+-- The need of a move: at the step of the move, what the last stand in the cell that it enters asks
+-- of the agent.
 pub record IsNeed (tt : Timetable) (i : ℕ) (track : Track) (k : ℕ) (o : Option Need) : Type 0 where
   pub step : ℕ
   pub last : Option Stand
@@ -79,7 +91,8 @@ pub record IsNeed (tt : Timetable) (i : ℕ) (track : Track) (k : ℕ) (o : Opti
 
 -- ---- visits
 
--- The agent comes into the cell at the time, as the one with this index in its path; it comes into its first cell at time 0.
+-- The agent comes into the cell at the time, as the one with this index in its path; it comes into
+-- its first cell at time 0.
 pub record IsVisit (tt : Timetable) (agent index time : ℕ) (c : Cell) : Type 0 where
   pub track : Track
   pub is_track : track_of tt agent ≡ Some track
@@ -89,7 +102,8 @@ pub record IsVisit (tt : Timetable) (agent index time : ℕ) (c : Cell) : Type 0
 
 -- at the time the agent stands elsewhere, or comes into the cell anew by the visit that begins then
 abbrev pub HasEnded : Timetable → (agent index : ℕ) → (other other_index time : ℕ) → Cell → Type 0
-HasEnded tt agent index other other_index time c = (Stands tt agent time c → ⊥) ⊎ ((agent ≡ other) × (index < other_index))
+HasEnded tt agent index other other_index time c =
+    (Stands tt agent time c → ⊥) ⊎ ((agent ≡ other) × (index < other_index))
 
 -- ---- rotations (Stern et al. 2019, "Cycle conflict")
 
@@ -104,11 +118,16 @@ pub record MovesInto (tt : Timetable) (step i j : ℕ) : Type 0 where
 
 -- the agent after the one at a place, and after the last the first
 abbrev pub following : List ℕ → ℕ → Option ℕ
-following agents place = if nat_lt (place + 1) (length agents) then slice_get agents (place + 1) else slice_get agents 0
+following agents place =
+    if nat_lt (place + 1) (length agents) then slice_get agents (place + 1) else slice_get agents 0
 
--- At least three different agents, the least first, each of which moves in the step into the cell in which the next one stands.
+-- At least three different agents, the least first, each of which moves in the step into the cell
+-- in which the next one stands.
 pub record IsRotation (tt : Timetable) (step : ℕ) (agents : List ℕ) : Type 0 where
   pub three : 3 ≤ length agents
-  pub different : (place other i : ℕ) → slice_get agents place ≡ Some i → slice_get agents other ≡ Some i → place ≡ other
-  pub least : (place first i : ℕ) → slice_get agents 0 ≡ Some first → slice_get agents place ≡ Some i → first ≤ i
-  pub cycle : (place i j : ℕ) → slice_get agents place ≡ Some i → following agents place ≡ Some j → MovesInto tt step i j
+  pub different : (place other i : ℕ) → slice_get agents place ≡ Some i
+      → slice_get agents other ≡ Some i → place ≡ other
+  pub least : (place first i : ℕ) → slice_get agents 0 ≡ Some first
+      → slice_get agents place ≡ Some i → first ≤ i
+  pub cycle : (place i j : ℕ) → slice_get agents place ≡ Some i → following agents place ≡ Some j
+      → MovesInto tt step i j

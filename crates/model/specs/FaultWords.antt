@@ -13,7 +13,8 @@ plan_fault_words (plan_fault.BadStart agent) = text_fault (codes "BadStart") (ag
 plan_fault_words (plan_fault.BadMove agent step) = text_fault (codes "BadMove") (agent ∷ step ∷ [])
 plan_fault_words (plan_fault.Vertex first second time cell) =
     text_fault (codes "Vertex") (first ∷ second ∷ time ∷ cell.x ∷ cell.y ∷ [])
-plan_fault_words (plan_fault.Swap first second step) = text_fault (codes "Swap") (first ∷ second ∷ step ∷ [])
+plan_fault_words (plan_fault.Swap first second step) =
+    text_fault (codes "Swap") (first ∷ second ∷ step ∷ [])
 plan_fault_words plan_fault.OutOfMemory = failed failure.OutOfMemory
 
 -- as `BadEntry 2`: the entry

@@ -1,5 +1,6 @@
 -- What has happened so far: events and the answers to them.
-use Rattle.std.specs.Prelude.{ℕ, ◌+◌, ◌==◌, ◌&&◌, Bool, true, false, if◌then◌else◌, List, [], ◌∷◌, ◌++◌, length, max, Option, None, Some, slice_get}
+use Rattle.std.specs.Prelude.{ℕ, ◌+◌, ◌==◌, ◌&&◌, Bool, true, false, if◌then◌else◌, List}
+use Rattle.std.specs.Prelude.{[], ◌∷◌, ◌++◌, length, max, Option, None, Some, slice_get}
 use Rattle.grid.specs.declared.cell.Cell.{Cell}
 use Rattle.model.specs.declared.event.Event.{Event}
 use Rattle.model.specs.declared.event.Event.TheVariants.{Start, Finish, Say, Deliver, Restart, Tear}
@@ -83,7 +84,8 @@ abbrev pub stores_all : Option ℕ → Bool
 stores_all None = false
 stores_all (Some n) = n == record_length
 
--- a begun move is on the tape: it was answered with the cell, or all bytes of its record were stored
+-- a begun move is on the tape: it was answered with the cell, or all bytes of its record were
+-- stored
 abbrev pub is_begun : Answer → Option ℕ → Bool
 is_begun (moving c) tear = true
 is_begun (refused StoreFailed) tear = stores_all tear
@@ -128,16 +130,19 @@ is_heard _ = false
 
 -- what an agent says tells what it knows then: nothing but its own moves at version 1
 abbrev pub messages_of : Version → Timetable → Event → Answer → History → (ℕ → ℕ → ℕ) → List Message
-messages_of version tt (Say i) r h known = if is_said r then message_said version (length tt.tracks) i (done h i) (known i) ∷ [] else []
+messages_of version tt (Say i) r h known =
+    if is_said r then message_said version (length tt.tracks) i (done h i) (known i) ∷ [] else []
 messages_of version tt _ r h known = []
 
 abbrev pub told_of : Option Message → ℕ → ℕ
 told_of None j = 0
 told_of (Some message) j = told message j
 
--- what an agent knows of another: the greatest number in any message that it heard since it was opened
+-- what an agent knows of another: the greatest number in any message that it heard since it was
+-- opened
 abbrev pub known_after : Event → Answer → List Message → ℕ → ℕ → ℕ → ℕ
-known_after (Deliver k m) r messages i j before = if (k == i) && is_heard r then max before (told_of (slice_get messages m) j) else before
+known_after (Deliver k m) r messages i j before =
+    if (k == i) && is_heard r then max before (told_of (slice_get messages m) j) else before
 known_after (Restart k) r messages i j before = if (k == i) && is_opened r then 0 else before
 known_after _ r messages i j before = before
 
@@ -161,6 +166,7 @@ news version tt (now ∷ h) = news_after version tt now h (news version tt h)
 abbrev pub messages : Version → Timetable → History → List Message
 messages version tt h = (news version tt h).messages
 
--- the greatest number of finished moves of the second agent in any message that the first heard since it was opened
+-- the greatest number of finished moves of the second agent in any message that the first heard
+-- since it was opened
 abbrev pub known : Version → Timetable → History → ℕ → ℕ → ℕ
 known version tt h i j = (news version tt h).known i j

@@ -1,5 +1,5 @@
--- What has to be believed, in the order in which to read it: each law of the crate, and each promise of the crates above that
--- speaks of plans and runs, is made in these words.
+-- What has to be believed, in the order in which to read it: each law of the crate, and each
+-- promise of the crates above that speaks of plans and runs, is made in these words.
 
 -- who stands where and when: tracks, paths, moves and their steps
 pub mod Timetable
@@ -29,5 +29,6 @@ pub mod Ready
 pub mod FaultWords
 -- small plans and runs, and what has to come out
 pub mod Examples
--- What follows from these definitions, each with its proof: proofs of other crates cite it, and nothing of it has to be believed.
+-- What follows from these definitions, each with its proof: proofs of other crates cite it, and
+-- nothing of it has to be believed.
 pub mod Laws

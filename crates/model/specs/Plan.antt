@@ -1,12 +1,15 @@
--- What a plan is, which faults it has, and when it is valid (Stern et al. 2019, "Classical MAPF", "Types of conflicts").
-use Rattle.std.specs.Prelude.{◌≡◌, ◌≢◌, ℕ, ℤ, pos, ◌+ℤ◌, ◌-ℤ◌, ◌+◌, ◌<◌, ◌⊎◌, zero, suc, List, [], ◌∷◌, length, max, Option, MatchOption, slice_get}
+-- What a plan is, which faults it has, and when it is valid (Stern et al. 2019, "Classical MAPF",
+-- "Types of conflicts").
+use Rattle.std.specs.Prelude.{◌≡◌, ◌≢◌, ℕ, ℤ, pos, ◌+ℤ◌, ◌-ℤ◌, ◌+◌, ◌<◌, ◌⊎◌}
+use Rattle.std.specs.Prelude.{zero, suc, List, [], ◌∷◌, length, max, Option, MatchOption, slice_get}
 use Rattle.grid.specs.declared.cell.Cell.{Cell}
 use Rattle.grid.specs.Terrain.{blocked, class_of}
 use Rattle.grid.specs.Map.{Grid, terrain_at, IsStraightStep}
 use Rattle.model.specs.declared.act.Act.{Act}
 use Rattle.model.specs.declared.act.Act.TheVariants.{N, E, S, W, Wait}
 use Rattle.model.specs.declared.plan_fault.PlanFault.{PlanFault}
-use Rattle.model.specs.declared.plan_fault.PlanFault.TheVariants.{BadStart, BadMove, Vertex, Swap, OutOfMemory}
+use Rattle.model.specs.declared.plan_fault.PlanFault.TheVariants.{BadStart, BadMove, Vertex}
+use Rattle.model.specs.declared.plan_fault.PlanFault.TheVariants.{Swap, OutOfMemory}
 use Rattle.model.specs.Timetable.{Track, Timetable, cell_at}
 use Rattle.model.specs.Costs.{EndsAtRest}
 
@@ -68,15 +71,20 @@ pub record IsLegal (m : Grid) (from to : Position) : Type 0 where
 -- the act of the step is no wait, and leads by no legal step
 abbrev pub IsBadMove : Grid → Course → ℕ → Type 0
 IsBadMove m course step =
-    MatchOption (slice_get course.acts step) ⊥ (λ act. (act ≢ Wait) × (IsLegal m (position_at course step) (position_at course (step + 1)) → ⊥))
+    MatchOption (slice_get course.acts step) ⊥ (λ act. (act ≢ Wait)
+    × (IsLegal m (position_at course step) (position_at course (step + 1)) → ⊥))
 
 -- the fault is one of the plan
 abbrev pub HasPlanFault : Grid → Plan → PlanFault → Type 0
-HasPlanFault m p (BadStart i) = MatchOption (course_of p i) ⊥ (λ course. IsPassable m course.start → ⊥)
-HasPlanFault m p (BadMove i step) = MatchOption (course_of p i) ⊥ (λ course. IsBadMove m course step)
-HasPlanFault m p (Vertex i j time cell) = (i < j) × IsAt p i time (position_of cell) × IsAt p j time (position_of cell)
+HasPlanFault m p (BadStart i) =
+    MatchOption (course_of p i) ⊥ (λ course. IsPassable m course.start → ⊥)
+HasPlanFault m p (BadMove i step) =
+    MatchOption (course_of p i) ⊥ (λ course. IsBadMove m course step)
+HasPlanFault m p (Vertex i j time cell) =
+    (i < j) × IsAt p i time (position_of cell) × IsAt p j time (position_of cell)
 HasPlanFault m p (Swap i j step) =
-    (i < j) × (u : Position) × (v : Position) × (u ≢ v) × IsAt p i step u × IsAt p i (step + 1) v × IsAt p j step v × IsAt p j (step + 1) u
+    (i < j) × (u : Position) × (v : Position) × (u ≢ v) × IsAt p i step u × IsAt p i (step + 1) v
+    × IsAt p j step v × IsAt p j (step + 1) u
 HasPlanFault m p OutOfMemory = ⊥
 
 -- no agent and no pair of agents has a fault at any time
@@ -110,7 +118,8 @@ IsBefore a b =
 -- the plan has the fault, and none before it
 pub record IsLeastFault (m : Grid) (p : Plan) (fault : PlanFault) : Type 0 where
   pub has : HasPlanFault m p fault
-  pub first : (other : PlanFault) → HasPlanFault m p other → IsBefore (key_of other) (key_of fault) → ⊥
+  pub first
+      : (other : PlanFault) → HasPlanFault m p other → IsBefore (key_of other) (key_of fault) → ⊥
 
 -- the greatest number of acts
 abbrev pub longest_of : List Course → ℕ
@@ -127,7 +136,8 @@ pub record IsTrackOf (course : Course) (track : Track) : Type 0 where
 abbrev pub AreTracksOf : List Course → List Track → Type 0
 AreTracksOf [] tracks = tracks ≡ []
 AreTracksOf (course ∷ courses) tracks =
-    (track : Track) × (others : List Track) × (tracks ≡ track ∷ others) × IsTrackOf course track × AreTracksOf courses others
+    (track : Track) × (others : List Track) × (tracks ≡ track ∷ others) × IsTrackOf course track
+    × AreTracksOf courses others
 
 pub record IsTimetableOf (p : Plan) (tt : Timetable) : Type 0 where
   pub number : tt.number ≡ p.number

@@ -1,6 +1,8 @@
--- Who stands where and when, by a plan that stays on its map (Stern et al. 2019, "Problem definition": a single-agent plan, and
--- an agent that stays at its target).
-use Rattle.std.specs.Prelude.{◌≡◌, ◌≢◌, ℕ, ◌+◌, ◌-◌, ◌&&◌, ◌==◌, zero, suc, Bool, if◌then◌else◌, List, [], ◌∷◌, length, Option, MatchOption, slice_get}
+-- Who stands where and when, by a plan that stays on its map (Stern et al. 2019, "Problem
+-- definition": a single-agent plan, and an agent that stays at its target).
+use Rattle.std.specs.Prelude.{◌≡◌, ◌≢◌, ℕ, ◌+◌, ◌-◌, ◌&&◌}
+use Rattle.std.specs.Prelude.{◌==◌, zero, suc, Bool, if◌then◌else◌, List}
+use Rattle.std.specs.Prelude.{[], ◌∷◌, length, Option, MatchOption, slice_get}
 use Rattle.grid.specs.declared.cell.Cell.{Cell}
 
 -- an agent's cell at time 0, and at each time after that
@@ -16,7 +18,8 @@ pub record Timetable : Type 0 where
 abbrev pub same_cell : Cell → Cell → Bool
 same_cell u v = (u.x == v.x) && (u.y == v.y)
 
--- the cell at a time, of an agent that begins in a cell and goes on to others; it stays in the last for ever
+-- the cell at a time, of an agent that begins in a cell and goes on to others; it stays in the last
+-- for ever
 abbrev pub cell_after : Cell → List Cell → ℕ → Cell
 cell_after c [] t = c
 cell_after c (d ∷ cells) zero = c
@@ -25,12 +28,13 @@ cell_after c (d ∷ cells) (suc t) = cell_after d cells t
 abbrev pub cell_at : Track → ℕ → Cell
 cell_at track t = cell_after track.start track.later t
 
--- How many moves the agent makes in the steps before a time. Step t leads from time t to time t + 1, and is a move where the two
--- cells differ.
+-- How many moves the agent makes in the steps before a time. Step t leads from time t to time t +
+-- 1, and is a move where the two cells differ.
 abbrev pub moves_after : Cell → List Cell → ℕ → ℕ
 moves_after c [] t = 0
 moves_after c (d ∷ cells) zero = 0
-moves_after c (d ∷ cells) (suc t) = if same_cell c d then moves_after d cells t else moves_after d cells t + 1
+moves_after c (d ∷ cells) (suc t) =
+    if same_cell c d then moves_after d cells t else moves_after d cells t + 1
 
 abbrev pub moves_before : Track → ℕ → ℕ
 moves_before track t = moves_after track.start track.later t
@@ -48,7 +52,8 @@ collapsed c (d ∷ cells) = if same_cell c d then collapsed d cells else c ∷ c
 abbrev pub path : Track → List Cell
 path track = collapsed track.start track.later
 
--- The step of the move with a number, from 0 on; a number past the last move has none, and anything may stand for it.
+-- The step of the move with a number, from 0 on; a number past the last move has none, and anything
+-- may stand for it.
 abbrev pub step_after : Cell → List Cell → ℕ → ℕ
 step_after c [] k = 0
 step_after c (d ∷ cells) k =
@@ -73,4 +78,5 @@ IsConflictFree tt = (i j t : ℕ) (c : Cell) → Stands tt i t c → Stands tt j
 -- no two agents ever exchange cells in a step (Stern et al. 2019, "Swapping conflict")
 abbrev pub IsSwapFree : Timetable → Type 0
 IsSwapFree tt =
-    (i j t : ℕ) (u v : Cell) → u ≢ v → Stands tt i t u → Stands tt i (t + 1) v → Stands tt j t v → Stands tt j (t + 1) u → ⊥
+    (i j t : ℕ) (u v : Cell) → u ≢ v → Stands tt i t u → Stands tt i (t + 1) v → Stands tt j t v
+    → Stands tt j (t + 1) u → ⊥

@@ -1,4 +1,5 @@
-//! What a plan, a dependency, a run and a safe run are: data types, definitions and laws, and no engine.
+//! What a plan, a dependency, a run and a safe run are: data types, definitions and laws, and no
+//! engine.
 #![tactic(auto)]
 
 mod act;

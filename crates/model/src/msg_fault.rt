@@ -13,7 +13,8 @@ pub enum MsgFault {
     BadLength,
     BadMagic,
     BadVersion,
-    /// The entry with this number, counted from 0, has the number 0, or its agent is not greater than the one before.
+    /// The entry with this number, counted from 0, has the number 0, or its agent is not greater
+    /// than the one before.
     BadEntry(u32),
 }
 

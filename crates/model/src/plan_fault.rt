@@ -8,7 +8,8 @@ use std::fmt;
 use text_io::{Failure, FaultName, FaultWords, Origin};
 use thiserror::Error;
 
-/// A fault of a plan: agents, then the step or the time, and the cell (Stern et al. 2019, "Types of conflicts").
+/// A fault of a plan: agents, then the step or the time, and the cell (Stern et al. 2019, "Types of
+/// conflicts").
 #[derive(Clone, Copy, Debug, PartialEq, Eq, Error)]
 pub enum PlanFault {
     /// The agent's start is off the map or blocked.

@@ -11,7 +11,8 @@ pub enum Reply {
     Arrived(Cell),
     /// The message with this number, counted from 0, has these bytes.
     Said(u64, Vec<u8>),
-    /// A message of the agent with the first number was heard, and so many of its moves are known to be finished.
+    /// A message of the agent with the first number was heard, and so many of its moves are known
+    /// to be finished.
     Heard(u16, u32),
     /// After a restart the agent stands in the cell, and has finished so many moves.
     At(Cell, u32),

@@ -11,14 +11,16 @@ pub enum Why {
     Broken,
     AlreadyMoving,
     AtEnd,
-    /// The agent with the first number has not been heard to have finished as many moves as the second.
+    /// The agent with the first number has not been heard to have finished as many moves as the
+    /// second.
     Waits(u16, u32),
     NotMoving,
     StoreFailed,
     BadLength,
     BadMagic,
     BadVersion,
-    /// An entry of a message, counted from 0, that has the number 0 or does not come behind the one before.
+    /// An entry of a message, counted from 0, that has the number 0 or does not come behind the one
+    /// before.
     BadEntry(u32),
     WrongPlan,
     /// A message tells more moves of an agent than that one has.

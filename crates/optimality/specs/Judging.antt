@@ -1,5 +1,6 @@
 -- Which plans are still to be judged while a tree is read, and when a leaf stands.
-use Rattle.std.specs.Prelude.{◌≡◌, ℕ, ◌+◌, ◌<◌, ◌≤◌, ◌⊎◌, List, [], ◌∷◌, ◌++◌, length, map, max, sum, Some, slice_get}
+use Rattle.std.specs.Prelude.{◌≡◌, ℕ, ◌+◌, ◌<◌, ◌≤◌, ◌⊎◌, List, []}
+use Rattle.std.specs.Prelude.{◌∷◌, ◌++◌, length, map, max, sum, Some, slice_get}
 use Rattle.grid.specs.Map.{Grid}
 use Rattle.model.specs.Costs.{makespan, sum_of_costs}
 use Rattle.model.specs.Plan.{IsTimetableOf, IsValid, Plan}
@@ -28,12 +29,15 @@ abbrev pub objective_of : Objective → List ℕ → ℕ
 objective_of Cost numbers = sum numbers
 objective_of Makespan numbers = greatest_number numbers
 
--- What is to be shown: no valid plan on the map in which each agent, by its number, goes from its start to its goal costs less.
+-- What is to be shown: no valid plan on the map in which each agent, by its number, goes from its
+-- start to its goal costs less.
 abbrev pub BoundHolds : Grid → List Ends → Objective → ℕ → Type 0
 BoundHolds m ends objective bound =
-    (p : Plan) (tt : Timetable) → IsValid m p → IsTimetableOf p tt → map ends_of tt.tracks ≡ ends → bound ≤ objective_value objective tt
+    (p : Plan) (tt : Timetable) → IsValid m p → IsTimetableOf p tt → map ends_of tt.tracks ≡ ends
+    → bound ≤ objective_value objective tt
 
--- A subtree that is due: what is asked of the agents at its root, and how many nodes are above that.
+-- A subtree that is due: what is asked of the agents at its root, and how many nodes are above
+-- that.
 pub record Subtree : Type 0 where
   pub demands : List Demand
   pub above : ℕ
@@ -49,23 +53,31 @@ children ends node here =
     ∷ record { demands = here.demands ++ second_demands ends node; above = here.above + 1 } ∷ []
 
 -- no agent costs less than its number, under what is asked of it
-pub record AreAtLeast (m : Grid) (ends : List Ends) (demands : List Demand) (numbers : List ℕ) : Type 0 where
+pub record AreAtLeast (m : Grid) (ends : List Ends) (demands : List Demand)
+    (numbers : List ℕ) : Type 0 where
   pub count : length numbers ≡ length ends
-  pub each : (k n : ℕ) (own : Ends) → slice_get numbers k ≡ Some n → slice_get ends k ≡ Some own → CostsAtLeast m own (constraints_of demands k) n
+  pub each : (k n : ℕ) (own : Ends) → slice_get numbers k ≡ Some n → slice_get ends k ≡ Some own
+      → CostsAtLeast m own (constraints_of demands k) n
 
 -- and each can cost so much
-pub record AreLeast (m : Grid) (ends : List Ends) (demands : List Demand) (numbers : List ℕ) : Type 0 where
+pub record AreLeast (m : Grid) (ends : List Ends) (demands : List Demand)
+    (numbers : List ℕ) : Type 0 where
   pub count : length numbers ≡ length ends
-  pub each : (k n : ℕ) (own : Ends) → slice_get numbers k ≡ Some n → slice_get ends k ≡ Some own → IsLeastCost m own (constraints_of demands k) n
+  pub each : (k n : ℕ) (own : Ends) → slice_get numbers k ≡ Some n → slice_get ends k ≡ Some own
+      → IsLeastCost m own (constraints_of demands k) n
 
--- A leaf stands: what the agents cost at least comes to the bound, or one of them has no walk, which costs at least whatever is wanted.
+-- A leaf stands: what the agents cost at least comes to the bound, or one of them has no walk,
+-- which costs at least whatever is wanted.
 abbrev pub LeafStands : Grid → List Ends → Objective → ℕ → List Demand → Type 0
-LeafStands m ends objective bound demands = (numbers : List ℕ) × AreAtLeast m ends demands numbers × (bound ≤ objective_of objective numbers)
+LeafStands m ends objective bound demands =
+    (numbers : List ℕ) × AreAtLeast m ends demands numbers
+    × (bound ≤ objective_of objective numbers)
 
 -- A leaf is too low: each agent has a walk, and what they cost at least is this, below the bound.
 abbrev pub LeafIsLow : Grid → List Ends → Objective → ℕ → List Demand → ℕ → Type 0
 LeafIsLow m ends objective bound demands least =
-    (numbers : List ℕ) × AreLeast m ends demands numbers × (least ≡ objective_of objective numbers) × (least < bound)
+    (numbers : List ℕ) × AreLeast m ends demands numbers × (least ≡ objective_of objective numbers)
+    × (least < bound)
 
 -- the plan falls under one of the nodes that are due
 abbrev pub FallsUnder : Timetable → List Subtree → Type 0

@@ -5,7 +5,8 @@ use Rattle.grid.specs.Map.{ShareSide}
 use Rattle.model.specs.Costs.{cost}
 use Rattle.model.specs.Timetable.{Track, cell_at}
 use Rattle.optimality.specs.declared.constraint.Constraint.{Constraint}
-use Rattle.optimality.specs.declared.constraint.Constraint.TheVariants.{Away, AwayFrom, There, NotTaken, Above, Within}
+use Rattle.optimality.specs.declared.constraint.Constraint.TheVariants.{Away, AwayFrom, There}
+use Rattle.optimality.specs.declared.constraint.Constraint.TheVariants.{NotTaken, Above, Within}
 use Rattle.optimality.specs.declared.constraint.Demand.{Demand}
 use Rattle.optimality.specs.declared.constraint.Ends.{Ends}
 use Rattle.optimality.specs.declared.constraint.Whom.TheVariants.{Only, AllBut}
@@ -50,5 +51,6 @@ second_demands ends (Vertex i j t c) = only j (Away t c) ∷ []
 second_demands ends (Swap i j t u v) = only j (NotTaken t v u) ∷ []
 second_demands ends (At i t c) = only i (There t c) ∷ all_but i (Away t c) ∷ []
 second_demands ends (Goes i t u v) =
-    only i (There t u) ∷ only i (There (t + 1) v) ∷ all_but i (Away t u) ∷ all_but i (Away (t + 1) v) ∷ all_but i (NotTaken t v u) ∷ []
+    only i (There t u) ∷ only i (There (t + 1) v) ∷ all_but i (Away t u) ∷ all_but i
+    (Away (t + 1) v) ∷ all_but i (NotTaken t v u) ∷ []
 second_demands ends (Stays i t) = only i (Within t) ∷ all_but i (AwayFrom t (goal_of ends i)) ∷ []

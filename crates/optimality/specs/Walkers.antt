@@ -1,4 +1,5 @@
--- What an agent costs at least, under what is asked of it: it walks by itself, whoever else there is.
+-- What an agent costs at least, under what is asked of it: it walks by itself, whoever else there
+-- is.
 use Rattle.std.specs.Prelude.{◌≡◌, ℕ, ◌+◌, ◌≤◌, ◌⊎◌, List, [], ◌∷◌}
 use Rattle.grid.specs.declared.cell.Cell.{Cell}
 use Rattle.grid.specs.Map.{Grid, IsStraightStep}
@@ -20,9 +21,11 @@ pub record IsAgentWalk (m : Grid) (ends : Ends) (track : Track) : Type 0 where
   pub steps : (t : ℕ) → MayFollow m (cell_at track t) (cell_at track (t + 1))
   pub to_goal : cell_at track (cost track) ≡ ends.goal
 
--- no walk that is as it is asked costs less; where there is no such walk, this is so of every number
+-- no walk that is as it is asked costs less; where there is no such walk, this is so of every
+-- number
 abbrev pub CostsAtLeast : Grid → Ends → List Constraint → ℕ → Type 0
-CostsAtLeast m ends asked n = (track : Track) → IsAgentWalk m ends track → MeetsAll asked track → n ≤ cost track
+CostsAtLeast m ends asked n =
+    (track : Track) → IsAgentWalk m ends track → MeetsAll asked track → n ≤ cost track
 
 -- and one costs so much
 pub record IsLeastCost (m : Grid) (ends : Ends) (asked : List Constraint) (n : ℕ) : Type 0 where

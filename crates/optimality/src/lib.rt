@@ -1,4 +1,5 @@
-//! Proofs that no valid plan costs less: what they say, and what they prove. Definitions and laws, no engine.
+//! Proofs that no valid plan costs less: what they say, and what they prove. Definitions and laws,
+//! no engine.
 #![tactic(auto)]
 
 mod constraint;

@@ -1,5 +1,5 @@
-//! What callers use of plans: their text, the checker, what plans cost, and which rows of a scenario they solve. All of it stands in
-//! crates below and is passed on.
+//! What callers use of plans: their text, the checker, what plans cost, and which rows of a
+//! scenario they solve. All of it stands in crates below and is passed on.
 #![tactic(auto)]
 
 pub use checker::{

@@ -7,14 +7,16 @@ use Rattle.model.specs.declared.visit.Visit.{Visit}
 use Rattle.model.specs.Timetable.{Timetable}
 use Rattle.depgraph.specs.Visits.{IsVisitTo, AreVisitsTo}
 
--- All visits of a cell, as their times rise, also of a cell into which nobody comes, on the map or off it.
+-- All visits of a cell, as their times rise, also of a cell into which nobody comes, on the map or
+-- off it.
 abbrev pub AreCellVisits : Timetable → Cell → List Visit → Type 0
 AreCellVisits tt cell [] = (v : Visit) → IsVisitTo tt cell v → ⊥
 AreCellVisits tt cell (v ∷ visits) = AreVisitsTo tt cell (v ∷ visits)
 
 -- the line of a visit: the agent, the index of the cell in its path, and the time
 abbrev pub visit_line : Visit → List ℕ
-visit_line v = join_with_byte space (codes "visit" ∷ decimal v.agent ∷ decimal v.index ∷ decimal v.time ∷ [])
+visit_line v =
+    join_with_byte space (codes "visit" ∷ decimal v.agent ∷ decimal v.index ∷ decimal v.time ∷ [])
 
 -- the text that is written for visits: a line for each
 abbrev pub visits_text : List Visit → List ℕ

@@ -11,17 +11,22 @@ use Rattle.ending.specs.Ending.{End, answered_with, gave_up}
 use Rattle.ending.specs.Rewriting.{EndsWriting}
 use Rattle.plan_commands.specs.DepsText.{deps_text}
 
--- What the output got and how the command ended: the text of the timetable's dependencies, with all its rotations, or a beginning of it
--- where the output failed; nothing where there is no timetable.
-abbrev pub EndsByDeps : {W : Type 0} → (W → Option (List ℕ)) → Counted W → Counted W → End → Result Timetable PlannedFault → Type 0
+-- What the output got and how the command ended: the text of the timetable's dependencies, with all
+-- its rotations, or a beginning of it where the output failed; nothing where there is no timetable.
+abbrev pub EndsByDeps : {W : Type 0} → (W → Option (List ℕ)) → Counted W → Counted W → End
+    → Result Timetable PlannedFault → Type 0
 EndsByDeps contents old new end (Ok tt) =
-    (turns : List Turn) × AreRotations tt turns × EndsWriting contents old new (answered_with Done) end (deps_text tt turns)
-EndsByDeps contents old new end (Err fault) = (end ≡ gave_up (planned_fault_words fault)) × (new ≡ old)
+    (turns : List Turn) × AreRotations tt turns
+    × EndsWriting contents old new (answered_with Done) end (deps_text tt turns)
+EndsByDeps contents old new end (Err fault) =
+    (end ≡ gave_up (planned_fault_words fault)) × (new ≡ old)
 
 -- the texts were read and the plan was checked, and the command ended by that
 pub record AnswersDeps
-    {M P W : Type 0} (map_left : M → Option (List ℕ)) (plan_left : P → Option (List ℕ)) (contents : W → Option (List ℕ))
-    (old_map new_map : Counted M) (old_plan new_plan : Counted P) (old_out new_out : Counted W) (end : End) : Type 0 where
+    {M P W : Type 0} (map_left : M → Option (List ℕ)) (plan_left : P → Option (List ℕ))
+    (contents : W → Option (List ℕ))
+    (old_map new_map : Counted M) (old_plan new_plan : Counted P) (old_out new_out : Counted W)
+    (end : End) : Type 0 where
   pub answer : Result Timetable PlannedFault
   pub reads : ReadsTimetable map_left plan_left old_map new_map old_plan new_plan answer
   pub ends : EndsByDeps contents old_out new_out end answer

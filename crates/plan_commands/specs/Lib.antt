@@ -1,4 +1,5 @@
--- What has to be believed, in the order in which to read it: each promise of the crate is made in these words, and in those of
+-- What has to be believed, in the order in which to read it: each promise of the crate is made in
+-- these words, and in those of
 -- `model`, `planned` and `text_commands`.
 
 -- the words of why no positions are written, or a plan continues no other

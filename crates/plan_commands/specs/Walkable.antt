@@ -1,8 +1,10 @@
--- Which plans can be walked, agent by agent, and what is wrong with the others (Stern et al. 2019, "Classical MAPF").
+-- Which plans can be walked, agent by agent, and what is wrong with the others (Stern et al. 2019,
+-- "Classical MAPF").
 use Rattle.std.specs.Prelude.{⊤}
 use Rattle.grid.specs.Map.{Grid}
 use Rattle.model.specs.declared.plan_fault.PlanFault.{PlanFault}
-use Rattle.model.specs.declared.plan_fault.PlanFault.TheVariants.{BadStart, BadMove, Vertex, Swap, OutOfMemory}
+use Rattle.model.specs.declared.plan_fault.PlanFault.TheVariants.{BadStart, BadMove, Vertex}
+use Rattle.model.specs.declared.plan_fault.PlanFault.TheVariants.{Swap, OutOfMemory}
 use Rattle.model.specs.Plan.{Plan, HasPlanFault, key_of, IsBefore}
 
 -- a fault of one agent by itself: its start, or a move
@@ -21,4 +23,5 @@ IsWalkable m p = (fault : PlanFault) → IsOfOneAgent fault → HasPlanFault m p
 pub record IsLeastOfOneAgent (m : Grid) (p : Plan) (fault : PlanFault) : Type 0 where
   pub of_one : IsOfOneAgent fault
   pub has : HasPlanFault m p fault
-  pub first : (other : PlanFault) → IsOfOneAgent other → HasPlanFault m p other → IsBefore (key_of other) (key_of fault) → ⊥
+  pub first : (other : PlanFault) → IsOfOneAgent other → HasPlanFault m p other
+      → IsBefore (key_of other) (key_of fault) → ⊥

@@ -23,8 +23,10 @@ pub(crate) fn put_cells<W: Write>(
     numerals: &[Numeral],
 ) -> Result<(), WriteFault>
     requires { AreNumerals numerals.now }
-    ensures ok { OnOk result (Puts W.contents sink.old sink.new (spaced_numbers (numbers_of cells.now))) }
-    ensures err { OnErr result (Breaks W.contents sink.old sink.new (spaced_numbers (numbers_of cells.now))) }
+    ensures ok { OnOk result
+        (Puts W.contents sink.old sink.new (spaced_numbers (numbers_of cells.now))) }
+    ensures err { OnErr result
+        (Breaks W.contents sink.old sink.new (spaced_numbers (numbers_of cells.now))) }
 {
     let mut bytes = [0; ROOM];
     for piece in cells.chunks(PIECE) {
@@ -43,8 +45,10 @@ fn put_piece<W: Write>(
     requires cells { length cells.now ≤ 256 }
     requires room { length bytes.old ≡ 3584 }
     requires numerals { AreNumerals numerals.now }
-    ensures ok { OnOk result (Puts W.contents sink.old sink.new (spaced_numbers (numbers_of cells.now))) }
-    ensures err { OnErr result (Breaks W.contents sink.old sink.new (spaced_numbers (numbers_of cells.now))) }
+    ensures ok { OnOk result
+        (Puts W.contents sink.old sink.new (spaced_numbers (numbers_of cells.now))) }
+    ensures err { OnErr result
+        (Breaks W.contents sink.old sink.new (spaced_numbers (numbers_of cells.now))) }
 {
     match line_up(cells, numerals, bytes) {
         Some(len) => sink.put(&bytes[..len]),
@@ -52,13 +56,15 @@ fn put_piece<W: Write>(
     }
 }
 
-/// Lines up the numerals of the cells in the first bytes, so many; or answers none, where one isn't kept.
+/// Lines up the numerals of the cells in the first bytes, so many; or answers none, where one isn't
+/// kept.
 fn line_up(cells: &[Cell], numerals: &[Numeral], bytes: &mut [u8]) -> Option<usize>
     requires cells { length cells.now ≤ 256 }
     requires room { length bytes.old ≡ 3584 }
     requires numerals { AreNumerals numerals.now }
     ensures fits { MatchOption result (Unit {0}) (λ len. len ≤ length bytes.new) }
-    ensures text { MatchOption result (Unit {0}) (λ len. take len bytes.new ≡ spaced_numbers (numbers_of cells.now)) }
+    ensures text { MatchOption result (Unit {0})
+        (λ len. take len bytes.new ≡ spaced_numbers (numbers_of cells.now)) }
 {
     let mut len = 0;
     for cell in cells {
@@ -75,8 +81,10 @@ fn line_up(cells: &[Cell], numerals: &[Numeral], bytes: &mut [u8]) -> Option<usi
 /// Puts the text of cells, some of whose numerals are not kept.
 #[cold]
 fn put_far_cells<W: Write>(sink: &mut Sink<'_, W>, cells: &[Cell]) -> Result<(), WriteFault>
-    ensures ok { OnOk result (Puts W.contents sink.old sink.new (spaced_numbers (numbers_of cells.now))) }
-    ensures err { OnErr result (Breaks W.contents sink.old sink.new (spaced_numbers (numbers_of cells.now))) }
+    ensures ok { OnOk result
+        (Puts W.contents sink.old sink.new (spaced_numbers (numbers_of cells.now))) }
+    ensures err { OnErr result
+        (Breaks W.contents sink.old sink.new (spaced_numbers (numbers_of cells.now))) }
 {
     for cell in cells {
         put_far_cell(sink, *cell)?;
@@ -86,8 +94,10 @@ fn put_far_cells<W: Write>(sink: &mut Sink<'_, W>, cells: &[Cell]) -> Result<(),
 
 /// Puts the column and the row of a cell.
 fn put_far_cell<W: Write>(sink: &mut Sink<'_, W>, cell: Cell) -> Result<(), WriteFault>
-    ensures ok { OnOk result (Puts W.contents sink.old sink.new (spaced_numbers (cell.x ∷ cell.y ∷ []))) }
-    ensures err { OnErr result (Breaks W.contents sink.old sink.new (spaced_numbers (cell.x ∷ cell.y ∷ []))) }
+    ensures ok { OnOk result
+        (Puts W.contents sink.old sink.new (spaced_numbers (cell.x ∷ cell.y ∷ []))) }
+    ensures err { OnErr result
+        (Breaks W.contents sink.old sink.new (spaced_numbers (cell.x ∷ cell.y ∷ []))) }
 {
     sink.put_number_after(b' ', cell.x as u64)?;
     sink.put_number_after(b' ', cell.y as u64)

@@ -30,7 +30,8 @@ pub(crate) enum ContinuationFault {
 }
 
 impl ContinuationFault {
-    /// The words in which it is told: those of the inner fault. An explanation knows which plan has it.
+    /// The words in which it is told: those of the inner fault. An explanation knows which plan has
+    /// it.
     pub(crate) fn words(self) -> FaultWords
         ensures { words_of result ≡ continuation_fault_words self }
     {

@@ -4,7 +4,9 @@ ghost use Rattle.ending.specs.Ending.{EndsAndTells, answered_with, end_of};
 ghost use Rattle.ending.specs.declared.status.Status.TheVariants.{Done};
 ghost use Rattle.continuing.specs.Departing.{IsContinueFault};
 ghost use Rattle.ending.specs.Rewriting.{EndsByLine};
-ghost use Rattle.plan_commands.specs.ContinuesCommand.{AnswersContinues, IsContinuation, JudgesPlans, ReadsContinuation, continuation_line};
+ghost use Rattle.plan_commands.specs.ContinuesCommand.{AnswersContinues, IsContinuation};
+ghost use Rattle.plan_commands.specs.ContinuesCommand.{JudgesPlans, ReadsContinuation};
+ghost use Rattle.plan_commands.specs.ContinuesCommand.{continuation_line};
 
 use crate::continuation_fault::ContinuationFault;
 use checker::check;
@@ -27,7 +29,8 @@ pub fn continues_cmd<M: Read, O: Read, N: Read, W: Write, E: Write>(
     err: &mut Counted<E>,
 ) -> u8
     ensures { EndsAndTells
-        (AnswersContinues M.remaining O.remaining N.remaining W.contents map.old map.new old.old old.new new.old new.new out.old out.new)
+        (AnswersContinues M.remaining O.remaining N.remaining W.contents map.old map.new old.old
+        old.new new.old new.new out.old out.new)
         E.contents err.old err.new result }
 {
     conclude(perform(alloc, map, old, new, out), err)
@@ -42,7 +45,8 @@ pub fn perform<M: Read, O: Read, N: Read, W: Write>(
     new: &mut Counted<N>,
     out: &mut Counted<W>,
 ) -> Ending
-    ensures { AnswersContinues M.remaining O.remaining N.remaining W.contents map.old map.new old.old old.new new.old new.new
+    ensures { AnswersContinues M.remaining O.remaining N.remaining W.contents map.old map.new
+        old.old old.new new.old new.new
         out.old out.new (end_of result) }
 {
     match read_continuation(alloc, map, old, new) {
@@ -68,7 +72,8 @@ fn read_continuation<M: Read, O: Read, N: Read>(
     old: &mut Counted<O>,
     new: &mut Counted<N>,
 ) -> Result<Continuation, ContinuationFault>
-    ensures { ReadsContinuation M.remaining O.remaining N.remaining map.old map.new old.old old.new new.old new.new result }
+    ensures { ReadsContinuation M.remaining O.remaining N.remaining map.old map.new old.old old.new
+        new.old new.new result }
 {
     let map = read_map(alloc, map)?;
     let old = match read_plan(alloc, old) {
@@ -99,7 +104,8 @@ fn judge(alloc: Global, map: &Map, old: Plan, new: Plan) -> Result<Continuation,
 
 /// What the new plan adds to the old one, or why it doesn't continue it.
 fn compare(old: &Plan, new: &Plan) -> Result<Continuation, ContinueFault>
-    ensures { MatchResult result (IsContinuation old.now new.now) (IsContinueFault old.now new.now) }
+    ensures { MatchResult result (IsContinuation old.now new.now)
+        (IsContinueFault old.now new.now) }
 {
     continues(old, new)?;
     Ok(Continuation {
@@ -110,7 +116,8 @@ fn compare(old: &Plan, new: &Plan) -> Result<Continuation, ContinueFault>
 
 /// Writes the line of what a plan adds.
 fn tell<W: Write>(alloc: Global, continuation: Continuation, out: &mut Counted<W>) -> Ending
-    ensures { EndsByLine W.contents out.old out.new (answered_with Done) (end_of result) (continuation_line continuation.time continuation.moves) }
+    ensures { EndsByLine W.contents out.old out.new (answered_with Done) (end_of result)
+        (continuation_line continuation.time continuation.moves) }
 {
     match line_of(alloc, continuation) {
         Ok(line) => {
@@ -122,7 +129,8 @@ fn tell<W: Write>(alloc: Global, continuation: Continuation, out: &mut Counted<W
 }
 
 fn line_of(alloc: Global, continuation: Continuation) -> Result<String, AllocError>
-    ensures { IfOk result (λ line. string_bytes line ≡ continuation_line continuation.time continuation.moves) }
+    ensures { IfOk result
+        (λ line. string_bytes line ≡ continuation_line continuation.time continuation.moves) }
 {
     let Continuation { time, moves } = continuation;
     format!(in alloc; "continues from {time}, adds {moves} moves\n")

@@ -22,7 +22,9 @@ pub fn cut_cmd<M: Read, P: Read, W: Write, E: Write>(
     out: &mut Counted<W>,
     err: &mut Counted<E>,
 ) -> u8
-    ensures { EndsAndTells (AnswersCut M.remaining P.remaining W.contents time map.old map.new plan.old plan.new out.old out.new)
+    ensures { EndsAndTells
+        (AnswersCut M.remaining P.remaining W.contents time map.old map.new plan.old plan.new
+        out.old out.new)
         E.contents err.old err.new result }
 {
     conclude(perform(alloc, map, plan, time, out), err)
@@ -37,7 +39,8 @@ pub fn perform<M: Read, P: Read, W: Write>(
     time: u32,
     out: &mut Counted<W>,
 ) -> Ending
-    ensures { AnswersCut M.remaining P.remaining W.contents time map.old map.new plan.old plan.new out.old out.new (end_of result) }
+    ensures { AnswersCut M.remaining P.remaining W.contents time map.old map.new plan.old plan.new
+        out.old out.new (end_of result) }
 {
     match read_cut(alloc, map, plan, time) {
         Ok(kept) => {

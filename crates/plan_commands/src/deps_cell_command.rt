@@ -22,7 +22,9 @@ pub fn deps_cell_cmd<M: Read, P: Read, W: Write, E: Write>(
     out: &mut Counted<W>,
     err: &mut Counted<E>,
 ) -> u8
-    ensures { EndsAndTells (AnswersDepsCell M.remaining P.remaining W.contents cell map.old map.new plan.old plan.new out.old out.new)
+    ensures { EndsAndTells
+        (AnswersDepsCell M.remaining P.remaining W.contents cell map.old map.new plan.old plan.new
+        out.old out.new)
         E.contents err.old err.new result }
 {
     conclude(perform(alloc, map, plan, cell, out), err)
@@ -37,7 +39,8 @@ pub fn perform<M: Read, P: Read, W: Write>(
     cell: Cell,
     out: &mut Counted<W>,
 ) -> Ending
-    ensures { AnswersDepsCell M.remaining P.remaining W.contents cell map.old map.new plan.old plan.new out.old out.new (end_of result) }
+    ensures { AnswersDepsCell M.remaining P.remaining W.contents cell map.old map.new plan.old
+        plan.new out.old out.new (end_of result) }
 {
     match read_graph(alloc, map, plan) {
         Ok(graph) => {

@@ -18,7 +18,9 @@ pub fn deps_cmd<M: Read, P: Read, W: Write, E: Write>(
     out: &mut Counted<W>,
     err: &mut Counted<E>,
 ) -> u8
-    ensures { EndsAndTells (AnswersDeps M.remaining P.remaining W.contents map.old map.new plan.old plan.new out.old out.new)
+    ensures { EndsAndTells
+        (AnswersDeps M.remaining P.remaining W.contents map.old map.new plan.old plan.new
+        out.old out.new)
         E.contents err.old err.new result }
 {
     conclude(perform(alloc, map, plan, out), err)
@@ -32,7 +34,8 @@ pub fn perform<M: Read, P: Read, W: Write>(
     plan: &mut Counted<P>,
     out: &mut Counted<W>,
 ) -> Ending
-    ensures { AnswersDeps M.remaining P.remaining W.contents map.old map.new plan.old plan.new out.old out.new (end_of result) }
+    ensures { AnswersDeps M.remaining P.remaining W.contents map.old map.new plan.old plan.new
+        out.old out.new (end_of result) }
 {
     match read_dependencies(alloc, map, plan) {
         Ok(dependencies) => {

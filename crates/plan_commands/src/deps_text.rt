@@ -1,12 +1,14 @@
 //! The text of a plan's dependencies.
-ghost use Rattle.std.specs.Prelude.{◌≡◌, ◌<◌, [], ◌∷◌, ◌++◌, codes, decimal, List, Some, length, map, sum_by, count_by, is_some, is_ok, OnOk, OnErr};
+ghost use Rattle.std.specs.Prelude.{◌≡◌, ◌<◌, [], ◌∷◌, ◌++◌, codes, decimal, List, Some};
+ghost use Rattle.std.specs.Prelude.{length, map, sum_by, count_by, is_some, is_ok, OnOk, OnErr};
 ghost use Rattle.text_io.specs.Text.{line_feed, ended, spaced_numbers};
 ghost use Rattle.text_io.specs.Counted.{counted_inner, failures_of};
 ghost use Rattle.text_io.specs.Sink.{held_back, Puts, Breaks};
 ghost use Rattle.text_io.specs.Writing.{WritesText};
 ghost use Rattle.model.specs.Timetable.{Track, moves, track_of};
 ghost use Rattle.depgraph.specs.Rotations.{Turn, AreRotations, turns_of};
-ghost use Rattle.plan_commands.specs.DepsText.{need_lines, all_need_lines, rotation_line, counts_line, deps_text};
+ghost use Rattle.plan_commands.specs.DepsText.{need_lines, all_need_lines, rotation_line};
+ghost use Rattle.plan_commands.specs.DepsText.{counts_line, deps_text};
 ghost use Rattle.plan_commands.specs.Code.Dependencies.{HasNeedsOf, need_text};
 
 use depgraph::{Dependencies, Part, Rotation};
@@ -20,7 +22,9 @@ pub(crate) fn write_deps<W: Write>(
     writer: &mut Counted<W>,
 ) -> Result<(), WriteFault>
     ensures { (turns : List Turn) × AreRotations graph.now turns
-        × WritesText (is_ok result) (W.contents (counted_inner writer.old)) (W.contents (counted_inner writer.new)) (failures_of writer.old) (failures_of writer.new) (deps_text graph.now turns) }
+        × WritesText (is_ok result) (W.contents (counted_inner writer.old))
+        (W.contents (counted_inner writer.new)) (failures_of writer.old) (failures_of writer.new)
+        (deps_text graph.now turns) }
 {
     let rotations = graph.rotations();
     write_with_rotations(graph, rotations, writer)
@@ -34,7 +38,9 @@ fn write_with_rotations<W: Write>(
     rotations: &[Rotation],
     writer: &mut Counted<W>,
 ) -> Result<(), WriteFault>
-    ensures { WritesText (is_ok result) (W.contents (counted_inner writer.old)) (W.contents (counted_inner writer.new)) (failures_of writer.old) (failures_of writer.new) (deps_text graph.now (turns_of rotations.now)) }
+    ensures { WritesText (is_ok result) (W.contents (counted_inner writer.old))
+        (W.contents (counted_inner writer.new)) (failures_of writer.old) (failures_of writer.new)
+        (deps_text graph.now (turns_of rotations.now)) }
 {
     let mut sink = Sink::new(writer);
     put_deps(&mut sink, graph, rotations)
@@ -46,9 +52,11 @@ fn put_deps<W: Write>(
     graph: &Dependencies,
     rotations: &[Rotation],
 ) -> Result<(), WriteFault>
-    ensures ok { OnOk result (Puts W.contents sink.old sink.new (deps_text graph.now (turns_of rotations.now))) }
+    ensures ok { OnOk result
+        (Puts W.contents sink.old sink.new (deps_text graph.now (turns_of rotations.now))) }
     ensures none_held { OnOk result (held_back sink.new ≡ []) }
-    ensures err { OnErr result (Breaks W.contents sink.old sink.new (deps_text graph.now (turns_of rotations.now))) }
+    ensures err { OnErr result
+        (Breaks W.contents sink.old sink.new (deps_text graph.now (turns_of rotations.now))) }
 {
     put_counts(sink, graph.agents(), &count(graph), rotations.len())?;
     put_all_needs(sink, graph)?;
@@ -117,8 +125,12 @@ fn put_counts<W: Write>(
     counts: &Counts,
     rotations: usize,
 ) -> Result<(), WriteFault>
-    ensures ok { OnOk result (Puts W.contents sink.old sink.new (counts_line agents counts.now.moves counts.now.needs rotations ++ line_feed ∷ [])) }
-    ensures err { OnErr result (Breaks W.contents sink.old sink.new (counts_line agents counts.now.moves counts.now.needs rotations ++ line_feed ∷ [])) }
+    ensures ok { OnOk result
+        (Puts W.contents sink.old sink.new
+        (counts_line agents counts.now.moves counts.now.needs rotations ++ line_feed ∷ [])) }
+    ensures err { OnErr result
+        (Breaks W.contents sink.old sink.new
+        (counts_line agents counts.now.moves counts.now.needs rotations ++ line_feed ∷ [])) }
 {
     put_number(sink, b"agents", agents as u64)?;
     put_number(sink, b" moves", counts.moves as u64)?;
@@ -129,8 +141,10 @@ fn put_counts<W: Write>(
 
 /// Puts a line for each move that has a need, of all agents.
 fn put_all_needs<W: Write>(sink: &mut Sink<'_, W>, graph: &Dependencies) -> Result<(), WriteFault>
-    ensures ok { OnOk result (Puts W.contents sink.old sink.new (ended (all_need_lines graph.now 0 graph.now.tracks))) }
-    ensures err { OnErr result (Breaks W.contents sink.old sink.new (ended (all_need_lines graph.now 0 graph.now.tracks))) }
+    ensures ok { OnOk result
+        (Puts W.contents sink.old sink.new (ended (all_need_lines graph.now 0 graph.now.tracks))) }
+    ensures err { OnErr result
+        (Breaks W.contents sink.old sink.new (ended (all_need_lines graph.now 0 graph.now.tracks))) }
 {
     for agent in 0..graph.agents() {
         put_needs(sink, agent, &part_of(graph, agent), moves_of(graph, agent))?;
@@ -146,8 +160,10 @@ fn put_needs<W: Write>(
     moves: u32,
 ) -> Result<(), WriteFault>
     requires { length part.now.needs ≡ moves }
-    ensures ok { OnOk result (Puts W.contents sink.old sink.new (ended (need_lines agent 0 part.now.needs))) }
-    ensures err { OnErr result (Breaks W.contents sink.old sink.new (ended (need_lines agent 0 part.now.needs))) }
+    ensures ok { OnOk result
+        (Puts W.contents sink.old sink.new (ended (need_lines agent 0 part.now.needs))) }
+    ensures err { OnErr result
+        (Breaks W.contents sink.old sink.new (ended (need_lines agent 0 part.now.needs))) }
 {
     for k in 0..moves {
         put_need(sink, agent, k, part.need(k))?;
@@ -155,7 +171,8 @@ fn put_needs<W: Write>(
     Ok(())
 }
 
-/// Puts the line of a move's need, if it has one: another agent, and how many moves that one must have finished.
+/// Puts the line of a move's need, if it has one: another agent, and how many moves that one must
+/// have finished.
 fn put_need<W: Write>(
     sink: &mut Sink<'_, W>,
     agent: u32,
@@ -175,8 +192,10 @@ fn put_need<W: Write>(
 
 /// Puts a line for each rotation.
 fn put_rotations<W: Write>(sink: &mut Sink<'_, W>, rotations: &[Rotation]) -> Result<(), WriteFault>
-    ensures ok { OnOk result (Puts W.contents sink.old sink.new (ended (map rotation_line (turns_of rotations.now)))) }
-    ensures err { OnErr result (Breaks W.contents sink.old sink.new (ended (map rotation_line (turns_of rotations.now)))) }
+    ensures ok { OnOk result
+        (Puts W.contents sink.old sink.new (ended (map rotation_line (turns_of rotations.now)))) }
+    ensures err { OnErr result
+        (Breaks W.contents sink.old sink.new (ended (map rotation_line (turns_of rotations.now)))) }
 {
     for rotation in rotations {
         put_rotation(sink, rotation.step, &rotation.agents)?;
@@ -190,8 +209,12 @@ fn put_rotation<W: Write>(
     step: u32,
     agents: &[u16],
 ) -> Result<(), WriteFault>
-    ensures ok { OnOk result (Puts W.contents sink.old sink.new (rotation_line (record { step = step; agents = agents.now }) ++ line_feed ∷ [])) }
-    ensures err { OnErr result (Breaks W.contents sink.old sink.new (rotation_line (record { step = step; agents = agents.now }) ++ line_feed ∷ [])) }
+    ensures ok { OnOk result
+        (Puts W.contents sink.old sink.new
+        (rotation_line (record { step = step; agents = agents.now }) ++ line_feed ∷ [])) }
+    ensures err { OnErr result
+        (Breaks W.contents sink.old sink.new
+        (rotation_line (record { step = step; agents = agents.now }) ++ line_feed ∷ [])) }
 {
     put_number(sink, b"rotation", step as u64)?;
     put_agents(sink, agents)?;

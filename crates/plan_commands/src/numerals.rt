@@ -12,7 +12,8 @@ const KEPT: u16 = 4096;
 /// A numeral is written into so many bytes.
 pub(crate) const MOST_BYTES: usize = 7;
 
-/// A number with a space before it: the first bytes, so many. All bytes are copied at once, which takes no call.
+/// A number with a space before it: the first bytes, so many. All bytes are copied at once, which
+/// takes no call.
 #[derive(Debug, Drop)]
 pub(crate) struct Numeral {
     bytes: [u8; MOST_BYTES],
@@ -44,7 +45,8 @@ impl Numeral {
         }
     }
 
-    /// Writes the numeral from a place on, and answers where it ends. What stands behind that is overwritten too.
+    /// Writes the numeral from a place on, and answers where it ends. What stands behind that is
+    /// overwritten too.
     pub(crate) fn write(&self, at: usize, bytes: &mut [u8]) -> usize
         requires { at + 7 ≤ length bytes.old }
         ensures count { length bytes.new ≡ length bytes.old }

@@ -32,7 +32,9 @@ pub fn path_cmd<M: Read, P: Read, W: Write, E: Write>(
     out: &mut Counted<W>,
     err: &mut Counted<E>,
 ) -> u8
-    ensures { EndsAndTells (AnswersPath M.remaining P.remaining W.contents agent map.old map.new plan.old plan.new out.old out.new)
+    ensures { EndsAndTells
+        (AnswersPath M.remaining P.remaining W.contents agent map.old map.new plan.old plan.new
+        out.old out.new)
         E.contents err.old err.new result }
 {
     conclude(perform(alloc, map, plan, agent, out), err)
@@ -47,7 +49,8 @@ pub fn perform<M: Read, P: Read, W: Write>(
     agent: Option<u16>,
     out: &mut Counted<W>,
 ) -> Ending
-    ensures { AnswersPath M.remaining P.remaining W.contents agent map.old map.new plan.old plan.new out.old out.new (end_of result) }
+    ensures { AnswersPath M.remaining P.remaining W.contents agent map.old map.new plan.old plan.new
+        out.old out.new (end_of result) }
 {
     match read_walkable(alloc, map, plan) {
         Ok(plan) => show(alloc, &plan, agent, out),
@@ -118,7 +121,8 @@ fn prepare(alloc: Global, courses: &[Course]) -> Result<Prepared, AllocError>
 
 /// The courses of all agents, or that of one, if there is one with the number.
 fn asked(plan: &Plan, agent: Option<u16>) -> Option<&[Course]>
-    ensures { MatchOption result (IsNoAgent plan.now agent) (λ courses. AreAsked plan.now agent courses.now) }
+    ensures { MatchOption result (IsNoAgent plan.now agent)
+        (λ courses. AreAsked plan.now agent courses.now) }
 {
     let courses = plan.courses();
     let Some(agent) = agent else {

@@ -20,7 +20,8 @@ use plan_text::Course;
 use std::io::Write;
 use text_io::{Counted, Sink, WriteFault};
 
-/// Writes the line of each time, from the starts on, and leaves the agents behind the last of them. The writer is not flushed.
+/// Writes the line of each time, from the starts on, and leaves the agents behind the last of them.
+/// The writer is not flushed.
 // Compiled by itself, for its room on the stack.
 #[inline(never)]
 pub(crate) fn write_rows<W: Write>(
@@ -34,7 +35,9 @@ pub(crate) fn write_rows<W: Write>(
     requires stretches { AreStretches courses.now 0 stretches.old }
     requires walked { AllWalked courses.now }
     requires numerals { AreNumerals numerals.now }
-    ensures { WritesText (is_ok result) (W.contents (counted_inner writer.old)) (W.contents (counted_inner writer.new)) (failures_of writer.old) (failures_of writer.new) (path_text (rows_of_courses courses.now)) }
+    ensures { WritesText (is_ok result) (W.contents (counted_inner writer.old))
+        (W.contents (counted_inner writer.new)) (failures_of writer.old) (failures_of writer.new)
+        (path_text (rows_of_courses courses.now)) }
 {
     let mut sink = Sink::new(writer);
     put_rows(&mut sink, courses, cells, stretches, numerals)
@@ -52,9 +55,11 @@ fn put_rows<W: Write>(
     requires stretches { AreStretches courses.now 0 stretches.old }
     requires walked { AllWalked courses.now }
     requires numerals { AreNumerals numerals.now }
-    ensures ok { OnOk result (Puts W.contents sink.old sink.new (path_text (rows_of_courses courses.now))) }
+    ensures ok { OnOk result
+        (Puts W.contents sink.old sink.new (path_text (rows_of_courses courses.now))) }
     ensures none_held { OnOk result (held_back sink.new ≡ []) }
-    ensures err { OnErr result (Breaks W.contents sink.old sink.new (path_text (rows_of_courses courses.now))) }
+    ensures err { OnErr result
+        (Breaks W.contents sink.old sink.new (path_text (rows_of_courses courses.now))) }
 {
     for time in 0..count_of_times(courses) {
         put_row(sink, time, cells, numerals)?;
@@ -86,8 +91,10 @@ fn put_row<W: Write>(
     numerals: &[Numeral],
 ) -> Result<(), WriteFault>
     requires { AreNumerals numerals.now }
-    ensures ok { OnOk result (Puts W.contents sink.old sink.new (path_line time cells.now ++ line_feed ∷ [])) }
-    ensures err { OnErr result (Breaks W.contents sink.old sink.new (path_line time cells.now ++ line_feed ∷ [])) }
+    ensures ok { OnOk result
+        (Puts W.contents sink.old sink.new (path_line time cells.now ++ line_feed ∷ [])) }
+    ensures err { OnErr result
+        (Breaks W.contents sink.old sink.new (path_line time cells.now ++ line_feed ∷ [])) }
 {
     sink.put(Buffer::new().format(time).as_bytes())?;
     put_cells(sink, cells, numerals)?;

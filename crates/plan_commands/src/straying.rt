@@ -5,7 +5,8 @@ ghost use Rattle.model.specs.Plan.{IsPassable, IsBadMove};
 ghost use Rattle.plan_text.specs.Limits.{most_acts, most_agents};
 ghost use Rattle.checker.specs.Moving.{ArePassable, IsFirst};
 ghost use Rattle.plan_commands.specs.Walkable.{IsLeastOfOneAgent};
-ghost use Rattle.plan_commands.specs.Code.Straying.{AllHaveFewActs, GoesItsWay, GoTheirWays, IsLeastMove, sooner_of};
+ghost use Rattle.plan_commands.specs.Code.Straying.{AllHaveFewActs, GoesItsWay, GoTheirWays};
+ghost use Rattle.plan_commands.specs.Code.Straying.{IsLeastMove, sooner_of};
 
 use checker::{bad_start, may_stray, moved};
 use grid::Map;
@@ -22,7 +23,8 @@ pub(crate) struct BadMove {
 
 /// The least fault that an agent has by itself, by its time and then by agent.
 pub(crate) fn fault_of_one_agent(alloc: Global, map: &Map, plan: &Plan) -> Option<PlanFault>
-    ensures { MatchOption result (GoTheirWays map.now plan.now) (IsLeastOfOneAgent map.now plan.now) }
+    ensures { MatchOption result (GoTheirWays map.now plan.now)
+        (IsLeastOfOneAgent map.now plan.now) }
 {
     // A map is narrow enough for one cell more.
     let _width = map.width();
@@ -36,8 +38,8 @@ pub(crate) fn fault_of_one_agent(alloc: Global, map: &Map, plan: &Plan) -> Optio
     }
 }
 
-/// The bad move with the least step, and then of the least agent. It is looked for only where there may be one, or where memory was refused to
-/// what tells that faster.
+/// The bad move with the least step, and then of the least agent. It is looked for only where there
+/// may be one, or where memory was refused to what tells that faster.
 fn find_bad_move(alloc: Global, map: &Map, courses: &[Course]) -> Option<BadMove>
     requires size { IsSize map.now.width map.now.height }
     requires starts { ArePassable map.now courses.now }
@@ -82,7 +84,8 @@ fn bad_step(map: &Map, course: &Course) -> Option<u32>
     requires size { IsSize map.now.width map.now.height }
     requires start { IsPassable map.now course.now.start }
     requires acts { length course.now.acts ≤ most_acts }
-    ensures { MatchOption result (GoesItsWay map.now course.now) (IsFirst (IsBadMove map.now course.now)) }
+    ensures { MatchOption result (GoesItsWay map.now course.now)
+        (IsFirst (IsBadMove map.now course.now)) }
 {
     let acts = course.acts();
     let mut cell = course.start();

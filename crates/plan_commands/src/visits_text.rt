@@ -17,7 +17,9 @@ pub(crate) fn write_visits<W: Write>(
     visits: &[Visit],
     writer: &mut Counted<W>,
 ) -> Result<(), WriteFault>
-    ensures { WritesText (is_ok result) (W.contents (counted_inner writer.old)) (W.contents (counted_inner writer.new)) (failures_of writer.old) (failures_of writer.new) (visits_text visits.now) }
+    ensures { WritesText (is_ok result) (W.contents (counted_inner writer.old))
+        (W.contents (counted_inner writer.new)) (failures_of writer.old) (failures_of writer.new)
+        (visits_text visits.now) }
 {
     let mut sink = Sink::new(writer);
     put_visits(&mut sink, visits)
@@ -37,8 +39,10 @@ fn put_visits<W: Write>(sink: &mut Sink<'_, W>, visits: &[Visit]) -> Result<(), 
 
 /// Puts the line of a visit: the agent, the index of the cell in its path, and the time.
 fn put_visit<W: Write>(sink: &mut Sink<'_, W>, visit: Visit) -> Result<(), WriteFault>
-    ensures ok { OnOk result (Puts W.contents sink.old sink.new (visit_line visit ++ line_feed ∷ [])) }
-    ensures err { OnErr result (Breaks W.contents sink.old sink.new (visit_line visit ++ line_feed ∷ [])) }
+    ensures ok { OnOk result
+        (Puts W.contents sink.old sink.new (visit_line visit ++ line_feed ∷ [])) }
+    ensures err { OnErr result
+        (Breaks W.contents sink.old sink.new (visit_line visit ++ line_feed ∷ [])) }
 {
     let numbers = [visit.agent as u64, visit.index as u64, visit.time as u64];
     sink.put_numbers(b"visit", b' ', &numbers)?;

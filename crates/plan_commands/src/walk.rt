@@ -18,7 +18,8 @@ pub(crate) fn starts(alloc: Global, courses: &[Course]) -> Result<Vec<Cell>, All
     courses.iter().map(|course| course.start()).collect(alloc)
 }
 
-/// The acts of each agent in the first block. They lie together, where those of a plan lie all over memory.
+/// The acts of each agent in the first block. They lie together, where those of a plan lie all over
+/// memory.
 pub(crate) fn first_stretches(alloc: Global, courses: &[Course]) -> Result<Vec<Stretch>, AllocError>
     ensures { IfOk result (λ stretches. AreStretches courses.now 0 stretches.items) }
 {
@@ -69,9 +70,11 @@ fn line_up(courses: &[Course], step: usize, stretches: &mut [Stretch])
 fn walk_on(stretches: &[Stretch], step: usize, cells: &mut [Cell])
     requires step { step < block_steps }
     requires count { length stretches.now ≡ length cells.old }
-    requires range { (i : ℕ) → i < length cells.old → IsCellInRange (cell_by (act_in stretches.now i step) (cell_in cells.old i)) }
+    requires range { (i : ℕ) → i < length cells.old
+        → IsCellInRange (cell_by (act_in stretches.now i step) (cell_in cells.old i)) }
     ensures count { length cells.new ≡ length cells.old }
-    ensures led { (i : ℕ) → i < length cells.old → cell_in cells.new i ≡ cell_by (act_in stretches.now i step) (cell_in cells.old i) }
+    ensures led { (i : ℕ) → i < length cells.old
+        → cell_in cells.new i ≡ cell_by (act_in stretches.now i step) (cell_in cells.old i) }
 {
     for agent in 0..cells.len() {
         cells[agent] = next_cell(cells[agent], stretches[agent].acts()[step]);

@@ -13,8 +13,10 @@ plan_text_fault_words (plan_text_fault.BadHeader line) = text_fault (codes "BadH
 plan_text_fault_words (plan_text_fault.BadNumber line) = text_fault (codes "BadNumber") (line ∷ [])
 plan_text_fault_words (plan_text_fault.TooMany line) = text_fault (codes "TooMany") (line ∷ [])
 plan_text_fault_words (plan_text_fault.BadAgent line) = text_fault (codes "BadAgent") (line ∷ [])
-plan_text_fault_words (plan_text_fault.BadAct line column) = text_fault (codes "BadAct") (line ∷ column ∷ [])
-plan_text_fault_words (plan_text_fault.Unfinished line) = text_fault (codes "Unfinished") (line ∷ [])
+plan_text_fault_words (plan_text_fault.BadAct line column) =
+    text_fault (codes "BadAct") (line ∷ column ∷ [])
+plan_text_fault_words (plan_text_fault.Unfinished line) =
+    text_fault (codes "Unfinished") (line ∷ [])
 plan_text_fault_words (plan_text_fault.TextAfter line) = text_fault (codes "TextAfter") (line ∷ [])
 plan_text_fault_words plan_text_fault.ReadFailed = failed failure.ReadFailed
 plan_text_fault_words plan_text_fault.OutOfMemory = failed failure.OutOfMemory

@@ -41,13 +41,14 @@ pub record SpellsCourse (course : Course) (line : List ℕ) : Type 0 where
 abbrev pub AreCourses : List Course → List (List ℕ) → Type 0
 AreCourses courses [] = courses ≡ []
 AreCourses courses (line ∷ lines) =
-    (course : Course) × (others : List Course) × (courses ≡ course ∷ others) × SpellsCourse course line × AreCourses others lines
+    (course : Course) × (others : List Course) × (courses ≡ course ∷ others)
+    × SpellsCourse course line × AreCourses others lines
 
 abbrev pub header : List ℕ
 header = codes "mapf-plan 1"
 
--- The text spells the plan: its lines, each ended by an LF, are the header, the plan's number, how many agents there are, and one
--- for each agent.
+-- The text spells the plan: its lines, each ended by an LF, are the header, the plan's number, how
+-- many agents there are, and one for each agent.
 pub record PlanText (p : Plan) (text : List ℕ) : Type 0 where
   pub number_line : List ℕ
   pub agents_line : List ℕ
@@ -61,9 +62,12 @@ pub record PlanText (p : Plan) (text : List ℕ) : Type 0 where
 -- the line that is written for an agent
 abbrev pub course_line : Course → List ℕ
 course_line course =
-    join_with_byte space (codes "agent" ∷ decimal course.start.x ∷ decimal course.start.y ∷ acts_text course.acts ∷ [])
+    join_with_byte space
+    (codes "agent" ∷ decimal course.start.x ∷ decimal course.start.y ∷ acts_text
+    course.acts ∷ [])
 
 -- the text that is written for a plan
 abbrev pub canonical_plan_text : Plan → List ℕ
 canonical_plan_text p =
-    ended (header ∷ (codes "number " ++ decimal p.number) ∷ (codes "agents " ++ decimal (length p.courses)) ∷ map course_line p.courses)
+    ended (header ∷ (codes "number " ++ decimal p.number) ∷ (codes "agents "
+    ++ decimal (length p.courses)) ∷ map course_line p.courses)

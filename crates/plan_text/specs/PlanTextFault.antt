@@ -1,21 +1,33 @@
 -- The faults of a plan's text, and where each stands.
-use Rattle.std.specs.Prelude.{◌≡◌, ◌≢◌, ℕ, ◌+◌, ◌^◌, ◌<◌, ◌≤◌, ◌==◌, ◌⊎◌, zero, suc, Bool, ◌||◌, false, IsTrue, List, [], ◌∷◌, ◌++◌, length, codes, Option, Result, Ok, Err, ⊤}
+use Rattle.std.specs.Prelude.{◌≡◌, ◌≢◌, ℕ, ◌+◌, ◌^◌, ◌<◌, ◌≤◌, ◌==◌, ◌⊎◌}
+use Rattle.std.specs.Prelude.{zero, suc, Bool, ◌||◌, false, IsTrue, List, [], ◌∷◌}
+use Rattle.std.specs.Prelude.{◌++◌, length, codes, Option, Result, Ok, Err, ⊤}
 use Rattle.std.specs.List.{list_all, slice_split}
 use Rattle.text_io.specs.Text.{space, BeginsWith}
-use Rattle.text_io.specs.Reading.{by_line_feed, Place, at_line_feed, at_byte, at_end, FaultAt, Outcome, is_value, is_fault, is_failed, is_refused, ReadsText}
+use Rattle.text_io.specs.Reading.{by_line_feed, Place, at_line_feed, at_byte, at_end, FaultAt}
+use Rattle.text_io.specs.Reading.{Outcome, is_value, is_fault, is_failed, is_refused, ReadsText}
 use Rattle.grid.specs.Map.{Grid}
 use Rattle.grid.specs.MapFault.{ReadsMap}
 use Rattle.model.specs.Plan.{Course, Plan}
 use Rattle.plan_text.specs.declared.plan_text_fault.PlanTextFault.{PlanTextFault}
-use Rattle.plan_text.specs.declared.plan_text_fault.PlanTextFault.TheVariants.{BadHeader, BadNumber, TooMany, BadAgent, BadAct, Unfinished, TextAfter, ReadFailed, OutOfMemory}
+use Rattle.plan_text.specs.declared.plan_text_fault.PlanTextFault.TheVariants.{BadHeader}
+use Rattle.plan_text.specs.declared.plan_text_fault.PlanTextFault.TheVariants.{BadNumber}
+use Rattle.plan_text.specs.declared.plan_text_fault.PlanTextFault.TheVariants.{TooMany}
+use Rattle.plan_text.specs.declared.plan_text_fault.PlanTextFault.TheVariants.{BadAgent}
+use Rattle.plan_text.specs.declared.plan_text_fault.PlanTextFault.TheVariants.{BadAct}
+use Rattle.plan_text.specs.declared.plan_text_fault.PlanTextFault.TheVariants.{Unfinished}
+use Rattle.plan_text.specs.declared.plan_text_fault.PlanTextFault.TheVariants.{TextAfter}
+use Rattle.plan_text.specs.declared.plan_text_fault.PlanTextFault.TheVariants.{ReadFailed}
+use Rattle.plan_text.specs.declared.plan_text_fault.PlanTextFault.TheVariants.{OutOfMemory}
 use Rattle.plan_text.specs.Limits.{most_agents, most_acts, most_acts_in_all, IsCourse}
 use Rattle.text_io.specs.Numerals.{IsNumeral}
 use Rattle.text_io.specs.declared.counted.Counted.{Counted}
 use Rattle.text_io.specs.Counted.{counted_inner, failures_of}
 use Rattle.plan_text.specs.PlanText.{no_act, SaysNumber, SpellsCourse, header, PlanText}
 
--- The line that is due, by what the lines before it said: the header, the plan's number, the number of agents, or an agent, where so
--- many agents are due and those before have so many acts. Where no agent is due any more, no line is.
+-- The line that is due, by what the lines before it said: the header, the plan's number, the number
+-- of agents, or an agent, where so many agents are due and those before have so many acts. Where no
+-- agent is due any more, no line is.
 pub data PlanDue : Type 0 where
   header_due number_due agents_due : PlanDue
   agent_due : (left acts : ℕ) → PlanDue
@@ -23,11 +35,14 @@ pub data PlanDue : Type 0 where
 -- the line is right where it is due, and what is due next
 abbrev pub PlanFollows : PlanDue → List ℕ → PlanDue → Type 0
 PlanFollows header_due line next = (line ≡ header) × (next ≡ number_due)
-PlanFollows number_due line next = (n : ℕ) × SaysNumber (codes "number ") n line × (n < 2 ^ 32) × (next ≡ agents_due)
-PlanFollows agents_due line next = (n : ℕ) × SaysNumber (codes "agents ") n line × (n ≤ most_agents) × (next ≡ agent_due n 0)
+PlanFollows number_due line next =
+    (n : ℕ) × SaysNumber (codes "number ") n line × (n < 2 ^ 32) × (next ≡ agents_due)
+PlanFollows agents_due line next =
+    (n : ℕ) × SaysNumber (codes "agents ") n line × (n ≤ most_agents) × (next ≡ agent_due n 0)
 PlanFollows (agent_due zero acts) line next = ⊥
 PlanFollows (agent_due (suc left) acts) line next =
-    (course : Course) × SpellsCourse course line × IsCourse course × (acts + length course.acts ≤ most_acts_in_all)
+    (course : Course) × SpellsCourse course line × IsCourse course
+    × (acts + length course.acts ≤ most_acts_in_all)
     × (next ≡ agent_due left (acts + length course.acts))
 
 -- a line is due
@@ -72,8 +87,11 @@ HasOtherHeader (agent_due left acts) line = ⊥
 -- what should be a number is none, or is out of its range
 abbrev pub HasOtherNumber : PlanDue → List ℕ → Type 0
 HasOtherNumber header_due line = ⊥
-HasOtherNumber number_due line = BeginsWith (codes "number ") line × ((n : ℕ) → SaysNumber (codes "number ") n line → n < 2 ^ 32 → ⊥)
-HasOtherNumber agents_due line = BeginsWith (codes "agents ") line × ((n : ℕ) → SaysNumber (codes "agents ") n line → ⊥)
+HasOtherNumber number_due line =
+    BeginsWith (codes "number ") line
+    × ((n : ℕ) → SaysNumber (codes "number ") n line → n < 2 ^ 32 → ⊥)
+HasOtherNumber agents_due line =
+    BeginsWith (codes "agents ") line × ((n : ℕ) → SaysNumber (codes "agents ") n line → ⊥)
 HasOtherNumber (agent_due zero before) line = ⊥
 HasOtherNumber (agent_due (suc left) before) line =
     (x y acts : List ℕ) × HasParts x y acts line × ((IsCoordinate x → ⊥) ⊎ (IsCoordinate y → ⊥))
@@ -86,7 +104,8 @@ pub record HasStart (acts line : List ℕ) : Type 0 where
   pub is_x : IsCoordinate x
   pub is_y : IsCoordinate y
 
--- Past the front of the line comes the first byte of its acts that is none; `=` alone stands for no act.
+-- Past the front of the line comes the first byte of its acts that is none; `=` alone stands for no
+-- act.
 pub record HasOtherAct (line : List ℕ) (column : ℕ) : Type 0 where
   pub acts : List ℕ
   pub start : HasStart acts line
@@ -111,18 +130,24 @@ HasTooMany (agent_due (suc left) before) line =
     (acts : List ℕ) × HasStart acts line × IsTrue (list_all is_act acts)
     × ((most_acts < length acts) ⊎ (most_acts_in_all < before + length acts))
 
--- The fault of a line at a place, by what was due there; the row of the fault table that each fault has.
+-- The fault of a line at a place, by what was due there; the row of the fault table that each fault
+-- has.
 abbrev pub HasPlanTextFault : PlanTextFault → Place → PlanDue → ℕ → List ℕ → Type 0
-HasPlanTextFault (BadHeader at) place due number line = (at ≡ number) × IsWholeLine place line × HasOtherHeader due line
-HasPlanTextFault (BadNumber at) place due number line = (at ≡ number) × IsWholeLine place line × HasOtherNumber due line
+HasPlanTextFault (BadHeader at) place due number line =
+    (at ≡ number) × IsWholeLine place line × HasOtherHeader due line
+HasPlanTextFault (BadNumber at) place due number line =
+    (at ≡ number) × IsWholeLine place line × HasOtherNumber due line
 HasPlanTextFault (TooMany at) place due number line =
     (at ≡ number)
-    × (((place ≡ at_byte) × IsLineDue due × (length line ≡ longest_plan_line + 1)) ⊎ (IsWholeLine place line × HasTooMany due line))
+    × (((place ≡ at_byte) × IsLineDue due × (length line ≡ longest_plan_line + 1))
+    ⊎ (IsWholeLine place line × HasTooMany due line))
 HasPlanTextFault (BadAgent at) place due number line =
     (at ≡ number) × IsWholeLine place line
-    × (left : ℕ) × (before : ℕ) × (due ≡ agent_due (suc left) before) × ((x y acts : List ℕ) → HasParts x y acts line → ⊥)
+    × (left : ℕ) × (before : ℕ) × (due ≡ agent_due (suc left) before)
+    × ((x y acts : List ℕ) → HasParts x y acts line → ⊥)
 HasPlanTextFault (BadAct at column) place due number line =
-    (at ≡ number) × IsWholeLine place line × (left : ℕ) × (before : ℕ) × (due ≡ agent_due (suc left) before) × HasOtherAct line column
+    (at ≡ number) × IsWholeLine place line × (left : ℕ) × (before : ℕ)
+    × (due ≡ agent_due (suc left) before) × HasOtherAct line column
 HasPlanTextFault (Unfinished at) place due number line =
     (at ≡ number) × (place ≡ at_end) × IsLineDue due × (length line ≤ longest_plan_line)
 HasPlanTextFault (TextAfter at) place due number line =
@@ -131,7 +156,8 @@ HasPlanTextFault (TextAfter at) place due number line =
 HasPlanTextFault ReadFailed place due number line = ⊥
 HasPlanTextFault OutOfMemory place due number line = ⊥
 
--- the fault stands at the place where the text ends, and the lines before are right; each line needs its LF
+-- the fault stands at the place where the text ends, and the lines before are right; each line
+-- needs its LF
 abbrev pub PlanTextFaultAt : PlanTextFault → Place → List ℕ → Type 0
 PlanTextFaultAt = FaultAt by_line_feed PlanFollows HasPlanTextFault header_due
 
@@ -149,12 +175,15 @@ plan_outcome (Err ReadFailed) = is_failed
 plan_outcome (Err OutOfMemory) = is_refused
 
 -- the plan's text was read as `read_plan` reads it, with this answer
-abbrev pub ReadsPlan : {R : Type 0} → (R → Option (List ℕ)) → Counted R → Counted R → Result Plan PlanTextFault → Type 0
+abbrev pub ReadsPlan : {R : Type 0} → (R → Option (List ℕ)) → Counted R → Counted R
+    → Result Plan PlanTextFault → Type 0
 ReadsPlan remaining old new answer =
-    ReadsText PlanText PlanTextFaultAt (remaining (counted_inner old)) (remaining (counted_inner new)) (failures_of old) (failures_of new) (plan_outcome answer)
+    ReadsText PlanText PlanTextFaultAt (remaining (counted_inner old))
+    (remaining (counted_inner new)) (failures_of old) (failures_of new) (plan_outcome answer)
 
 -- a map and a plan were read, in this order
 abbrev pub ReadsMapAndPlan
-    : {M P : Type 0} → (M → Option (List ℕ)) → (P → Option (List ℕ)) → Counted M → Counted M → Counted P → Counted P → Grid → Plan → Type 0
+    : {M P : Type 0} → (M → Option (List ℕ)) → (P → Option (List ℕ)) → Counted M → Counted M
+    → Counted P → Counted P → Grid → Plan → Type 0
 ReadsMapAndPlan map_left plan_left old_map new_map old_plan new_plan m p =
     ReadsMap map_left old_map new_map (Ok m) × ReadsPlan plan_left old_plan new_plan (Ok p)

@@ -1,11 +1,14 @@
 //! The line of an agent.
-ghost use Rattle.std.specs.Prelude.{◌≡◌, ℕ, ◌<◌, ◌≤◌, ◌⊎◌, ◌==◌, suc, true, false, IsTrue, List, [], ◌∷◌, length, map, IfOk, MatchOption, MatchResult};
+ghost use Rattle.std.specs.Prelude.{◌≡◌, ℕ, ◌<◌, ◌≤◌, ◌⊎◌, ◌==◌};
+ghost use Rattle.std.specs.Prelude.{suc, true, false, IsTrue, List, []};
+ghost use Rattle.std.specs.Prelude.{◌∷◌, length, map, IfOk, MatchOption, MatchResult};
 ghost use Rattle.std.specs.List.{list_all, prefix_len, slice_split};
 ghost use Rattle.text_io.specs.Text.{space};
 ghost use Rattle.text_io.specs.Reading.{at_line_feed};
 ghost use Rattle.text_io.specs.Numerals.{IsNumeral};
 ghost use Rattle.plan_text.specs.PlanText.{SpellsCourse};
-ghost use Rattle.plan_text.specs.PlanTextFault.{agent_due, longest_plan_line, HasParts, IsCoordinate, is_act, HasPlanTextFault};
+ghost use Rattle.plan_text.specs.PlanTextFault.{agent_due, longest_plan_line, HasParts};
+ghost use Rattle.plan_text.specs.PlanTextFault.{IsCoordinate, is_act, HasPlanTextFault};
 ghost use Rattle.plan_text.specs.Code.PlanLines.{act_by};
 ghost use Rattle.plan_text.specs.declared.plan_text_fault.PlanTextFault.TheVariants.{OutOfMemory as out_of_memory};
 
@@ -23,8 +26,11 @@ pub(crate) fn read_agent(
     number: u64,
 ) -> Result<(Cell, Vec<Act>), PlanTextFault>
     requires { length line.now ≤ longest_plan_line }
-    ensures { MatchResult result (λ agent. SpellsCourse (record { start = agent.0; acts = agent.1.items }) line.now)
-        (λ fault. (fault ≡ out_of_memory) ⊎ ((left before : ℕ) → HasPlanTextFault fault at_line_feed (agent_due (suc left) before) number line.now)) }
+    ensures { MatchResult result
+        (λ agent. SpellsCourse (record { start = agent.0; acts = agent.1.items }) line.now)
+        (λ fault. (fault ≡ out_of_memory)
+        ⊎ ((left before : ℕ)
+        → HasPlanTextFault fault at_line_feed (agent_due (suc left) before) number line.now)) }
 {
     let Some(parts) = Parts::from_line(line) else {
         return Err(PlanTextFault::BadAgent(number));
@@ -53,7 +59,8 @@ struct Parts<'a> {
 impl<'a> Parts<'a> {
     /// The parts of a line that has so many, none of them empty.
     fn from_line(line: &'a [u8]) -> Option<Parts<'a>>
-        ensures { MatchOption result ((x y acts : List ℕ) → HasParts x y acts line.now → ⊥) (λ p. HasParts p.x.now p.y.now p.acts.now line.now) }
+        ensures { MatchOption result ((x y acts : List ℕ) → HasParts x y acts line.now → ⊥)
+            (λ p. HasParts p.x.now p.y.now p.acts.now line.now) }
     {
         let (word, rest) = cut(line)?;
         let (x, rest) = cut(rest)?;
@@ -70,7 +77,8 @@ impl<'a> Parts<'a> {
     }
 
     fn start(&self) -> Option<Cell>
-        ensures { MatchOption result ((IsCoordinate self.now.x.now → ⊥) ⊎ (IsCoordinate self.now.y.now → ⊥))
+        ensures { MatchOption result ((IsCoordinate self.now.x.now → ⊥)
+            ⊎ (IsCoordinate self.now.y.now → ⊥))
             (λ cell. IsNumeral cell.x self.now.x.now × IsNumeral cell.y self.now.y.now) }
     {
         Some(Cell {
@@ -83,7 +91,8 @@ impl<'a> Parts<'a> {
 /// What stands before the first space, and what behind it.
 fn cut(bytes: &[u8]) -> Option<(&[u8], &[u8])>
     ensures { MatchOption result (slice_split (λ b. b == space) bytes.now ≡ bytes.now ∷ [])
-        (λ p. slice_split (λ b. b == space) bytes.now ≡ p.0.now ∷ slice_split (λ b. b == space) p.1.now) }
+        (λ p. slice_split (λ b. b == space) bytes.now
+        ≡ p.0.now ∷ slice_split (λ b. b == space) p.1.now) }
 {
     let place = memchr(b' ', bytes)?;
     Some((&bytes[..place], &bytes[place + 1..]))
@@ -101,7 +110,9 @@ fn coordinate(digits: &[u8]) -> Option<u16>
 
 /// Where the first byte stands that is no act.
 fn other_place(bytes: &[u8]) -> Option<usize>
-    ensures { MatchOption result (IsTrue (list_all is_act bytes.now)) (λ i. (list_all is_act bytes.now ≡ false) × (i ≡ prefix_len is_act bytes.now) × (i < length bytes.now)) }
+    ensures { MatchOption result (IsTrue (list_all is_act bytes.now))
+        (λ i. (list_all is_act bytes.now ≡ false) × (i ≡ prefix_len is_act bytes.now)
+        × (i < length bytes.now)) }
 {
     if are_acts(bytes) {
         return None;
@@ -114,7 +125,8 @@ fn other_place(bytes: &[u8]) -> Option<usize>
     None
 }
 
-/// Whether all bytes are acts. It goes on behind one that is none, so that many bytes can be judged at once.
+/// Whether all bytes are acts. It goes on behind one that is none, so that many bytes can be judged
+/// at once.
 fn are_acts(bytes: &[u8]) -> bool
     ensures { result ≡ list_all is_act bytes.now }
 {
@@ -144,8 +156,8 @@ fn acts_of(alloc: Global, characters: &[u8]) -> Result<Vec<Act>, AllocError>
     Ok(acts)
 }
 
-/// The act of its character. It asks for each act by itself: which one comes can't be foreseen, and a choice between all of them would
-/// become a jump.
+/// The act of its character. It asks for each act by itself: which one comes can't be foreseen, and
+/// a choice between all of them would become a jump.
 fn act_by(b: u8) -> Act
     ensures { result ≡ act_by b }
 {

@@ -3,7 +3,8 @@ ghost use Rattle.std.specs.Prelude.{◌≡◌, ◌≤◌, codes, length, MatchRe
 ghost use Rattle.text_io.specs.Reading.{at_line_feed};
 ghost use Rattle.plan_text.specs.Limits.{most_agents};
 ghost use Rattle.plan_text.specs.PlanText.{SaysNumber, header};
-ghost use Rattle.plan_text.specs.PlanTextFault.{header_due, number_due, agents_due, longest_plan_line, HasPlanTextFault};
+ghost use Rattle.plan_text.specs.PlanTextFault.{header_due, number_due, agents_due};
+ghost use Rattle.plan_text.specs.PlanTextFault.{longest_plan_line, HasPlanTextFault};
 
 use crate::PlanTextFault;
 use crate::plan::MOST_AGENTS;
@@ -12,7 +13,8 @@ use text_io::saturated_numeral;
 /// Refuses a line that is not the header.
 pub(crate) fn read_header(line: &[u8], number: u64) -> Result<(), PlanTextFault>
     requires { length line.now ≤ longest_plan_line }
-    ensures { MatchResult result (λ _. line.now ≡ header) (λ fault. HasPlanTextFault fault at_line_feed header_due number line.now) }
+    ensures { MatchResult result (λ _. line.now ≡ header)
+        (λ fault. HasPlanTextFault fault at_line_feed header_due number line.now) }
 {
     if line != b"mapf-plan 1".as_slice() {
         return Err(PlanTextFault::BadHeader(number));
@@ -23,7 +25,8 @@ pub(crate) fn read_header(line: &[u8], number: u64) -> Result<(), PlanTextFault>
 /// The plan's number, from its line.
 pub(crate) fn read_number(line: &[u8], number: u64) -> Result<u32, PlanTextFault>
     requires { length line.now ≤ longest_plan_line }
-    ensures { MatchResult result (λ n. SaysNumber (codes "number ") n line.now) (λ fault. HasPlanTextFault fault at_line_feed number_due number line.now) }
+    ensures { MatchResult result (λ n. SaysNumber (codes "number ") n line.now)
+        (λ fault. HasPlanTextFault fault at_line_feed number_due number line.now) }
 {
     let Some(digits) = line.strip_prefix(b"number ") else {
         return Err(PlanTextFault::BadHeader(number));

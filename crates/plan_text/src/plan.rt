@@ -1,5 +1,6 @@
 //! Plans: a number, and for each agent a start and its acts.
-ghost use Rattle.std.specs.Prelude.{◌≡◌, ◌+◌, ◌<◌, ◌⊎◌, ◌↔◌, [], ◌∷◌, ◌++◌, length, take, Err, OnOk, OnErr, Some};
+ghost use Rattle.std.specs.Prelude.{◌≡◌, ◌+◌, ◌<◌, ◌⊎◌, ◌↔◌, [], ◌∷◌};
+ghost use Rattle.std.specs.Prelude.{◌++◌, length, take, Err, OnOk, OnErr, Some};
 ghost use Rattle.plan_text.specs.declared.plan.PushFault.TheVariants.{OutOfMemory as out_of_memory};
 ghost use Rattle.text_io.specs.FaultWords.{words_of, words_text};
 ghost use Rattle.plan_text.specs.FaultWords.{push_fault_words};
@@ -24,7 +25,8 @@ const MOST_ACTS_IN_ALL: usize = 16_777_216;
 /// Why an agent was not added to a plan.
 #[derive(Clone, Copy, Debug, PartialEq, Eq, Error)]
 pub enum PushFault {
-    /// The plan would pass its limits: 10,000 agents, 65,535 acts of an agent, 16,777,216 acts in all.
+    /// The plan would pass its limits: 10,000 agents, 65,535 acts of an agent, 16,777,216 acts in
+    /// all.
     TooMany,
     OutOfMemory,
 }
@@ -103,7 +105,8 @@ impl Course {
     }
 }
 
-/// A plan within its limits: its number, and for each agent, agent 0 first, a start and the acts, a byte each.
+/// A plan within its limits: its number, and for each agent, agent 0 first, a start and the acts, a
+/// byte each.
 #[derive(Debug, Drop)]
 pub struct Plan {
     number: u32,
@@ -120,11 +123,13 @@ impl Model for Plan {
 
     ghost view = { λ p. record { number = p.number; courses = p.courses.items } };
 
-    ghost invariant = { λ p. IsPlan (record { number = p.number; courses = p.courses.items }) × (p.acts_in_all ≡ acts_in p.courses.items) };
+    ghost invariant = { λ p. IsPlan (record { number = p.number; courses = p.courses.items })
+        × (p.acts_in_all ≡ acts_in p.courses.items) };
 }
 
 impl Plan {
-    ghost use Rattle.plan_text.specs.Limits.{most_agents, most_acts, most_acts_in_all, acts_in, IsPlan};
+    ghost use Rattle.plan_text.specs.Limits.{most_agents, most_acts, most_acts_in_all};
+    ghost use Rattle.plan_text.specs.Limits.{acts_in, IsPlan};
 
     /// The plan with this number and no agent.
     pub fn new(alloc: Global, number: u32) -> Plan
@@ -140,8 +145,11 @@ impl Plan {
 
     /// Adds an agent, behind those there are.
     pub fn push(&mut self, start: Cell, acts: Vec<Act>) -> Result<(), PushFault>
-        ensures ok { OnOk result (self.new ≡ record self.old { courses = self.old.courses ++ record { start = start; acts = acts.items } ∷ [] }) }
-        ensures too_many { (result ≡ Err PushFault.TooMany) ↔ (length self.old.courses ≡ most_agents ⊎ ((most_acts < length acts.items)
+        ensures ok { OnOk result
+            (self.new ≡ record self.old
+            { courses = self.old.courses ++ record { start = start; acts = acts.items } ∷ [] }) }
+        ensures too_many { (result ≡ Err PushFault.TooMany)
+            ↔ (length self.old.courses ≡ most_agents ⊎ ((most_acts < length acts.items)
             ⊎ (most_acts_in_all < acts_in self.old.courses + length acts.items))) }
         ensures err { OnErr result (self.new ≡ self.old) }
     {

@@ -6,7 +6,8 @@ ghost use Rattle.text_io.specs.Lines.{HasTaken};
 ghost use Rattle.text_io.specs.Reading.{ReadsText};
 ghost use Rattle.plan_text.specs.Limits.{IsPlan};
 ghost use Rattle.plan_text.specs.PlanText.{PlanText};
-ghost use Rattle.plan_text.specs.PlanTextFault.{IsLineDue, longest_plan_line, PlanTextFaultAt, plan_outcome};
+ghost use Rattle.plan_text.specs.PlanTextFault.{IsLineDue, longest_plan_line};
+ghost use Rattle.plan_text.specs.PlanTextFault.{PlanTextFaultAt, plan_outcome};
 ghost use Rattle.plan_text.specs.Code.PlanLines.{due_seen, PlanAdds, PlanRefuses, HasReadPlan};
 
 use crate::agent_line::read_agent;
@@ -19,10 +20,11 @@ use text_io::{Counted, LARGE_PIECE, Source, TakenLine};
 /// A line of a plan has no more bytes before its LF.
 const LONGEST_LINE: usize = 65_553;
 
-/// Reads a plan, the whole text. The first fault is answered; a reader that fails is not read again, and the answer is then the
-/// fault that its bytes decide, or else `ReadFailed`.
+/// Reads a plan, the whole text. The first fault is answered; a reader that fails is not read
+/// again, and the answer is then the fault that its bytes decide, or else `ReadFailed`.
 pub fn read_plan<R: Read>(alloc: Global, reader: &mut Counted<R>) -> Result<Plan, PlanTextFault>
-    ensures { ReadsText PlanText PlanTextFaultAt (R.remaining (counted_inner reader.old)) (R.remaining (counted_inner reader.new))
+    ensures { ReadsText PlanText PlanTextFaultAt (R.remaining (counted_inner reader.old))
+        (R.remaining (counted_inner reader.new))
         (failures_of reader.old) (failures_of reader.new) (plan_outcome result) }
 {
     let mut source = Source::new(reader);
@@ -36,8 +38,11 @@ fn read_lines<R: Read>(
 ) -> Result<Plan, PlanTextFault>
     requires { HasTaken R.remaining (source_reader source.old) source.old [] }
     ensures same_reader { source.new.reader.ghost_name ≡ source.old.reader.ghost_name }
-    ensures reads { ReadsText PlanText PlanTextFaultAt (R.remaining (counted_inner (source_reader source.old))) (R.remaining (counted_inner (source_reader source.new)))
-        (failures_of (source_reader source.old)) (failures_of (source_reader source.new)) (plan_outcome result) }
+    ensures reads { ReadsText PlanText PlanTextFaultAt
+        (R.remaining (counted_inner (source_reader source.old)))
+        (R.remaining (counted_inner (source_reader source.new)))
+        (failures_of (source_reader source.old)) (failures_of (source_reader source.new))
+        (plan_outcome result) }
 {
     text_io::laws::places();
     let mut room = [0; LONGEST_LINE];
@@ -98,8 +103,11 @@ impl Progress {
     fn add_line(&mut self, alloc: Global, line: &[u8], number: u64) -> Result<(), PlanTextFault>
         requires due { IsLineDue (due_seen self.old.due self.old.plan) }
         requires short { length line.now ≤ longest_plan_line }
-        ensures { (lines : List (List ℕ)) → HasReadPlan (due_seen self.old.due self.old.plan) self.old.plan lines → MatchResult result
-            (λ _. PlanAdds (due_seen self.old.due self.old.plan) self.old.plan line.now (due_seen self.new.due self.new.plan) self.new.plan)
+        ensures { (lines : List (List ℕ))
+            → HasReadPlan (due_seen self.old.due self.old.plan) self.old.plan lines
+            → MatchResult result
+            (λ _. PlanAdds (due_seen self.old.due self.old.plan) self.old.plan line.now
+            (due_seen self.new.due self.new.plan) self.new.plan)
             (PlanRefuses (due_seen self.old.due self.old.plan) number line.now) }
     {
         match self.due {

@@ -13,11 +13,15 @@ use Rattle.proof_text.specs.ProofText.{ProofDue, ProofLeads, header_due, nodes_d
 use Rattle.proof_check.specs.declared.leaf.AgentAtLeaf.{AgentAtLeaf}
 use Rattle.proof_check.specs.declared.leaf.LowLeaf.{LowLeaf}
 
--- There is one for each agent: it is asked all that the demands ask of it, and costs so much at least.
-pub record AreAgentsAt (m : Grid) (ends : List Ends) (demands : List Demand) (agents : List AgentAtLeaf) : Type 0 where
+-- There is one for each agent: it is asked all that the demands ask of it, and costs so much at
+-- least.
+pub record AreAgentsAt (m : Grid) (ends : List Ends) (demands : List Demand)
+    (agents : List AgentAtLeaf) : Type 0 where
   pub count : length agents ≡ length ends
-  pub asked : (k : ℕ) (agent : AgentAtLeaf) → slice_get agents k ≡ Some agent → agent.asked.items ≡ constraints_of demands k
-  pub least : (k : ℕ) (agent : AgentAtLeaf) (own : Ends) → slice_get agents k ≡ Some agent → slice_get ends k ≡ Some own
+  pub asked : (k : ℕ) (agent : AgentAtLeaf) → slice_get agents k ≡ Some agent
+      → agent.asked.items ≡ constraints_of demands k
+  pub least : (k : ℕ) (agent : AgentAtLeaf) (own : Ends) → slice_get agents k ≡ Some agent
+      → slice_get ends k ≡ Some own
       → IsLeastCost m own (constraints_of demands k) agent.least
 
 -- a node is due next, and these are the agents there
@@ -29,7 +33,8 @@ pub record IsDue (m : Grid) (ends : List Ends) (due : ProofDue) (leaf : LowLeaf)
   pub agents : AreAgentsAt m ends here.demands leaf.agents.items
 
 -- The lines before the one with this number were read, and are right: behind them the leaf is due.
-pub record ShowsLeaf (m : Grid) (ends : List Ends) (number : ℕ) (old_left new_left : Option (List ℕ)) (leaf : LowLeaf) : Type 0 where
+pub record ShowsLeaf (m : Grid) (ends : List Ends) (number : ℕ)
+    (old_left new_left : Option (List ℕ)) (leaf : LowLeaf) : Type 0 where
   pub delivered : List ℕ
   pub consumed : Consumes old_left new_left delivered
   pub before : List (List ℕ)

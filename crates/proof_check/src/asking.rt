@@ -48,7 +48,8 @@ pub(crate) fn add_second(
     ends: &[Ends],
 ) -> Result<(), AllocError>
     requires { node_time node < 65536 }
-    ensures { IfOk result (λ _. demands.new.items ≡ demands.old.items ++ second_demands ends.now node) }
+    ensures { IfOk result
+        (λ _. demands.new.items ≡ demands.old.items ++ second_demands ends.now node) }
 {
     match node {
         Node::Vertex(_, j, t, c) => demands.push(only(j, Constraint::Away(t, c)))?,

@@ -1,11 +1,13 @@
 //! Judging the nodes of a tree.
-ghost use Rattle.std.specs.Prelude.{◌≡◌, ◌<◌, ◌≤◌, ◌++◌, ◌∷◌, [], IfOk, MatchOption, length, slice_get, take};
+ghost use Rattle.std.specs.Prelude.{◌≡◌, ◌<◌, ◌≤◌, ◌++◌, ◌∷◌, []};
+ghost use Rattle.std.specs.Prelude.{IfOk, MatchOption, length, slice_get, take};
 ghost use Rattle.grid.specs.Map.{Grid};
 ghost use Rattle.optimality.specs.declared.constraint.Ends.{Ends as ends_type};
 ghost use Rattle.optimality.specs.Constraints.{constraints_of};
 ghost use Rattle.optimality.specs.Judging.{AreAtLeast, LeafIsLow, LeafStands};
 ghost use Rattle.optimality.specs.Walkers.{CostsAtLeast, IsLeastCost};
-ghost use Rattle.proof_check.specs.Code.Trails.{AreFoundLeast, AreTables, IsTimely, IsTrail, child_demands};
+ghost use Rattle.proof_check.specs.Code.Trails.{AreFoundLeast, AreTables, IsTimely};
+ghost use Rattle.proof_check.specs.Code.Trails.{IsTrail, child_demands};
 
 use crate::asking::{concerns, put_constraints};
 use crate::totals::{limit_beside, total_below};
@@ -43,7 +45,8 @@ impl<'a> Judge<'a> {
     ) -> Result<Judge<'a>, AllocError>
         ensures ends { IfOk result (λ j. j.ends ≡ ends) }
         ensures tables { IfOk result (λ j. AreTables legal.now ends.items j.tables.items) }
-        ensures trail { IfOk result (λ j. IsTrail legal.now ends.items j.trail.demands.items j.trail.kept.items) }
+        ensures trail { IfOk result
+            (λ j. IsTrail legal.now ends.items j.trail.demands.items j.trail.kept.items) }
         ensures demands { IfOk result (λ j. j.trail.demands.items ≡ []) }
     {
         let mut tables = Vec::new(alloc);
@@ -68,9 +71,13 @@ impl<'a> Judge<'a> {
         requires timely { IsTimely child }
         ensures ends { IfOk result (λ _. self.new.ends ≡ self.old.ends) }
         ensures tables { IfOk result (λ _. self.new.tables.items ≡ self.old.tables.items) }
-        ensures demands { IfOk result (λ _. self.new.trail.demands.items ≡ take asked self.old.trail.demands.items ++ child_demands self.old.ends.items child) }
-        ensures trail { (m : Grid) → AreTables m self.old.ends.items self.old.tables.items → IsTrail m self.old.ends.items self.old.trail.demands.items self.old.trail.kept.items
-            → IfOk result (λ _. IsTrail m self.old.ends.items self.new.trail.demands.items self.new.trail.kept.items) }
+        ensures demands { IfOk result
+            (λ _. self.new.trail.demands.items ≡ take asked self.old.trail.demands.items
+            ++ child_demands self.old.ends.items child) }
+        ensures trail { (m : Grid) → AreTables m self.old.ends.items self.old.tables.items
+            → IsTrail m self.old.ends.items self.old.trail.demands.items self.old.trail.kept.items
+            → IfOk result (λ _. IsTrail m self.old.ends.items self.new.trail.demands.items
+            self.new.trail.kept.items) }
     {
         self.trail.go_back(asked);
         self.trail.add(child, &self.ends)?;
@@ -82,8 +89,10 @@ impl<'a> Judge<'a> {
         ensures ends { IfOk result (λ _. self.new.ends ≡ self.old.ends) }
         ensures tables { IfOk result (λ _. self.new.tables.items ≡ self.old.tables.items) }
         ensures demands { IfOk result (λ _. self.new.trail.demands ≡ self.old.trail.demands) }
-        ensures trail { (m : Grid) → AreTables m self.old.ends.items self.old.tables.items → IsTrail m self.old.ends.items self.old.trail.demands.items self.old.trail.kept.items
-            → IfOk result (λ _. IsTrail m self.old.ends.items self.new.trail.demands.items self.new.trail.kept.items) }
+        ensures trail { (m : Grid) → AreTables m self.old.ends.items self.old.tables.items
+            → IsTrail m self.old.ends.items self.old.trail.demands.items self.old.trail.kept.items
+            → IfOk result (λ _. IsTrail m self.old.ends.items self.new.trail.demands.items
+            self.new.trail.kept.items) }
     {
         if let Some(agent) = self.trail.only_agent(asked) {
             return self.look_at(agent, asked, aim);
@@ -94,13 +103,16 @@ impl<'a> Judge<'a> {
         Ok(())
     }
 
-    /// Looks for what an agent costs, where that isn't known, unless all leaves below stand whatever it is.
+    /// Looks for what an agent costs, where that isn't known, unless all leaves below stand
+    /// whatever it is.
     fn look_at(&mut self, agent: usize, asked: usize, aim: Aim) -> Result<(), StepFault>
         ensures ends { IfOk result (λ _. self.new.ends ≡ self.old.ends) }
         ensures tables { IfOk result (λ _. self.new.tables.items ≡ self.old.tables.items) }
         ensures demands { IfOk result (λ _. self.new.trail.demands ≡ self.old.trail.demands) }
-        ensures trail { (m : Grid) → AreTables m self.old.ends.items self.old.tables.items → IsTrail m self.old.ends.items self.old.trail.demands.items self.old.trail.kept.items
-            → IfOk result (λ _. IsTrail m self.old.ends.items self.new.trail.demands.items self.new.trail.kept.items) }
+        ensures trail { (m : Grid) → AreTables m self.old.ends.items self.old.tables.items
+            → IsTrail m self.old.ends.items self.old.trail.demands.items self.old.trail.kept.items
+            → IfOk result (λ _. IsTrail m self.old.ends.items self.new.trail.demands.items
+            self.new.trail.kept.items) }
     {
         if self.is_as_before(agent, asked) {
             return Ok(());
@@ -117,8 +129,10 @@ impl<'a> Judge<'a> {
 
     /// What an agent is known to cost at least.
     fn cost_of(&self, agent: usize) -> u32
-        ensures { (m : Grid) (own : ends_type) → IsTrail m self.now.ends.items self.now.trail.demands.items self.now.trail.kept.items
-            → slice_get self.now.ends.items agent ≡ Some own → CostsAtLeast m own (constraints_of self.now.trail.demands.items agent) result }
+        ensures { (m : Grid) (own : ends_type)
+            → IsTrail m self.now.ends.items self.now.trail.demands.items self.now.trail.kept.items
+            → slice_get self.now.ends.items agent ≡ Some own
+            → CostsAtLeast m own (constraints_of self.now.trail.demands.items agent) result }
     {
         match self.trail.known(agent) {
             Some(kept) => kept.cost,
@@ -147,18 +161,24 @@ impl<'a> Judge<'a> {
         }
     }
 
-    /// What an agent, which is known to cost `from` at least, costs at least under all that is asked of it, if that is below the
-    /// bound.
+    /// What an agent, which is known to cost `from` at least, costs at least under all that is
+    /// asked of it, if that is below the bound.
     fn least(&mut self, agent: usize, from: u32, bound: u32) -> Result<Least, StepFault>
         ensures ends { IfOk result (λ _. self.new.ends ≡ self.old.ends) }
         ensures tables { IfOk result (λ _. self.new.tables.items ≡ self.old.tables.items) }
         ensures trail { IfOk result (λ _. self.new.trail ≡ self.old.trail) }
-        ensures least { (m : Grid) (own : ends_type) → AreTables m self.old.ends.items self.old.tables.items → slice_get self.old.ends.items agent ≡ Some own
+        ensures least { (m : Grid) (own : ends_type)
+            → AreTables m self.old.ends.items self.old.tables.items
+            → slice_get self.old.ends.items agent ≡ Some own
             → CostsAtLeast m own (constraints_of self.old.trail.demands.items agent) from
-            → IfOk result (λ found. CostsAtLeast m own (constraints_of self.old.trail.demands.items agent) found.cost) }
-        ensures costs { (m : Grid) (own : ends_type) → AreTables m self.old.ends.items self.old.tables.items → slice_get self.old.ends.items agent ≡ Some own
+            → IfOk result (λ found. CostsAtLeast m own
+            (constraints_of self.old.trail.demands.items agent) found.cost) }
+        ensures costs { (m : Grid) (own : ends_type)
+            → AreTables m self.old.ends.items self.old.tables.items
+            → slice_get self.old.ends.items agent ≡ Some own
             → CostsAtLeast m own (constraints_of self.old.trail.demands.items agent) from
-            → IfOk result (λ found. found.cost < bound → IsLeastCost m own (constraints_of self.old.trail.demands.items agent) found.cost) }
+            → IfOk result (λ found. found.cost < bound
+            → IsLeastCost m own (constraints_of self.old.trail.demands.items agent) found.cost) }
     {
         let Some(own) = self.ends.get(agent) else {
             return Err(StepFault::NotTight);
@@ -182,8 +202,10 @@ impl<'a> Judge<'a> {
         ensures ends { IfOk result (λ _. self.new.ends ≡ self.old.ends) }
         ensures tables { IfOk result (λ _. self.new.tables.items ≡ self.old.tables.items) }
         ensures trail { IfOk result (λ _. self.new.trail ≡ self.old.trail) }
-        ensures judged { (m : Grid) → AreTables m self.old.ends.items self.old.tables.items → IsTrail m self.old.ends.items self.old.trail.demands.items self.old.trail.kept.items
-            → IfOk result (λ low. MatchOption low (LeafStands m self.old.ends.items aim.objective aim.bound self.old.trail.demands.items)
+        ensures judged { (m : Grid) → AreTables m self.old.ends.items self.old.tables.items
+            → IsTrail m self.old.ends.items self.old.trail.demands.items self.old.trail.kept.items
+            → IfOk result (λ low. MatchOption low
+            (LeafStands m self.old.ends.items aim.objective aim.bound self.old.trail.demands.items)
             (LeafIsLow m self.old.ends.items aim.objective aim.bound self.old.trail.demands.items)) }
     {
         let known = self.known_costs()?;
@@ -197,8 +219,10 @@ impl<'a> Judge<'a> {
 
     /// What each agent is known to cost at least.
     fn known_costs(&self) -> Result<Vec<u32>, AllocError>
-        ensures { (m : Grid) → IsTrail m self.now.ends.items self.now.trail.demands.items self.now.trail.kept.items
-            → IfOk result (λ numbers. AreAtLeast m self.now.ends.items self.now.trail.demands.items numbers.items) }
+        ensures { (m : Grid)
+            → IsTrail m self.now.ends.items self.now.trail.demands.items self.now.trail.kept.items
+            → IfOk result (λ numbers. AreAtLeast m self.now.ends.items self.now.trail.demands.items
+            numbers.items) }
     {
         let mut numbers = Vec::new(self.alloc);
         numbers.reserve(self.ends.len())?;
@@ -213,8 +237,10 @@ impl<'a> Judge<'a> {
         ensures ends { IfOk result (λ _. self.new.ends ≡ self.old.ends) }
         ensures tables { IfOk result (λ _. self.new.tables.items ≡ self.old.tables.items) }
         ensures trail { IfOk result (λ _. self.new.trail ≡ self.old.trail) }
-        ensures found { (m : Grid) → AreTables m self.old.ends.items self.old.tables.items → IsTrail m self.old.ends.items self.old.trail.demands.items self.old.trail.kept.items
-            → IfOk result (λ numbers. AreFoundLeast m self.old.ends.items self.old.trail.demands.items bound numbers.items) }
+        ensures found { (m : Grid) → AreTables m self.old.ends.items self.old.tables.items
+            → IsTrail m self.old.ends.items self.old.trail.demands.items self.old.trail.kept.items
+            → IfOk result (λ numbers. AreFoundLeast m self.old.ends.items
+            self.old.trail.demands.items bound numbers.items) }
     {
         let mut numbers = Vec::new(self.alloc);
         numbers.reserve(self.ends.len())?;

@@ -38,8 +38,9 @@ pub struct LowLeaf {
     pub agents: Vec<AgentAtLeaf>,
 }
 
-/// Reads a proof, of agents that go from these starts to these goals, up to the line with this number, and shows the leaf that is due
-/// there. Where that line can't be that of a leaf that is too low, some fault is answered.
+/// Reads a proof, of agents that go from these starts to these goals, up to the line with this
+/// number, and shows the leaf that is due there. Where that line can't be that of a leaf that is
+/// too low, some fault is answered.
 pub fn leaf_at<R: Read>(
     alloc: Global,
     map: &Map,
@@ -47,7 +48,9 @@ pub fn leaf_at<R: Read>(
     reader: &mut Counted<R>,
     number: u64,
 ) -> Result<LowLeaf, ProofFault>
-    ensures { IfOk result (ShowsLeaf map.now ends.items number (R.remaining (counted_inner reader.old)) (R.remaining (counted_inner reader.new))) }
+    ensures { IfOk result
+        (ShowsLeaf map.now ends.items number (R.remaining (counted_inner reader.old))
+        (R.remaining (counted_inner reader.new))) }
 {
     let mut source = Source::new(reader);
     read_up_to(alloc, map, ends, &mut source, number)
@@ -63,7 +66,9 @@ fn read_up_to<R: Read>(
 ) -> Result<LowLeaf, ProofFault>
     requires { HasTaken R.remaining (source_reader source.old) source.old [] }
     ensures same_reader { source.new.reader.ghost_name ≡ source.old.reader.ghost_name }
-    ensures shows { IfOk result (ShowsLeaf map.now ends.items number (R.remaining (counted_inner (source_reader source.old)))
+    ensures shows { IfOk result
+        (ShowsLeaf map.now ends.items number
+        (R.remaining (counted_inner (source_reader source.old)))
         (R.remaining (counted_inner (source_reader source.new)))) }
 {
     let legal = LegalSteps::of(alloc, map)?;
@@ -82,7 +87,8 @@ impl Progress<'_> {
     /// Goes to the leaf that is due.
     fn low_leaf(&mut self, alloc: Global) -> Result<LowLeaf, ProofFault>
         requires { IsProofLineDue (due_of self.old) }
-        ensures { (m : Grid) (ends : List ends_type) → IsProgress m ends self.old → IfOk result (IsDue m ends (due_of self.old)) }
+        ensures { (m : Grid) (ends : List ends_type) → IsProgress m ends self.old
+            → IfOk result (IsDue m ends (due_of self.old)) }
     {
         let Stage::Nodes(aim) = self.stage else {
             return Err(ProofFault::NotTight);
@@ -101,7 +107,8 @@ impl Progress<'_> {
     }
 }
 
-/// What the demands ask of each agent, beside what it costs at least; each costs less than the bound where the leaf is too low.
+/// What the demands ask of each agent, beside what it costs at least; each costs less than the
+/// bound where the leaf is too low.
 fn agents_asked(
     alloc: Global,
     demands: &[Demand],

@@ -27,14 +27,19 @@ pub(crate) fn read_line<R: Read>(
     number: u64,
 ) -> Result<u64, ProofFault>
     requires due { IsProofLineDue (due_of progress.old) }
-    requires taken { (first : counted_type R) × (before : List (List ℕ)) × HasTaken R.remaining first source.old before }
+    requires taken { (first : counted_type R) × (before : List (List ℕ))
+        × HasTaken R.remaining first source.old before }
     ensures same_reader { source.new.reader.ghost_name ≡ source.old.reader.ghost_name }
     ensures less_left { IfOk result (λ _. most_left source.new < most_left source.old) }
     ensures next { IfOk result (λ next. next ≡ one_more number) }
-    ensures reads { (m : Grid) (ends : List ends_type) (first : counted_type R) → HasReadLines R.remaining first m ends source.old progress.old number
-        → MatchResult result (λ next. HasReadLines R.remaining first m ends source.new progress.new next)
-        (λ fault. ReadsText (ProofText m ends) (ProofFaultAt m ends) (R.remaining (counted_inner first))
-        (R.remaining (counted_inner (source_reader source.new))) (failures_of first) (failures_of (source_reader source.new)) (proof_outcome (Err fault))) }
+    ensures reads { (m : Grid) (ends : List ends_type) (first : counted_type R)
+        → HasReadLines R.remaining first m ends source.old progress.old number
+        → MatchResult result
+        (λ next. HasReadLines R.remaining first m ends source.new progress.new next)
+        (λ fault. ReadsText (ProofText m ends) (ProofFaultAt m ends)
+        (R.remaining (counted_inner first))
+        (R.remaining (counted_inner (source_reader source.new))) (failures_of first)
+        (failures_of (source_reader source.new)) (proof_outcome (Err fault))) }
 {
     text_io::laws::places();
     optimality::laws::leaves();

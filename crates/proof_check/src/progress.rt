@@ -1,5 +1,6 @@
 //! What the lines of a proof have said, and the nodes that are due.
-ghost use Rattle.std.specs.Prelude.{◌≡◌, ◌+◌, ◌≤◌, ◌⊎◌, ◌++◌, ◌∷◌, [], true, Decides, IfOk, List, MatchResult, length};
+ghost use Rattle.std.specs.Prelude.{◌≡◌, ◌+◌, ◌≤◌, ◌⊎◌, ◌++◌, ◌∷◌, []};
+ghost use Rattle.std.specs.Prelude.{true, Decides, IfOk, List, MatchResult, length};
 ghost use Rattle.grid.specs.Map.{Grid};
 ghost use Rattle.optimality.specs.declared.constraint.Ends.{Ends as ends_type};
 ghost use Rattle.optimality.specs.Judging.{LeafStands, children, root};
@@ -9,7 +10,9 @@ ghost use Rattle.proof_text.specs.Code.ProofReading.{IsUnjudged, ProofRefuses};
 ghost use Rattle.proof_text.specs.declared.proof_fault.ProofFault.{ProofFault as fault_type};
 ghost use Rattle.proof_text.specs.declared.proof_fault.ProofFault.TheVariants.{TooMany};
 ghost use Rattle.proof_check.specs.declared.due.DueNode.{DueNode as due_node};
-ghost use Rattle.proof_check.specs.Code.Progressing.{HasGoneTo, HasSplit, IsLeafRefused, IsMisplaced, IsPlaced, IsProgress, IsWithinTree, StaysAt, due_of};
+ghost use Rattle.proof_check.specs.Code.Progressing.{HasGoneTo, HasSplit, IsLeafRefused};
+ghost use Rattle.proof_check.specs.Code.Progressing.{IsMisplaced, IsPlaced, IsProgress};
+ghost use Rattle.proof_check.specs.Code.Progressing.{IsWithinTree, StaysAt, due_of};
 ghost use Rattle.proof_check.specs.Code.Stack.{subtree_of, subtrees};
 ghost use Rattle.proof_check.specs.Code.Trails.{IsTimely, node_time};
 
@@ -55,7 +58,8 @@ impl<'a> Progress<'a> {
         legal: &'a LegalSteps<'a>,
         ends: Vec<Ends>,
     ) -> Result<Progress<'a>, AllocError>
-        ensures progress { legal.now ≡ map.now → IfOk result (λ p. IsProgress map.now ends.items p) }
+        ensures progress { legal.now ≡ map.now
+            → IfOk result (λ p. IsProgress map.now ends.items p) }
         ensures stage { IfOk result (λ p. p.stage ≡ Stage.Header) }
     {
         let judge = Judge::new(alloc, legal, ends)?;
@@ -79,7 +83,8 @@ impl<'a> Progress<'a> {
 
     /// What was said, where no line is due any more.
     pub(crate) fn claim(&self) -> ProofClaim
-        ensures { (IsProofLineDue (due_of self.now) → ⊥) → due_of self.now ≡ nodes_due result.objective result.bound result.nodes [] }
+        ensures { (IsProofLineDue (due_of self.now) → ⊥)
+            → due_of self.now ≡ nodes_due result.objective result.bound result.nodes [] }
     {
         let (objective, bound) = match self.stage {
             Stage::Nodes(aim) => (aim.objective, aim.bound),
@@ -96,8 +101,10 @@ impl<'a> Progress<'a> {
     pub(crate) fn add_line(&mut self, line: &[u8], number: u64) -> Result<(), ProofFault>
         requires due { IsProofLineDue (due_of self.old) }
         requires short { length line.now ≤ longest_proof_line }
-        ensures { (m : Grid) (ends : List ends_type) → IsProgress m ends self.old → MatchResult result
-            (λ _. IsProgress m ends self.new × ProofFollows m ends (due_of self.old) line.now (due_of self.new))
+        ensures { (m : Grid) (ends : List ends_type) → IsProgress m ends self.old
+            → MatchResult result
+            (λ _. IsProgress m ends self.new
+            × ProofFollows m ends (due_of self.old) line.now (due_of self.new))
             (ProofRefuses m ends (due_of self.old) number line.now) }
     {
         match self.stage {
@@ -122,8 +129,10 @@ impl<'a> Progress<'a> {
 
     /// The tree is due.
     fn begin(&mut self, aim: Aim) -> Result<(), ProofFault>
-        ensures begun { (m : Grid) (ends : List ends_type) → IsProgress m ends self.old → MatchResult result
-            (λ _. IsProgress m ends self.new × (due_of self.new ≡ nodes_due aim.objective aim.bound 0 (root ∷ []))) IsUnjudged }
+        ensures begun { (m : Grid) (ends : List ends_type) → IsProgress m ends self.old
+            → MatchResult result
+            (λ _. IsProgress m ends self.new
+            × (due_of self.new ≡ nodes_due aim.objective aim.bound 0 (root ∷ []))) IsUnjudged }
     {
         self.due.clear();
         add_due(&mut self.due, 0, Child::Root, 0)?;
@@ -137,8 +146,10 @@ impl<'a> Progress<'a> {
         requires stage { self.old.stage ≡ Stage.Nodes aim }
         requires due { IsProofLineDue (due_of self.old) }
         requires short { length line.now ≤ longest_proof_line }
-        ensures { (m : Grid) (ends : List ends_type) → IsProgress m ends self.old → MatchResult result
-            (λ _. IsProgress m ends self.new × ProofFollows m ends (due_of self.old) line.now (due_of self.new))
+        ensures { (m : Grid) (ends : List ends_type) → IsProgress m ends self.old
+            → MatchResult result
+            (λ _. IsProgress m ends self.new
+            × ProofFollows m ends (due_of self.old) line.now (due_of self.new))
             (ProofRefuses m ends (due_of self.old) number line.now) }
     {
         let node = read_node(line, number)?;
@@ -151,11 +162,17 @@ impl<'a> Progress<'a> {
 
     /// Adds a leaf.
     fn add_leaf(&mut self, aim: Aim, number: u64) -> Result<(), ProofFault>
-        ensures { (m : Grid) (ends : List ends_type) (others : List due_node) (next : due_node) → IsProgress m ends self.old → self.old.stage ≡ Stage.Nodes aim
-            → self.old.due.items ≡ others ++ next ∷ [] → IsWithinTree self.old.nodes next.above → MatchResult result
-            (λ _. IsProgress m ends self.new × LeafStands m ends aim.objective aim.bound (subtree_of ends self.old.judge.trail.demands.items next).demands
-            × (due_of self.new ≡ nodes_due aim.objective aim.bound (self.old.nodes + 1) (subtrees ends self.old.judge.trail.demands.items others)))
-            (IsLeafRefused m ends aim (subtree_of ends self.old.judge.trail.demands.items next).demands number) }
+        ensures { (m : Grid) (ends : List ends_type) (others : List due_node) (next : due_node)
+            → IsProgress m ends self.old → self.old.stage ≡ Stage.Nodes aim
+            → self.old.due.items ≡ others ++ next ∷ [] → IsWithinTree self.old.nodes next.above
+            → MatchResult result
+            (λ _. IsProgress m ends self.new
+            × LeafStands m ends aim.objective aim.bound
+            (subtree_of ends self.old.judge.trail.demands.items next).demands
+            × (due_of self.new ≡ nodes_due aim.objective aim.bound (self.old.nodes + 1)
+            (subtrees ends self.old.judge.trail.demands.items others)))
+            (IsLeafRefused m ends aim
+            (subtree_of ends self.old.judge.trail.demands.items next).demands number) }
     {
         let _above = self.go_on(aim)?;
         self.judge_leaf(aim, number)?;
@@ -165,11 +182,14 @@ impl<'a> Progress<'a> {
 
     /// Adds a node that splits.
     fn add_split(&mut self, node: Node, aim: Aim, number: u64) -> Result<(), ProofFault>
-        ensures { (m : Grid) (ends : List ends_type) (others : List due_node) (next : due_node) → IsProgress m ends self.old → self.old.stage ≡ Stage.Nodes aim
-            → self.old.due.items ≡ others ++ next ∷ [] → IsWithinTree self.old.nodes next.above → MatchResult result
+        ensures { (m : Grid) (ends : List ends_type) (others : List due_node) (next : due_node)
+            → IsProgress m ends self.old → self.old.stage ≡ Stage.Nodes aim
+            → self.old.due.items ≡ others ++ next ∷ [] → IsWithinTree self.old.nodes next.above
+            → MatchResult result
             (λ _. IsProgress m ends self.new × IsPlaced m ends node
             × (due_of self.new ≡ nodes_due aim.objective aim.bound (self.old.nodes + 1)
-            (children ends node (subtree_of ends self.old.judge.trail.demands.items next) ++ subtrees ends self.old.judge.trail.demands.items others)))
+            (children ends node (subtree_of ends self.old.judge.trail.demands.items next)
+            ++ subtrees ends self.old.judge.trail.demands.items others)))
             (λ fault. IsUnjudged fault ⊎ IsMisplaced m ends node number fault) }
     {
         self.check_place(node, number)?;
@@ -181,8 +201,10 @@ impl<'a> Progress<'a> {
 
     /// Refuses a node that is too deep, or one too many.
     fn check_limits(&self, number: u64) -> Result<(), ProofFault>
-        ensures { (others : List due_node) (next : due_node) → self.now.due.items ≡ others ++ next ∷ [] → MatchResult result
-            (λ _. IsWithinTree self.now.nodes next.above) (λ fault. (fault ≡ TooMany number) × (IsWithinTree self.now.nodes next.above → ⊥)) }
+        ensures { (others : List due_node) (next : due_node)
+            → self.now.due.items ≡ others ++ next ∷ [] → MatchResult result
+            (λ _. IsWithinTree self.now.nodes next.above) (λ fault. (fault ≡ TooMany number)
+            × (IsWithinTree self.now.nodes next.above → ⊥)) }
     {
         match self.due.last() {
             Some(next) if next.above <= MOST_ABOVE && self.nodes < u32::MAX => Ok(()),
@@ -192,7 +214,8 @@ impl<'a> Progress<'a> {
 
     /// Refuses a node that names agents or cells that are not there.
     fn check_place(&self, node: Node, number: u64) -> Result<(), ProofFault>
-        ensures { (m : Grid) (ends : List ends_type) → IsProgress m ends self.now → MatchResult result (λ _. IsPlaced m ends node) (IsMisplaced m ends node number) }
+        ensures { (m : Grid) (ends : List ends_type) → IsProgress m ends self.now
+            → MatchResult result (λ _. IsPlaced m ends node) (IsMisplaced m ends node number) }
     {
         if !has_agents(&self.judge.ends, node) {
             return Err(ProofFault::NoSuchAgent(number));
@@ -205,9 +228,11 @@ impl<'a> Progress<'a> {
 
     /// Goes on to the node that is due next, and says how many nodes are above it.
     pub(crate) fn go_on(&mut self, aim: Aim) -> Result<u32, ProofFault>
-        ensures { (m : Grid) (ends : List ends_type) (others : List due_node) (next : due_node) → IsProgress m ends self.old
+        ensures { (m : Grid) (ends : List ends_type) (others : List due_node) (next : due_node)
+            → IsProgress m ends self.old
             → self.old.due.items ≡ others ++ next ∷ [] → MatchResult result
-            (λ above. (above ≡ next.above) × IsProgress m ends self.new × HasGoneTo ends others next self.old self.new) IsUnjudged }
+            (λ above. (above ≡ next.above) × IsProgress m ends self.new
+            × HasGoneTo ends others next self.old self.new) IsUnjudged }
     {
         let Some(next) = self.due.pop() else {
             return Err(ProofFault::NotTight);
@@ -223,7 +248,8 @@ impl<'a> Progress<'a> {
 
     /// Refuses a leaf that is too low.
     fn judge_leaf(&mut self, aim: Aim, number: u64) -> Result<(), ProofFault>
-        ensures { (m : Grid) (ends : List ends_type) → IsProgress m ends self.old → MatchResult result
+        ensures { (m : Grid) (ends : List ends_type) → IsProgress m ends self.old
+            → MatchResult result
             (λ _. IsProgress m ends self.new × StaysAt self.old self.new
             × LeafStands m ends aim.objective aim.bound self.old.judge.trail.demands.items)
             (IsLeafRefused m ends aim self.old.judge.trail.demands.items number) }
@@ -237,8 +263,10 @@ impl<'a> Progress<'a> {
 
     /// Puts the children of the node at hand, which has so many above it, in its place.
     fn split(&mut self, node: Node, above: u32) -> Result<(), ProofFault>
-        ensures { (m : Grid) (ends : List ends_type) → IsProgress m ends self.old → above ≤ 65535 → MatchResult result
-            (λ _. IsProgress m ends self.new × HasSplit ends node above self.old self.new) IsUnjudged }
+        ensures { (m : Grid) (ends : List ends_type) → IsProgress m ends self.old → above ≤ 65535
+            → MatchResult result
+            (λ _. IsProgress m ends self.new
+            × HasSplit ends node above self.old self.new) IsUnjudged }
     {
         let asked = self.judge.trail.demands.len();
         let below = above.saturating_add(1);
@@ -249,7 +277,9 @@ impl<'a> Progress<'a> {
 }
 
 fn add_due(due: &mut Vec<DueNode>, asked: usize, child: Child, above: u32) -> Result<(), AllocError>
-    ensures { IfOk result (λ _. due.new.items ≡ due.old.items ++ record { asked = asked; child = child; above = above } ∷ []) }
+    ensures { IfOk result
+        (λ _. due.new.items ≡ due.old.items
+        ++ record { asked = asked; child = child; above = above } ∷ []) }
 {
     due.push(DueNode {
         asked,

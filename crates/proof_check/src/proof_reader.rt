@@ -18,8 +18,9 @@ use std::alloc::Global;
 use std::io::Read;
 use text_io::{Counted, PIECE, Source, TakenLine};
 
-/// Reads a proof that no valid plan on the map costs less whose agents go from these starts to these goals, the whole text. The first
-/// fault is answered; a reader that fails is not read again, and the answer is then the fault that its bytes decide, or else
+/// Reads a proof that no valid plan on the map costs less whose agents go from these starts to
+/// these goals, the whole text. The first fault is answered; a reader that fails is not read again,
+/// and the answer is then the fault that its bytes decide, or else
 /// `ReadFailed`.
 pub fn read_proof<R: Read>(
     alloc: Global,
@@ -27,9 +28,12 @@ pub fn read_proof<R: Read>(
     ends: Vec<Ends>,
     reader: &mut Counted<R>,
 ) -> Result<ProofClaim, ProofFault>
-    ensures reads { ReadsText (ProofText map.now ends.items) (ProofFaultAt map.now ends.items) (R.remaining (counted_inner reader.old))
-        (R.remaining (counted_inner reader.new)) (failures_of reader.old) (failures_of reader.new) (proof_outcome result) }
-    ensures holds { IfOk result (λ claim. BoundHolds map.now ends.items claim.objective claim.bound) }
+    ensures reads { ReadsText (ProofText map.now ends.items) (ProofFaultAt map.now ends.items)
+        (R.remaining (counted_inner reader.old))
+        (R.remaining (counted_inner reader.new)) (failures_of reader.old) (failures_of reader.new)
+        (proof_outcome result) }
+    ensures holds { IfOk result
+        (λ claim. BoundHolds map.now ends.items claim.objective claim.bound) }
 {
     proof_text::laws::proofs_hold();
     let mut source = Source::new(reader);
@@ -45,8 +49,10 @@ fn read_lines<R: Read>(
 ) -> Result<ProofClaim, ProofFault>
     requires { HasTaken R.remaining (source_reader source.old) source.old [] }
     ensures same_reader { source.new.reader.ghost_name ≡ source.old.reader.ghost_name }
-    ensures reads { ReadsText (ProofText map.now ends.items) (ProofFaultAt map.now ends.items) (R.remaining (counted_inner (source_reader source.old)))
-        (R.remaining (counted_inner (source_reader source.new))) (failures_of (source_reader source.old)) (failures_of (source_reader source.new))
+    ensures reads { ReadsText (ProofText map.now ends.items) (ProofFaultAt map.now ends.items)
+        (R.remaining (counted_inner (source_reader source.old)))
+        (R.remaining (counted_inner (source_reader source.new)))
+        (failures_of (source_reader source.old)) (failures_of (source_reader source.new))
         (proof_outcome result) }
 {
     text_io::laws::places();

@@ -25,7 +25,8 @@ pub(crate) fn limit_beside(objective: Objective, limit: u32, number: u32) -> u32
 }
 
 fn sum_below(numbers: &[u32], bound: u32) -> Option<u32>
-    ensures { MatchOption result (bound ≤ sum numbers.now) (λ total. (total ≡ sum numbers.now) × (total < bound)) }
+    ensures { MatchOption result (bound ≤ sum numbers.now) (λ total. (total ≡ sum numbers.now)
+        × (total < bound)) }
 {
     if bound == 0 {
         return None;
@@ -41,7 +42,8 @@ fn sum_below(numbers: &[u32], bound: u32) -> Option<u32>
 }
 
 fn greatest_below(numbers: &[u32], bound: u32) -> Option<u32>
-    ensures { MatchOption result (bound ≤ greatest_number numbers.now) (λ total. (total ≡ greatest_number numbers.now) × (total < bound)) }
+    ensures { MatchOption result (bound ≤ greatest_number numbers.now)
+        (λ total. (total ≡ greatest_number numbers.now) × (total < bound)) }
 {
     if bound == 0 {
         return None;

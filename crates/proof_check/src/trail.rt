@@ -1,11 +1,13 @@
 //! What is asked on the way to the node at hand, and what was found of the agents under it.
-ghost use Rattle.std.specs.Prelude.{◌≡◌, ◌<◌, ◌≤◌, ◌⊎◌, ◌++◌, ◌∷◌, [], List, IfOk, IfSome, length, take, Some, true, false, slice_get};
+ghost use Rattle.std.specs.Prelude.{◌≡◌, ◌<◌, ◌≤◌, ◌⊎◌, ◌++◌, ◌∷◌, [], List};
+ghost use Rattle.std.specs.Prelude.{IfOk, IfSome, length, take, Some, true, false, slice_get};
 ghost use Rattle.grid.specs.Map.{Grid};
 ghost use Rattle.optimality.specs.declared.constraint.Ends.{Ends as ends_type};
 ghost use Rattle.optimality.specs.Constraints.{constraints_of};
 ghost use Rattle.optimality.specs.Walkers.{CostsAtLeast};
 ghost use Rattle.proof_check.specs.declared.trail.Kept.{Kept as kept_type};
-ghost use Rattle.proof_check.specs.Code.Trails.{AreKeptWithin, IsTimely, IsTrail, child_demands, HoldsKept};
+ghost use Rattle.proof_check.specs.Code.Trails.{AreKeptWithin, IsTimely, IsTrail};
+ghost use Rattle.proof_check.specs.Code.Trails.{child_demands, HoldsKept};
 
 use crate::asking::{add_first, add_second};
 use grid::Cell;
@@ -14,7 +16,8 @@ use optimality::{Demand, Ends, Node, Whom};
 use std::alloc::{AllocError, Global};
 use std::mem;
 
-/// That an agent costs so much at least under what the first so many demands ask of it. Where the walk has cells it costs just that.
+/// That an agent costs so much at least under what the first so many demands ask of it. Where the
+/// walk has cells it costs just that.
 #[derive(Drop)]
 pub(crate) struct Kept {
     pub(crate) agent: usize,
@@ -33,7 +36,8 @@ pub(crate) enum Child {
     Second(Node),
 }
 
-/// What is asked on the way to the node at hand, and what was found of the agents under it, both the newest last.
+/// What is asked on the way to the node at hand, and what was found of the agents under it, both
+/// the newest last.
 #[derive(Drop)]
 pub(crate) struct Trail {
     pub(crate) demands: Vec<Demand>,
@@ -58,7 +62,8 @@ impl Trail {
     pub(crate) fn go_back(&mut self, count: usize)
         requires { count ≤ length self.old.demands.items }
         ensures demands { self.new.demands.items ≡ take count self.old.demands.items }
-        ensures trail { (m : Grid) (ends : List ends_type) → IsTrail m ends self.old.demands.items self.old.kept.items
+        ensures trail { (m : Grid) (ends : List ends_type)
+            → IsTrail m ends self.old.demands.items self.old.kept.items
             → IsTrail m ends self.new.demands.items self.new.kept.items }
     {
         self.forget(count);
@@ -68,7 +73,8 @@ impl Trail {
     /// Forgets what was found under more demands than so many.
     fn forget(&mut self, count: usize)
         ensures demands { self.new.demands ≡ self.old.demands }
-        ensures kept { (m : Grid) (ends : List ends_type) → IsTrail m ends self.old.demands.items self.old.kept.items
+        ensures kept { (m : Grid) (ends : List ends_type)
+            → IsTrail m ends self.old.demands.items self.old.kept.items
             → AreKeptWithin m ends self.old.demands.items count self.new.kept.items }
     {
         'found: while self.is_past(count) {
@@ -82,7 +88,8 @@ impl Trail {
     fn is_past(&self, count: usize) -> bool
         ensures past { result ≡ true → 0 < length self.now.kept.items }
         ensures within { result ≡ false → (self.now.kept.items ≡ [])
-            ⊎ ((front : List kept_type) × (last : kept_type) × (self.now.kept.items ≡ front ++ last ∷ []) × (last.asked ≤ count)) }
+            ⊎ ((front : List kept_type) × (last : kept_type)
+            × (self.now.kept.items ≡ front ++ last ∷ []) × (last.asked ≤ count)) }
     {
         match self.kept.last() {
             Some(kept) => kept.asked > count,
@@ -94,7 +101,8 @@ impl Trail {
     pub(crate) fn add(&mut self, child: Child, ends: &[Ends]) -> Result<(), AllocError>
         requires { IsTimely child }
         ensures kept { self.new.kept ≡ self.old.kept }
-        ensures demands { IfOk result (λ _. self.new.demands.items ≡ self.old.demands.items ++ child_demands ends.now child) }
+        ensures demands { IfOk result (λ _. self.new.demands.items ≡ self.old.demands.items
+            ++ child_demands ends.now child) }
     {
         match child {
             Child::Root => Ok(()),
@@ -106,8 +114,10 @@ impl Trail {
     /// Keeps what was found of an agent under all that is asked.
     pub(crate) fn keep(&mut self, agent: usize, found: Least) -> Result<(), AllocError>
         ensures demands { self.new.demands ≡ self.old.demands }
-        ensures trail { (m : Grid) (ends : List ends_type) → IsTrail m ends self.old.demands.items self.old.kept.items
-            → ((own : ends_type) → slice_get ends agent ≡ Some own → CostsAtLeast m own (constraints_of self.old.demands.items agent) found.cost)
+        ensures trail { (m : Grid) (ends : List ends_type)
+            → IsTrail m ends self.old.demands.items self.old.kept.items
+            → ((own : ends_type) → slice_get ends agent ≡ Some own
+            → CostsAtLeast m own (constraints_of self.old.demands.items agent) found.cost)
             → IfOk result (λ _. IsTrail m ends self.new.demands.items self.new.kept.items) }
     {
         let before = note(&mut self.latest, agent, self.kept.len());
@@ -124,7 +134,8 @@ impl Trail {
     /// What is kept of an agent.
     pub(crate) fn known(&self, agent: usize) -> Option<&Kept>
         ensures agent { IfSome result (λ kept. kept.now.agent ≡ agent) }
-        ensures hold { (m : Grid) (ends : List ends_type) → IsTrail m ends self.now.demands.items self.now.kept.items
+        ensures hold { (m : Grid) (ends : List ends_type)
+            → IsTrail m ends self.now.demands.items self.now.kept.items
             → IfSome result (λ kept. HoldsKept m ends self.now.demands.items kept.now) }
     {
         let place = *self.latest.get(agent)?;

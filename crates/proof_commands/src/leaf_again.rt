@@ -9,8 +9,9 @@ use std::alloc::Global;
 use std::io::Read;
 use text_io::Counted;
 
-/// Reads what `perform` reads, but the proof only up to the line with this number, and shows the leaf there. Where that line can't be
-/// that of a leaf that is too low, or anything else is faulty, there is none.
+/// Reads what `perform` reads, but the proof only up to the line with this number, and shows the
+/// leaf there. Where that line can't be that of a leaf that is too low, or anything else is faulty,
+/// there is none.
 pub fn read_leaf<M: Read, P: Read, F: Read>(
     alloc: Global,
     map: &mut Counted<M>,
@@ -18,7 +19,9 @@ pub fn read_leaf<M: Read, P: Read, F: Read>(
     proof: &mut Counted<F>,
     number: u64,
 ) -> Option<LowLeaf>
-    ensures { IfSome result (ReadsLeaf M.remaining P.remaining F.remaining number map.old map.new plan.old plan.new proof.old proof.new) }
+    ensures { IfSome result
+        (ReadsLeaf M.remaining P.remaining F.remaining number map.old map.new plan.old plan.new
+        proof.old proof.new) }
 {
     let Ok(on_map) = read_on_map(alloc, map, plan) else {
         return None;

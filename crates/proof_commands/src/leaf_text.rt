@@ -50,7 +50,8 @@ impl Group {
     }
 }
 
-/// Puts a line for each of the first agents of which something is asked, or of all where they are few, and two for the others.
+/// Puts a line for each of the first agents of which something is asked, or of all where they are
+/// few, and two for the others.
 fn put_agents(alloc: Global, leaf: &LowLeaf, text: &mut String) -> Result<(), AllocError> {
     let are_few = leaf.agents.len() <= MOST_AGENTS;
     let (mut asked, mut free) = (Group::new(), Group::new());
@@ -121,8 +122,8 @@ fn put_asked(
     Ok(())
 }
 
-/// Puts a part of a line that begins at this place, on a new one where there is no room for it and a mark behind it. The answer is where
-/// the line begins then.
+/// Puts a part of a line that begins at this place, on a new one where there is no room for it and
+/// a mark behind it. The answer is where the line begins then.
 fn put_part(part: &str, start: usize, text: &mut String) -> Result<usize, AllocError> {
     let used = text.len().saturating_sub(start);
     let wanted = part.len().saturating_add(2);

@@ -7,7 +7,8 @@ ghost use Rattle.optimality.specs.Judging.{BoundHolds, objective_value};
 ghost use Rattle.planned.specs.Planned.{ReadsChecked};
 ghost use Rattle.proof_commands.specs.Code.Showing.{shown_line};
 ghost use Rattle.proof_commands.specs.ShownText.{claim_line};
-ghost use Rattle.proof_commands.specs.OptimalCommand.{AnswersByProof, AnswersOptimal, EndsUnproved, ReadsPlanOnMap, ReadsProofOn, ends_in};
+ghost use Rattle.proof_commands.specs.OptimalCommand.{AnswersByProof, AnswersOptimal, EndsUnproved};
+ghost use Rattle.proof_commands.specs.OptimalCommand.{ReadsPlanOnMap, ReadsProofOn, ends_in};
 
 use crate::ends::ends_of_agents;
 use crate::shown::{Shown, shown_line};
@@ -35,7 +36,8 @@ pub fn optimal_cmd<M: Read, P: Read, F: Read, W: Write, E: Write>(
     err: &mut Counted<E>,
 ) -> u8
     ensures { EndsAndTells
-        (AnswersOptimal M.remaining P.remaining F.remaining W.contents json map.old map.new plan.old plan.new proof.old proof.new out.old out.new)
+        (AnswersOptimal M.remaining P.remaining F.remaining W.contents json map.old map.new plan.old
+        plan.new proof.old proof.new out.old out.new)
         E.contents err.old err.new result }
 {
     conclude(perform(alloc, map, plan, proof, json, out), err)
@@ -52,7 +54,8 @@ pub fn perform<M: Read, P: Read, F: Read, W: Write>(
     json: bool,
     out: &mut Counted<W>,
 ) -> Ending
-    ensures { AnswersOptimal M.remaining P.remaining F.remaining W.contents json map.old map.new plan.old plan.new proof.old proof.new
+    ensures { AnswersOptimal M.remaining P.remaining F.remaining W.contents json map.old map.new
+        plan.old plan.new proof.old proof.new
         out.old out.new (end_of result) }
 {
     match read_on_map(alloc, map, plan) {
@@ -74,8 +77,11 @@ pub(crate) fn read_on_map<M: Read, P: Read>(
     map: &mut Counted<M>,
     plan: &mut Counted<P>,
 ) -> Result<PlanOnMap, PlannedFault>
-    ensures { MatchResult result (λ on. ReadsPlanOnMap M.remaining P.remaining map.old map.new plan.old plan.new on.map on.plan)
-        (λ fault. ReadsChecked M.remaining P.remaining map.old map.new plan.old plan.new (Err fault)) }
+    ensures { MatchResult result
+        (λ on. ReadsPlanOnMap M.remaining P.remaining map.old map.new plan.old plan.new
+        on.map on.plan)
+        (λ fault. ReadsChecked M.remaining P.remaining map.old map.new plan.old plan.new
+        (Err fault)) }
 {
     let map = read_map(alloc, map)?;
     let plan = read_plan(alloc, plan)?;
@@ -91,7 +97,8 @@ fn answer<F: Read, W: Write>(
     json: bool,
     out: &mut Counted<W>,
 ) -> Ending
-    ensures { AnswersByProof F.remaining W.contents json on_map.now.map on_map.now.plan proof.old proof.new out.old out.new (end_of result) }
+    ensures { AnswersByProof F.remaining W.contents json on_map.now.map on_map.now.plan proof.old
+        proof.new out.old out.new (end_of result) }
 {
     match read_claim(alloc, on_map, proof) {
         Ok(claim) => compare(alloc, &on_map.plan, claim, json, out),
@@ -105,8 +112,10 @@ fn read_claim<F: Read>(
     on_map: &PlanOnMap,
     proof: &mut Counted<F>,
 ) -> Result<ProofClaim, ProofFault>
-    ensures reads { ReadsProofOn F.remaining proof.old proof.new on_map.now.map on_map.now.plan result }
-    ensures holds { IfOk result (λ claim. BoundHolds on_map.now.map (ends_in on_map.now.plan) claim.objective claim.bound) }
+    ensures reads { ReadsProofOn F.remaining proof.old proof.new on_map.now.map
+        on_map.now.plan result }
+    ensures holds { IfOk result
+        (λ claim. BoundHolds on_map.now.map (ends_in on_map.now.plan) claim.objective claim.bound) }
 {
     let ends = ends_of_agents(alloc, &on_map.plan)?;
     read_proof(alloc, &on_map.map, ends, proof)
@@ -121,7 +130,8 @@ fn compare<W: Write>(
     out: &mut Counted<W>,
 ) -> Ending
     ensures { EndsByLine W.contents out.old out.new (answered_with Done) (end_of result)
-        (claim_line json claim.objective (objective_value claim.objective plan.now.timetable) claim.bound claim.nodes) }
+        (claim_line json claim.objective (objective_value claim.objective plan.now.timetable)
+        claim.bound claim.nodes) }
 {
     let shown = Shown::Bounded {
         objective: claim.objective,
@@ -164,7 +174,8 @@ fn tell<W: Write>(
     success: Ending,
     out: &mut Counted<W>,
 ) -> Ending
-    ensures { EndsByLine W.contents out.old out.new (end_of success) (end_of result) (shown_line json shown) }
+    ensures { EndsByLine W.contents out.old out.new (end_of success) (end_of result)
+        (shown_line json shown) }
 {
     match shown_line(alloc, shown, json) {
         Ok(line) => {

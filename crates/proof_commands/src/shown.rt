@@ -3,7 +3,8 @@ ghost use Rattle.std.specs.Prelude.{◌≡◌, string_bytes, IfOk};
 ghost use Rattle.text_io.specs.FaultWords.{words_text};
 ghost use Rattle.proof_text.specs.FaultWords.{proof_fault_words};
 ghost use Rattle.proof_commands.specs.Code.Showing.{shown_line};
-ghost use Rattle.proof_commands.specs.ShownText.{claim_json, claim_words, objective_word, refused_line};
+ghost use Rattle.proof_commands.specs.ShownText.{claim_json, claim_words};
+ghost use Rattle.proof_commands.specs.ShownText.{objective_word, refused_line};
 
 use optimality::Objective;
 use proof_text::ProofFault;
@@ -12,7 +13,8 @@ use std::alloc::{AllocError, Global};
 /// What a proof shows of a plan.
 #[derive(Clone, Copy, Debug)]
 pub(crate) enum Shown {
-    /// It costs so much, and a tree of so many nodes shows that such plans cost no less than the bound.
+    /// It costs so much, and a tree of so many nodes shows that such plans cost no less than the
+    /// bound.
     Bounded {
         objective: Objective,
         value: u64,
@@ -92,7 +94,8 @@ fn objective_word(objective: Objective) -> &'static str
 
 /// The line of a proof that proves nothing.
 fn refused_line(alloc: Global, fault: ProofFault, json: bool) -> Result<String, AllocError>
-    ensures { IfOk result (λ line. string_bytes line ≡ refused_line json (words_text (proof_fault_words fault))) }
+    ensures { IfOk result
+        (λ line. string_bytes line ≡ refused_line json (words_text (proof_fault_words fault))) }
 {
     if json {
         format!(in alloc; "{{\"refused\":\"{fault}\"}}\n")

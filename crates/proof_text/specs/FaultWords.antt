@@ -15,7 +15,8 @@ proof_fault_words (proof_fault.Unfinished line) = text_fault (codes "Unfinished"
 proof_fault_words (proof_fault.TextAfter line) = text_fault (codes "TextAfter") (line ∷ [])
 proof_fault_words (proof_fault.NoSuchAgent line) = text_fault (codes "NoSuchAgent") (line ∷ [])
 proof_fault_words (proof_fault.OffMap line) = text_fault (codes "OffMap") (line ∷ [])
-proof_fault_words (proof_fault.LeafTooLow line least) = text_fault (codes "LeafTooLow") (line ∷ least ∷ [])
+proof_fault_words (proof_fault.LeafTooLow line least) =
+    text_fault (codes "LeafTooLow") (line ∷ least ∷ [])
 proof_fault_words proof_fault.NotTight = text_fault (codes "NotTight") []
 proof_fault_words proof_fault.ReadFailed = failed failure.ReadFailed
 proof_fault_words proof_fault.OutOfMemory = failed failure.OutOfMemory

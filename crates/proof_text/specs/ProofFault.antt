@@ -1,7 +1,9 @@
 -- The faults of a proof, and where each stands.
-use Rattle.std.specs.Prelude.{◌≡◌, ◌≢◌, ℕ, ◌+◌, ◌^◌, ◌<◌, ◌≤◌, ◌==◌, ◌⊎◌, List, [], ◌∷◌, length, codes, Option, Result, Ok, Err, ⊤}
+use Rattle.std.specs.Prelude.{◌≡◌, ◌≢◌, ℕ, ◌+◌, ◌^◌, ◌<◌, ◌≤◌, ◌==◌, ◌⊎◌, List}
+use Rattle.std.specs.Prelude.{[], ◌∷◌, length, codes, Option, Result, Ok, Err, ⊤}
 use Rattle.std.specs.List.{AllByRecursion, slice_split}
-use Rattle.text_io.specs.Reading.{by_line_feed, Place, at_line_feed, at_byte, at_end, FaultAt, Outcome, is_value, is_fault, is_failed, is_refused}
+use Rattle.text_io.specs.Reading.{by_line_feed, Place, at_line_feed, at_byte, at_end, FaultAt}
+use Rattle.text_io.specs.Reading.{Outcome, is_value, is_fault, is_failed, is_refused}
 use Rattle.text_io.specs.Text.{space, BeginsWith}
 use Rattle.grid.specs.Map.{Grid}
 use Rattle.optimality.specs.declared.constraint.Ends.{Ends}
@@ -13,9 +15,16 @@ use Rattle.plan_text.specs.PlanText.{SaysNumber}
 use Rattle.plan_text.specs.PlanTextFault.{IsCoordinate}
 use Rattle.proof_text.specs.declared.claim.ProofClaim.{ProofClaim}
 use Rattle.proof_text.specs.declared.proof_fault.ProofFault.{ProofFault}
-use Rattle.proof_text.specs.declared.proof_fault.ProofFault.TheVariants.{BadHeader, BadNode, BadNumber, TooMany, Unfinished, TextAfter, NoSuchAgent, OffMap, LeafTooLow, NotTight, ReadFailed, OutOfMemory}
-use Rattle.proof_text.specs.ProofLines.{HasAgents, HasCells, IsNodeOrLeaf, SpellsNode, SpellsNodeLine, objective_line, proof_header}
-use Rattle.proof_text.specs.ProofText.{IsWithinLimits, ProofDue, ProofFollows, bound_due, header_due, nodes_due, objective_due}
+use Rattle.proof_text.specs.declared.proof_fault.ProofFault.TheVariants.{BadHeader, BadNode}
+use Rattle.proof_text.specs.declared.proof_fault.ProofFault.TheVariants.{BadNumber, TooMany}
+use Rattle.proof_text.specs.declared.proof_fault.ProofFault.TheVariants.{Unfinished, TextAfter}
+use Rattle.proof_text.specs.declared.proof_fault.ProofFault.TheVariants.{NoSuchAgent, OffMap}
+use Rattle.proof_text.specs.declared.proof_fault.ProofFault.TheVariants.{LeafTooLow, NotTight}
+use Rattle.proof_text.specs.declared.proof_fault.ProofFault.TheVariants.{ReadFailed, OutOfMemory}
+use Rattle.proof_text.specs.ProofLines.{HasAgents, HasCells, IsNodeOrLeaf, SpellsNode}
+use Rattle.proof_text.specs.ProofLines.{SpellsNodeLine, objective_line, proof_header}
+use Rattle.proof_text.specs.ProofText.{IsWithinLimits, ProofDue, ProofFollows, bound_due}
+use Rattle.proof_text.specs.ProofText.{header_due, nodes_due, objective_due}
 
 -- no line has more bytes before its LF
 abbrev pub longest_proof_line : ℕ
@@ -60,8 +69,10 @@ IsOtherHead (nodes_due objective bound count due) line = ⊥
 -- a node's word, and how many numbers follow it
 abbrev pub IsForm : List ℕ → ℕ → Type 0
 IsForm word count =
-    ((word ≡ codes "vertex") × (count ≡ 5)) ⊎ ((word ≡ codes "swap") × (count ≡ 7)) ⊎ ((word ≡ codes "at") × (count ≡ 4))
-    ⊎ ((word ≡ codes "goes") × (count ≡ 6)) ⊎ ((word ≡ codes "stays") × (count ≡ 2)) ⊎ ((word ≡ codes "leaf") × (count ≡ 0))
+    ((word ≡ codes "vertex") × (count ≡ 5)) ⊎ ((word ≡ codes "swap") × (count ≡ 7))
+    ⊎ ((word ≡ codes "at") × (count ≡ 4))
+    ⊎ ((word ≡ codes "goes") × (count ≡ 6)) ⊎ ((word ≡ codes "stays") × (count ≡ 2))
+    ⊎ ((word ≡ codes "leaf") × (count ≡ 0))
 
 -- cut at every space, the line is such a word and so many parts, none of them empty
 pub record HasForm (parts : List (List ℕ)) (line : List ℕ) : Type 0 where
@@ -72,13 +83,17 @@ pub record HasForm (parts : List (List ℕ)) (line : List ℕ) : Type 0 where
 
 -- the line has no form of a node, or its agents are one, or its cells don't share a side
 abbrev pub IsOtherNode : List ℕ → Type 0
-IsOtherNode line = ((parts : List (List ℕ)) → HasForm parts line → ⊥) ⊎ ((node : Node) × SpellsNode node line × (IsNode node → ⊥))
+IsOtherNode line =
+    ((parts : List (List ℕ)) → HasForm parts line → ⊥)
+    ⊎ ((node : Node) × SpellsNode node line × (IsNode node → ⊥))
 
 -- what should be a number is none, or is out of its range
 abbrev pub HasOtherProofNumber : ProofDue → List ℕ → Type 0
 HasOtherProofNumber header_due line = ⊥
 HasOtherProofNumber objective_due line = ⊥
-HasOtherProofNumber (bound_due objective) line = BeginsWith (codes "bound ") line × ((n : ℕ) → SaysNumber (codes "bound ") n line → n < 2 ^ 32 → ⊥)
+HasOtherProofNumber (bound_due objective) line =
+    BeginsWith (codes "bound ") line
+    × ((n : ℕ) → SaysNumber (codes "bound ") n line → n < 2 ^ 32 → ⊥)
 HasOtherProofNumber (nodes_due objective bound count []) line = ⊥
 HasOtherProofNumber (nodes_due objective bound count (here ∷ due)) line =
     (parts : List (List ℕ)) × HasForm parts line × (AllByRecursion IsCoordinate parts → ⊥)
@@ -93,13 +108,18 @@ IsLowLeaf m ends header_due least = ⊥
 IsLowLeaf m ends objective_due least = ⊥
 IsLowLeaf m ends (bound_due objective) least = ⊥
 IsLowLeaf m ends (nodes_due objective bound count []) least = ⊥
-IsLowLeaf m ends (nodes_due objective bound count (here ∷ due)) least = LeafIsLow m ends objective bound here.demands least
+IsLowLeaf m ends (nodes_due objective bound count (here ∷ due)) least =
+    LeafIsLow m ends objective bound here.demands least
 
--- The fault of a line at a place, by what was due there; the row of the fault table that each fault has.
+-- The fault of a line at a place, by what was due there; the row of the fault table that each fault
+-- has.
 abbrev pub HasProofFault : Grid → List Ends → ProofFault → Place → ProofDue → ℕ → List ℕ → Type 0
-HasProofFault m ends (BadHeader at) place due number line = (at ≡ number) × IsWholeProofLine place line × IsOtherHead due line
-HasProofFault m ends (BadNode at) place due number line = (at ≡ number) × IsWholeProofLine place line × IsNodeDue due × IsOtherNode line
-HasProofFault m ends (BadNumber at) place due number line = (at ≡ number) × IsWholeProofLine place line × HasOtherProofNumber due line
+HasProofFault m ends (BadHeader at) place due number line =
+    (at ≡ number) × IsWholeProofLine place line × IsOtherHead due line
+HasProofFault m ends (BadNode at) place due number line =
+    (at ≡ number) × IsWholeProofLine place line × IsNodeDue due × IsOtherNode line
+HasProofFault m ends (BadNumber at) place due number line =
+    (at ≡ number) × IsWholeProofLine place line × HasOtherProofNumber due line
 HasProofFault m ends (TooMany at) place due number line =
     (at ≡ number)
     × (((place ≡ at_byte) × IsProofLineDue due × (length line ≡ longest_proof_line + 1))
@@ -114,14 +134,17 @@ HasProofFault m ends (NoSuchAgent at) place due number line =
     × (node : Node) × SpellsNode node line × IsNode node × (HasAgents ends node → ⊥)
 HasProofFault m ends (OffMap at) place due number line =
     (at ≡ number) × IsWholeProofLine place line × IsNodeWithin due
-    × (node : Node) × SpellsNode node line × IsNode node × HasAgents ends node × (HasCells m node → ⊥)
+    × (node : Node) × SpellsNode node line × IsNode node × HasAgents ends node
+    × (HasCells m node → ⊥)
 HasProofFault m ends (LeafTooLow at least) place due number line =
-    (at ≡ number) × IsWholeProofLine place line × IsNodeWithin due × (line ≡ codes "leaf") × IsLowLeaf m ends due least
+    (at ≡ number) × IsWholeProofLine place line × IsNodeWithin due × (line ≡ codes "leaf")
+    × IsLowLeaf m ends due least
 HasProofFault m ends NotTight place due number line = ⊥
 HasProofFault m ends ReadFailed place due number line = ⊥
 HasProofFault m ends OutOfMemory place due number line = ⊥
 
--- the fault stands at the place where the text ends, and the lines before are right; each line needs its LF
+-- the fault stands at the place where the text ends, and the lines before are right; each line
+-- needs its LF
 abbrev pub ProofFaultAt : Grid → List Ends → ProofFault → Place → List ℕ → Type 0
 ProofFaultAt m ends = FaultAt by_line_feed (ProofFollows m ends) (HasProofFault m ends) header_due
 

@@ -1,5 +1,6 @@
 -- The grammar of a proof's lines.
-use Rattle.std.specs.Prelude.{◌≡◌, ℕ, ◌<◌, ◌==◌, List, [], ◌∷◌, length, codes, Option, None, Some, ⊤}
+use Rattle.std.specs.Prelude.{◌≡◌, ℕ, ◌<◌, ◌==◌, List, [], ◌∷◌}
+use Rattle.std.specs.Prelude.{length, codes, Option, None, Some, ⊤}
 use Rattle.std.specs.List.{AllByRecursion, slice_split}
 use Rattle.text_io.specs.Numerals.{IsNumeral}
 use Rattle.text_io.specs.Text.{space}
@@ -39,7 +40,8 @@ node_numbers (Stays i t) = i ∷ t ∷ []
 abbrev pub AreSmallNumerals : List ℕ → List (List ℕ) → Type 0
 AreSmallNumerals [] parts = parts ≡ []
 AreSmallNumerals (n ∷ numbers) parts =
-    (digits : List ℕ) × (others : List (List ℕ)) × (parts ≡ digits ∷ others) × IsNumeral n digits × (n < 65536) × AreSmallNumerals numbers others
+    (digits : List ℕ) × (others : List (List ℕ)) × (parts ≡ digits ∷ others) × IsNumeral n digits
+    × (n < 65536) × AreSmallNumerals numbers others
 
 pub record SpellsNode (node : Node) (line : List ℕ) : Type 0 where
   pub parts : List (List ℕ)

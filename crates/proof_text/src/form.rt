@@ -22,7 +22,8 @@ pub(crate) enum Form {
 
 impl Form {
     pub(crate) fn of_word(word: &[u8]) -> Option<Form>
-        ensures { MatchOption result ((form : form_kind) → word.now ≢ form_word form) (λ form. word.now ≡ form_word form) }
+        ensures { MatchOption result ((form : form_kind) → word.now ≢ form_word form)
+            (λ form. word.now ≡ form_word form) }
     {
         if word == b"vertex".as_slice() {
             return Some(Form::Vertex);

@@ -17,7 +17,8 @@ use text_io::small_numeral;
 pub fn read_header(line: &[u8], number: u64) -> Result<(), ProofFault>
     requires { length line.now ≤ longest_proof_line }
     ensures { MatchResult result (λ _. line.now ≡ proof_header)
-        (λ fault. (m : Grid) (ends : List Ends) → HasProofFault m ends fault at_line_feed header_due number line.now) }
+        (λ fault. (m : Grid) (ends : List Ends)
+        → HasProofFault m ends fault at_line_feed header_due number line.now) }
 {
     if line != b"mapf-proof 1".as_slice() {
         return Err(ProofFault::BadHeader(number));
@@ -29,7 +30,8 @@ pub fn read_header(line: &[u8], number: u64) -> Result<(), ProofFault>
 pub fn read_objective(line: &[u8], number: u64) -> Result<Objective, ProofFault>
     requires { length line.now ≤ longest_proof_line }
     ensures { MatchResult result (λ o. line.now ≡ objective_line o)
-        (λ fault. (m : Grid) (ends : List Ends) → HasProofFault m ends fault at_line_feed objective_due number line.now) }
+        (λ fault. (m : Grid) (ends : List Ends)
+        → HasProofFault m ends fault at_line_feed objective_due number line.now) }
 {
     if line == b"objective cost".as_slice() {
         return Ok(Objective::Cost);
@@ -44,7 +46,8 @@ pub fn read_objective(line: &[u8], number: u64) -> Result<Objective, ProofFault>
 pub fn read_bound(line: &[u8], number: u64) -> Result<u32, ProofFault>
     requires { length line.now ≤ longest_proof_line }
     ensures { MatchResult result (λ n. SaysNumber (codes "bound ") n line.now × (n < 2 ^ 32))
-        (λ fault. (m : Grid) (ends : List Ends) (o : objective_kind) → HasProofFault m ends fault at_line_feed (bound_due o) number line.now) }
+        (λ fault. (m : Grid) (ends : List Ends) (o : objective_kind)
+        → HasProofFault m ends fault at_line_feed (bound_due o) number line.now) }
 {
     let Some(digits) = line.strip_prefix(b"bound ") else {
         return Err(ProofFault::BadHeader(number));

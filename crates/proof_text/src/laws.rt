@@ -9,9 +9,11 @@ ghost use Rattle.proof_text.specs.declared.proof_fault.ProofFault.{ProofFault};
 ghost use Rattle.proof_text.specs.ProofFault.{ProofFaultAt};
 ghost use Rattle.proof_text.specs.ProofText.{ProofText};
 
-/// What a proof that holds says is so: no valid plan between these starts and goals costs less than its bound.
+/// What a proof that holds says is so: no valid plan between these starts and goals costs less than
+/// its bound.
 pub fn proofs_hold()
-    ensures { (m : Grid) (ends : List Ends) (claim : ProofClaim) (text : List ℕ) → ProofText m ends claim text
+    ensures { (m : Grid) (ends : List Ends) (claim : ProofClaim) (text : List ℕ)
+        → ProofText m ends claim text
         → BoundHolds m ends claim.objective claim.bound }
 {
     optimality::laws::trees();
@@ -19,9 +21,11 @@ pub fn proofs_hold()
 
 /// A text says one thing at the most, or has a first fault, and never both.
 pub fn one_claim()
-    ensures one { (m : Grid) (ends : List Ends) (claim other : ProofClaim) (text : List ℕ) → ProofText m ends claim text
+    ensures one { (m : Grid) (ends : List Ends) (claim other : ProofClaim) (text : List ℕ)
+        → ProofText m ends claim text
         → ProofText m ends other text → claim ≡ other }
-    ensures never_both { (m : Grid) (ends : List Ends) (claim : ProofClaim) (fault : ProofFault) (text : List ℕ) → ProofText m ends claim text
+    ensures never_both { (m : Grid) (ends : List Ends) (claim : ProofClaim) (fault : ProofFault)
+        (text : List ℕ) → ProofText m ends claim text
         → IsFirstFault (ProofFaultAt m ends) fault text → ⊥ }
 {
     text_io::laws::places();

@@ -1,5 +1,6 @@
 //! The line of a node.
-ghost use Rattle.std.specs.Prelude.{◌≡◌, ◌≢◌, ℕ, ◌≤◌, ◌⊎◌, ◌↔◌, ◌∷◌, List, IsTrue, codes, length, MatchOption, MatchResult};
+ghost use Rattle.std.specs.Prelude.{◌≡◌, ◌≢◌, ℕ, ◌≤◌, ◌⊎◌, ◌↔◌, ◌∷◌};
+ghost use Rattle.std.specs.Prelude.{List, IsTrue, codes, length, MatchOption, MatchResult};
 ghost use Rattle.text_io.specs.Reading.{at_line_feed};
 ghost use Rattle.grid.specs.Map.{AreNext, Grid, ShareSide};
 ghost use Rattle.optimality.specs.declared.constraint.Ends.{Ends};
@@ -21,8 +22,10 @@ use optimality::Node;
 pub fn read_node(line: &[u8], number: u64) -> Result<Option<Node>, ProofFault>
     requires { length line.now ≤ longest_proof_line }
     ensures { MatchResult result (λ node. SpellsNodeLine node line.now × IsNodeOrLeaf node)
-        (λ fault. (m : Grid) (ends : List Ends) (objective : Objective) (bound count : ℕ) (here : Subtree) (due : List Subtree)
-        → HasProofFault m ends fault at_line_feed (nodes_due objective bound count (here ∷ due)) number line.now) }
+        (λ fault. (m : Grid) (ends : List Ends) (objective : Objective) (bound count : ℕ)
+        (here : Subtree) (due : List Subtree)
+        → HasProofFault m ends fault at_line_feed (nodes_due objective bound count (here ∷ due))
+        number line.now) }
 {
     if line == b"leaf".as_slice() {
         return Ok(None);
@@ -42,7 +45,8 @@ pub fn read_node(line: &[u8], number: u64) -> Result<Option<Node>, ProofFault>
 
 /// The word of a line that is no leaf's, and its numbers, of which there are so many as are due.
 fn parts_of(line: &[u8]) -> Option<(Form, Numbers)>
-    ensures { MatchOption result (line.now ≢ codes "leaf" → (parts : List (List ℕ)) → HasForm parts line.now → ⊥)
+    ensures { MatchOption result (line.now ≢ codes "leaf" → (parts : List (List ℕ))
+        → HasForm parts line.now → ⊥)
         (λ found. HasNodeParts found.0 found.1 line.now) }
 {
     let (word, behind) = first_part(line);

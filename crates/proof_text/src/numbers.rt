@@ -1,5 +1,6 @@
 //! The numbers behind a node's word.
-ghost use Rattle.std.specs.Prelude.{◌≡◌, ℕ, ◌≤◌, ◌<◌, ◌==◌, ◌⊎◌, ◌∷◌, ◌++◌, [], List, length, MatchOption};
+ghost use Rattle.std.specs.Prelude.{◌≡◌, ℕ, ◌≤◌, ◌<◌, ◌==◌, ◌⊎◌};
+ghost use Rattle.std.specs.Prelude.{◌∷◌, ◌++◌, [], List, length, MatchOption};
 ghost use Rattle.std.specs.List.{AllByRecursion, slice_split};
 ghost use Rattle.text_io.specs.Numerals.{IsNumeral};
 ghost use Rattle.text_io.specs.Text.{space};
@@ -24,7 +25,9 @@ impl Numbers {
 
     /// Those between the spaces, if they are few enough and none is empty.
     pub(crate) fn from_bytes(bytes: &[u8]) -> Option<Numbers>
-        ensures { MatchOption result (AllByRecursion (λ part. 0 < length part) (slice_split (λ b. b == space) bytes.now) → length (slice_split (λ b. b == space) bytes.now) ≤ 7 → ⊥)
+        ensures { MatchOption result
+            (AllByRecursion (λ part. 0 < length part) (slice_split (λ b. b == space) bytes.now)
+            → length (slice_split (λ b. b == space) bytes.now) ≤ 7 → ⊥)
             (λ numbers. AreRead numbers (slice_split (λ b. b == space) bytes.now)) }
     {
         let mut numbers = Numbers {
@@ -50,7 +53,8 @@ impl Numbers {
     fn add(&mut self, part: &[u8])
         requires some { 0 < length part.now }
         requires room { self.old.count < 7 }
-        ensures { (parts : List (List ℕ)) → AreRead self.old parts → AreRead self.new (parts ++ part.now ∷ []) }
+        ensures { (parts : List (List ℕ)) → AreRead self.old parts
+            → AreRead self.new (parts ++ part.now ∷ []) }
     {
         let place = self.count;
         self.count += 1;
@@ -64,7 +68,8 @@ impl Numbers {
 /// What stands before the first space, and what stands behind it, if there is one.
 pub(crate) fn first_part(bytes: &[u8]) -> (&[u8], Option<&[u8]>)
     ensures { MatchOption result.1 (slice_split (λ b. b == space) bytes.now ≡ result.0.now ∷ [])
-        (λ rest. slice_split (λ b. b == space) bytes.now ≡ result.0.now ∷ slice_split (λ b. b == space) rest.now) }
+        (λ rest. slice_split (λ b. b == space) bytes.now ≡ result.0.now ∷ slice_split
+        (λ b. b == space) rest.now) }
 {
     match memchr(b' ', bytes) {
         Some(place) => (&bytes[..place], Some(&bytes[place + 1..])),
@@ -74,7 +79,8 @@ pub(crate) fn first_part(bytes: &[u8]) -> (&[u8], Option<&[u8]>)
 
 /// A number that a node may have.
 fn coordinate(digits: &[u8]) -> Option<u16>
-    ensures { MatchOption result (IsCoordinate digits.now → ⊥) (λ n. IsNumeral n digits.now × (n < 65536)) }
+    ensures { MatchOption result (IsCoordinate digits.now → ⊥) (λ n. IsNumeral n digits.now
+        × (n < 65536)) }
 {
     match saturated_numeral(digits) {
         Some(value) if value <= 65_535 => Some(value as u16),

@@ -9,7 +9,8 @@ use std::fmt;
 use text_io::{Failure, FaultName, FaultWords, Origin};
 use thiserror::Error;
 
-/// The first fault of a proof's text with its line from 1 on, why the proof is refused there, or why it was not read to that point.
+/// The first fault of a proof's text with its line from 1 on, why the proof is refused there, or
+/// why it was not read to that point.
 #[derive(Clone, Copy, Debug, PartialEq, Eq, Error)]
 pub enum ProofFault {
     BadHeader(u64),

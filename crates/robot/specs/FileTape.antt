@@ -1,11 +1,13 @@
 -- A tape in a file, and that it is a tape.
-use Rattle.std.proofs.Common.{◌≡◌, ℕ, ◌+◌, ◌<◌, ◌≤◌, ◌++◌, Bool, true, false, List, length, take, drop, inl, sym, ap, ◌∙◌, arith}
+use Rattle.std.proofs.Common.{◌≡◌, ℕ, ◌+◌, ◌<◌, ◌≤◌, ◌++◌, Bool, true, false}
+use Rattle.std.proofs.Common.{List, length, take, drop, inl, sym, ap, ◌∙◌, arith}
 use Rattle.std.specs.Prelude.{Option, IfSome}
 use Rattle.std.proofs.lemmas.Bool.{true≢false}
 use Rattle.std.proofs.lemmas.List.{length-drop, take-append-drop}
 use Rattle.model.specs.History.{record_length}
 use Rattle.agent.specs.declared.mem_tape.TapeMakeFault.{TapeMakeFault}
-use Rattle.agent.specs.declared.mem_tape.TapeMakeFault.TheVariants.{TooLong as made_too_long, OutOfMemory as made_out_of_memory}
+use Rattle.agent.specs.declared.mem_tape.TapeMakeFault.TheVariants.{TooLong as made_too_long}
+use Rattle.agent.specs.declared.mem_tape.TapeMakeFault.TheVariants.{OutOfMemory as made_out_of_memory}
 use Rattle.agent.specs.MemTape.{mem_state, mem_within}
 use Rattle.agent.specs.Tape.{TapeState, MayRead, MayWrite, HasFailed, IsRead, IsWrite}
 use Rattle.robot.specs.declared.file_tape.FileTapeFault.{FileTapeFault}
@@ -22,9 +24,10 @@ file_fault_of made_out_of_memory = OutOfMemory
 abbrev pub file_state : {F : Type 0} → FileTape F → TapeState
 file_state t = record (mem_state t.image) { failures = t.failures }
 
--- The image has what the file had, as far as there is room; fewer than ten bytes are left out. Where there is a whole record, all of it
--- is synced.
-pub record IsImage {F : Type 0} (remaining : F → Option (List ℕ)) (file : F) (room : ℕ) (t : FileTape F) : Type 0 where
+-- The image has what the file had, as far as there is room; fewer than ten bytes are left out.
+-- Where there is a whole record, all of it is synced.
+pub record IsImage {F : Type 0} (remaining : F → Option (List ℕ)) (file : F) (room : ℕ)
+    (t : FileTape F) : Type 0 where
   pub bytes : List ℕ
   pub whole : IfSome (remaining file) (λ all. bytes ≡ all)
   pub no_longer : length bytes < room + record_length
@@ -32,14 +35,17 @@ pub record IsImage {F : Type 0} (remaining : F → Option (List ℕ)) (file : F)
   pub synced : record_length ≤ length (file_state t).contents → t.disk.synced ≡ true
 
 -- a read succeeds, and makes no call on the file
-pub record IsFileRead {F : Type 0} (t : FileTape F) (at : ℕ) (succeeds : Bool) (bytes : List ℕ) (u : FileTape F) : Type 0 where
+pub record IsFileRead {F : Type 0} (t : FileTape F) (at : ℕ) (succeeds : Bool) (bytes : List ℕ)
+    (u : FileTape F) : Type 0 where
   pub no_failure : succeeds ≡ true
   pub gives : bytes ≡ take record_length (drop at (file_state t).contents)
   pub same : file_state u ≡ file_state t
   pub disk : u.disk ≡ t.disk
 
--- A write succeeds where the file took the record and synced it, and else the image keeps what it had.
-pub record IsFileWrite {F : Type 0} (position : F → Option ℕ) (contents : F → Option (List ℕ)) (t : FileTape F) (at : ℕ) (bytes : List ℕ) (succeeds : Bool) (u : FileTape F) : Type 0 where
+-- A write succeeds where the file took the record and synced it, and else the image keeps what it
+-- had.
+pub record IsFileWrite {F : Type 0} (position : F → Option ℕ) (contents : F → Option (List ℕ))
+    (t : FileTape F) (at : ℕ) (bytes : List ℕ) (succeeds : Bool) (u : FileTape F) : Type 0 where
   pub takes : succeeds ≡ true → TakesAt position contents t.disk.file at bytes u.disk.file
   pub synced : u.disk.synced ≡ succeeds
   pub stores : succeeds ≡ true → (file_state u).contents ≡ take at (file_state t).contents ++ bytes
@@ -48,10 +54,12 @@ pub record IsFileWrite {F : Type 0} (position : F → Option ℕ) (contents : F 
   pub counts : succeeds ≡ true → (file_state u).failures ≡ (file_state t).failures
   pub fails : succeeds ≡ false → HasFailed (file_state t).failures (file_state u).failures
 
-pub file_within : {F : Type 0} (t : FileTape F) → length (file_state t).contents ≤ (file_state t).room
+pub file_within
+    : {F : Type 0} (t : FileTape F) → length (file_state t).contents ≤ (file_state t).room
 file_within t = mem_within t.image
 
-pub file_is_read : {F : Type 0} (t u : FileTape F) (at : ℕ) (succeeds : Bool) (bytes : List ℕ) → MayRead (file_state t) at → IsFileRead t at succeeds bytes u
+pub file_is_read : {F : Type 0} (t u : FileTape F) (at : ℕ) (succeeds : Bool) (bytes : List ℕ)
+    → MayRead (file_state t) at → IsFileRead t at succeeds bytes u
     → IsRead (file_state t) (file_state u) at succeeds bytes
 file_is_read t u at succeeds bytes may h = record {
   contents = ap (λ s. s.contents) h.same;
@@ -61,8 +69,10 @@ file_is_read t u at succeeds bytes may h = record {
   fails = λ bad. absurd (true≢false (sym h.no_failure ∙ bad));
 }
 
-pub file_is_write : {F : Type 0} (position : F → Option ℕ) (contents : F → Option (List ℕ)) (t u : FileTape F) (at : ℕ) (bytes : List ℕ) (succeeds : Bool)
-    → MayWrite (file_state t) at → length bytes ≡ record_length → IsFileWrite position contents t at bytes succeeds u
+pub file_is_write : {F : Type 0} (position : F → Option ℕ) (contents : F → Option (List ℕ))
+    (t u : FileTape F) (at : ℕ) (bytes : List ℕ) (succeeds : Bool)
+    → MayWrite (file_state t) at → length bytes ≡ record_length
+    → IsFileWrite position contents t at bytes succeeds u
     → IsWrite (file_state t) (file_state u) at bytes succeeds
 file_is_write position contents t u at bytes succeeds may count h = record {
   room = h.room;
@@ -70,7 +80,8 @@ file_is_write position contents t u at bytes succeeds may count h = record {
   tears = λ bad. (
     drop at (file_state t).contents,
     h.keeps bad ∙ sym (take-append-drop at (file_state t).contents),
-    inl (let rest = length-drop at (file_state t).contents in let past = may.past in omega (arith, rest, past)),
+    inl (let rest = length-drop at (file_state t).contents in let past = may.past in
+        omega (arith, rest, past)),
   );
   counts = h.counts;
   fails = h.fails;

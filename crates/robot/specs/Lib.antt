@@ -1,4 +1,5 @@
--- What has to be believed of the crate, beside the definitions of the crates below it, in the order in which to read it.
+-- What has to be believed of the crate, beside the definitions of the crates below it, in the order
+-- in which to read it.
 
 -- what a file takes
 pub mod Stored
@@ -18,5 +19,6 @@ pub mod Dialogue
 pub mod FaultWords
 -- the code's own words
 pub mod Code
--- What follows from these definitions, each with its proof: proofs of other crates cite it, and nothing of it has to be believed.
+-- What follows from these definitions, each with its proof: proofs of other crates cite it, and
+-- nothing of it has to be believed.
 pub mod Laws

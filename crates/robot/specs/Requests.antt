@@ -20,7 +20,8 @@ pub data Request : Type 0 where
   -- to hear a message of these bytes
   hear : List ℕ → Request
 
--- the line asks for this; a number has no leading zeros, and the bytes of a message are spelled by two hexadecimal digits each, in either case
+-- the line asks for this; a number has no leading zeros, and the bytes of a message are spelled by
+-- two hexadecimal digits each, in either case
 abbrev pub AsksFor : Request → List ℕ → Type 0
 AsksFor start line = line ≡ codes "start"
 AsksFor finish line = line ≡ codes "finish"
@@ -28,9 +29,11 @@ AsksFor say line = line ≡ codes "say"
 AsksFor tell line = line ≡ codes "tell"
 AsksFor held line = line ≡ codes "held"
 AsksFor (may most) line =
-    (digits : List ℕ) × (line ≡ codes "may " ++ digits) × (numeral_below (2 ^ 32) digits ≡ Some most) × (length line ≤ longest_request)
+    (digits : List ℕ) × (line ≡ codes "may " ++ digits)
+    × (numeral_below (2 ^ 32) digits ≡ Some most) × (length line ≤ longest_request)
 AsksFor (hear bytes) line =
-    (digits : List ℕ) × (line ≡ codes "hear " ++ digits) × (decode_of digits ≡ Ok bytes) × (length line ≤ longest_request)
+    (digits : List ℕ) × (line ≡ codes "hear " ++ digits) × (decode_of digits ≡ Ok bytes)
+    × (length line ≤ longest_request)
 
 -- the line is none that is understood
 abbrev pub AsksNothing : List ℕ → Type 0

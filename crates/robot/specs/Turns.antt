@@ -1,5 +1,6 @@
 -- How an agent answers a line: it does what the line asks for, and tells the answer.
-use Rattle.std.specs.Prelude.{◌≡◌, ℕ, List, [], ◌∷◌, ◌++◌, codes, Option, None, Some, Result, Ok, Err}
+use Rattle.std.specs.Prelude.{◌≡◌, ℕ, List, [], ◌∷◌, ◌++◌, codes}
+use Rattle.std.specs.Prelude.{Option, None, Some, Result, Ok, Err}
 use Rattle.hex.specs.Hex.{encode_lower}
 use Rattle.text_io.specs.Text.{spaced_numbers}
 use Rattle.model.specs.History.{Answer, moving, arrived, refused}
@@ -51,7 +52,8 @@ not_understood = codes "refused BadLine"
 abbrev pub store_failed : List ℕ
 store_failed = reply_line (refused why.StoreFailed)
 
--- and after this one: the agent with the first number says that this one has finished as many moves as the second, and its tape has fewer
+-- and after this one: the agent with the first number says that this one has finished as many moves
+-- as the second, and its tape has fewer
 abbrev pub stale_tape : (sender number : ℕ) → List ℕ
 stale_tape sender number = codes "refused StaleTape" ++ spaced_numbers (sender ∷ number ∷ [])
 

@@ -1,12 +1,15 @@
 //! Answering an input line.
-ghost use Rattle.std.specs.Prelude.{◌≡◌, ◌≤◌, ◌*◌, Bool, false, true, List, ℕ, Some, length, is_some, IfSome, MatchOption};
+ghost use Rattle.std.specs.Prelude.{◌≡◌, ◌≤◌, ◌*◌, Bool, false, true, List};
+ghost use Rattle.std.specs.Prelude.{ℕ, Some, length, is_some, IfSome, MatchOption};
 ghost use Rattle.model.specs.Timetable.{Track, Timetable, track_of};
 ghost use Rattle.depgraph.specs.AgentParts.{IsPartOf, IsOfGraph};
 ghost use Rattle.agent.specs.Agents.{state_of};
 ghost use Rattle.robot.specs.Requests.{longest_request, say, tell, hear};
 ghost use Rattle.robot.specs.Stale.{IsHeeded};
 ghost use Rattle.robot.specs.Turns.{state_line};
-ghost use Rattle.robot.specs.Code.Answering.{answer_line, says_store_failed, CountsFailures, DoesRequest, IsSameAgent, IsStaleWord, TakesTurn};
+ghost use Rattle.robot.specs.Code.Answering.{answer_line, says_store_failed, CountsFailures};
+ghost use Rattle.robot.specs.Code.Answering.{DoesRequest, IsSameAgent, IsStaleWord};
+ghost use Rattle.robot.specs.Code.Answering.{TakesTurn};
 ghost use Rattle.robot.specs.Code.Reading.{request_in, FitsIn, IsLineKept};
 
 use crate::line_answer::LineAnswer;
@@ -19,7 +22,8 @@ use agent::{Agent, Tape, TellFault};
 use depgraph::Part;
 use model::{Reply, Why};
 
-/// Answers a line that was kept in a room, so many bytes without an LF; one that was too long is not understood.
+/// Answers a line that was kept in a room, so many bytes without an LF; one that was too long is
+/// not understood.
 pub(crate) fn answer_kept<T: Tape>(
     agent: &mut Agent<'_, T>,
     heeded: &Option<Part<'_>>,
@@ -32,9 +36,13 @@ pub(crate) fn answer_kept<T: Tape>(
     requires within { IfSome kept (λ count. count ≤ length line.now) }
     requires own { IfSome heeded.now (λ p. p ≡ agent.old.part) }
     ensures same { IsSameAgent agent.old agent.new }
-    ensures counts { CountsFailures (says_store_failed result) (T.state agent.old.tape).failures (T.state agent.new.tape).failures }
-    ensures turn { (tt : Timetable) → IsPartOf tt agent.old.part → (track : Track) (text : List ℕ) → track_of tt agent.old.part.agent ≡ Some track
-        → IsLineKept text line.now kept → TakesTurn (is_some heeded.now) tt agent.old.part.agent track text (state_of T.state agent.old) (state_of T.state agent.new) result }
+    ensures counts { CountsFailures (says_store_failed result) (T.state agent.old.tape).failures
+        (T.state agent.new.tape).failures }
+    ensures turn { (tt : Timetable) → IsPartOf tt agent.old.part → (track : Track) (text : List ℕ)
+        → track_of tt agent.old.part.agent ≡ Some track
+        → IsLineKept text line.now kept
+        → TakesTurn (is_some heeded.now) tt agent.old.part.agent track text
+        (state_of T.state agent.old) (state_of T.state agent.new) result }
 {
     match kept {
         Some(count) => answer_text(agent, heeded, &line[..count], room),
@@ -53,9 +61,12 @@ fn answer_text<T: Tape>(
     requires has_room { longest_request ≤ 2 * length room.old }
     requires own { IfSome heeded.now (λ p. p ≡ agent.old.part) }
     ensures same { IsSameAgent agent.old agent.new }
-    ensures counts { CountsFailures (says_store_failed result) (T.state agent.old.tape).failures (T.state agent.new.tape).failures }
-    ensures turn { (tt : Timetable) → IsPartOf tt agent.old.part → (track : Track) → track_of tt agent.old.part.agent ≡ Some track
-        → TakesTurn (is_some heeded.now) tt agent.old.part.agent track line.now (state_of T.state agent.old) (state_of T.state agent.new) result }
+    ensures counts { CountsFailures (says_store_failed result) (T.state agent.old.tape).failures
+        (T.state agent.new.tape).failures }
+    ensures turn { (tt : Timetable) → IsPartOf tt agent.old.part → (track : Track)
+        → track_of tt agent.old.part.agent ≡ Some track
+        → TakesTurn (is_some heeded.now) tt agent.old.part.agent track line.now
+        (state_of T.state agent.old) (state_of T.state agent.new) result }
 {
     match read_request(line, room) {
         Some(request) => answer_request(agent, heeded, request, room),
@@ -73,9 +84,13 @@ fn answer_request<T: Tape>(
     requires fits { FitsIn room.now request }
     requires own { IfSome heeded.now (λ p. p ≡ agent.old.part) }
     ensures same { IsSameAgent agent.old agent.new }
-    ensures counts { CountsFailures (says_store_failed result) (T.state agent.old.tape).failures (T.state agent.new.tape).failures }
-    ensures takes { (tt : Timetable) → IsPartOf tt agent.old.part → (track : Track) → track_of tt agent.old.part.agent ≡ Some track
-        → DoesRequest (is_some heeded.now) tt agent.old.part.agent track (request_in room.now request) (state_of T.state agent.old) (state_of T.state agent.new) result }
+    ensures counts { CountsFailures (says_store_failed result) (T.state agent.old.tape).failures
+        (T.state agent.new.tape).failures }
+    ensures takes { (tt : Timetable) → IsPartOf tt agent.old.part → (track : Track)
+        → track_of tt agent.old.part.agent ≡ Some track
+        → DoesRequest (is_some heeded.now) tt agent.old.part.agent track
+        (request_in room.now request) (state_of T.state agent.old)
+        (state_of T.state agent.new) result }
 {
     match request {
         Request::Start => LineAnswer::Reply(reply_to_start(agent.start())),
@@ -91,7 +106,8 @@ fn answer_request<T: Tape>(
 fn answer_say<T: Tape>(agent: &Agent<'_, T>) -> LineAnswer
     ensures never { says_store_failed result ≡ false }
     ensures takes { (heeds : Bool) (tt : Timetable) → IsPartOf tt agent.now.part → (track : Track)
-        → DoesRequest heeds tt agent.now.part.agent track say (state_of T.state agent.now) (state_of T.state agent.now) result }
+        → DoesRequest heeds tt agent.now.part.agent track say (state_of T.state agent.now)
+        (state_of T.state agent.now) result }
 {
     match agent.say() {
         Ok(message) => LineAnswer::Said(message),
@@ -102,7 +118,8 @@ fn answer_say<T: Tape>(agent: &Agent<'_, T>) -> LineAnswer
 fn answer_tell<T: Tape>(agent: &Agent<'_, T>) -> LineAnswer
     ensures never { says_store_failed result ≡ false }
     ensures takes { (heeds : Bool) (tt : Timetable) → IsPartOf tt agent.now.part → (track : Track)
-        → DoesRequest heeds tt agent.now.part.agent track tell (state_of T.state agent.now) (state_of T.state agent.now) result }
+        → DoesRequest heeds tt agent.now.part.agent track tell (state_of T.state agent.now)
+        (state_of T.state agent.now) result }
 {
     match agent.tell() {
         Ok(message) => LineAnswer::Told(message),
@@ -118,9 +135,11 @@ fn answer_hear<T: Tape>(
 ) -> LineAnswer
     requires { IfSome heeded.now (λ p. p ≡ agent.old.part) }
     ensures same { IsSameAgent agent.old agent.new }
-    ensures counts { CountsFailures (says_store_failed result) (T.state agent.old.tape).failures (T.state agent.new.tape).failures }
+    ensures counts { CountsFailures (says_store_failed result) (T.state agent.old.tape).failures
+        (T.state agent.new.tape).failures }
     ensures takes { (tt : Timetable) → IsPartOf tt agent.old.part → (track : Track)
-        → DoesRequest (is_some heeded.now) tt agent.old.part.agent track (hear message.now) (state_of T.state agent.old) (state_of T.state agent.new) result }
+        → DoesRequest (is_some heeded.now) tt agent.old.part.agent track (hear message.now)
+        (state_of T.state agent.old) (state_of T.state agent.new) result }
 {
     if let Some(word) = heeded_word(agent, heeded, message) {
         return LineAnswer::StaleTape(word);
@@ -131,7 +150,8 @@ fn answer_hear<T: Tape>(
     }
 }
 
-/// What a message says of the agent's own moves, where it shows its tape to be an older one, and that is heeded.
+/// What a message says of the agent's own moves, where it shows its tape to be an older one, and
+/// that is heeded.
 fn heeded_word<T: Tape>(
     agent: &Agent<'_, T>,
     heeded: &Option<Part<'_>>,
@@ -140,7 +160,8 @@ fn heeded_word<T: Tape>(
     requires { IfSome heeded.now (λ p. p ≡ agent.now.part) }
     ensures heeded { IfSome result (λ _. is_some heeded.now ≡ true) }
     ensures word { (tt : Timetable) → IsPartOf tt agent.now.part → MatchOption result
-        (IsHeeded (is_some heeded.now) tt agent.now.part.agent (state_of T.state agent.now) message.now)
+        (IsHeeded (is_some heeded.now) tt agent.now.part.agent
+        (state_of T.state agent.now) message.now)
         (IsStaleWord tt agent.now.part.agent (state_of T.state agent.now) message.now) }
 {
     match heeded {
@@ -152,7 +173,8 @@ fn heeded_word<T: Tape>(
 /// Where the agent is, and how many moves it has finished.
 pub(crate) fn state_answer<T: Tape>(agent: &Agent<'_, T>) -> LineAnswer
     ensures never { says_store_failed result ≡ false }
-    ensures line { (tt : Timetable) → IsPartOf tt agent.now.part → (track : Track) × (track_of tt agent.now.part.agent ≡ Some track)
+    ensures line { (tt : Timetable) → IsPartOf tt agent.now.part → (track : Track)
+        × (track_of tt agent.now.part.agent ≡ Some track)
         × (answer_line result ≡ state_line track (state_of T.state agent.now)) }
     ensures within { IsOfGraph agent.now.part }
 {

@@ -1,5 +1,6 @@
 //! The file under a tape.
-ghost use Rattle.std.specs.Prelude.{◌≡◌, ◌<◌, ◌≤◌, false, true, is_ok, length, take, OnErr, OnOk, IfOk};
+ghost use Rattle.std.specs.Prelude.{◌≡◌, ◌<◌, ◌≤◌, false, true, is_ok};
+ghost use Rattle.std.specs.Prelude.{length, take, OnErr, OnOk, IfOk};
 ghost use Rattle.std.specs.Io.KnownBytes.{Consumes, IsAtEnd, Keeps};
 ghost use Rattle.robot.specs.Stored.{TakesAt};
 
@@ -31,7 +32,8 @@ impl<F> Disk<F> {
 impl<F: Write + Seek + OpenFile> Disk<F> {
     /// Writes a record at a place, and syncs it.
     pub(crate) fn store(&mut self, at: u32, bytes: &[u8; RECORD_SIZE]) -> io::Result<()>
-        ensures takes { OnOk result (TakesAt F.stream_position F.contents self.old.file at bytes.now self.new.file) }
+        ensures takes { OnOk result
+            (TakesAt F.stream_position F.contents self.old.file at bytes.now self.new.file) }
         ensures synced { self.new.synced ≡ is_ok result }
     {
         self.synced = false;
@@ -65,7 +67,8 @@ fn write_at<F: Write + Seek>(file: &mut F, at: u32, bytes: &[u8; RECORD_SIZE]) -
 /// Reads up to the end, or until the bytes are full, and answers how many were read.
 pub(crate) fn read_up_to<R: Read>(reader: &mut R, bytes: &mut [u8]) -> io::Result<usize>
     ensures within { IfOk result (λ n. n ≤ length bytes.new) }
-    ensures bytes { IfOk result (λ n. Consumes (R.remaining reader.old) (R.remaining reader.new) (take n bytes.new)) }
+    ensures bytes { IfOk result (λ n. Consumes (R.remaining reader.old) (R.remaining reader.new)
+        (take n bytes.new)) }
     ensures end { IfOk result (λ n. n < length bytes.new → IsAtEnd (R.remaining reader.new)) }
 {
     let mut len = 0;

@@ -1,8 +1,10 @@
 //! A tape in a file, behind an image of it in memory.
-ghost use Rattle.std.specs.Prelude.{◌≡◌, ◌+◌, ◌<◌, ◌≤◌, true, length, Some, IfOk, IfErr, IfSome, IsErrOf, OnOk};
+ghost use Rattle.std.specs.Prelude.{◌≡◌, ◌+◌, ◌<◌, ◌≤◌, true, length};
+ghost use Rattle.std.specs.Prelude.{Some, IfOk, IfErr, IfSome, IsErrOf, OnOk};
 ghost use Rattle.text_io.specs.FaultWords.{words_of, words_text};
 ghost use Rattle.robot.specs.FaultWords.{file_tape_fault_words};
-ghost use Rattle.robot.specs.declared.file_tape.FileTapeFault.TheVariants.{TapeFailed as tape_failed, OutOfMemory as out_of_memory};
+ghost use Rattle.robot.specs.declared.file_tape.FileTapeFault.TheVariants.{TapeFailed as tape_failed};
+ghost use Rattle.robot.specs.declared.file_tape.FileTapeFault.TheVariants.{OutOfMemory as out_of_memory};
 ghost use Rattle.robot.specs.FileTape.{file_fault_of};
 
 use crate::disk::{Disk, read_up_to};
@@ -79,11 +81,13 @@ impl From<TapeMakeFault> for FileTapeFault {
     }
 }
 
-/// A tape in a file. Reads come from an image in memory, which takes a record once the file has it and is synced. A write that fails leaves
-/// the image as it was; what the file has at that place is then not known, until a write there succeeds or the file is opened again.
+/// A tape in a file. Reads come from an image in memory, which takes a record once the file has it
+/// and is synced. A write that fails leaves the image as it was; what the file has at that place is
+/// then not known, until a write there succeeds or the file is opened again.
 ///
-/// What is proved is proved of the image. That the file has what was written to it, that a sync brings it to the disk with its length and its
-/// name, and that nothing else writes to it, are premises.
+/// What is proved is proved of the image. That the file has what was written to it, that a sync
+/// brings it to the disk with its length and its name, and that nothing else writes to it, are
+/// premises.
 #[derive(Drop)]
 pub struct FileTape<F> {
     disk: Disk<F>,
@@ -94,12 +98,15 @@ pub struct FileTape<F> {
 impl<F: Read + Write + Seek + OpenFile + LockFile + Drop> FileTape<F> {
     ghost use Rattle.robot.specs.FileTape.{IsImage};
 
-    /// Opens a file as a tape with room for so many bytes. The file was just opened by the caller, to be read and written, and made where
-    /// there was none. It is locked before anything of it is read, and stays so until it is closed. Fewer than ten bytes behind the room count
-    /// as nothing. Nothing is written to it here: a tail of fewer than ten bytes stays until a record is written over it.
+    /// Opens a file as a tape with room for so many bytes. The file was just opened by the caller,
+    /// to be read and written, and made where there was none. It is locked before anything of it is
+    /// read, and stays so until it is closed. Fewer than ten bytes behind the room count as
+    /// nothing. Nothing is written to it here: a tail of fewer than ten bytes stays until a record
+    /// is written over it.
     pub fn open(alloc: Global, mut file: F, room: u32) -> Result<FileTape<F>, FileTapeFault>
         ensures image { IfOk result (IsImage F.remaining file room) }
-        ensures too_long { IsErrOf result FileTapeFault.TooLong → IfSome (F.remaining file) (λ bytes. room + 10 ≤ length bytes) }
+        ensures too_long { IsErrOf result FileTapeFault.TooLong
+            → IfSome (F.remaining file) (λ bytes. room + 10 ≤ length bytes) }
     {
         lock(&file)?;
         let room_len = room as usize;
@@ -110,7 +117,8 @@ impl<F: Read + Write + Seek + OpenFile + LockFile + Drop> FileTape<F> {
         }
         let image = MemTape::from_bytes(alloc, &bytes[..room_len.min(len)], room)?;
         let mut disk = Disk::new(file);
-        // Whole records are relied on from here on, and a program that was stopped may have left them unsynced.
+        // Whole records are relied on from here on, and a program that was stopped may have left
+        // them unsynced.
         let has_record = image.len() >= RECORD_LENGTH;
         if has_record {
             disk.sync()?;
@@ -163,7 +171,8 @@ impl<F> FileTape<F> {
 }
 
 impl<F: Read + Write + Seek + OpenFile> Tape for FileTape<F> {
-    ghost use Rattle.robot.specs.FileTape.{file_state, IsFileRead, IsFileWrite, file_within, file_is_read, file_is_write};
+    ghost use Rattle.robot.specs.FileTape.{file_state, IsFileRead, IsFileWrite};
+    ghost use Rattle.robot.specs.FileTape.{file_within, file_is_read, file_is_write};
 
     ghost state = { file_state };
 

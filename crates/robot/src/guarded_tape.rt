@@ -1,4 +1,5 @@
-//! A tape in a file to which nothing is written unless a guard lets it be, and of whose records the guard takes note.
+//! A tape in a file to which nothing is written unless a guard lets it be, and of whose records the
+//! guard takes note.
 ghost use Rattle.std.specs.Prelude.{◌≡◌};
 
 use crate::file_tape::FileTape;
@@ -11,12 +12,14 @@ pub trait Guard {
     /// Whether it holds now. No contract says what it looks at.
     fn holds(&self) -> bool;
 
-    /// Takes note that a record was stored, and answers whether that was done. No contract says where.
+    /// Takes note that a record was stored, and answers whether that was done. No contract says
+    /// where.
     fn take_note(&mut self) -> bool;
 }
 
-/// A tape in a file. A record that is to be written while its guard doesn't hold is not, and the write has failed. It has failed too where
-/// the guard can't take note of a record, which is stored then.
+/// A tape in a file. A record that is to be written while its guard doesn't hold is not, and the
+/// write has failed. It has failed too where the guard can't take note of a record, which is stored
+/// then.
 #[derive(Drop)]
 pub struct GuardedTape<F, G> {
     tape: FileTape<F>,
@@ -32,7 +35,8 @@ impl<F, G> GuardedTape<F, G> {
 }
 
 impl<F: Read + Write + Seek + OpenFile, G: Guard> Tape for GuardedTape<F, G> {
-    ghost use Rattle.robot.specs.GuardedTape.{guarded_state, IsGuardedRead, IsGuardedWrite, guarded_within, guarded_is_read, guarded_is_write};
+    ghost use Rattle.robot.specs.GuardedTape.{guarded_state, IsGuardedRead, IsGuardedWrite};
+    ghost use Rattle.robot.specs.GuardedTape.{guarded_within, guarded_is_read, guarded_is_write};
 
     ghost state = { guarded_state };
 

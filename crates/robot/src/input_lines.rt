@@ -8,7 +8,8 @@ ghost use Rattle.robot.specs.Code.Reading.{LineCame, LeavesLessBehind};
 use std::io::Read;
 use text_io::{PIECE, Source, Stop, TakenLine};
 
-/// What came next of the input. A line that is kept has so many bytes at the front of a room; one that is not is longer than it.
+/// What came next of the input. A line that is kept has so many bytes at the front of a room; one
+/// that is not is longer than it.
 #[derive(Clone, Copy, Debug)]
 pub(crate) enum NextLine {
     /// A line, and its LF.
@@ -24,7 +25,8 @@ pub(crate) enum NextLine {
 /// Takes the next line, and keeps it in the room if it is not longer.
 pub(crate) fn next_line<R: Read>(source: &mut Source<'_, R, PIECE>, room: &mut [u8]) -> NextLine
     ensures same_reader { source.new.reader.ghost_name ≡ source.old.reader.ghost_name }
-    ensures came { (first : Counted R) (before : List (List ℕ)) → HasTaken R.remaining first source.old before
+    ensures came { (first : Counted R) (before : List (List ℕ))
+        → HasTaken R.remaining first source.old before
         → LineCame R.remaining first source.new before room.new result }
     ensures less_left { LeavesLessBehind result (most_left source.old) (most_left source.new) }
 {
@@ -40,7 +42,8 @@ pub(crate) fn next_line<R: Read>(source: &mut Source<'_, R, PIECE>, room: &mut [
 /// Passes what is left of a line that is too long.
 fn pass_line<R: Read>(source: &mut Source<'_, R, PIECE>) -> NextLine
     ensures same_reader { source.new.reader.ghost_name ≡ source.old.reader.ghost_name }
-    ensures came { (first : Counted R) (before : List (List ℕ)) (room : List ℕ) → LineTooLong R.remaining first source.old before room
+    ensures came { (first : Counted R) (before : List (List ℕ)) (room : List ℕ)
+        → LineTooLong R.remaining first source.old before room
         → LineCame R.remaining first source.new before room result }
     ensures less_left { LeavesLessBehind result (most_left source.old) (most_left source.new) }
 {

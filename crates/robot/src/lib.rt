@@ -1,4 +1,5 @@
-//! What an agent's own process needs: its tape in a file, and the dialogue in which each input line is answered by one line.
+//! What an agent's own process needs: its tape in a file, and the dialogue in which each input line
+//! is answered by one line.
 #![tactic(auto)]
 
 mod answering;

@@ -51,17 +51,21 @@ pub(crate) fn send_answer<W: Write>(
     sink: &mut Sink<'_, W>,
     answer: &LineAnswer,
 ) -> Result<(), WriteFault>
-    ensures ok { OnOk result (Puts W.contents sink.old sink.new (answer_line answer.now ++ line_feed ∷ [])) }
+    ensures ok { OnOk result
+        (Puts W.contents sink.old sink.new (answer_line answer.now ++ line_feed ∷ [])) }
     ensures none_held { OnOk result (held_back sink.new ≡ []) }
-    ensures err { OnErr result (Breaks W.contents sink.old sink.new (answer_line answer.now ++ line_feed ∷ [])) }
+    ensures err { OnErr result
+        (Breaks W.contents sink.old sink.new (answer_line answer.now ++ line_feed ∷ [])) }
 {
     put_answer(sink, answer)?;
     sink.flush()
 }
 
 fn put_answer<W: Write>(sink: &mut Sink<'_, W>, answer: &LineAnswer) -> Result<(), WriteFault>
-    ensures ok { OnOk result (Puts W.contents sink.old sink.new (answer_line answer.now ++ line_feed ∷ [])) }
-    ensures err { OnErr result (Breaks W.contents sink.old sink.new (answer_line answer.now ++ line_feed ∷ [])) }
+    ensures ok { OnOk result
+        (Puts W.contents sink.old sink.new (answer_line answer.now ++ line_feed ∷ [])) }
+    ensures err { OnErr result
+        (Breaks W.contents sink.old sink.new (answer_line answer.now ++ line_feed ∷ [])) }
 {
     match answer {
         LineAnswer::Reply(reply) => put_reply(sink, reply),
@@ -76,8 +80,10 @@ fn put_answer<W: Write>(sink: &mut Sink<'_, W>, answer: &LineAnswer) -> Result<(
 
 /// Puts how many moves are free ahead.
 fn put_free<W: Write>(sink: &mut Sink<'_, W>, count: u32) -> Result<(), WriteFault>
-    ensures ok { OnOk result (Puts W.contents sink.old sink.new (free_line count ++ line_feed ∷ [])) }
-    ensures err { OnErr result (Breaks W.contents sink.old sink.new (free_line count ++ line_feed ∷ [])) }
+    ensures ok { OnOk result
+        (Puts W.contents sink.old sink.new (free_line count ++ line_feed ∷ [])) }
+    ensures err { OnErr result
+        (Breaks W.contents sink.old sink.new (free_line count ++ line_feed ∷ [])) }
 {
     sink.put_numbers(b"may", b' ', &[u64::from(count)])?;
     sink.put(b"\n")
@@ -85,8 +91,10 @@ fn put_free<W: Write>(sink: &mut Sink<'_, W>, count: u32) -> Result<(), WriteFau
 
 /// Puts who says that the agent has finished how many moves.
 fn put_stale<W: Write>(sink: &mut Sink<'_, W>, word: StaleWord) -> Result<(), WriteFault>
-    ensures ok { OnOk result (Puts W.contents sink.old sink.new (stale_tape word.sender word.number ++ line_feed ∷ [])) }
-    ensures err { OnErr result (Breaks W.contents sink.old sink.new (stale_tape word.sender word.number ++ line_feed ∷ [])) }
+    ensures ok { OnOk result
+        (Puts W.contents sink.old sink.new (stale_tape word.sender word.number ++ line_feed ∷ [])) }
+    ensures err { OnErr result
+        (Breaks W.contents sink.old sink.new (stale_tape word.sender word.number ++ line_feed ∷ [])) }
 {
     let numbers = [u64::from(word.sender), u64::from(word.number)];
     sink.put_numbers(b"refused StaleTape", b' ', &numbers)?;
@@ -94,8 +102,10 @@ fn put_stale<W: Write>(sink: &mut Sink<'_, W>, word: StaleWord) -> Result<(), Wr
 }
 
 fn put_said<W: Write>(sink: &mut Sink<'_, W>, message: &[u8]) -> Result<(), WriteFault>
-    ensures ok { OnOk result (Puts W.contents sink.old sink.new (said_line (Ok message.now) ++ line_feed ∷ [])) }
-    ensures err { OnErr result (Breaks W.contents sink.old sink.new (said_line (Ok message.now) ++ line_feed ∷ [])) }
+    ensures ok { OnOk result
+        (Puts W.contents sink.old sink.new (said_line (Ok message.now) ++ line_feed ∷ [])) }
+    ensures err { OnErr result
+        (Breaks W.contents sink.old sink.new (said_line (Ok message.now) ++ line_feed ∷ [])) }
 {
     sink.put(b"said ")?;
     put_hexadecimal(sink, message)?;

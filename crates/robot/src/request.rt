@@ -28,7 +28,8 @@ pub(crate) enum Request {
 pub(crate) fn read_request(line: &[u8], room: &mut [u8]) -> Option<Request>
     requires not_longer { length line.now ≤ longest_request }
     requires has_room { longest_request ≤ 2 * length room.old }
-    ensures asks { MatchOption result (AsksNothing line.now) (λ request. AsksFor (request_in room.new request) line.now) }
+    ensures asks { MatchOption result (AsksNothing line.now)
+        (λ request. AsksFor (request_in room.new request) line.now) }
     ensures fits { MatchOption result ⊤ (λ request. FitsIn room.new request) }
 {
     if is_word(line, b"start") {

@@ -2,7 +2,8 @@
 ghost use Rattle.std.specs.Prelude.{◌≡◌, MatchOption, option_map};
 ghost use Rattle.model.specs.Timetable.{Timetable};
 ghost use Rattle.depgraph.specs.AgentParts.{IsPartOf};
-ghost use Rattle.robot.specs.Code.Telling.{IsMoreIn, IsNoMoreIn, if_more, number_taken, stale_word_of, telling_one};
+ghost use Rattle.robot.specs.Code.Telling.{IsMoreIn, IsNoMoreIn, if_more};
+ghost use Rattle.robot.specs.Code.Telling.{number_taken, stale_word_of, telling_one};
 
 use agent::{Finished, Message, Told, read_message};
 use depgraph::Part;
@@ -14,9 +15,12 @@ pub(crate) struct StaleWord {
     pub(crate) number: u32,
 }
 
-/// What a message says of the agent of a part that has finished so many moves, where the agent would take it and it says more.
+/// What a message says of the agent of a part that has finished so many moves, where the agent
+/// would take it and it says more.
 pub(crate) fn stale_word(part: &Part<'_>, done: u32, bytes: &[u8]) -> Option<StaleWord>
-    ensures { (tt : Timetable) → IsPartOf tt part.now → MatchOption result (IsNoMoreIn tt part.now.agent done bytes.now) (IsMoreIn tt part.now.agent done bytes.now) }
+    ensures { (tt : Timetable) → IsPartOf tt part.now
+        → MatchOption result (IsNoMoreIn tt part.now.agent done bytes.now)
+        (IsMoreIn tt part.now.agent done bytes.now) }
 {
     match read_message(bytes) {
         Ok(Message::One(finished)) => {
@@ -37,9 +41,11 @@ fn more_than(done: u32, sender: u16, number: Option<u32>) -> Option<StaleWord>
     }
 }
 
-/// How many moves a message of version 1 says that the agent of a part has finished; `None` where the agent would not take it.
+/// How many moves a message of version 1 says that the agent of a part has finished; `None` where
+/// the agent would not take it.
 fn number_said(part: &Part<'_>, finished: Finished) -> Option<u32>
-    ensures { (tt : Timetable) → IsPartOf tt part.now → result ≡ number_taken tt part.now.agent (telling_one finished) }
+    ensures { (tt : Timetable) → IsPartOf tt part.now
+        → result ≡ number_taken tt part.now.agent (telling_one finished) }
 {
     let moves = part.moves(u32::from(finished.from))?;
     if finished.plan != part.number() || finished.done > moves {
@@ -54,7 +60,8 @@ fn number_said(part: &Part<'_>, finished: Finished) -> Option<u32>
 
 /// The same of a message of version 2.
 fn number_told(part: &Part<'_>, told: &Told<'_>) -> Option<u32>
-    ensures { (tt : Timetable) → IsPartOf tt part.now → result ≡ number_taken tt part.now.agent told.now }
+    ensures { (tt : Timetable) → IsPartOf tt part.now
+        → result ≡ number_taken tt part.now.agent told.now }
 {
     if told.plan() != part.number() || u32::from(told.from()) >= part.agents() {
         return None;

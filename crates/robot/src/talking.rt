@@ -1,5 +1,6 @@
 //! The dialogue with an agent.
-ghost use Rattle.std.specs.Prelude.{◌≡◌, ◌≤◌, ◌*◌, ◌++◌, ℕ, List, [], ◌∷◌, Some, length, is_some, IfOk, IfSome};
+ghost use Rattle.std.specs.Prelude.{◌≡◌, ◌≤◌, ◌*◌, ◌++◌, ℕ, List, []};
+ghost use Rattle.std.specs.Prelude.{◌∷◌, Some, length, is_some, IfOk, IfSome};
 ghost use Rattle.text_io.specs.Lines.{HasTaken};
 ghost use Rattle.text_io.specs.Sink.{held_back, sink_writer};
 ghost use Rattle.text_io.specs.Source.{source_reader};
@@ -30,10 +31,12 @@ pub struct Talker<'g, T: Tape> {
     pub heeded: Option<Part<'g>>,
 }
 
-/// Leads a dialogue: first the line of the agent's state is written, and then each input line is answered by one. Each of these lines
-/// has left the writer, flushed, before the next input line is read. The dialogue ends with the input, or after the answer that a
-/// store failed, or that the tape is an older one. Memory is taken before anything is read or written, and then only to hear of agents not heard of before, and for what is
-/// told. What was answered is the agent's part of what its fleet did: `fleet::laws` say what follows.
+/// Leads a dialogue: first the line of the agent's state is written, and then each input line is
+/// answered by one. Each of these lines has left the writer, flushed, before the next input line is
+/// read. The dialogue ends with the input, or after the answer that a store failed, or that the
+/// tape is an older one. Memory is taken before anything is read or written, and then only to hear
+/// of agents not heard of before, and for what is told. What was answered is the agent's part of
+/// what its fleet did: `fleet::laws` say what follows.
 pub fn talk<R: Read, W: Write, T: Tape>(
     alloc: Global,
     talker: &mut Talker<'_, T>,
@@ -43,7 +46,8 @@ pub fn talk<R: Read, W: Write, T: Tape>(
     requires { IfSome talker.old.heeded (λ p. p ≡ talker.old.agent.part) }
     ensures heeded { talker.new.heeded ≡ talker.old.heeded }
     ensures talks { (tt : Timetable) → IsPartOf tt talker.old.agent.part
-        → Talks R.remaining W.contents T.state (is_some talker.old.heeded) tt input.old input.new output.old output.new talker.old.agent talker.new.agent result }
+        → Talks R.remaining W.contents T.state (is_some talker.old.heeded) tt input.old input.new
+        output.old output.new talker.old.agent talker.new.agent result }
 {
     let mut line = room(alloc, LONGEST_LINE)?;
     let mut message = room(alloc, LONGEST_LINE / 2)?;
@@ -72,7 +76,8 @@ fn talk_with_room<R: Read, W: Write, T: Tape>(
     requires own { IfSome talker.old.heeded (λ p. p ≡ talker.old.agent.part) }
     ensures heeded { talker.new.heeded ≡ talker.old.heeded }
     ensures leads { (tt : Timetable) → IsPartOf tt talker.old.agent.part
-        → Leads R.remaining W.contents T.state (is_some talker.old.heeded) tt input.old input.new output.old output.new talker.old.agent talker.new.agent result }
+        → Leads R.remaining W.contents T.state (is_some talker.old.heeded) tt input.old input.new
+        output.old output.new talker.old.agent talker.new.agent result }
 {
     let mut source = Source::new(input);
     let mut sink = Sink::new(output);
@@ -96,7 +101,9 @@ fn lead<R: Read, W: Write, T: Tape>(
     ensures same_reader { source.new.reader.ghost_name ≡ source.old.reader.ghost_name }
     ensures same_writer { sink.new.writer.ghost_name ≡ sink.old.writer.ghost_name }
     ensures leads { (tt : Timetable) → IsPartOf tt talker.old.agent.part
-        → Leads R.remaining W.contents T.state (is_some talker.old.heeded) tt (source_reader source.old) (source_reader source.new) (sink_writer sink.old) (sink_writer sink.new) talker.old.agent talker.new.agent result }
+        → Leads R.remaining W.contents T.state (is_some talker.old.heeded) tt
+        (source_reader source.old) (source_reader source.new) (sink_writer sink.old)
+        (sink_writer sink.new) talker.old.agent talker.new.agent result }
 {
     say_state(&talker.agent, sink)?;
     'lines: loop {
@@ -114,7 +121,8 @@ fn say_state<W: Write, T: Tape>(
     agent: &Agent<'_, T>,
     sink: &mut Sink<'_, W>,
 ) -> Result<(), WriteFault>
-    ensures says { (tt : Timetable) → IsPartOf tt agent.now.part → SaysState W.contents T.state tt agent.now sink.old sink.new result }
+    ensures says { (tt : Timetable) → IsPartOf tt agent.now.part
+        → SaysState W.contents T.state tt agent.now sink.old sink.new result }
     ensures within { IsOfGraph agent.now.part }
 {
     send_answer(sink, &state_answer(agent))
@@ -134,9 +142,14 @@ fn reply<W: Write, T: Tape>(
     requires own { IfSome talker.old.heeded (λ p. p ≡ talker.old.agent.part) }
     ensures same { IsSameAgent talker.old.agent talker.new.agent }
     ensures heeded { talker.new.heeded ≡ talker.old.heeded }
-    ensures blames { BlamesTape result (T.state talker.old.agent.tape).failures (T.state talker.new.agent.tape).failures }
-    ensures replies { (tt : Timetable) → IsPartOf tt talker.old.agent.part → (track : Track) (text : List ℕ) → track_of tt talker.old.agent.part.agent ≡ Some track → IsLineKept text line.now kept
-        → Replies W.contents (is_some talker.old.heeded) tt talker.old.agent.part.agent track text (state_of T.state talker.old.agent) (state_of T.state talker.new.agent) sink.old sink.new result }
+    ensures blames { BlamesTape result (T.state talker.old.agent.tape).failures
+        (T.state talker.new.agent.tape).failures }
+    ensures replies { (tt : Timetable) → IsPartOf tt talker.old.agent.part
+        → (track : Track) (text : List ℕ) → track_of tt talker.old.agent.part.agent ≡ Some track
+        → IsLineKept text line.now kept
+        → Replies W.contents (is_some talker.old.heeded) tt talker.old.agent.part.agent track text
+        (state_of T.state talker.old.agent) (state_of T.state talker.new.agent) sink.old
+        sink.new result }
 {
     let answer = answer_kept(&mut talker.agent, &talker.heeded, line, kept, message);
     send_answer(sink, &answer)?;

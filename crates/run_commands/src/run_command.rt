@@ -1,7 +1,8 @@
 //! `mapf run`: answers the events of a run, one after another, and says how it ends.
 ghost use Rattle.std.specs.Prelude.{◌≡◌};
 ghost use Rattle.ending.specs.Ending.{EndsAndTells, end_of};
-ghost use Rattle.run_commands.specs.RunCommand.{RunsOrCompletes, needs_flush, end_of_run, AnswersRun};
+ghost use Rattle.run_commands.specs.RunCommand.{RunsOrCompletes, needs_flush};
+ghost use Rattle.run_commands.specs.RunCommand.{end_of_run, AnswersRun};
 
 use ending::{Ending, Status, conclude, finish};
 use runner::{Completion, RunFault, complete_text, run_text};
@@ -20,7 +21,9 @@ pub fn run_cmd<M: Read, P: Read, V: Read, W: Write, E: Write>(
     out: &mut Counted<W>,
     err: &mut Counted<E>,
 ) -> u8
-    ensures { EndsAndTells (AnswersRun M.remaining P.remaining V.remaining W.contents map.old map.new plan.old plan.new events.old events.new complete out.old out.new)
+    ensures { EndsAndTells
+        (AnswersRun M.remaining P.remaining V.remaining W.contents map.old map.new plan.old plan.new
+        events.old events.new complete out.old out.new)
         E.contents err.old err.new result }
 {
     conclude(perform(alloc, map, plan, events, complete, out), err)
@@ -37,7 +40,8 @@ pub fn perform<M: Read, P: Read, V: Read, W: Write>(
     complete: bool,
     out: &mut Counted<W>,
 ) -> Ending
-    ensures { AnswersRun M.remaining P.remaining V.remaining W.contents map.old map.new plan.old plan.new events.old events.new complete out.old out.new (end_of result) }
+    ensures { AnswersRun M.remaining P.remaining V.remaining W.contents map.old map.new plan.old
+        plan.new events.old events.new complete out.old out.new (end_of result) }
 {
     let answer = answer_run(alloc, map, plan, events, complete, out);
     if needs_flush(&answer) {
@@ -56,7 +60,8 @@ fn answer_run<M: Read, P: Read, V: Read, W: Write>(
     complete: bool,
     out: &mut Counted<W>,
 ) -> Result<Completion, RunFault>
-    ensures { RunsOrCompletes M.remaining P.remaining V.remaining W.contents map.old map.new plan.old plan.new events.old events.new complete out.old out.new result }
+    ensures { RunsOrCompletes M.remaining P.remaining V.remaining W.contents map.old map.new
+        plan.old plan.new events.old events.new complete out.old out.new result }
 {
     if complete {
         return complete_text(alloc, map, plan, events, out);

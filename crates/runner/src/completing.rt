@@ -6,7 +6,8 @@ ghost use Rattle.text_io.specs.Source.{source_reader};
 ghost use Rattle.text_io.specs.Text.{line_feed};
 ghost use Rattle.model.specs.History.{History};
 ghost use Rattle.executor.specs.Standing.{StandsAt};
-ghost use Rattle.runner.specs.Completing.{numbered_line, completion_text, blocked_text, CompletesEvents, Completes, CompletesText};
+ghost use Rattle.runner.specs.Completing.{numbered_line, completion_text, blocked_text};
+ghost use Rattle.runner.specs.Completing.{CompletesEvents, Completes, CompletesText};
 ghost use Rattle.runner.specs.Code.Ending.{PutsEnding};
 
 use crate::replaying::{hand_on, run_events};
@@ -20,9 +21,10 @@ use std::alloc::Global;
 use std::io::{Read, Write};
 use text_io::{Counted, PIECE, Sink, Source, WriteFault};
 
-/// Does what `run_text` does, and where that comes to the end of the events then says how their run ends: it puts into the output how many
-/// events bring every agent to its end and the line of each, or the number of the rotation that keeps agents from their ends. At a fault
-/// nothing of this is put, unless it is the writer's. The output is not flushed.
+/// Does what `run_text` does, and where that comes to the end of the events then says how their run
+/// ends: it puts into the output how many events bring every agent to its end and the line of each,
+/// or the number of the rotation that keeps agents from their ends. At a fault nothing of this is
+/// put, unless it is the writer's. The output is not flushed.
 pub fn complete_text<M: Read, P: Read, E: Read, W: Write>(
     alloc: Global,
     map: &mut Counted<M>,
@@ -30,7 +32,8 @@ pub fn complete_text<M: Read, P: Read, E: Read, W: Write>(
     events: &mut Counted<E>,
     out: &mut Counted<W>,
 ) -> Result<Completion, RunFault>
-    ensures { CompletesText M.remaining P.remaining E.remaining W.contents map.old map.new plan.old plan.new events.old events.new out.old out.new result }
+    ensures { CompletesText M.remaining P.remaining E.remaining W.contents map.old map.new plan.old
+        plan.new events.old events.new out.old out.new result }
 {
     let graph = read_dependencies(alloc, map, plan)?;
     complete(alloc, &graph, events, out)
@@ -45,7 +48,8 @@ fn complete<E: Read, W: Write>(
     events: &mut Counted<E>,
     out: &mut Counted<W>,
 ) -> Result<Completion, RunFault>
-    ensures { Completes E.remaining W.contents graph.now events.old events.new out.old out.new result }
+    ensures { Completes E.remaining W.contents graph.now events.old events.new out.old
+        out.new result }
 {
     let mut source = Source::new(events);
     let mut sink = Sink::new(out);
@@ -63,13 +67,15 @@ fn complete_all<E: Read, W: Write>(
     requires none_held { held_back sink.old ≡ [] }
     ensures same_reader { source.new.reader.ghost_name ≡ source.old.reader.ghost_name }
     ensures same_writer { sink.new.writer.ghost_name ≡ sink.old.writer.ghost_name }
-    ensures completes { Completes E.remaining W.contents graph.now (source_reader source.old) (source_reader source.new) (sink_writer sink.old) (sink_writer sink.new) result }
+    ensures completes { Completes E.remaining W.contents graph.now (source_reader source.old)
+        (source_reader source.new) (sink_writer sink.old) (sink_writer sink.new) result }
 {
     let answer = complete_events(alloc, graph, source, sink);
     hand_on(answer, sink)
 }
 
-/// Answers one event after another, by the version of their header, and then says how their run ends.
+/// Answers one event after another, by the version of their header, and then says how their run
+/// ends.
 fn complete_events<E: Read, W: Write>(
     alloc: Global,
     graph: &Dependencies,
@@ -79,7 +85,8 @@ fn complete_events<E: Read, W: Write>(
     requires { HasTaken E.remaining (source_reader source.old) source.old [] }
     ensures same_reader { source.new.reader.ghost_name ≡ source.old.reader.ghost_name }
     ensures same_writer { sink.new.writer.ghost_name ≡ sink.old.writer.ghost_name }
-    ensures completes { CompletesEvents E.remaining graph.now (source_reader source.old) (source_reader source.new)
+    ensures completes { CompletesEvents E.remaining graph.now (source_reader source.old)
+        (source_reader source.new)
         (Puts W.contents sink.old sink.new) (Breaks W.contents sink.old sink.new) result }
 {
     let runner = run_events(alloc, graph, source, sink)?;
@@ -89,7 +96,8 @@ fn complete_events<E: Read, W: Write>(
 /// Puts how the runner's run ends.
 fn put_ending<W: Write>(sink: &mut Sink<'_, W>, runner: &Runner<'_>) -> Result<Completion, RunFault>
     ensures same_writer { sink.new.writer.ghost_name ≡ sink.old.writer.ghost_name }
-    ensures ending { (h : History) → StandsAt runner.now h → PutsEnding runner.now.version runner.now.timetable h
+    ensures ending { (h : History) → StandsAt runner.now h
+        → PutsEnding runner.now.version runner.now.timetable h
         (Puts W.contents sink.old sink.new) (Breaks W.contents sink.old sink.new) result }
 {
     match runner.complete() {
@@ -131,8 +139,10 @@ fn put_numbered<W: Write>(
     word: &[u8],
     number: u64,
 ) -> Result<(), WriteFault>
-    ensures ok { OnOk result (Puts W.contents sink.old sink.new (numbered_line word.now number ++ line_feed ∷ [])) }
-    ensures err { OnErr result (Breaks W.contents sink.old sink.new (numbered_line word.now number ++ line_feed ∷ [])) }
+    ensures ok { OnOk result
+        (Puts W.contents sink.old sink.new (numbered_line word.now number ++ line_feed ∷ [])) }
+    ensures err { OnErr result
+        (Breaks W.contents sink.old sink.new (numbered_line word.now number ++ line_feed ∷ [])) }
 {
     sink.put(word)?;
     sink.put_number_after(b' ', number)?;

@@ -16,9 +16,10 @@ use std::alloc::Global;
 use std::io::{Read, Write};
 use text_io::{Counted, PIECE, Sink, Source};
 
-/// Reads a map and then a plan, checks the plan on the map, and then answers one event after another, by the version of the events'
-/// header: the reply to each is put into the output before the next line of the events is looked at. All replies so far are in the
-/// output when a fault is answered. The output is not flushed.
+/// Reads a map and then a plan, checks the plan on the map, and then answers one event after
+/// another, by the version of the events' header: the reply to each is put into the output before
+/// the next line of the events is looked at. All replies so far are in the output when a fault is
+/// answered. The output is not flushed.
 pub fn run_text<M: Read, P: Read, E: Read, W: Write>(
     alloc: Global,
     map: &mut Counted<M>,
@@ -26,7 +27,8 @@ pub fn run_text<M: Read, P: Read, E: Read, W: Write>(
     events: &mut Counted<E>,
     out: &mut Counted<W>,
 ) -> Result<(), RunFault>
-    ensures { RunsText M.remaining P.remaining E.remaining W.contents map.old map.new plan.old plan.new events.old events.new out.old out.new result }
+    ensures { RunsText M.remaining P.remaining E.remaining W.contents map.old map.new plan.old
+        plan.new events.old events.new out.old out.new result }
 {
     let graph = read_dependencies(alloc, map, plan)?;
     replay(alloc, &graph, events, out)
@@ -41,7 +43,8 @@ fn replay<E: Read, W: Write>(
     events: &mut Counted<E>,
     out: &mut Counted<W>,
 ) -> Result<(), RunFault>
-    ensures { Replays E.remaining W.contents graph.now events.old events.new out.old out.new result }
+    ensures { Replays E.remaining W.contents graph.now events.old events.new out.old
+        out.new result }
 {
     let mut source = Source::new(events);
     let mut sink = Sink::new(out);
@@ -59,7 +62,8 @@ fn answer_all<E: Read, W: Write>(
     requires none_held { held_back sink.old ≡ [] }
     ensures same_reader { source.new.reader.ghost_name ≡ source.old.reader.ghost_name }
     ensures same_writer { sink.new.writer.ghost_name ≡ sink.old.writer.ghost_name }
-    ensures answers { Replays E.remaining W.contents graph.now (source_reader source.old) (source_reader source.new) (sink_writer sink.old) (sink_writer sink.new) result }
+    ensures answers { Replays E.remaining W.contents graph.now (source_reader source.old)
+        (source_reader source.new) (sink_writer sink.old) (sink_writer sink.new) result }
 {
     let answer = answer_events(alloc, graph, source, sink);
     hand_on(answer, sink)
@@ -96,7 +100,8 @@ fn answer_events<E: Read, W: Write>(
     requires { HasTaken E.remaining (source_reader source.old) source.old [] }
     ensures same_reader { source.new.reader.ghost_name ≡ source.old.reader.ghost_name }
     ensures same_writer { sink.new.writer.ghost_name ≡ sink.old.writer.ghost_name }
-    ensures answers { AnswersEvents E.remaining graph.now (source_reader source.old) (source_reader source.new)
+    ensures answers { AnswersEvents E.remaining graph.now (source_reader source.old)
+        (source_reader source.new)
         (Puts W.contents sink.old sink.new) (Breaks W.contents sink.old sink.new) result }
 {
     let _runner = run_events(alloc, graph, source, sink)?;
@@ -113,7 +118,8 @@ pub(crate) fn run_events<'g, E: Read, W: Write>(
     requires { HasTaken E.remaining (source_reader source.old) source.old [] }
     ensures same_reader { source.new.reader.ghost_name ≡ source.old.reader.ghost_name }
     ensures same_writer { sink.new.writer.ghost_name ≡ sink.old.writer.ghost_name }
-    ensures answers { AnswersBy E.remaining graph.now (source_reader source.old) (source_reader source.new)
+    ensures answers { AnswersBy E.remaining graph.now (source_reader source.old)
+        (source_reader source.new)
         (Puts W.contents sink.old sink.new) (Breaks W.contents sink.old sink.new) result }
 {
     model::laws::every_run_is_safe();

@@ -13,8 +13,8 @@ use thiserror::Error;
 /// Why a run is not replayed to its end.
 #[derive(Clone, Copy, Debug, PartialEq, Eq, Error)]
 pub enum RunFault {
-    /// The map or the plan could not be read, or the plan is not valid, or nobody knows what its moves
-    /// wait for: nothing was answered.
+    /// The map or the plan could not be read, or the plan is not valid, or nobody knows what its
+    /// moves wait for: nothing was answered.
     Planned(PlannedFault),
     /// The events could not be read further.
     Events(EventFault),

@@ -1,5 +1,5 @@
-//! What callers use of scenarios: lengths, rows and their text, and the search and the certificates that tell which length of a row is
-//! right. All of it stands in crates below and is passed on.
+//! What callers use of scenarios: lengths, rows and their text, and the search and the certificates
+//! that tell which length of a row is right. All of it stands in crates below and is passed on.
 #![tactic(auto)]
 
 pub use scenario::{

@@ -1,7 +1,9 @@
--- The code's own words: what bodies and proofs speak of, and no promise. Squares, OrderLaws and ComparisonLaws are the proofs of
--- the laws of `Ord` and `PartialOrd`: an `impl` names them, and may name nothing of proofs/.
+-- The code's own words: what bodies and proofs speak of, and no promise. Squares, OrderLaws and
+-- ComparisonLaws are the proofs of the laws of `Ord` and `PartialOrd`: an `impl` names them, and
+-- may name nothing of proofs/.
 
--- the order of lengths as a comparison that computes; the law `comparison_of_lengths` says what it means
+-- the order of lengths as a comparison that computes; the law `comparison_of_lengths` says what it
+-- means
 pub mod Comparison
 pub mod Squares
 pub mod OrderLaws

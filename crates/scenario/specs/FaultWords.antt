@@ -9,7 +9,8 @@ use Rattle.scenario.specs.declared.scen_fault.ScenFault.TheVariants as scen_faul
 abbrev pub scen_fault_words : ScenFault → Words
 scen_fault_words scen_fault.NoVersion = text_fault (codes "NoVersion") []
 scen_fault_words (scen_fault.FieldCount line) = text_fault (codes "FieldCount") (line ∷ [])
-scen_fault_words (scen_fault.BadNumber line field) = text_fault (codes "BadNumber") (line ∷ field ∷ [])
+scen_fault_words (scen_fault.BadNumber line field) =
+    text_fault (codes "BadNumber") (line ∷ field ∷ [])
 scen_fault_words (scen_fault.OutOfGrid line) = text_fault (codes "OutOfGrid") (line ∷ [])
 scen_fault_words (scen_fault.BadLength line) = text_fault (codes "BadLength") (line ∷ [])
 scen_fault_words scen_fault.ReadFailed = failed failure.ReadFailed

@@ -39,9 +39,11 @@ separator_of content = if list_any (λ b. b == tab) content then tab else space
 abbrev pub has_bytes : List ℕ → Bool
 has_bytes bytes = nat_lt 0 (length bytes)
 
--- the parts between the separators, without the blanks at their ends; a part with nothing else is no field
+-- the parts between the separators, without the blanks at their ends; a part with nothing else is
+-- no field
 abbrev pub fields_between : ℕ → List ℕ → List (List ℕ)
-fields_between separator bytes = filter has_bytes (map trimmed (slice_split (λ b. b == separator) bytes))
+fields_between separator bytes =
+    filter has_bytes (map trimmed (slice_split (λ b. b == separator) bytes))
 
 -- the fields of a line's content
 abbrev pub fields_in_content : List ℕ → List (List ℕ)

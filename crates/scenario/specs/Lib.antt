@@ -1,4 +1,5 @@
--- What has to be believed, in the order in which to read it: each promise of the crate is made in these words.
+-- What has to be believed, in the order in which to read it: each promise of the crate is made in
+-- these words.
 
 -- the order of lengths, and when a listed one agrees
 pub mod Length
@@ -14,5 +15,6 @@ pub mod ScenFault
 pub mod FaultWords
 -- The code's own words, of which no promise speaks.
 pub mod Code
--- What follows from these definitions, each with its proof: proofs of other crates cite it, and nothing of it has to be believed.
+-- What follows from these definitions, each with its proof: proofs of other crates cite it, and
+-- nothing of it has to be believed.
 pub mod Laws

@@ -1,5 +1,7 @@
--- What a caller sees of a row of a scenario: a query from a start to a goal, and the length that is listed for it.
-use Rattle.std.specs.Prelude.{◌≡◌, ℕ, ◌+◌, ◌^◌, ◌<◌, ◌≤◌, ◌/◌, ◌%◌, ◌==◌, zero, suc, IsTrue, Bool, ◌&&◌, not, List, [], ◌∷◌, ◌++◌, length, map, codes, decimal}
+-- What a caller sees of a row of a scenario: a query from a start to a goal, and the length that is
+-- listed for it.
+use Rattle.std.specs.Prelude.{◌≡◌, ℕ, ◌+◌, ◌^◌, ◌<◌, ◌≤◌, ◌/◌, ◌%◌, ◌==◌, zero, suc, IsTrue}
+use Rattle.std.specs.Prelude.{Bool, ◌&&◌, not, List, [], ◌∷◌, ◌++◌, length, map, codes, decimal}
 use Rattle.std.specs.List.{list_all, join_with_byte}
 use Rattle.grid.specs.declared.cell.Cell.{Cell}
 use Rattle.text_io.specs.Text.{line_feed, tab, ended}
@@ -47,7 +49,8 @@ listed_text n decimals = decimal (n / 10 ^ decimals) ++ decimals_text decimals n
 abbrev pub row_line : Query → List ℕ
 row_line q =
     join_with_byte tab
-    (decimal q.bucket ∷ q.name ∷ decimal q.width ∷ decimal q.height ∷ decimal q.start.x ∷ decimal q.start.y
+    (decimal q.bucket ∷ q.name ∷ decimal q.width ∷ decimal q.height ∷ decimal
+    q.start.x ∷ decimal q.start.y
     ∷ decimal q.goal.x ∷ decimal q.goal.y ∷ listed_text q.listed q.decimals ∷ [])
 
 -- a line of a scenario is no longer than this

@@ -1,4 +1,5 @@
--- The text of a scenario of version 1 (MovingAI, scenario format): which texts spell a list of rows.
+-- The text of a scenario of version 1 (MovingAI, scenario format): which texts spell a list of
+-- rows.
 use Rattle.std.specs.Prelude.{◌≡◌, ℕ, ◌<◌, ◌≤◌, ◌⊎◌, List, [], ◌∷◌, ◌++◌, length, codes}
 use Rattle.std.specs.List.{AllByRecursion}
 use Rattle.text_io.specs.Text.{IsGap, SpellsNumber, lines_of}
@@ -22,11 +23,13 @@ pub record IsVersion (line : List ℕ) : Type 0 where
   pub is_gap : IsGap gap
   pub one : (number ≡ codes "1") ⊎ (number ≡ codes "1.0")
 
--- One to seven digits, and then nothing, or a point and one to twelve digits; all the digits together spell n.
+-- One to seven digits, and then nothing, or a point and one to twelve digits; all the digits
+-- together spell n.
 pub record SpellsListed (n decimals : ℕ) (bytes : List ℕ) : Type 0 where
   pub whole : List ℕ
   pub after : List ℕ
-  pub parts : ((bytes ≡ whole) × (after ≡ [])) ⊎ ((bytes ≡ whole ++ point ∷ after) × (0 < length after))
+  pub parts : ((bytes ≡ whole) × (after ≡ []))
+      ⊎ ((bytes ≡ whole ++ point ∷ after) × (0 < length after))
   pub number : SpellsNumber n (whole ++ after)
   pub some : 0 < length whole
   pub whole_limit : length whole ≤ 7
@@ -44,7 +47,8 @@ pub record SpellsRow (q : Query) (line : List ℕ) : Type 0 where
   pub goal_x : List ℕ
   pub goal_y : List ℕ
   pub listed : List ℕ
-  pub fields : fields_of line ≡ bucket ∷ q.name ∷ width ∷ height ∷ start_x ∷ start_y ∷ goal_x ∷ goal_y ∷ listed ∷ []
+  pub fields : fields_of line ≡ bucket ∷ q.name ∷ width ∷ height ∷ start_x ∷ start_y ∷ goal_x
+      ∷ goal_y ∷ listed ∷ []
   pub is_bucket : SpellsNumber q.bucket bucket
   pub is_width : SpellsNumber q.width width
   pub is_height : SpellsNumber q.height height
@@ -60,9 +64,11 @@ abbrev pub AreQueries : List Query → List (List ℕ) → Type 0
 AreQueries queries [] = queries ≡ []
 AreQueries queries (line ∷ lines) =
     (IsSkipped line × AreQueries queries lines)
-    ⊎ ((q : Query) × (others : List Query) × (queries ≡ q ∷ others) × SpellsRow q line × AreQueries others lines)
+    ⊎ ((q : Query) × (others : List Query) × (queries ≡ q ∷ others) × SpellsRow q line
+    × AreQueries others lines)
 
--- The text spells the rows: its lines are skipped ones, the version, and then the rows among skipped ones.
+-- The text spells the rows: its lines are skipped ones, the version, and then the rows among
+-- skipped ones.
 pub record ScenText (queries : List Query) (text : List ℕ) : Type 0 where
   pub before : List (List ℕ)
   pub version : List ℕ

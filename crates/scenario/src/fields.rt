@@ -2,7 +2,9 @@
 ghost use Rattle.std.specs.Prelude.{◌≡◌, ◌∷◌, [], ◌==◌, ◌≢◌, length, ℕ, MatchOption, IsTrue};
 ghost use Rattle.std.specs.List.{list_any, position_or_len};
 ghost use Rattle.text_io.specs.Text.{tab, is_blank};
-ghost use Rattle.scenario.specs.Fields.{without_return, without_leading, without_trailing, trimmed, content_of, separator_of, fields_between, fields_in_content};
+ghost use Rattle.scenario.specs.Fields.{without_return, without_leading, without_trailing};
+ghost use Rattle.scenario.specs.Fields.{trimmed, content_of, separator_of};
+ghost use Rattle.scenario.specs.Fields.{fields_between, fields_in_content};
 ghost use Rattle.scenario.specs.ScenFault.{all_fields};
 ghost use Rattle.scenario.specs.Code.Parsing.{fields_seen};
 
@@ -74,7 +76,8 @@ fn trim_end(bytes: &[u8]) -> &[u8]
 
 /// The nine fields of a line's content, if it has so many and no more.
 pub(crate) fn nine_fields(content: &[u8]) -> Option<FieldBytes<'_>>
-    ensures { MatchOption result (length (fields_in_content content.now) ≢ 9) (λ f. fields_in_content content.now ≡ all_fields (fields_seen f)) }
+    ensures { MatchOption result (length (fields_in_content content.now) ≢ 9)
+        (λ f. fields_in_content content.now ≡ all_fields (fields_seen f)) }
 {
     let separator = separator_of(content);
     let (bucket, rest) = first_field(content, separator)?;

@@ -10,7 +10,8 @@ ghost use Rattle.std.specs.declared.cmp.Ordering.TheVariants.{Equal, Greater, Le
 ghost use Rattle.scenario.specs.Code.Comparison.{parts_cmp};
 ghost use Rattle.scenario.specs.Length.{IsAtMost, IsLess};
 
-/// The order of lengths is that of numbers: it is total and transitive, and adding the same to both sides keeps it.
+/// The order of lengths is that of numbers: it is total and transitive, and adding the same to both
+/// sides keeps it.
 pub fn order_of_lengths()
     ensures only_zero { (p q : ℕ) → p * p ≡ 2 * (q * q) → (p ≡ 0) × (q ≡ 0) }
     ensures total { (a b c d : ℕ) → IsLess a b c d ⊎ (((a ≡ c) × (b ≡ d)) ⊎ IsLess c d a b) }
@@ -18,7 +19,8 @@ pub fn order_of_lengths()
     ensures never_both { (a b c d : ℕ) → IsLess a b c d → IsLess c d a b → ⊥ }
     ensures transitive { (a b c d e f : ℕ) → IsLess a b c d → IsLess c d e f → IsLess a b e f }
     ensures step { (a b c d s t : ℕ) → IsLess a b c d → IsLess (a + s) (b + t) (c + s) (d + t) }
-    ensures step_at_most { (a b c d s t : ℕ) → IsAtMost a b c d → IsAtMost (a + s) (b + t) (c + s) (d + t) }
+    ensures step_at_most { (a b c d s t : ℕ) → IsAtMost a b c d
+        → IsAtMost (a + s) (b + t) (c + s) (d + t) }
 {}
 
 /// What `cmp`, `<` and their kin compute of two lengths is their order.
@@ -28,20 +30,27 @@ pub fn comparison_of_lengths()
     ensures greater { (a b c d : ℕ) → (parts_cmp a b c d ≡ Greater) ↔ IsLess c d a b }
 {}
 
-/// Each text has exactly one reading as a scenario: one list of rows that it spells, or one first fault.
+/// Each text has exactly one reading as a scenario: one list of rows that it spells, or one first
+/// fault.
 pub fn one_reading()
-    ensures some { (text : List ℕ) → ((rows : List Query) × ScenText rows text) ⊎ ((f : ScenFault) × IsFirstFault ScenFaultAt f text) }
-    ensures one_scenario { (text : List ℕ) (m n : List Query) → ScenText m text → ScenText n text → m ≡ n }
-    ensures one_fault { (text : List ℕ) (f g : ScenFault) → IsFirstFault ScenFaultAt f text → IsFirstFault ScenFaultAt g text → f ≡ g }
-    ensures never_both { (text : List ℕ) (rows : List Query) (f : ScenFault) → ScenText rows text → IsFirstFault ScenFaultAt f text → ⊥ }
+    ensures some { (text : List ℕ) → ((rows : List Query) × ScenText rows text)
+        ⊎ ((f : ScenFault) × IsFirstFault ScenFaultAt f text) }
+    ensures one_scenario { (text : List ℕ) (m n : List Query) → ScenText m text
+        → ScenText n text → m ≡ n }
+    ensures one_fault { (text : List ℕ) (f g : ScenFault) → IsFirstFault ScenFaultAt f text
+        → IsFirstFault ScenFaultAt g text → f ≡ g }
+    ensures never_both { (text : List ℕ) (rows : List Query) (f : ScenFault) → ScenText rows text
+        → IsFirstFault ScenFaultAt f text → ⊥ }
 {
     text_io::laws::places();
 }
 
 /// The text that is written for rows within their limits spells those rows, and no others.
 pub fn written_text()
-    ensures spells { (rows : List Query) → AllByRecursion IsQuery rows → ScenText rows (canonical_scen_text rows) }
-    ensures only { (rows others : List Query) → AllByRecursion IsQuery rows → ScenText others (canonical_scen_text rows) → others ≡ rows }
+    ensures spells { (rows : List Query) → AllByRecursion IsQuery rows
+        → ScenText rows (canonical_scen_text rows) }
+    ensures only { (rows others : List Query) → AllByRecursion IsQuery rows
+        → ScenText others (canonical_scen_text rows) → others ≡ rows }
 {
     text_io::laws::places();
 }

@@ -44,10 +44,15 @@ impl Ord for Length {
 
     /// Compares `straight + diagonal * √2` as real numbers.
     fn cmp(&self, other: &Length) -> Ordering
-        ensures value { result ≡ parts_cmp self.now.straight self.now.diagonal other.now.straight other.now.diagonal }
-        ensures less { (result ≡ Ordering.Less) ↔ IsLess self.now.straight self.now.diagonal other.now.straight other.now.diagonal }
-        ensures equal { (result ≡ Ordering.Equal) ↔ ((self.now.straight ≡ other.now.straight) × (self.now.diagonal ≡ other.now.diagonal)) }
-        ensures greater { (result ≡ Ordering.Greater) ↔ IsLess other.now.straight other.now.diagonal self.now.straight self.now.diagonal }
+        ensures value { result ≡ parts_cmp self.now.straight self.now.diagonal other.now.straight
+            other.now.diagonal }
+        ensures less { (result ≡ Ordering.Less)
+            ↔ IsLess self.now.straight self.now.diagonal other.now.straight other.now.diagonal }
+        ensures equal { (result ≡ Ordering.Equal)
+            ↔ ((self.now.straight ≡ other.now.straight)
+            × (self.now.diagonal ≡ other.now.diagonal)) }
+        ensures greater { (result ≡ Ordering.Greater)
+            ↔ IsLess other.now.straight other.now.diagonal self.now.straight self.now.diagonal }
     {
         if self == other {
             Ordering::Equal
@@ -67,7 +72,8 @@ impl Ord for Length {
 impl PartialOrd for Length {
     ghost partial_cmp = { λ x y. Some (parts_cmp x.straight x.diagonal y.straight y.diagonal) };
 
-    ghost laws = { partial_order_from_agreeing_total (λ x y. parts_cmp x.straight x.diagonal y.straight y.diagonal)
+    ghost laws = { partial_order_from_agreeing_total
+        (λ x y. parts_cmp x.straight x.diagonal y.straight y.diagonal)
         (parts_cmp-total (λ x. x.straight) (λ x. x.diagonal)) (λ x y. refl)
         (λ x y. parts_cmp-ties x.straight x.diagonal y.straight y.diagonal) };
 

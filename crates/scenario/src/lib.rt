@@ -1,4 +1,5 @@
-//! Lengths, and scenarios: lists of single queries on a map, each with the length that it should have.
+//! Lengths, and scenarios: lists of single queries on a map, each with the length that it should
+//! have.
 #![tactic(auto)]
 
 mod agreement;

@@ -15,7 +15,8 @@ pub struct Listed {
 impl Listed {
     /// `None` where there are too many digits.
     pub fn new(n: u64, d: u8) -> Option<Listed>
-        ensures { MatchOption result ((12 < d) ⊎ (10 ^ (7 + d) ≤ n)) (λ listed. (listed.n ≡ n) × (listed.d ≡ d)) }
+        ensures { MatchOption result ((12 < d) ⊎ (10 ^ (7 + d) ≤ n)) (λ listed. (listed.n ≡ n)
+            × (listed.d ≡ d)) }
     {
         if d <= DECIMALS_LIMIT && n < 10u64.pow(7 + u32::from(d)) {
             Some(Listed { n, d })

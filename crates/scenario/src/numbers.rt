@@ -1,7 +1,11 @@
 //! The whole numbers of a row.
-ghost use Rattle.std.specs.Prelude.{◌≡◌, ◌+◌, ◌*◌, ◌^◌, ◌<◌, min, true, false, length, Some, None, MatchOption, MatchResult, if◌then◌else◌};
+ghost use Rattle.std.specs.Prelude.{◌≡◌, ◌+◌, ◌*◌, ◌^◌, ◌<◌};
+ghost use Rattle.std.specs.Prelude.{min, true, false, length, Some};
+ghost use Rattle.std.specs.Prelude.{None, MatchOption, MatchResult, if◌then◌else◌};
 ghost use Rattle.scenario.specs.ScenFault.{value_of, is_bucket, is_size, wrong_number, is_in_grid};
-ghost use Rattle.scenario.specs.Code.Parsing.{most_told, fields_seen, spelled, spelled_after, HasNumbers, are_in_grid, whole_of, after_of, is_listed_form, is_listed, listed_value};
+ghost use Rattle.scenario.specs.Code.Parsing.{most_told, fields_seen, spelled, spelled_after};
+ghost use Rattle.scenario.specs.Code.Parsing.{HasNumbers, are_in_grid, whole_of, after_of};
+ghost use Rattle.scenario.specs.Code.Parsing.{is_listed_form, is_listed, listed_value};
 
 use crate::Listed;
 use crate::fields::FieldBytes;
@@ -22,7 +26,8 @@ pub(crate) struct Numbers {
 impl Numbers {
     /// The numbers that the fields spell, or the first field that spells none within its limits.
     pub(crate) fn from_fields(fields: &FieldBytes<'_>) -> Result<Numbers, u32>
-        ensures { MatchResult result (λ n. (wrong_number (fields_seen fields.now) ≡ None) × HasNumbers (fields_seen fields.now) n)
+        ensures { MatchResult result (λ n. (wrong_number (fields_seen fields.now) ≡ None)
+            × HasNumbers (fields_seen fields.now) n)
             (λ field. wrong_number (fields_seen fields.now) ≡ Some field) }
     {
         let bucket = bucket_of(fields.bucket).ok_or(1u32)?;
@@ -95,7 +100,8 @@ fn size_of(bytes: &[u8]) -> Option<u32>
     }
 }
 
-/// The value that digits spell, if the bytes are digits alone. A greater one than a `u64` holds is `u64::MAX`.
+/// The value that digits spell, if the bytes are digits alone. A greater one than a `u64` holds is
+/// `u64::MAX`.
 fn spelled(bytes: &[u8]) -> Option<u64>
     ensures { result ≡ spelled bytes.now }
 {
@@ -119,7 +125,8 @@ pub(crate) fn spelled_after(start: u64, bytes: &[u8]) -> Option<u64>
     Some(value)
 }
 
-/// A number with one more digit. Numbers are short, so the branch is foreseen, and is quicker than to test product and sum.
+/// A number with one more digit. Numbers are short, so the branch is foreseen, and is quicker than
+/// to test product and sum.
 fn with_digit(value: u64, digit: u64) -> u64
     requires { digit < 10 }
     ensures { result ≡ min (value * 10 + digit) most_told }
@@ -134,7 +141,8 @@ fn with_digit(value: u64, digit: u64) -> u64
 /// The listed length that a field spells, if it spells one.
 pub(crate) fn listed_of(bytes: &[u8]) -> Option<Listed>
     ensures { MatchOption result (is_listed bytes.now ≡ false)
-        (λ l. (is_listed bytes.now ≡ true) × (l.n ≡ listed_value bytes.now) × (l.d ≡ length (after_of bytes.now))) }
+        (λ l. (is_listed bytes.now ≡ true) × (l.n ≡ listed_value bytes.now)
+        × (l.d ≡ length (after_of bytes.now))) }
 {
     let (whole, after) = around_point(bytes);
     if !is_listed_form(bytes, whole, after) {

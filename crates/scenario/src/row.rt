@@ -11,7 +11,8 @@ use std::alloc::AllocError;
 use std::marker::Model;
 use std::sync::ArcSlice;
 
-/// A query from a start to a goal, on a map of a width and a height, and the length that is listed for it.
+/// A query from a start to a goal, on a map of a width and a height, and the length that is listed
+/// for it.
 #[derive(Debug, Drop)]
 pub struct Row {
     bucket: u32,
@@ -27,9 +28,29 @@ pub struct Row {
 impl Model for Row {
     ghost Value = { Query };
 
-    ghost view = { λ r. record { bucket = r.bucket; name = arc_slice_items r.name; width = r.width; height = r.height; start = r.start; goal = r.goal; listed = r.listed.n; decimals = r.listed.d } };
+    ghost view = { λ r. record {
+      bucket = r.bucket;
+      name = arc_slice_items r.name;
+      width = r.width;
+      height = r.height;
+      start = r.start;
+      goal = r.goal;
+      listed = r.listed.n;
+      decimals =
+          r.listed.d;
+    } };
 
-    ghost invariant = { λ r. IsQuery (record { bucket = r.bucket; name = arc_slice_items r.name; width = r.width; height = r.height; start = r.start; goal = r.goal; listed = r.listed.n; decimals = r.listed.d }) };
+    ghost invariant = { λ r. IsQuery (record {
+      bucket = r.bucket;
+      name = arc_slice_items r.name;
+      width = r.width;
+      height = r.height;
+      start = r.start;
+      goal = r.goal;
+      listed = r.listed.n;
+      decimals =
+          r.listed.d;
+    }) };
 }
 
 impl Row {

@@ -1,5 +1,6 @@
 //! Reading a line as a row.
-ghost use Rattle.std.specs.Prelude.{◌≡◌, ◌≢◌, ◌≤◌, ℕ, List, [], None, length, IfOk, MatchOption, MatchResult};
+ghost use Rattle.std.specs.Prelude.{◌≡◌, ◌≢◌, ◌≤◌, ℕ, List, []};
+ghost use Rattle.std.specs.Prelude.{None, length, IfOk, MatchOption, MatchResult};
 ghost use Rattle.std.specs.Arc.{arc_slice_items};
 ghost use Rattle.text_io.specs.Text.{IsLine};
 ghost use Rattle.scenario.specs.Fields.{content_of, fields_in_content};
@@ -24,7 +25,9 @@ pub(crate) fn read_row(
 ) -> Result<Option<Row>, ScenFault>
     requires line { IsLine line.now }
     requires short { length line.now ≤ longest_line }
-    ensures { MatchResult result (λ row. MatchOption row (IsSkipped line.now) (λ q. SpellsRow q line.now)) (RefusesLine row_due number line.now) }
+    ensures { MatchResult result
+        (λ row. MatchOption row (IsSkipped line.now) (λ q. SpellsRow q line.now))
+        (RefusesLine row_due number line.now) }
 {
     let content = content_of(line);
     if content.is_empty() {
@@ -44,8 +47,10 @@ pub(crate) fn read_row(
 /// The fields of a line that isn't skipped, by its content, and the numbers that they spell.
 fn row_fields(content: &[u8], number: u64) -> Result<(FieldBytes<'_>, Numbers), ScenFault>
     ensures { MatchResult result
-        (λ p. (fields_in_content content.now ≡ all_fields (fields_seen p.0)) × (wrong_number (fields_seen p.0) ≡ None) × HasNumbers (fields_seen p.0) p.1)
-        (λ fault. (line : List ℕ) → IsLine line → IsShort line → (content_of line ≡ content.now) → (content_of line ≢ []) → RefusesLine row_due number line fault) }
+        (λ p. (fields_in_content content.now ≡ all_fields (fields_seen p.0))
+        × (wrong_number (fields_seen p.0) ≡ None) × HasNumbers (fields_seen p.0) p.1)
+        (λ fault. (line : List ℕ) → IsLine line → IsShort line → (content_of line ≡ content.now)
+        → (content_of line ≢ []) → RefusesLine row_due number line fault) }
 {
     if let Some(usual) = usual_fields(content) {
         return Ok(usual);

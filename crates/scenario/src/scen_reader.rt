@@ -24,10 +24,12 @@ use text_io::{Counted, PIECE, Source, TakenLine};
 /// A line of a scenario has no more bytes before its LF.
 const LONGEST_LINE: usize = 4096;
 
-/// Reads a scenario of version 1, the whole text. The first faulty line is answered; a reader that fails is not read again, and
-/// the answer is then the fault that its bytes decide, or else `ReadFailed`.
+/// Reads a scenario of version 1, the whole text. The first faulty line is answered; a reader that
+/// fails is not read again, and the answer is then the fault that its bytes decide, or else
+/// `ReadFailed`.
 pub fn read_scen<R: Read>(alloc: Global, reader: &mut Counted<R>) -> Result<Scenario, ScenFault>
-    ensures { ReadsText ScenText ScenFaultAt (R.remaining (counted_inner reader.old)) (R.remaining (counted_inner reader.new))
+    ensures { ReadsText ScenText ScenFaultAt (R.remaining (counted_inner reader.old))
+        (R.remaining (counted_inner reader.new))
         (failures_of reader.old) (failures_of reader.new) (scen_outcome result) }
 {
     let mut source = Source::new(reader);
@@ -41,8 +43,11 @@ fn read_lines<R: Read>(
 ) -> Result<Scenario, ScenFault>
     requires { HasTaken R.remaining (source_reader source.old) source.old [] }
     ensures same_reader { source.new.reader.ghost_name ≡ source.old.reader.ghost_name }
-    ensures reads { ReadsText ScenText ScenFaultAt (R.remaining (counted_inner (source_reader source.old))) (R.remaining (counted_inner (source_reader source.new)))
-        (failures_of (source_reader source.old)) (failures_of (source_reader source.new)) (scen_outcome result) }
+    ensures reads { ReadsText ScenText ScenFaultAt
+        (R.remaining (counted_inner (source_reader source.old)))
+        (R.remaining (counted_inner (source_reader source.new)))
+        (failures_of (source_reader source.old)) (failures_of (source_reader source.new))
+        (scen_outcome result) }
 {
     text_io::laws::places();
     let mut room = [0; LONGEST_LINE];
@@ -86,7 +91,8 @@ impl Progress {
         }
     }
 
-    /// Adds a line that is all at hand, and takes it with its LF. Answers whether there was one: most lines are there, and are not copied.
+    /// Adds a line that is all at hand, and takes it with its LF. Answers whether there was one:
+    /// most lines are there, and are not copied.
     fn add_line_at_hand<R: Read>(
         &mut self,
         alloc: Global,
@@ -109,7 +115,9 @@ impl Progress {
     fn add_line(&mut self, alloc: Global, line: &[u8], number: u64) -> Result<(), ScenFault>
         requires line { IsLine line.now }
         requires short { length line.now ≤ longest_line }
-        ensures { MatchResult result (λ _. Adds self.old.has_version self.new.has_version self.old.rows.items self.new.rows.items line.now)
+        ensures { MatchResult result
+            (λ _. Adds self.old.has_version self.new.has_version self.old.rows.items
+            self.new.rows.items line.now)
             (RefusesLine (due_after self.old.has_version) number line.now) }
     {
         if self.has_version {
@@ -131,7 +139,8 @@ impl Progress {
     /// The scenario that the lines are, if there was a version.
     fn scenario(self) -> Result<Scenario, ScenFault>
         requires { self.has_version ≡ true → AllByRecursion IsQuery self.rows.items }
-        ensures { MatchResult result (λ s. (self.has_version ≡ true) × (s ≡ self.rows.items)) (λ fault. (self.has_version ≡ false) × (fault ≡ ScenFault.NoVersion)) }
+        ensures { MatchResult result (λ s. (self.has_version ≡ true) × (s ≡ self.rows.items))
+            (λ fault. (self.has_version ≡ false) × (fault ≡ ScenFault.NoVersion)) }
     {
         if self.has_version {
             Ok(Scenario::from_rows(self.rows))

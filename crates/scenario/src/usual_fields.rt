@@ -1,4 +1,5 @@
-//! The fields of a line as most rows have them: short numbers, each with a tab behind it. They are cut and spelled in one pass.
+//! The fields of a line as most rows have them: short numbers, each with a tab behind it. They are
+//! cut and spelled in one pass.
 ghost use Rattle.std.specs.Prelude.{◌≡◌, ◌∷◌, ◌<◌, ◌↔◌, IsTrue, None, IfSome};
 ghost use Rattle.text_io.specs.Text.{tab};
 ghost use Rattle.scenario.specs.Fields.{fields_between, fields_in_content};
@@ -19,10 +20,12 @@ pub(crate) struct ShortNumber<'a> {
     rest: &'a [u8],
 }
 
-/// The nine fields of a line's content, and the numbers that they spell, if each number is short and has a tab behind it, and they are within
-/// their limits. A coordinate may still lie past the row's size. Where there are none, the line may be right all the same.
+/// The nine fields of a line's content, and the numbers that they spell, if each number is short
+/// and has a tab behind it, and they are within their limits. A coordinate may still lie past the
+/// row's size. Where there are none, the line may be right all the same.
 pub(crate) fn usual_fields(content: &[u8]) -> Option<(FieldBytes<'_>, Numbers)>
-    ensures { IfSome result (λ p. (fields_in_content content.now ≡ all_fields (fields_seen p.0)) × (wrong_number (fields_seen p.0) ≡ None) × HasNumbers (fields_seen p.0) p.1) }
+    ensures { IfSome result (λ p. (fields_in_content content.now ≡ all_fields (fields_seen p.0))
+        × (wrong_number (fields_seen p.0) ≡ None) × HasNumbers (fields_seen p.0) p.1) }
 {
     let bucket = short_number(content)?;
     let (name, rest) = first_field(bucket.rest, b'\t')?;

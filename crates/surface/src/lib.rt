@@ -1,4 +1,5 @@
-//! Every public name that other programs build on, called from the crate in which they look for it: a name that is lost or moves fails here.
+//! Every public name that other programs build on, called from the crate in which they look for it:
+//! a name that is lost or moves fails here.
 //! `calling` shows what callers can know of each answer.
 #![tactic(auto)]
 

@@ -1,4 +1,5 @@
-//! On what terms a process takes the file of a tape: no other process holds it, and it is a new one, or one that was kept.
+//! On what terms a process takes the file of a tape: no other process holds it, and it is a new
+//! one, or one that was kept.
 #![tactic(auto)]
 
 use std::fs::{File, TryLockError};

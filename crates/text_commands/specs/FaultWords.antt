@@ -8,7 +8,8 @@ use Rattle.walks.specs.FaultWords.{cert_fault_words}
 use Rattle.text_commands.specs.declared.row_fault.RowFault.{RowFault}
 use Rattle.text_commands.specs.declared.row_fault.RowFault.TheVariants as row_fault
 
--- as `SizeDiffers 3`: the number of the row; or the words of the fault that a text or a certificate has
+-- as `SizeDiffers 3`: the number of the row; or the words of the fault that a text or a certificate
+-- has
 abbrev pub row_fault_words : RowFault → Words
 row_fault_words (row_fault.Map f) = map_fault_words f
 row_fault_words (row_fault.Scen f) = scen_fault_words f

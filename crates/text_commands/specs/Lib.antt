@@ -1,4 +1,5 @@
--- What has to be believed, in the order in which to read it: each promise of the crate is made in these words, and in those of `ending`,
+-- What has to be believed, in the order in which to read it: each promise of the crate is made in
+-- these words, and in those of `ending`,
 -- `grid` and `scen`.
 
 -- the words of why a row has no answer
@@ -14,5 +15,6 @@ pub mod RowCommand
 pub mod RowsCommand
 -- The code's own words, of which no promise speaks.
 pub mod Code
--- What follows from these definitions, each with its proof: proofs of other crates cite it, and nothing of it has to be believed.
+-- What follows from these definitions, each with its proof: proofs of other crates cite it, and
+-- nothing of it has to be believed.
 pub mod Laws

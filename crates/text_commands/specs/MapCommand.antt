@@ -8,5 +8,7 @@ use Rattle.ending.specs.Rewriting.{RewritesText}
 
 -- the map was read as `read_map` reads it, and the command ended by that
 abbrev pub RewritesMap
-    : {R W : Type 0} → (R → Option (List ℕ)) → (W → Option (List ℕ)) → Counted R → Counted R → Counted W → Counted W → End → Type 0
-RewritesMap remaining contents = RewritesText MapText MapFaultAt canonical_map_text map_fault_words remaining contents
+    : {R W : Type 0} → (R → Option (List ℕ)) → (W → Option (List ℕ)) → Counted R → Counted R
+    → Counted W → Counted W → End → Type 0
+RewritesMap remaining contents =
+    RewritesText MapText MapFaultAt canonical_map_text map_fault_words remaining contents

@@ -10,5 +10,7 @@ use Rattle.ending.specs.Rewriting.{RewritesText}
 
 -- the scenario was read as `read_scen` reads it, and the command ended by that
 abbrev pub RewritesScen
-    : {R W : Type 0} → (R → Option (List ℕ)) → (W → Option (List ℕ)) → Counted R → Counted R → Counted W → Counted W → End → Type 0
-RewritesScen remaining contents = RewritesText ScenText ScenFaultAt canonical_scen_text scen_fault_words remaining contents
+    : {R W : Type 0} → (R → Option (List ℕ)) → (W → Option (List ℕ)) → Counted R → Counted R
+    → Counted W → Counted W → End → Type 0
+RewritesScen remaining contents =
+    RewritesText ScenText ScenFaultAt canonical_scen_text scen_fault_words remaining contents

@@ -20,7 +20,8 @@ use std::marker::Model;
 use text_io::Sink;
 use walks::CertFault;
 
-/// A map on which rows are judged, with what finds the least walks on it; of straight steps alone, where `straight` is set.
+/// A map on which rows are judged, with what finds the least walks on it; of straight steps alone,
+/// where `straight` is set.
 #[derive(Drop)]
 pub(crate) struct Judge<'a> {
     alloc: Global,
@@ -66,7 +67,8 @@ impl Judge<'_> {
     /// What a row comes to.
     fn judge(&mut self, row: &Row) -> Result<RowLine, RowFault>
         ensures same { self.new ≡ self.old }
-        ensures line { MatchResult result (IsRowLine self.old.straight self.old.map row.now) (HasNoLine self.old.map row.now) }
+        ensures line { MatchResult result (IsRowLine self.old.straight self.old.map row.now)
+            (HasNoLine self.old.map row.now) }
     {
         if !is_for(row, self.map) {
             return Ok(RowLine::OtherSize);
@@ -88,7 +90,8 @@ impl Judge<'_> {
     ) -> Result<Tally, RowsFault>
         requires { before.now.rows + 1 < 2 ^ 64 }
         ensures same { self.new ≡ self.old }
-        ensures puts { PutsRow W.contents self.old row.now number before.now sink.old sink.new result }
+        ensures puts { PutsRow W.contents self.old row.now number before.now sink.old
+            sink.new result }
     {
         let line = self.judge(row)?;
         send_row_line(sink, number, &line)?;

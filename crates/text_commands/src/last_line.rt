@@ -34,7 +34,8 @@ pub(crate) fn send_last_line<W: Write>(
 ) -> Result<(), WriteFault>
     ensures ok { OnOk result (Puts W.contents sink.old sink.new (tally_line straight tally.now)) }
     ensures none_held { OnOk result (held_back sink.new ≡ []) }
-    ensures err { OnErr result (Breaks W.contents sink.old sink.new (tally_line straight tally.now)) }
+    ensures err { OnErr result
+        (Breaks W.contents sink.old sink.new (tally_line straight tally.now)) }
 {
     put_pieces(sink, &pieces(tally, straight))?;
     sink.put(b"\n")?;

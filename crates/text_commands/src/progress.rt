@@ -11,7 +11,8 @@ use text_io::Counted;
 /// Progress is shown before the first row, after so many, and after the last.
 const ROWS_BETWEEN: u64 = 16;
 
-/// Says how many rows are done, and how many of them disagree, over what was said before, where that is to be shown.
+/// Says how many rows are done, and how many of them disagree, over what was said before, where
+/// that is to be shown.
 pub(crate) fn show_progress<E: Write>(
     alloc: Global,
     is_shown: bool,
@@ -26,7 +27,8 @@ pub(crate) fn show_progress<E: Write>(
     }
 }
 
-/// Ends the line of progress, where it was shown and no last row has ended it: a fault is told in a line of its own.
+/// Ends the line of progress, where it was shown and no last row has ended it: a fault is told in a
+/// line of its own.
 pub(crate) fn end_progress<E: Write>(is_shown: bool, is_whole: bool, err: &mut Counted<E>)
     ensures { ShowsProgress E.contents is_shown err.old err.new }
 {

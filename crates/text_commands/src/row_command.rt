@@ -2,7 +2,8 @@
 ghost use Rattle.std.specs.Prelude.{◌≡◌, ◌↔◌, IsTrue, IfErr, MatchResult};
 ghost use Rattle.walks.specs.Certificate.{AreOn};
 ghost use Rattle.ending.specs.Ending.{EndsAndTells, end_of};
-ghost use Rattle.text_commands.specs.RowCommand.{HasSizeOf, IsAsked, IsUncertified, IsVerdictOn, JudgesRow, ReadsAndJudges, AnswersRow};
+ghost use Rattle.text_commands.specs.RowCommand.{HasSizeOf, IsAsked, IsUncertified, IsVerdictOn};
+ghost use Rattle.text_commands.specs.RowCommand.{JudgesRow, ReadsAndJudges, AnswersRow};
 
 use crate::row_fault::RowFault;
 use crate::row_verdict::{RowVerdict, write_row_verdict};
@@ -25,7 +26,8 @@ pub fn row_cmd<R: Read, S: Read, W: Write, E: Write>(
     err: &mut Counted<E>,
 ) -> u8
     ensures { EndsAndTells
-        (AnswersRow R.remaining S.remaining W.contents map.old map.new scen.old scen.new row out.old out.new)
+        (AnswersRow R.remaining S.remaining W.contents map.old map.new scen.old scen.new row
+        out.old out.new)
         E.contents err.old err.new result }
 {
     conclude(perform(alloc, map, scen, row, out), err)
@@ -60,7 +62,8 @@ fn read_and_judge<R: Read, S: Read>(
     scen: &mut Counted<S>,
     number: u32,
 ) -> Result<RowVerdict, RowFault>
-    ensures { ReadsAndJudges R.remaining S.remaining map.old map.new scen.old scen.new number result }
+    ensures { ReadsAndJudges R.remaining S.remaining map.old map.new scen.old scen.new
+        number result }
 {
     let map = read_map(alloc, map)?;
     let scenario = read_scen(alloc, scen)?;
@@ -111,7 +114,8 @@ fn row_for<'a>(map: &Map, scenario: &'a Scenario, number: u32) -> Result<&'a Row
     }
 }
 
-/// Whether the row is for a map of this size. Then its start and goal, which are in its own grid, are on the map.
+/// Whether the row is for a map of this size. Then its start and goal, which are in its own grid,
+/// are on the map.
 pub(crate) fn is_for(row: &Row, map: &Map) -> bool
     ensures size { IsTrue result ↔ HasSizeOf map.now row.now }
     ensures on_map { IsTrue result → AreOn map.now row.now.start row.now.goal }

@@ -23,7 +23,8 @@ pub(crate) enum RowLine {
 }
 
 impl RowLine {
-    ghost use Rattle.text_commands.specs.RowsCommand.{has_other_size, is_agreed, is_otherwise, is_unreached, steps_of};
+    ghost use Rattle.text_commands.specs.RowsCommand.{has_other_size, is_agreed, is_otherwise};
+    ghost use Rattle.text_commands.specs.RowsCommand.{is_unreached, steps_of};
 
     /// Whether the listed length is right.
     pub(crate) fn is_agreed(&self) -> bool
@@ -79,9 +80,11 @@ pub(crate) fn send_row_line<W: Write>(
     number: u128,
     line: &RowLine,
 ) -> Result<(), WriteFault>
-    ensures ok { OnOk result (Puts W.contents sink.old sink.new (decimal number ++ (space ∷ row_line_text line.now))) }
+    ensures ok { OnOk result
+        (Puts W.contents sink.old sink.new (decimal number ++ (space ∷ row_line_text line.now))) }
     ensures none_held { OnOk result (held_back sink.new ≡ []) }
-    ensures err { OnErr result (Breaks W.contents sink.old sink.new (decimal number ++ (space ∷ row_line_text line.now))) }
+    ensures err { OnErr result
+        (Breaks W.contents sink.old sink.new (decimal number ++ (space ∷ row_line_text line.now))) }
 {
     put_word(sink, Buffer::new().format(number).as_bytes())?;
     put_row_line(sink, line)?;
@@ -101,8 +104,10 @@ fn put_row_line<W: Write>(sink: &mut Sink<'_, W>, line: &RowLine) -> Result<(), 
 }
 
 fn put_least<W: Write>(sink: &mut Sink<'_, W>, steps: u32) -> Result<(), WriteFault>
-    ensures ok { OnOk result (Puts W.contents sink.old sink.new (row_line_text (RowLine.Stepped (Some steps)))) }
-    ensures err { OnErr result (Breaks W.contents sink.old sink.new (row_line_text (RowLine.Stepped (Some steps)))) }
+    ensures ok { OnOk result
+        (Puts W.contents sink.old sink.new (row_line_text (RowLine.Stepped (Some steps)))) }
+    ensures err { OnErr result
+        (Breaks W.contents sink.old sink.new (row_line_text (RowLine.Stepped (Some steps)))) }
 {
     put_number(sink, b"least", u64::from(steps))?;
     sink.put(b"\n")

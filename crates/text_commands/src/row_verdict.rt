@@ -59,7 +59,9 @@ pub(crate) fn write_row_verdict<W: Write>(
     verdict: RowVerdict,
     writer: &mut Counted<W>,
 ) -> Result<(), WriteFault>
-    ensures { WritesText (is_ok result) (W.contents (counted_inner writer.old)) (W.contents (counted_inner writer.new)) (failures_of writer.old) (failures_of writer.new) (row_verdict_text verdict) }
+    ensures { WritesText (is_ok result) (W.contents (counted_inner writer.old))
+        (W.contents (counted_inner writer.new)) (failures_of writer.old) (failures_of writer.new)
+        (row_verdict_text verdict) }
 {
     let mut sink = Sink::new(writer);
     put_line(&mut sink, verdict)
@@ -99,8 +101,10 @@ fn put_shortest<W: Write>(
     listed: Listed,
     agrees: bool,
 ) -> Result<(), WriteFault>
-    ensures ok { OnOk result (Puts W.contents sink.old sink.new (shortest_text length listed agrees)) }
-    ensures err { OnErr result (Breaks W.contents sink.old sink.new (shortest_text length listed agrees)) }
+    ensures ok { OnOk result
+        (Puts W.contents sink.old sink.new (shortest_text length listed agrees)) }
+    ensures err { OnErr result
+        (Breaks W.contents sink.old sink.new (shortest_text length listed agrees)) }
 {
     put_word(sink, b"shortest")?;
     put_word(sink, Buffer::new().format(length.straight).as_bytes())?;

@@ -3,7 +3,8 @@ ghost use Rattle.std.specs.Prelude.{◌≡◌, ◌≤◌, ◌<◌, ◌⊎◌, []
 ghost use Rattle.text_io.specs.Sink.{held_back};
 ghost use Rattle.text_commands.specs.Code.Judging.{Judgement, PutsAllRows, PutsRows};
 ghost use Rattle.ending.specs.Ending.{end_of};
-ghost use Rattle.text_commands.specs.RowsCommand.{AnswersRows, EndsByJudging, EndsUnjudged, ShowsEndsAndTells, ShowsProgress, rows_between};
+ghost use Rattle.text_commands.specs.RowsCommand.{AnswersRows, EndsByJudging, EndsUnjudged};
+ghost use Rattle.text_commands.specs.RowsCommand.{ShowsEndsAndTells, ShowsProgress, rows_between};
 ghost use Rattle.text_commands.specs.Code.RowsEnding.{EndsAsTold, WritesRows};
 
 use crate::judge::Judge;
@@ -19,8 +20,9 @@ use std::alloc::Global;
 use std::io::{Read, Write};
 use text_io::{Counted, Sink, WriteFault};
 
-/// Which rows are judged, and how: from one up to before another, each counted from 0; where `straight` is set it is the least number of
-/// straight steps that is told, and where `progress` is set it is said how far that has come.
+/// Which rows are judged, and how: from one up to before another, each counted from 0; where
+/// `straight` is set it is the least number of straight steps that is told, and where `progress` is
+/// set it is said how far that has come.
 #[derive(Clone, Copy, Debug, PartialEq, Eq)]
 pub struct RowsAsked {
     pub from: Option<u32>,
@@ -40,14 +42,16 @@ pub fn rows_cmd<R: Read, S: Read, W: Write, E: Write>(
     err: &mut Counted<E>,
 ) -> u8
     ensures { ShowsEndsAndTells
-        (AnswersRows R.remaining S.remaining W.contents asked.now map.old map.new scen.old scen.new out.old out.new)
+        (AnswersRows R.remaining S.remaining W.contents asked.now map.old map.new scen.old scen.new
+        out.old out.new)
         E.contents asked.now.progress err.old err.new result }
 {
     conclude(perform(alloc, map, scen, asked, out, err), err)
 }
 
 /// Reads a map from `map` and a scenario from `scen`, and writes a line for each row that is asked
-/// for, as soon as it is judged, and a last line that counts to `out`; `err` gets nothing but progress.
+/// for, as soon as it is judged, and a last line that counts to `out`; `err` gets nothing but
+/// progress.
 pub fn perform<R: Read, S: Read, W: Write, E: Write>(
     alloc: Global,
     map: &mut Counted<R>,
@@ -56,7 +60,8 @@ pub fn perform<R: Read, S: Read, W: Write, E: Write>(
     out: &mut Counted<W>,
     err: &mut Counted<E>,
 ) -> Ending
-    ensures answers { AnswersRows R.remaining S.remaining W.contents asked.now map.old map.new scen.old scen.new out.old out.new (end_of result) }
+    ensures answers { AnswersRows R.remaining S.remaining W.contents asked.now map.old map.new
+        scen.old scen.new out.old out.new (end_of result) }
     ensures progress { ShowsProgress E.contents asked.now.progress err.old err.new }
 {
     let map = match read_map(alloc, map) {
@@ -76,7 +81,8 @@ pub fn perform<R: Read, S: Read, W: Write, E: Write>(
 /// The rows that are asked for, if the first of them is no later than the end.
 fn between<'a>(rows: &'a [Row], asked: &RowsAsked) -> Option<&'a [Row]>
     ensures { MatchOption result (length rows.now < unwrap_or asked.now.from 0)
-        (λ some. (unwrap_or asked.now.from 0 ≤ length rows.now) × (some.now ≡ rows_between asked.now.from asked.now.to rows.now)) }
+        (λ some. (unwrap_or asked.now.from 0 ≤ length rows.now)
+        × (some.now ≡ rows_between asked.now.from asked.now.to rows.now)) }
 {
     let count = rows.len();
     let from = asked.from.unwrap_or(0) as usize;
@@ -100,7 +106,8 @@ fn judge_on<W: Write, E: Write>(
     err: &mut Counted<E>,
 ) -> Ending
     ensures ends { EndsUnjudged out.old out.new (end_of result) RowFault.OutOfMemory
-        ⊎ EndsByJudging W.contents asked.now.straight map.now rows.now (unwrap_or asked.now.from 0) out.old out.new (end_of result) }
+        ⊎ EndsByJudging W.contents asked.now.straight map.now rows.now (unwrap_or asked.now.from 0)
+        out.old out.new (end_of result) }
     ensures progress { ShowsProgress E.contents asked.now.progress err.old err.new }
 {
     match Judge::on(alloc, map, asked.straight) {
@@ -135,7 +142,8 @@ fn write_rows<W: Write, E: Write>(
     err: &mut Counted<E>,
 ) -> Result<Tally, RowsFault>
     requires { judge.old.straight ≡ asked.now.straight }
-    ensures writes { WritesRows W.contents judge.old rows.now (unwrap_or asked.now.from 0) out.old out.new result }
+    ensures writes { WritesRows W.contents judge.old rows.now (unwrap_or asked.now.from 0) out.old
+        out.new result }
     ensures progress { ShowsProgress E.contents asked.now.progress err.old err.new }
 {
     let mut sink = Sink::new(out);
@@ -151,7 +159,8 @@ fn put_all<W: Write, E: Write>(
 ) -> Result<Tally, RowsFault>
     requires none_held { held_back sink.old ≡ [] }
     requires straight { judge.old.straight ≡ asked.now.straight }
-    ensures puts { PutsAllRows W.contents judge.old rows.now (unwrap_or asked.now.from 0) sink.old sink.new result }
+    ensures puts { PutsAllRows W.contents judge.old rows.now (unwrap_or asked.now.from 0) sink.old
+        sink.new result }
     ensures progress { ShowsProgress E.contents asked.now.progress err.old err.new }
 {
     let tally = put_lines(judge, rows, asked, sink, err)?;
@@ -168,7 +177,8 @@ fn put_lines<W: Write, E: Write>(
     err: &mut Counted<E>,
 ) -> Result<Tally, RowsFault>
     requires { held_back sink.old ≡ [] }
-    ensures puts { PutsRows W.contents judge.old rows.now (unwrap_or asked.now.from 0) sink.old sink.new result }
+    ensures puts { PutsRows W.contents judge.old rows.now (unwrap_or asked.now.from 0) sink.old
+        sink.new result }
     ensures progress { ShowsProgress E.contents asked.now.progress err.old err.new }
 {
     let total = rows.len();

@@ -28,7 +28,8 @@ pub fn perform<R: Read, W: Write>(
     scen: &mut Counted<R>,
     out: &mut Counted<W>,
 ) -> Ending
-    ensures { RewritesScen R.remaining W.contents scen.old scen.new out.old out.new (end_of result) }
+    ensures { RewritesScen R.remaining W.contents scen.old scen.new out.old out.new
+        (end_of result) }
 {
     match read_scen(alloc, scen) {
         Ok(scenario) => {

@@ -4,7 +4,8 @@ ghost use Rattle.std.specs.Prelude.{◌≡◌, ◌+◌, ◌<◌, ◌≤◌, ◌^
 use crate::row_line::RowLine;
 use ending::Status;
 
-/// How many rows were judged, and of each kind; of straight steps their sum and the greatest of them.
+/// How many rows were judged, and of each kind; of straight steps their sum and the greatest of
+/// them.
 #[derive(Clone, Copy, Debug)]
 pub(crate) struct Tally {
     pub(crate) rows: u64,

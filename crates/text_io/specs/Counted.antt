@@ -1,5 +1,6 @@
 -- What a clause reads of a counted reader or writer, and what a call leaves.
-use Rattle.std.specs.Prelude.{◌≡◌, ℕ, ◌+◌, ◌-◌, ◌^◌, min, Bool, true, ◌==◌, ◌&&◌, nat_lt, List, length, Result, Ok, Err}
+use Rattle.std.specs.Prelude.{◌≡◌, ℕ, ◌+◌, ◌-◌, ◌^◌, min, Bool, true}
+use Rattle.std.specs.Prelude.{◌==◌, ◌&&◌, nat_lt, List, length, Result, Ok, Err}
 use Rattle.text_io.specs.declared.counted.Counted.{Counted}
 
 -- the greatest value of a counter, at which it stays

@@ -9,7 +9,8 @@ use Rattle.text_io.specs.declared.fault_words.FaultWords.{FaultWords}
 use Rattle.text_io.specs.declared.sink.WriteFault.{WriteFault}
 use Rattle.text_io.specs.declared.sink.WriteFault.TheVariants.{WriteFailed}
 
--- What is told of a fault: its words, and whether a device failed, or memory. Else a text is faulty, or an answer is no.
+-- What is told of a fault: its words, and whether a device failed, or memory. Else a text is
+-- faulty, or an answer is no.
 pub record Words : Type 0 where
   pub parts : List (List ℕ)
   pub is_failure : Bool
@@ -37,7 +38,11 @@ failed what = record { parts = failure_name what ∷ []; is_failure = true }
 
 -- what the words of the code tell
 abbrev pub words_of : FaultWords → Words
-words_of words = record { parts = fault_name words.name ∷ map decimal (take words.count words.numbers); is_failure = words.is_failure }
+words_of words =
+    record {
+      parts = fault_name words.name ∷ map decimal (take words.count words.numbers);
+      is_failure = words.is_failure;
+    }
 
 abbrev pub write_fault_words : WriteFault → Words
 write_fault_words WriteFailed = failed failure.WriteFailed

@@ -1,4 +1,5 @@
--- What has to be believed, in the order in which to read it: each promise of the crate is made in these words.
+-- What has to be believed, in the order in which to read it: each promise of the crate is made in
+-- these words.
 
 -- LF, CR, blanks, digits, and the lines of a text
 pub mod Text
@@ -19,5 +20,6 @@ pub mod Source
 pub mod Lines
 -- what a sink holds back, and what a call hands on
 pub mod Sink
--- What follows from these definitions, each with its proof: proofs of other crates cite it, and nothing of it has to be believed.
+-- What follows from these definitions, each with its proof: proofs of other crates cite it, and
+-- nothing of it has to be believed.
 pub mod Laws

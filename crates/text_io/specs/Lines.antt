@@ -1,5 +1,6 @@
 -- What was taken of a source line by line, since its counted reader stood at first.
-use Rattle.std.specs.Prelude.{◌≡◌, ℕ, ◌+◌, ◌<◌, ◌≤◌, List, [], ◌∷◌, ◌++◌, length, take, Option, Result, Ok, Err}
+use Rattle.std.specs.Prelude.{◌≡◌, ℕ, ◌+◌, ◌<◌, ◌≤◌, List, [], ◌∷◌}
+use Rattle.std.specs.Prelude.{◌++◌, length, take, Option, Result, Ok, Err}
 use Rattle.std.specs.List.{AllByRecursion}
 use Rattle.std.specs.Io.KnownBytes.{Consumes, IsAtEnd as IsSpent}
 use Rattle.text_io.specs.declared.counted.Counted.{Counted}
@@ -14,32 +15,39 @@ use Rattle.text_io.specs.Source.{at_hand, source_reader, GoesOn}
 use Rattle.text_io.specs.Reading.{LineEnds, Place, at_line_feed, at_byte, at_end, JudgedAt}
 
 -- These lines were taken, each with its LF, and nothing else. More bytes may come.
-pub record HasTaken {R : Type 0} {ahead : ℕ} (remaining : R → Option (List ℕ)) (first : Counted R) (now : Source R ahead) (lines : List (List ℕ)) : Type 0 where
+pub record HasTaken {R : Type 0} {ahead : ℕ} (remaining : R → Option (List ℕ)) (first : Counted R)
+    (now : Source R ahead) (lines : List (List ℕ)) : Type 0 where
   pub delivered : List ℕ
-  pub consumed : Consumes (remaining (counted_inner first)) (remaining (counted_inner (source_reader now))) delivered
+  pub consumed : Consumes (remaining (counted_inner first))
+      (remaining (counted_inner (source_reader now))) delivered
   pub in_order : delivered ≡ ended lines ++ at_hand now
   pub are_lines : AllByRecursion IsLine lines
   pub failures : failures_of (source_reader now) ≡ failures_of first
   pub goes_on : GoesOn now
 
--- These lines were taken, each with its LF, then the front of the next line, and nothing else. More bytes may come.
+-- These lines were taken, each with its LF, then the front of the next line, and nothing else. More
+-- bytes may come.
 pub record HasBegun
-    {R : Type 0} {ahead : ℕ} (remaining : R → Option (List ℕ)) (first : Counted R) (now : Source R ahead) (before : List (List ℕ)) (line : List ℕ) : Type 0 where
+    {R : Type 0} {ahead : ℕ} (remaining : R → Option (List ℕ)) (first : Counted R)
+    (now : Source R ahead) (before : List (List ℕ)) (line : List ℕ) : Type 0 where
   pub delivered : List ℕ
-  pub consumed : Consumes (remaining (counted_inner first)) (remaining (counted_inner (source_reader now))) delivered
+  pub consumed : Consumes (remaining (counted_inner first))
+      (remaining (counted_inner (source_reader now))) delivered
   pub in_order : delivered ≡ (ended before ++ line) ++ at_hand now
   pub are_lines : AllByRecursion IsLine before
   pub is_line : IsLine line
   pub failures : failures_of (source_reader now) ≡ failures_of first
   pub goes_on : GoesOn now
 
--- A line came up to a place where it is judged, after the lines before it, whatever ends the lines of a format. More bytes may have
--- come only behind a place that is a byte.
+-- A line came up to a place where it is judged, after the lines before it, whatever ends the lines
+-- of a format. More bytes may have come only behind a place that is a byte.
 pub record HasCome
-    {R : Type 0} {ahead : ℕ} (remaining : R → Option (List ℕ)) (first : Counted R) (now : Source R ahead) (place : Place) (before : List (List ℕ))
+    {R : Type 0} {ahead : ℕ} (remaining : R → Option (List ℕ)) (first : Counted R)
+    (now : Source R ahead) (place : Place) (before : List (List ℕ))
     (line : List ℕ) : Type 0 where
   pub delivered : List ℕ
-  pub consumed : Consumes (remaining (counted_inner first)) (remaining (counted_inner (source_reader now))) delivered
+  pub consumed : Consumes (remaining (counted_inner first))
+      (remaining (counted_inner (source_reader now))) delivered
   pub front : List ℕ
   pub rest : List ℕ
   pub bytes : delivered ≡ front ++ rest
@@ -48,7 +56,8 @@ pub record HasCome
 
 -- The next line was taken, and its LF.
 pub record LineEnded
-    {R : Type 0} {ahead : ℕ} (remaining : R → Option (List ℕ)) (first : Counted R) (now : Source R ahead) (before : List (List ℕ)) (room : List ℕ)
+    {R : Type 0} {ahead : ℕ} (remaining : R → Option (List ℕ)) (first : Counted R)
+    (now : Source R ahead) (before : List (List ℕ)) (room : List ℕ)
     (count : ℕ) : Type 0 where
   pub in_room : count ≤ length room
   pub taken : HasTaken remaining first now (before ++ take count room ∷ [])
@@ -57,7 +66,8 @@ pub record LineEnded
 
 -- What stands between the last LF and the end of the input was taken, perhaps nothing.
 pub record InputEnded
-    {R : Type 0} {ahead : ℕ} (remaining : R → Option (List ℕ)) (first : Counted R) (now : Source R ahead) (before : List (List ℕ)) (room : List ℕ)
+    {R : Type 0} {ahead : ℕ} (remaining : R → Option (List ℕ)) (first : Counted R)
+    (now : Source R ahead) (before : List (List ℕ)) (room : List ℕ)
     (count : ℕ) : Type 0 where
   pub in_room : count ≤ length room
   pub come : HasCome remaining first now at_end before (take count room)
@@ -66,7 +76,8 @@ pub record InputEnded
 
 -- One byte more of the next line was taken than there is room for, and nothing behind it.
 pub record LineTooLong
-    {R : Type 0} {ahead : ℕ} (remaining : R → Option (List ℕ)) (first : Counted R) (now : Source R ahead) (before : List (List ℕ)) (room : List ℕ) : Type 0 where
+    {R : Type 0} {ahead : ℕ} (remaining : R → Option (List ℕ)) (first : Counted R)
+    (now : Source R ahead) (before : List (List ℕ)) (room : List ℕ) : Type 0 where
   pub line : List ℕ
   pub length_is : length line ≡ length room + 1
   pub begun : HasBegun remaining first now before line
@@ -75,29 +86,37 @@ pub record LineTooLong
 
 -- The reader failed within the next line, and all that it delivered was taken.
 pub record ReaderFailed
-    {R : Type 0} {ahead : ℕ} (remaining : R → Option (List ℕ)) (first : Counted R) (now : Source R ahead) (before : List (List ℕ)) (room : List ℕ) : Type 0 where
+    {R : Type 0} {ahead : ℕ} (remaining : R → Option (List ℕ)) (first : Counted R)
+    (now : Source R ahead) (before : List (List ℕ)) (room : List ℕ) : Type 0 where
   pub line : List ℕ
   pub in_room : length line ≤ length room
   pub come : HasCome remaining first now at_end before line
   pub failures : Rises (failures_of first) (failures_of (source_reader now))
 
 -- what taking the next line left in the room and of the source
-abbrev pub LineTaken : {R : Type 0} {ahead : ℕ} → (R → Option (List ℕ)) → Counted R → Source R ahead → List (List ℕ) → List ℕ → TakenLine → Type 0
-LineTaken remaining first now before room (WithLineFeed count) = LineEnded remaining first now before room count
-LineTaken remaining first now before room (AtEnd count) = InputEnded remaining first now before room count
+abbrev pub LineTaken : {R : Type 0} {ahead : ℕ} → (R → Option (List ℕ)) → Counted R → Source R ahead
+    → List (List ℕ) → List ℕ → TakenLine → Type 0
+LineTaken remaining first now before room (WithLineFeed count) =
+    LineEnded remaining first now before room count
+LineTaken remaining first now before room (AtEnd count) =
+    InputEnded remaining first now before room count
 LineTaken remaining first now before room TooLong = LineTooLong remaining first now before room
 LineTaken remaining first now before room Failed = ReaderFailed remaining first now before room
 
--- What passing over the rest of a line leaves, of which the front was taken: its LF came, or the end of the input, or the reader failed
--- before either.
+-- What passing over the rest of a line leaves, of which the front was taken: its LF came, or the
+-- end of the input, or the reader failed before either.
 abbrev pub LinePassed
-    : {R : Type 0} {ahead : ℕ} → (R → Option (List ℕ)) → Counted R → Source R ahead → List (List ℕ) → List ℕ → Result Unit Stop → Type 0
-LinePassed remaining first now before front (Ok done) = (more : List ℕ) × HasTaken remaining first now (before ++ (front ++ more) ∷ [])
+    : {R : Type 0} {ahead : ℕ} → (R → Option (List ℕ)) → Counted R → Source R ahead → List (List ℕ)
+    → List ℕ → Result Unit Stop → Type 0
+LinePassed remaining first now before front (Ok done) =
+    (more : List ℕ) × HasTaken remaining first now (before ++ (front ++ more) ∷ [])
 LinePassed remaining first now before front (Err End) =
-    (more : List ℕ) × HasCome remaining first now at_end before (front ++ more) × IsSpent (remaining (counted_inner (source_reader now)))
+    (more : List ℕ) × HasCome remaining first now at_end before (front ++ more)
+    × IsSpent (remaining (counted_inner (source_reader now)))
     × (failures_of (source_reader now) ≡ failures_of first)
 LinePassed remaining first now before front (Err Failure) =
-    (more : List ℕ) × HasCome remaining first now at_end before (front ++ more) × Rises (failures_of first) (failures_of (source_reader now))
+    (more : List ℕ) × HasCome remaining first now at_end before (front ++ more)
+    × Rises (failures_of first) (failures_of (source_reader now))
 
 -- A line that its LF ended leaves fewer bytes that can come, by all of its own at the least.
 abbrev pub LeavesLess : TakenLine → ℕ → ℕ → Type 0

@@ -1,5 +1,6 @@
 -- Numbers as they are written: digits without a leading zero.
-use Rattle.std.specs.Prelude.{◌≡◌, ◌≢◌, ℕ, ◌<◌, Bool, false, ◌&&◌, ◌==◌, not, nat_lt, if◌then◌else◌, List, [], ◌∷◌, ◌++◌, length, Option, None, Some, ⊤}
+use Rattle.std.specs.Prelude.{◌≡◌, ◌≢◌, ℕ, ◌<◌, Bool, false, ◌&&◌, ◌==◌, not, nat_lt}
+use Rattle.std.specs.Prelude.{if◌then◌else◌, List, [], ◌∷◌, ◌++◌, length, Option, None, Some, ⊤}
 use Rattle.std.specs.List.{list_all}
 use Rattle.std.specs.Char.{is_ascii_digit}
 use Rattle.std.specs.Str.Parse.{digits_value}
@@ -26,7 +27,8 @@ has_leading_zero (d ∷ e ∷ digits) = d == 48
 
 -- digits without a leading zero
 abbrev pub is_numeral : List ℕ → Bool
-is_numeral digits = nat_lt 0 (length digits) && list_all is_ascii_digit digits && not (has_leading_zero digits)
+is_numeral digits =
+    nat_lt 0 (length digits) && list_all is_ascii_digit digits && not (has_leading_zero digits)
 
 abbrev pub numeral_value : List ℕ → ℕ
 numeral_value digits = digits_value 10 digits
@@ -41,4 +43,5 @@ numeral_below limit digits = if is_below limit digits then Some (numeral_value d
 
 -- a number below the limit stands at the front, then the byte that ends it, and then the rest
 abbrev pub BeginsWithNumber : ℕ → ℕ → ℕ → List ℕ → List ℕ → Type 0
-BeginsWithNumber limit n ending bytes rest = (digits : List ℕ) × (bytes ≡ digits ++ ending ∷ rest) × IsNumeral n digits × (n < limit)
+BeginsWithNumber limit n ending bytes rest =
+    (digits : List ℕ) × (bytes ≡ digits ++ ending ∷ rest) × IsNumeral n digits × (n < limit)

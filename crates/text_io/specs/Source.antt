@@ -1,5 +1,6 @@
 -- What a source of bytes holds, and what a call on it takes.
-use Rattle.std.specs.Prelude.{◌≡◌, ℕ, ◌+◌, ◌-◌, ◌*◌, ◌≤◌, Bool, true, false, List, [], ◌++◌, length, slice_range, Option, None, Some, is_some, ⊤}
+use Rattle.std.specs.Prelude.{◌≡◌, ℕ, ◌+◌, ◌-◌, ◌*◌, ◌≤◌, Bool, true, false, List}
+use Rattle.std.specs.Prelude.{[], ◌++◌, length, slice_range, Option, None, Some, is_some, ⊤}
 use Rattle.std.specs.Io.KnownBytes.{Consumes, IsAtEnd as IsSpent}
 use Rattle.text_io.specs.declared.counted.Counted.{Counted}
 use Rattle.text_io.specs.declared.source.Source.{Source}
@@ -54,15 +55,20 @@ abbrev pub most_left : {R : Type 0} {ahead : ℕ} → Source R ahead → ℕ
 most_left {ahead = ahead} s = (greatest - s.reader.now.calls) * (ahead + 1) + length (at_hand s)
 
 -- From old to new the source gave the bytes taken, in order, and none was lost.
-pub record Takes {R : Type 0} {ahead : ℕ} (remaining : R → Option (List ℕ)) (old new : Source R ahead) (taken : List ℕ) : Type 0 where
+pub record Takes {R : Type 0} {ahead : ℕ} (remaining : R → Option (List ℕ))
+    (old new : Source R ahead) (taken : List ℕ) : Type 0 where
   pub same_reader : new.reader.ghost_name ≡ old.reader.ghost_name
   pub read : List ℕ
   pub in_order : at_hand old ++ read ≡ taken ++ at_hand new
-  pub delivered : Consumes (remaining (source_reader old).inner) (remaining (source_reader new).inner) read
-  pub ends : EndsAt (has_ended old) (has_ended new) (remaining (source_reader old).inner) (remaining (source_reader new).inner)
-  pub fails : FailsOnce (has_failed old) (has_failed new) (source_reader old).failures (source_reader new).failures
+  pub delivered : Consumes (remaining (source_reader old).inner)
+      (remaining (source_reader new).inner) read
+  pub ends : EndsAt (has_ended old) (has_ended new) (remaining (source_reader old).inner)
+      (remaining (source_reader new).inner)
+  pub fails : FailsOnce (has_failed old) (has_failed new) (source_reader old).failures
+      (source_reader new).failures
   -- a reader whose end came, or that failed, is not called again
-  pub stays : is_stopped old ≡ true → (read ≡ []) × (new.stop ≡ old.stop) × (source_reader new ≡ source_reader old)
+  pub stays : is_stopped old ≡ true → (read ≡ []) × (new.stop ≡ old.stop)
+      × (source_reader new ≡ source_reader old)
   pub less_left : most_left new + length taken ≤ most_left old
 
 -- the reader's end came, and all its bytes were taken
@@ -74,5 +80,7 @@ abbrev pub GoesOn : {R : Type 0} {ahead : ℕ} → Source R ahead → Type 0
 GoesOn s = is_stopped s ≡ false
 
 -- why no byte came
-abbrev pub StopsBy : {R : Type 0} {ahead : ℕ} → (R → Option (List ℕ)) → Source R ahead → Source R ahead → Stop → Type 0
-StopsBy remaining old new stop = Takes remaining old new [] × (new.stop ≡ Some stop) × (at_hand new ≡ [])
+abbrev pub StopsBy : {R : Type 0} {ahead : ℕ} → (R → Option (List ℕ)) → Source R ahead
+    → Source R ahead → Stop → Type 0
+StopsBy remaining old new stop =
+    Takes remaining old new [] × (new.stop ≡ Some stop) × (at_hand new ≡ [])

@@ -1,5 +1,6 @@
 -- The characters and lines that every format speaks of.
-use Rattle.std.specs.Prelude.{◌≡◌, ℕ, ◌<◌, Bool, true, false, ◌||◌, ◌&&◌, not, ◌==◌, if◌then◌else◌, IsTrue, List, [], ◌∷◌, ◌++◌, length, codes, decimal}
+use Rattle.std.specs.Prelude.{◌≡◌, ℕ, ◌<◌, Bool, true, false, ◌||◌, ◌&&◌, not, ◌==◌}
+use Rattle.std.specs.Prelude.{if◌then◌else◌, IsTrue, List, [], ◌∷◌, ◌++◌, length, codes, decimal}
 use Rattle.std.specs.List.{flat_map, list_all}
 use Rattle.std.specs.Char.{is_ascii_digit}
 use Rattle.std.specs.Str.Parse.{digits_value}
@@ -50,7 +51,8 @@ ends_in_line_feed (b ∷ c ∷ bytes) = ends_in_line_feed (c ∷ bytes)
 
 -- one digit or more that spell a number
 abbrev pub SpellsNumber : ℕ → List ℕ → Type 0
-SpellsNumber n digits = IsTrue (list_all is_ascii_digit digits) × (0 < length digits) × (digits_value 10 digits ≡ n)
+SpellsNumber n digits =
+    IsTrue (list_all is_ascii_digit digits) × (0 < length digits) × (digits_value 10 digits ≡ n)
 
 -- one blank or more
 abbrev pub IsGap : List ℕ → Type 0

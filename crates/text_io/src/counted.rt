@@ -2,12 +2,14 @@
 ghost use Rattle.std.specs.Prelude.{◌≡◌, ◌+◌, ◌<◌, is_err, if◌then◌else◌, OnOk, OnErr, true};
 ghost use Rattle.std.specs.Io.{ReadsAtMost, WritesAtMost};
 ghost use Rattle.std.specs.Io.KnownBytes.{ReadConsumes, WriteAppends, Keeps};
-ghost use Rattle.text_io.specs.Counted.{greatest, one_more, writes_none, counted_inner, calls_of, failures_of};
+ghost use Rattle.text_io.specs.Counted.{greatest, one_more, writes_none};
+ghost use Rattle.text_io.specs.Counted.{counted_inner, calls_of, failures_of};
 
 use std::io;
 use std::io::{ErrorKind, Read, Write};
 
-/// Passes calls on to a reader or a writer, and counts them and those that fail. Both counts stay at
+/// Passes calls on to a reader or a writer, and counts them and those that fail. Both counts stay
+/// at
 /// `u64::MAX`, and a call past so many fails by itself, so no reader is endless.
 #[derive(Drop)]
 pub struct Counted<T> {
@@ -48,7 +50,8 @@ impl<T> Counted<T> {
     fn count_call(&mut self) -> io::Result<()>
         ensures inner { counted_inner self.new ≡ counted_inner self.old }
         ensures calls { calls_of self.new ≡ one_more (calls_of self.old) }
-        ensures failures { failures_of self.new ≡ (if is_err result then one_more (failures_of self.old) else failures_of self.old) }
+        ensures failures { failures_of self.new
+            ≡ (if is_err result then one_more (failures_of self.old) else failures_of self.old) }
         ensures past { OnOk result (calls_of self.old < greatest) }
         ensures refused { OnErr result (calls_of self.old ≡ greatest) }
     {
@@ -72,9 +75,11 @@ impl<R: Read> Read for Counted<R> {
 
     fn read(&mut self, buf: &mut [u8]) -> io::Result<usize>
         ensures bound { ReadsAtMost result buf.new }
-        ensures bytes { ReadConsumes (R.remaining (counted_inner self.old)) (R.remaining (counted_inner self.new)) result buf.new }
+        ensures bytes { ReadConsumes (R.remaining (counted_inner self.old))
+            (R.remaining (counted_inner self.new)) result buf.new }
         ensures calls { calls_of self.new ≡ one_more (calls_of self.old) }
-        ensures failures { failures_of self.new ≡ (if is_err result then one_more (failures_of self.old) else failures_of self.old) }
+        ensures failures { failures_of self.new
+            ≡ (if is_err result then one_more (failures_of self.old) else failures_of self.old) }
         ensures past { OnOk result (calls_of self.old < greatest) }
     {
         self.count_call()?;
@@ -91,9 +96,12 @@ impl<W: Write> Write for Counted<W> {
 
     fn write(&mut self, buf: &[u8]) -> io::Result<usize>
         ensures bound { WritesAtMost result buf.now }
-        ensures bytes { WriteAppends (W.contents (counted_inner self.old)) (W.contents (counted_inner self.new)) result buf.now }
+        ensures bytes { WriteAppends (W.contents (counted_inner self.old))
+            (W.contents (counted_inner self.new)) result buf.now }
         ensures calls { calls_of self.new ≡ one_more (calls_of self.old) }
-        ensures failures { failures_of self.new ≡ (if writes_none result buf.now then one_more (failures_of self.old) else failures_of self.old) }
+        ensures failures { failures_of self.new
+            ≡ (if writes_none result buf.now then one_more (failures_of self.old) else
+            failures_of self.old) }
         ensures past { OnOk result (calls_of self.old < greatest) }
     {
         self.count_call()?;
@@ -109,9 +117,11 @@ impl<W: Write> Write for Counted<W> {
     }
 
     fn flush(&mut self) -> io::Result<()>
-        ensures bytes { Keeps (W.contents (counted_inner self.old)) (W.contents (counted_inner self.new)) }
+        ensures bytes { Keeps (W.contents (counted_inner self.old))
+            (W.contents (counted_inner self.new)) }
         ensures calls { calls_of self.new ≡ one_more (calls_of self.old) }
-        ensures failures { failures_of self.new ≡ (if is_err result then one_more (failures_of self.old) else failures_of self.old) }
+        ensures failures { failures_of self.new
+            ≡ (if is_err result then one_more (failures_of self.old) else failures_of self.old) }
         ensures past { OnOk result (calls_of self.old < greatest) }
     {
         self.count_call()?;

@@ -1,5 +1,7 @@
-//! The digits of numbers, written where they are to stand. A function says where they end, so that nothing is kept in memory meanwhile.
-ghost use Rattle.std.specs.Prelude.{◌≡◌, ◌+◌, ◌/◌, ◌%◌, ◌<◌, ◌≤◌, [], ◌∷◌, ◌++◌, decimal, length, take};
+//! The digits of numbers, written where they are to stand. A function says where they end, so that
+//! nothing is kept in memory meanwhile.
+ghost use Rattle.std.specs.Prelude.{◌≡◌, ◌+◌, ◌/◌, ◌%◌, ◌<◌, ◌≤◌};
+ghost use Rattle.std.specs.Prelude.{[], ◌∷◌, ◌++◌, decimal, length, take};
 
 use itoa::write_digits;
 
@@ -75,7 +77,8 @@ fn write_pair(bytes: &mut [u8], at: usize, number: u64) -> usize
     requires room { at + 2 ≤ length bytes.old }
     requires pair { number < 100 }
     ensures end { result ≡ at + 2 }
-    ensures written { take result bytes.new ≡ take at bytes.old ++ (48 + number / 10) ∷ (48 + number % 10) ∷ [] }
+    ensures written { take result bytes.new ≡ take at bytes.old
+        ++ (48 + number / 10) ∷ (48 + number % 10) ∷ [] }
 {
     let from = number as usize * 2;
     let (tens, ones) = (PAIRS[from], PAIRS[from + 1]);

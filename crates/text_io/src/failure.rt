@@ -5,8 +5,8 @@ ghost use Rattle.text_io.specs.FaultWords.{failed, failure_name, words_of};
 
 use crate::{FaultName, FaultWords, Origin};
 
-/// What may fail beside a text: a reader, a writer, memory, a file, or the tape of an agent. Each format's faults have some of these among
-/// them, by the same names.
+/// What may fail beside a text: a reader, a writer, memory, a file, or the tape of an agent. Each
+/// format's faults have some of these among them, by the same names.
 #[derive(Clone, Copy, Debug, PartialEq, Eq)]
 pub enum Failure {
     ReadFailed,

@@ -6,8 +6,9 @@ use crate::fault_name::FaultName;
 use crate::origin::Origin;
 use std::fmt;
 
-/// A name and up to five numbers, as `BadTerrain 5 2`; whether a device failed, or memory, or a text is faulty; and what the fault is of,
-/// of which no contract speaks. A `Display` may fail for reasons of its own, so what a fault says is a value, which can be written whole.
+/// A name and up to five numbers, as `BadTerrain 5 2`; whether a device failed, or memory, or a
+/// text is faulty; and what the fault is of, of which no contract speaks. A `Display` may fail for
+/// reasons of its own, so what a fault says is a value, which can be written whole.
 #[derive(Clone, Copy, Debug)]
 pub struct FaultWords {
     name: FaultName,

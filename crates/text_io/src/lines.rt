@@ -23,12 +23,14 @@ pub enum TakenLine {
 }
 
 impl<R: Read, const AHEAD: usize> Source<'_, R, AHEAD> {
-    ghost use Rattle.text_io.specs.Lines.{HasTaken, HasBegun, LineTaken, LinePassed, LeavesLess, PassesLess};
+    ghost use Rattle.text_io.specs.Lines.{HasTaken, HasBegun, LineTaken};
+    ghost use Rattle.text_io.specs.Lines.{LinePassed, LeavesLess, PassesLess};
 
     /// Takes a line into the front of `room`, without the LF that ends it.
     pub fn take_line(&mut self, room: &mut [u8]) -> TakenLine
         ensures same_reader { self.new.reader.ghost_name ≡ self.old.reader.ghost_name }
-        ensures taken { (first : Counted R) (before : List (List ℕ)) → HasTaken R.remaining first self.old before
+        ensures taken { (first : Counted R) (before : List (List ℕ))
+            → HasTaken R.remaining first self.old before
             → LineTaken R.remaining first self.new before room.new result }
         ensures less_left { LeavesLess result (most_left self.old) (most_left self.new) }
     {
@@ -50,10 +52,12 @@ impl<R: Read, const AHEAD: usize> Source<'_, R, AHEAD> {
         }
     }
 
-    /// Takes what is left of a line up to and with its LF, without keeping it, or says why the LF didn't come.
+    /// Takes what is left of a line up to and with its LF, without keeping it, or says why the LF
+    /// didn't come.
     pub fn pass_line(&mut self) -> Result<(), Stop>
         ensures same_reader { self.new.reader.ghost_name ≡ self.old.reader.ghost_name }
-        ensures passed { (first : Counted R) (before : List (List ℕ)) (front : List ℕ) → HasBegun R.remaining first self.old before front
+        ensures passed { (first : Counted R) (before : List (List ℕ)) (front : List ℕ)
+            → HasBegun R.remaining first self.old before front
             → LinePassed R.remaining first self.new before front result }
         ensures less_left { PassesLess result (most_left self.old) (most_left self.new) }
     {
@@ -70,7 +74,8 @@ impl<R: Read, const AHEAD: usize> Source<'_, R, AHEAD> {
 
     /// Takes what is at hand of a line, as far as there is room, and says how many bytes.
     fn take_part(&mut self, room: &mut [u8]) -> usize
-        ensures count { result ≡ prefix_len is_line_byte (take (length room.old) (at_hand self.old)) }
+        ensures count { result ≡ prefix_len is_line_byte
+            (take (length room.old) (at_hand self.old)) }
         ensures copied { take result room.new ≡ take result (at_hand self.old) }
         ensures takes { Takes R.remaining self.old self.new (take result (at_hand self.old)) }
         ensures rest { at_hand self.new ≡ drop result (at_hand self.old) }

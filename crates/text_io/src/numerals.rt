@@ -1,8 +1,10 @@
 //! Numbers as they are written, in digits without a leading zero.
-ghost use Rattle.std.specs.Prelude.{◌≡◌, ◌-◌, ◌^◌, ◌<◌, ◌≤◌, ◌⊎◌, length, min, take, true, false, IfSome, MatchOption};
+ghost use Rattle.std.specs.Prelude.{◌≡◌, ◌-◌, ◌^◌, ◌<◌, ◌≤◌, ◌⊎◌, length};
+ghost use Rattle.std.specs.Prelude.{min, take, true, false, IfSome, MatchOption};
 ghost use Rattle.std.specs.List.{list_all};
 ghost use Rattle.std.specs.Char.{is_ascii_digit};
-ghost use Rattle.text_io.specs.Numerals.{has_leading_zero, is_numeral, numeral_value, numeral_below, BeginsWithNumber};
+ghost use Rattle.text_io.specs.Numerals.{has_leading_zero, is_numeral, numeral_value};
+ghost use Rattle.text_io.specs.Numerals.{numeral_below, BeginsWithNumber};
 
 /// No sum overflows with so many digits.
 const MOST_DIGITS: usize = 19;
@@ -30,7 +32,8 @@ pub fn numeral(bytes: &[u8]) -> Option<u64>
 
 /// The same, but a greater one than a `u64` holds is `u64::MAX`.
 pub fn saturated_numeral(bytes: &[u8]) -> Option<u64>
-    ensures { MatchOption result (is_numeral bytes.now ≡ false) (λ n. (is_numeral bytes.now ≡ true) × (n ≡ min (numeral_value bytes.now) (2 ^ 64 - 1))) }
+    ensures { MatchOption result (is_numeral bytes.now ≡ false) (λ n. (is_numeral bytes.now ≡ true)
+        × (n ≡ min (numeral_value bytes.now) (2 ^ 64 - 1))) }
 {
     match numeral(bytes) {
         Some(value) => Some(value),
@@ -51,10 +54,12 @@ fn are_digits(bytes: &[u8]) -> bool
     bytes.iter().all(|b| b.is_ascii_digit())
 }
 
-/// The number that stands before a byte, if it is below 2^32, and what stands behind that byte. `None` says nothing of the bytes.
+/// The number that stands before a byte, if it is below 2^32, and what stands behind that byte.
+/// `None` says nothing of the bytes.
 #[inline(always)]
 pub fn small_number_before(ending: u8, bytes: &[u8]) -> Option<(u32, &[u8])>
-    ensures { IfSome result (λ found. BeginsWithNumber (2 ^ 32) found.0 ending bytes.now found.1.now) }
+    ensures { IfSome result
+        (λ found. BeginsWithNumber (2 ^ 32) found.0 ending bytes.now found.1.now) }
 {
     let (value, rest) = number_before(ending, bytes)?;
     if value <= 4_294_967_295 {
@@ -64,10 +69,12 @@ pub fn small_number_before(ending: u8, bytes: &[u8]) -> Option<(u32, &[u8])>
     }
 }
 
-/// The number that stands before a byte, and what stands behind that byte. `None` says nothing of the bytes: the number may only be long.
+/// The number that stands before a byte, and what stands behind that byte. `None` says nothing of
+/// the bytes: the number may only be long.
 #[inline(always)]
 pub fn number_before(ending: u8, bytes: &[u8]) -> Option<(u64, &[u8])>
-    ensures { IfSome result (λ found. BeginsWithNumber (2 ^ 64) found.0 ending bytes.now found.1.now) }
+    ensures { IfSome result
+        (λ found. BeginsWithNumber (2 ^ 64) found.0 ending bytes.now found.1.now) }
 {
     let (value, count) = leading_digits(bytes);
     let digits = &bytes[..count];
@@ -81,7 +88,8 @@ pub fn number_before(ending: u8, bytes: &[u8]) -> Option<(u64, &[u8])>
     }
 }
 
-/// The number that the digits at the front spell, and how many they are, of so many at the most that no sum overflows.
+/// The number that the digits at the front spell, and how many they are, of so many at the most
+/// that no sum overflows.
 #[inline(always)]
 fn leading_digits(bytes: &[u8]) -> (u64, usize)
     ensures within { result.1 ≤ length bytes.now }
@@ -102,7 +110,8 @@ fn leading_digits(bytes: &[u8]) -> (u64, usize)
 
 /// The number that the bytes spell, if each is a digit and a `u64` holds it.
 fn spelled(bytes: &[u8]) -> Option<u64>
-    ensures { MatchOption result ((list_all is_ascii_digit bytes.now ≡ false) ⊎ (2 ^ 64 ≤ numeral_value bytes.now))
+    ensures { MatchOption result ((list_all is_ascii_digit bytes.now ≡ false)
+        ⊎ (2 ^ 64 ≤ numeral_value bytes.now))
         (λ n. (list_all is_ascii_digit bytes.now ≡ true) × (n ≡ numeral_value bytes.now)) }
 {
     let mut value = 0u64;

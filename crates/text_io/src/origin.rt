@@ -1,6 +1,7 @@
 //! What a fault is of.
 
-/// What a fault is of: a file that a command names, a stream, or the command itself. Explanations go by it, and no answer does.
+/// What a fault is of: a file that a command names, a stream, or the command itself. Explanations
+/// go by it, and no answer does.
 #[derive(Clone, Copy, Debug, PartialEq, Eq)]
 pub enum Origin {
     /// What was asked for, or the machine: no file has the fault.

@@ -1,5 +1,6 @@
 //! Bytes for a writer, handed on a piece at a time.
-ghost use Rattle.std.specs.Prelude.{◌≡◌, ◌+◌, ◌<◌, ◌≤◌, [], ◌∷◌, ◌++◌, decimal, length, take, Some, OnOk, OnErr, is_ok};
+ghost use Rattle.std.specs.Prelude.{◌≡◌, ◌+◌, ◌<◌, ◌≤◌, [], ◌∷◌, ◌++◌};
+ghost use Rattle.std.specs.Prelude.{decimal, length, take, Some, OnOk, OnErr, is_ok};
 ghost use Rattle.text_io.specs.Counted.{counted_inner, failures_of};
 ghost use Rattle.text_io.specs.FaultWords.{words_of, words_text, write_fault_words};
 ghost use Rattle.text_io.specs.Text.{separated};
@@ -72,7 +73,8 @@ impl Piece {
     fn append(&mut self, bytes: &[u8])
         requires { self.old.len + length bytes.now ≤ 65536 }
         ensures len { self.new.len ≡ self.old.len + length bytes.now }
-        ensures bytes { take self.new.len self.new.bytes ≡ take self.old.len self.old.bytes ++ bytes.now }
+        ensures bytes { take self.new.len self.new.bytes ≡ take self.old.len self.old.bytes
+            ++ bytes.now }
     {
         let end = self.len + bytes.len();
         self.bytes[self.len..end].copy_from_slice(bytes);
@@ -82,7 +84,8 @@ impl Piece {
     fn push(&mut self, byte: u8)
         requires { self.old.len < 65536 }
         ensures len { self.new.len ≡ self.old.len + 1 }
-        ensures bytes { take self.new.len self.new.bytes ≡ take self.old.len self.old.bytes ++ byte ∷ [] }
+        ensures bytes { take self.new.len self.new.bytes ≡ take self.old.len self.old.bytes
+            ++ byte ∷ [] }
     {
         self.bytes[self.len] = byte;
         self.len += 1;
@@ -92,7 +95,8 @@ impl Piece {
     #[inline(always)]
     fn push_number(&mut self, number: u64)
         requires { self.old.len + 20 ≤ 65536 }
-        ensures { take self.new.len self.new.bytes ≡ take self.old.len self.old.bytes ++ decimal number }
+        ensures { take self.new.len self.new.bytes ≡ take self.old.len self.old.bytes
+            ++ decimal number }
     {
         self.len = write_number(&mut self.bytes, self.len, number);
     }
@@ -102,7 +106,8 @@ impl Piece {
     fn push_numbers(&mut self, separator: u8, numbers: &[u64])
         requires few { length numbers.now ≤ MOST_NUMBERS }
         requires room { self.old.len + 84 ≤ 65536 }
-        ensures { take self.new.len self.new.bytes ≡ take self.old.len self.old.bytes ++ separated separator numbers.now }
+        ensures { take self.new.len self.new.bytes ≡ take self.old.len self.old.bytes
+            ++ separated separator numbers.now }
     {
         let mut at = self.len;
         for number in numbers {
@@ -113,7 +118,8 @@ impl Piece {
     }
 }
 
-/// Collects bytes for a writer, and hands on a piece of 65,536 at a time, or more where more are put at once.
+/// Collects bytes for a writer, and hands on a piece of 65,536 at a time, or more where more are
+/// put at once.
 pub struct Sink<'a, W> {
     writer: &'a mut Counted<W>,
     piece: Piece,
@@ -213,7 +219,8 @@ impl<'a, W: Write> Sink<'a, W> {
     /// Puts a byte that separates, and a number behind it, whose digits are written in their place.
     pub fn put_number_after(&mut self, separator: u8, number: u64) -> Result<(), WriteFault>
         ensures ok { OnOk result (Puts W.contents self.old self.new (separator ∷ decimal number)) }
-        ensures err { OnErr result (Breaks W.contents self.old self.new (separator ∷ decimal number)) }
+        ensures err { OnErr result
+            (Breaks W.contents self.old self.new (separator ∷ decimal number)) }
     {
         // A byte and at most twenty digits.
         if self.piece.room() < 21 {
@@ -228,13 +235,14 @@ impl<'a, W: Write> Sink<'a, W> {
     #[cold]
     fn put_number_apart(&mut self, separator: u8, number: u64) -> Result<(), WriteFault>
         ensures ok { OnOk result (Puts W.contents self.old self.new (separator ∷ decimal number)) }
-        ensures err { OnErr result (Breaks W.contents self.old self.new (separator ∷ decimal number)) }
+        ensures err { OnErr result
+            (Breaks W.contents self.old self.new (separator ∷ decimal number)) }
     {
         self.put_after(separator, Buffer::new().format(number).as_bytes())
     }
 
-    /// Puts bytes, and each number behind them with a byte before it that separates. Where the bytes are known, and how many numbers there
-    /// are, nothing is called for the common ones.
+    /// Puts bytes, and each number behind them with a byte before it that separates. Where the
+    /// bytes are known, and how many numbers there are, nothing is called for the common ones.
     #[inline(always)]
     pub fn put_numbers(
         &mut self,
@@ -242,8 +250,10 @@ impl<'a, W: Write> Sink<'a, W> {
         separator: u8,
         numbers: &[u64],
     ) -> Result<(), WriteFault>
-        ensures ok { OnOk result (Puts W.contents self.old self.new (word.now ++ separated separator numbers.now)) }
-        ensures err { OnErr result (Breaks W.contents self.old self.new (word.now ++ separated separator numbers.now)) }
+        ensures ok { OnOk result
+            (Puts W.contents self.old self.new (word.now ++ separated separator numbers.now)) }
+        ensures err { OnErr result
+            (Breaks W.contents self.old self.new (word.now ++ separated separator numbers.now)) }
     {
         // A byte and at most twenty digits a number.
         if numbers.len() > MOST_NUMBERS || self.piece.room() < word.len() + 21 * MOST_NUMBERS {
@@ -262,8 +272,10 @@ impl<'a, W: Write> Sink<'a, W> {
         separator: u8,
         numbers: &[u64],
     ) -> Result<(), WriteFault>
-        ensures ok { OnOk result (Puts W.contents self.old self.new (word.now ++ separated separator numbers.now)) }
-        ensures err { OnErr result (Breaks W.contents self.old self.new (word.now ++ separated separator numbers.now)) }
+        ensures ok { OnOk result
+            (Puts W.contents self.old self.new (word.now ++ separated separator numbers.now)) }
+        ensures err { OnErr result
+            (Breaks W.contents self.old self.new (word.now ++ separated separator numbers.now)) }
     {
         self.put(word)?;
         for number in numbers {
@@ -299,7 +311,9 @@ impl<'a, W: Write> Sink<'a, W> {
 
 /// Gives a writer all of the bytes, up to its first failure.
 fn send<W: Write>(writer: &mut Counted<W>, bytes: &[u8]) -> Result<(), WriteFault>
-    ensures { WritesText (is_ok result) (W.contents (counted_inner writer.old)) (W.contents (counted_inner writer.new)) (failures_of writer.old) (failures_of writer.new) bytes.now }
+    ensures { WritesText (is_ok result) (W.contents (counted_inner writer.old))
+        (W.contents (counted_inner writer.new)) (failures_of writer.old)
+        (failures_of writer.new) bytes.now }
 {
     let mut rest = bytes;
     while !rest.is_empty() {

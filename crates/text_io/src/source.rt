@@ -1,5 +1,6 @@
 //! The bytes of a reader, a piece at a time.
-ghost use Rattle.std.specs.Prelude.{◌≡◌, ◌+◌, ◌<◌, ◌≤◌, [], ◌∷◌, length, take, drop, Some, is_some, true, false};
+ghost use Rattle.std.specs.Prelude.{◌≡◌, ◌+◌, ◌<◌, ◌≤◌, [], ◌∷◌, length};
+ghost use Rattle.std.specs.Prelude.{take, drop, Some, is_some, true, false};
 ghost use Rattle.std.specs.Prelude.{MatchOption, MatchResult, OnOk, is_err, if◌then◌else◌};
 ghost use Rattle.std.specs.Io.{ReadsAtMost};
 ghost use Rattle.std.specs.Io.KnownBytes.{ReadConsumes};
@@ -52,7 +53,8 @@ impl<R, const AHEAD: usize> Drop for Source<'_, R, AHEAD> {
 }
 
 impl<'a, R: Read, const AHEAD: usize> Source<'a, R, AHEAD> {
-    ghost use Rattle.text_io.specs.Source.{at_hand, source_reader, is_stopped, GoesOn, Takes, StopsBy};
+    ghost use Rattle.text_io.specs.Source.{at_hand, source_reader, is_stopped};
+    ghost use Rattle.text_io.specs.Source.{GoesOn, Takes, StopsBy};
     ghost use Rattle.text_io.specs.Lines.{HasTaken};
 
     /// Nothing is read yet.
@@ -77,7 +79,8 @@ impl<'a, R: Read, const AHEAD: usize> Source<'a, R, AHEAD> {
     /// Reads where no byte is at hand, and says why there is still none.
     pub fn fill(&mut self) -> Option<Stop>
         ensures takes { Takes R.remaining self.old self.new [] }
-        ensures cases { MatchOption result ((0 < length (at_hand self.new)) × GoesOn self.new) (StopsBy R.remaining self.old self.new) }
+        ensures cases { MatchOption result ((0 < length (at_hand self.new)) × GoesOn self.new)
+            (StopsBy R.remaining self.old self.new) }
     {
         if self.start < self.end {
             return None;
@@ -123,7 +126,8 @@ impl<'a, R: Read, const AHEAD: usize> Source<'a, R, AHEAD> {
 
     /// Takes the next byte, or says why there is none.
     pub fn next_byte(&mut self) -> Result<u8, Stop>
-        ensures { MatchResult result (λ b. Takes R.remaining self.old self.new (b ∷ []) × GoesOn self.new) (StopsBy R.remaining self.old self.new) }
+        ensures { MatchResult result (λ b. Takes R.remaining self.old self.new (b ∷ [])
+            × GoesOn self.new) (StopsBy R.remaining self.old self.new) }
     {
         match self.fill() {
             None => {

@@ -1,6 +1,6 @@
 //! Calls of the libraries that the program never makes. Each succeeds here: no contract says that
-//! memory suffices for it. `./test --prove` also refuses each allocation of these tests in turn, one
-//! in a run. Where memory is wanting a test makes its call again, which has to succeed then.
+//! memory suffices for it. `./test --prove` also refuses each allocation of these tests in turn,
+//! one in a run. Where memory is wanting a test makes its call again, which has to succeed then.
 #![tactic(auto)]
 
 #[cfg(test)]

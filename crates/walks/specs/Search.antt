@@ -1,4 +1,5 @@
--- What is said of a search: what it proposes is judged by its certificate, so nothing but when it refuses.
+-- What is said of a search: what it proposes is judged by its certificate, so nothing but when it
+-- refuses.
 use Rattle.std.specs.Prelude.{◌≡◌, ◌↔◌, Result, Err}
 use Rattle.grid.specs.declared.cell.Cell.{Cell}
 use Rattle.grid.specs.Map.{Grid}

@@ -1,4 +1,5 @@
-//! The lengths of the shortest walks from a cell, of those through which a walk to the goal may be shortest.
+//! The lengths of the shortest walks from a cell, of those through which a walk to the goal may be
+//! shortest.
 use crate::field::Field;
 use crate::heading::{Heading, Open, least_through};
 use crate::keys::Key;
@@ -8,9 +9,11 @@ use std::alloc::{AllocError, Global};
 /// Far more turns than a search on a map takes.
 const MOST_TURNS: u64 = 1 << 40;
 
-/// Lowers the keys from the start on, toward the goal first (A* by the octile distance), until that of the goal is the key of a shortest walk: then each
-/// cell through which a walk as long as that may lead has its least key. The answer is whether this was done: where walks are longer by a
-/// quarter than the distance, as in a maze, the distance tells nothing, and a search in all directions is quicker. It is compiled by itself, as `flood` is.
+/// Lowers the keys from the start on, toward the goal first (A* by the octile distance), until that
+/// of the goal is the key of a shortest walk: then each cell through which a walk as long as that
+/// may lead has its least key. The answer is whether this was done: where walks are longer by a
+/// quarter than the distance, as in a maze, the distance tells nothing, and a search in all
+/// directions is quicker. It is compiled by itself, as `flood` is.
 #[inline(never)]
 pub(crate) fn approach(
     alloc: Global,

@@ -55,8 +55,9 @@ impl fmt::Display for CertFault {
     }
 }
 
-/// The shortest length from the start to the goal, or `None` where no walk leads there, if the proposal proves it. Faults are
-/// tested in the order `OutOfRange`, `BadTable`, `NotTight`, `BadWalk`.
+/// The shortest length from the start to the goal, or `None` where no walk leads there, if the
+/// proposal proves it. Faults are tested in the order `OutOfRange`, `BadTable`, `NotTight`,
+/// `BadWalk`.
 pub fn certify(
     map: &Map,
     start: Cell,
@@ -133,7 +134,8 @@ fn leads_to(map: &Map, start: Cell, goal: Cell, walk: &[Cell], length: Length) -
 /// Whether the cells go on from the start to the goal by just so many steps of each kind.
 fn follows(map: &Map, start: Cell, goal: Cell, rest: &[Cell], length: Length) -> bool
     requires { IsOn map.now start }
-    ensures { IsTrue result ↔ IsWalk map.now start goal (start ∷ rest.now) length.straight length.diagonal }
+    ensures { IsTrue result
+        ↔ IsWalk map.now start goal (start ∷ rest.now) length.straight length.diagonal }
 {
     let mut last = start;
     let mut straight = 0u64;

@@ -42,10 +42,12 @@ pub(crate) fn number_beyond(beyond: Option<Beyond>, x: usize, y: usize) -> u64
     }
 }
 
-/// The number of each cell that was not settled, where it is one and the same; none where it goes by the distance to a goal.
+/// The number of each cell that was not settled, where it is one and the same; none where it goes
+/// by the distance to a goal.
 #[inline(always)]
 pub(crate) fn flat_number(beyond: Option<Beyond>) -> Option<u64>
-    ensures { MatchOption result (MatchOption beyond ⊥ (λ b. IsSome b.goal)) (λ n. (x y : ℕ) → beyond_number beyond x y ≡ n) }
+    ensures { MatchOption result (MatchOption beyond ⊥ (λ b. IsSome b.goal)) (λ n. (x y : ℕ)
+        → beyond_number beyond x y ≡ n) }
 {
     let Some(beyond) = beyond else {
         return Some(NO_LENGTH);

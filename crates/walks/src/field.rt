@@ -54,8 +54,9 @@ impl Field<'_> {
         }
     }
 
-    /// The table of the keys. No step improves the lesser of two lengths that none improves, so no key counts that is greater than the goal's; nor, where the
-    /// search had a heading, one that is greater than the goal's less the distance to it.
+    /// The table of the keys. No step improves the lesser of two lengths that none improves, so no
+    /// key counts that is greater than the goal's; nor, where the search had a heading, one that is
+    /// greater than the goal's less the distance to it.
     pub(crate) fn into_table(self, goal: Cell, heading: Option<Cell>) -> LengthTable {
         let beyond = self
             .key(goal)
@@ -133,7 +134,8 @@ impl Field<'_> {
         Ok(())
     }
 
-    /// The same for a cell that hasn't all its neighbours in its tile. Few are such cells, so it is compiled by itself.
+    /// The same for a cell that hasn't all its neighbours in its tile. Few are such cells, so it is
+    /// compiled by itself.
     #[inline(never)]
     fn step_from_edge<F: Front>(
         &mut self,
@@ -223,7 +225,8 @@ fn first_tile(
 ) -> Result<Vec<Key>, AllocError> {
     let left = usize::from(cell.x) / TILE_SIDE * TILE_SIDE;
     let top = usize::from(cell.y) / TILE_SIDE * TILE_SIDE;
-    // All rows are fetched before the first of them is read. One after another, each would wait for memory by itself.
+    // All rows are fetched before the first of them is read. One after another, each would wait for
+    // memory by itself.
     let mut characters = [b'@'; TILE_SIDE * TILE_SIDE];
     for (y, row) in characters.chunks_mut(TILE_SIDE).enumerate() {
         put_characters(row, row_from(map, left, top + y));
@@ -252,7 +255,8 @@ fn put_characters(row: &mut [u8], characters: &[u8]) {
     row[..count].copy_from_slice(&characters[..count]);
 }
 
-/// The first key of each terrain character: closed where no walk from such a start can pass. A table takes no branch, which no one could foresee.
+/// The first key of each terrain character: closed where no walk from such a start can pass. A
+/// table takes no branch, which no one could foresee.
 fn first_keys(start: Option<Terrain>) -> [Key; 256] {
     let open = match start {
         Some(Terrain::Floor | Terrain::Grass | Terrain::Swamp) => b".GS".as_slice(),

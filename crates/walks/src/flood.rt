@@ -5,11 +5,13 @@ use crate::wave::Wave;
 use grid::Cell;
 use std::alloc::{AllocError, Global};
 
-/// No shortest walk on a map leads through more buckets: for each diagonal step it leaves out two cells of its own.
+/// No shortest walk on a map leads through more buckets: for each diagonal step it leaves out two
+/// cells of its own.
 const MOST_BUCKETS: u64 = 4_194_304;
 
-/// Lowers the keys from the start on, until that of the goal is the key of a shortest walk: then each key that is not greater is one too, and no
-/// greater key will fall below it. It is compiled by itself, so that what each step needs stays in registers.
+/// Lowers the keys from the start on, until that of the goal is the key of a shortest walk: then
+/// each key that is not greater is one too, and no greater key will fall below it. It is compiled
+/// by itself, so that what each step needs stays in registers.
 #[inline(never)]
 pub(crate) fn flood(
     alloc: Global,

@@ -9,7 +9,8 @@ pub(crate) trait Front {
     fn push(&mut self, cell: Cell, old: Key, new: Key) -> Result<(), AllocError>;
 }
 
-/// Gives a cell the key of a straight step to it, where that is less. The answer is whether a diagonal step past it may be best.
+/// Gives a cell the key of a straight step to it, where that is less. The answer is whether a
+/// diagonal step past it may be best.
 #[inline(always)]
 pub(crate) fn step_straight<F: Front>(
     front: &mut F,

@@ -1,4 +1,5 @@
-//! The cells that a search toward its goal goes on from, in buckets of the least lengths of walks through them.
+//! The cells that a search toward its goal goes on from, in buckets of the least lengths of walks
+//! through them.
 use crate::distance::octile_distance;
 use crate::front::Front;
 use crate::keys::Key;
@@ -6,7 +7,8 @@ use crate::room::put_last;
 use grid::Cell;
 use std::alloc::{AllocError, Global};
 
-/// A bucket is as wide as this number. A step adds at most two diagonal steps to the least length of a walk, so it leads at most five buckets on.
+/// A bucket is as wide as this number. A step adds at most two diagonal steps to the least length
+/// of a walk, so it leads at most five buckets on.
 const BUCKET_WIDTH: u64 = 4_194_304;
 
 /// More buckets than a step leads on.
@@ -24,7 +26,8 @@ struct Bucket {
     cells: Vec<Open>,
 }
 
-/// The cells whose keys fell, by the number of the least length that a walk through them can have: their key and the distance to the goal.
+/// The cells whose keys fell, by the number of the least length that a walk through them can have:
+/// their key and the distance to the goal.
 #[derive(Drop)]
 pub(crate) struct Heading {
     buckets: Vec<Bucket>,
@@ -67,7 +70,8 @@ impl Heading {
         Some(open)
     }
 
-    /// Whether no walk through a cell that waits is shorter than a number, once the bucket at hand is empty.
+    /// Whether no walk through a cell that waits is shorter than a number, once the bucket at hand
+    /// is empty.
     pub(crate) fn is_past(&self, number: u64) -> bool {
         self.waiting == 0 || number / BUCKET_WIDTH <= self.at_hand
     }

@@ -1,28 +1,34 @@
 //! Lengths of a search as single whole numbers.
 ghost use Rattle.std.specs.Prelude.{◌≡◌, ◌+◌, ◌*◌, ◌^◌, ◌<◌, ◌≤◌, ◌⊎◌, MatchOption};
-ghost use Rattle.walks.specs.Code.KeyParts.{IsKey, number_of_entry, number_within, length_of_number};
+ghost use Rattle.walks.specs.Code.KeyParts.{IsKey, number_of_entry};
+ghost use Rattle.walks.specs.Code.KeyParts.{number_within, length_of_number};
 
 use scenario::Length;
 
-/// The number of a straight step. `DIAGONAL / STRAIGHT` is so near to the root of two that the numbers of lengths compare as the lengths do.
+/// The number of a straight step. `DIAGONAL / STRAIGHT` is so near to the root of two that the
+/// numbers of lengths compare as the lengths do.
 pub const STRAIGHT: u64 = 6_625_109;
 
 /// The number of a diagonal step.
 pub const DIAGONAL: u64 = 9_369_319;
 
-/// Times `DIAGONAL` this is 1 above a multiple of `STRAIGHT`, so it reads the diagonal steps back from a key.
+/// Times `DIAGONAL` this is 1 above a multiple of `STRAIGHT`, so it reads the diagonal steps back
+/// from a key.
 const DIAGONAL_INVERSE: u64 = 3_880_899;
 
-/// The number of the cells that no step may enter. That of the start is one straight step, so that no length has this one.
+/// The number of the cells that no step may enter. That of the start is one straight step, so that
+/// no length has this one.
 const CLOSED: u64 = 0;
 
 /// The number of no length, far above those of all lengths.
 pub(crate) const NO_LENGTH: u64 = 1 << 62;
 
-/// No shortest walk on a map has a number as great: for each diagonal step it leaves out two cells of its own.
+/// No shortest walk on a map has a number as great: for each diagonal step it leaves out two cells
+/// of its own.
 pub(crate) const MOST_STEPPED: u64 = 4_194_304 * STRAIGHT;
 
-/// A length as one whole number, in the exact order of lengths; or that there is none: a cell is closed, or no walk has reached it.
+/// A length as one whole number, in the exact order of lengths; or that there is none: a cell is
+/// closed, or no walk has reached it.
 #[derive(Clone, Copy, Debug)]
 pub(crate) struct Key {
     value: u64,
@@ -108,7 +114,8 @@ impl Key {
         self.value + distance
     }
 
-    /// Whether a diagonal step past the cell may be best: it isn't closed, and a straight step on from it is longer.
+    /// Whether a diagonal step past the cell may be best: it isn't closed, and a straight step on
+    /// from it is longer.
     #[inline(always)]
     pub(crate) fn is_passed(self, diagonal: Key) -> bool {
         self.value + STRAIGHT > diagonal.value
@@ -129,7 +136,8 @@ impl Key {
     /// The number, if it is that of a length.
     #[inline(always)]
     pub(crate) fn number(self) -> Option<u64>
-        ensures { MatchOption result ((self.value ≡ 0) ⊎ (self.value ≡ 2 ^ 62)) (λ n. (n ≡ self.value) × (0 < n) × (n < 2 ^ 62) × IsKey n) }
+        ensures { MatchOption result ((self.value ≡ 0) ⊎ (self.value ≡ 2 ^ 62))
+            (λ n. (n ≡ self.value) × (0 < n) × (n < 2 ^ 62) × IsKey n) }
     {
         if self.value == CLOSED || self.value == NO_LENGTH {
             None

@@ -1,5 +1,7 @@
 //! Tables of lengths: an entry for each cell of a map.
-ghost use Rattle.std.specs.Prelude.{◌≡◌, ℕ, ◌+◌, ◌*◌, ◌<◌, ◌≤◌, ◌^◌, IfOk, IsTrue, ◌↔◌, MatchOption, None, length, slice_index, slice_index_or};
+ghost use Rattle.std.specs.Prelude.{◌≡◌, ℕ, ◌+◌, ◌*◌, ◌<◌};
+ghost use Rattle.std.specs.Prelude.{◌≤◌, ◌^◌, IfOk, IsTrue, ◌↔◌};
+ghost use Rattle.std.specs.Prelude.{MatchOption, None, length, slice_index, slice_index_or};
 ghost use Rattle.walks.specs.Certificate.{IsTight};
 ghost use Rattle.walks.specs.Code.KeyParts.{number_of_entry};
 ghost use Rattle.walks.specs.Code.TableEntries.{table_entries, entry_number, number_on, IsBeyond};
@@ -13,7 +15,8 @@ use scenario::Length;
 use std::alloc::{AllocError, Global};
 use std::marker::Model;
 
-/// For each cell of a map, row by row, a length, or none. A search's table takes memory where the search came near alone.
+/// For each cell of a map, row by row, a length, or none. A search's table takes memory where the
+/// search came near alone.
 #[derive(Debug, Drop)]
 pub struct LengthTable {
     entries: Entries,
@@ -139,7 +142,8 @@ impl Entries {
         requires width { width < 2 ^ 16 }
         requires columns { x + count < 2 ^ 17 }
         requires row { y < 2 ^ 16 }
-        ensures told { (i : ℕ) → i < count → slice_index numbers.new i ≡ number_on self.now width (x + i) y }
+        ensures told { (i : ℕ) → i < count
+            → slice_index numbers.new i ≡ number_on self.now width (x + i) y }
     {
         match self.tiles_of(width) {
             Some(tiles) => tiles.put_numbers(x, y, count, numbers),
@@ -151,7 +155,8 @@ impl Entries {
         }
     }
 
-    /// Whether the search came near no cell of a row of a map and of the row below it, from one column to another.
+    /// Whether the search came near no cell of a row of a map and of the row below it, from one
+    /// column to another.
     pub(crate) fn is_beyond(&self, width: usize, left: usize, right: usize, y: usize) -> bool
         requires left { left ≤ right }
         requires near { right ≤ left + 64 }
@@ -167,7 +172,8 @@ impl Entries {
 
     /// The tiles, if they are those of a map of this width.
     fn tiles_of(&self, width: usize) -> Option<&Tiles>
-        ensures { MatchOption result ((x y : ℕ) → number_on self.now width x y ≡ entry_number (table_entries self.now) width x y)
+        ensures { MatchOption result ((x y : ℕ)
+            → number_on self.now width x y ≡ entry_number (table_entries self.now) width x y)
             (λ t. (x y : ℕ) → number_on self.now width x y ≡ number_at t.now x y) }
     {
         match self {

@@ -1,4 +1,5 @@
-//! The search for shortest walks, and the certificates that tell which length of a scenario's row is right.
+//! The search for shortest walks, and the certificates that tell which length of a scenario's row
+//! is right.
 #![tactic(auto)]
 
 mod approach;

@@ -1,9 +1,11 @@
 //! Room at the end of a list.
-ghost use Rattle.std.specs.Prelude.{◌≡◌, ◌+◌, ◌≤◌, ◌++◌, ◌∷◌, [], IfOk, IfErr, vec_len, vec_capacity};
+ghost use Rattle.std.specs.Prelude.{◌≡◌, ◌+◌, ◌≤◌, ◌++◌, ◌∷◌};
+ghost use Rattle.std.specs.Prelude.{[], IfOk, IfErr, vec_len, vec_capacity};
 
 use std::alloc::AllocError;
 
-/// Puts an item behind the others. A search does so for each cell that it reaches, and `push` is too large to be compiled in place.
+/// Puts an item behind the others. A search does so for each cell that it reaches, and `push` is
+/// too large to be compiled in place.
 #[inline(always)]
 pub fn put_last<T: Copy>(items: &mut Vec<T>, item: T) -> Result<(), AllocError>
     ensures put { IfOk result (λ _. items.new.items ≡ items.old.items ++ item ∷ []) }

@@ -1,4 +1,5 @@
-//! The cells that share a side with one. Where there is none on the map the numbers wrap: no map has a column or a row of the greatest number.
+//! The cells that share a side with one. Where there is none on the map the numbers wrap: no map
+//! has a column or a row of the greatest number.
 use grid::Cell;
 
 #[inline(always)]

@@ -3,14 +3,17 @@ ghost use Rattle.std.specs.Prelude.{◌≡◌, ◌+◌, ◌*◌, ◌<◌, ◌≤
 ghost use Rattle.grid.specs.Terrain.{terrain_of};
 ghost use Rattle.walks.specs.Certificate.{IsTight};
 ghost use Rattle.walks.specs.Code.TableEntries.{table_entries, number_on};
-ghost use Rattle.walks.specs.Code.Tightness.{ground_of, number_of, is_land, is_water, AreSame, AreWithinStep, KeepsSide, KeepsDiagonals, KeepsBlock, KeepsRows, IsStrip, AreCorners, KeepsPatch, KeepsBand};
+ghost use Rattle.walks.specs.Code.Tightness.{ground_of, number_of, is_land, is_water};
+ghost use Rattle.walks.specs.Code.Tightness.{AreSame, AreWithinStep, KeepsSide, KeepsDiagonals};
+ghost use Rattle.walks.specs.Code.Tightness.{KeepsBlock, KeepsRows, IsStrip, AreCorners};
+ghost use Rattle.walks.specs.Code.Tightness.{KeepsPatch, KeepsBand};
 
 use crate::keys::{DIAGONAL, STRAIGHT};
 use crate::length_table::Entries;
 use grid::Map;
 
-/// What the map and the table say of a cell. Land and water have a bit each of its grounds, since a branch on them
-/// could not be foreseen.
+/// What the map and the table say of a cell. Land and water have a bit each of its grounds, since a
+/// branch on them could not be foreseen.
 #[derive(Clone, Copy, Debug)]
 pub(crate) struct Corner {
     grounds: u64,
@@ -53,8 +56,9 @@ impl Corners {
     }
 }
 
-/// Whether no legal step improves the table. It goes over the map patch by patch, band below band, so that what is read of a row
-/// is near what was read before. In a patch it holds two rows, so that it looks up each cell once.
+/// Whether no legal step improves the table. It goes over the map patch by patch, band below band,
+/// so that what is read of a row is near what was read before. In a patch it holds two rows, so
+/// that it looks up each cell once.
 pub(crate) fn is_tight(map: &Map, entries: &Entries) -> bool
     requires cells { length (table_entries entries.now) ≡ map.now.width * map.now.height }
     ensures { IsTrue result ↔ IsTight map.now (table_entries entries.now) }
@@ -83,12 +87,14 @@ fn keeps_band(map: &Map, entries: &Entries, top: u32) -> bool
     true
 }
 
-/// Tests each step of the columns from one to before another in a band, and each to the column behind them and the row below.
+/// Tests each step of the columns from one to before another in a band, and each to the column
+/// behind them and the row below.
 fn keeps_patch(map: &Map, entries: &Entries, left: u32, right: u32, top: u32) -> bool
     requires cells { length (table_entries entries.now) ≡ map.now.width * map.now.height }
     requires strip { IsStrip map.now left right }
     requires row { top < 65536 }
-    ensures { IsTrue result ↔ KeepsPatch map.now (number_on entries.now map.now.width) left right top }
+    ensures { IsTrue result
+        ↔ KeepsPatch map.now (number_on entries.now map.now.width) left right top }
 {
     let width = map.width() as usize;
     let bottom = map.height().min(top + BAND);
@@ -166,7 +172,8 @@ fn is_water(character: u8) -> bool
     character == b'W'
 }
 
-/// Tests, of four cells that share a corner, the steps from the upper left one and the two diagonal ones.
+/// Tests, of four cells that share a corner, the steps from the upper left one and the two diagonal
+/// ones.
 fn keeps_block(a: Corner, b: Corner, c: Corner, d: Corner) -> bool
     ensures { IsTrue result ↔ KeepsBlock a b c d }
 {

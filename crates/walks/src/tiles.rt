@@ -1,5 +1,6 @@
 //! The keys of a map's cells in tiles, and the numbers of all cells.
-ghost use Rattle.std.specs.Prelude.{◌≡◌, ℕ, ◌+◌, ◌-◌, ◌*◌, ◌%◌, ◌^◌, ◌<◌, ◌≤◌, IsTrue, None, length, slice_get, slice_index};
+ghost use Rattle.std.specs.Prelude.{◌≡◌, ℕ, ◌+◌, ◌-◌, ◌*◌, ◌%◌, ◌^◌};
+ghost use Rattle.std.specs.Prelude.{◌<◌, ◌≤◌, IsTrue, None, length, slice_get, slice_index};
 
 use crate::beyond::Beyond;
 use crate::distance::{flat_number, number_beyond};
@@ -33,7 +34,8 @@ pub(crate) struct Tiles {
 }
 
 impl Tiles {
-    ghost use Rattle.walks.specs.Code.TileKeys.{key_at, keys_in, tile_number, number_by, number_at, place_entry};
+    ghost use Rattle.walks.specs.Code.TileKeys.{key_at, keys_in, tile_number};
+    ghost use Rattle.walks.specs.Code.TileKeys.{number_by, number_at, place_entry};
 
     /// Tiles without keys, of a map of this size.
     pub(crate) fn bare(alloc: Global, width: usize, height: usize) -> Result<Tiles, AllocError>
@@ -125,7 +127,8 @@ impl Tiles {
         requires room { count ≤ length numbers.old }
         requires columns { x + count < 2 ^ 17 }
         requires row { y < 2 ^ 17 }
-        ensures told { (i : ℕ) → i < count → slice_index numbers.new i ≡ number_at self.now (x + i) y }
+        ensures told { (i : ℕ) → i < count
+            → slice_index numbers.new i ≡ number_at self.now (x + i) y }
     {
         let in_tile = count.min(TILE_SIDE - x % TILE_SIDE);
         self.put_in_tile(x, y, in_tile, numbers);
@@ -140,7 +143,8 @@ impl Tiles {
         requires columns { x + count < 2 ^ 17 }
         requires row { y < 2 ^ 17 }
         requires tile { count ≤ 64 - x % 64 }
-        ensures told { (i : ℕ) → i < count → slice_index numbers.new i ≡ number_at self.now (x + i) y }
+        ensures told { (i : ℕ) → i < count
+            → slice_index numbers.new i ≡ number_at self.now (x + i) y }
     {
         let beyond = self.beyond;
         let keys = self.keys_from(x, y);
@@ -159,7 +163,8 @@ impl Tiles {
     fn put_within(beyond: u64, keys: &[Key], count: usize, numbers: &mut [u64])
         requires keys { count ≤ length keys.now }
         requires room { count ≤ length numbers.old }
-        ensures told { (i : ℕ) → i < count → slice_index numbers.new i ≡ number_by beyond (slice_get keys.now i) }
+        ensures told { (i : ℕ) → i < count
+            → slice_index numbers.new i ≡ number_by beyond (slice_get keys.now i) }
     {
         for i in 0..count {
             numbers[i] = keys[i].number_within(beyond);
@@ -179,7 +184,8 @@ impl Tiles {
         }
     }
 
-    /// Whether no cell of a row has a key, from one column to another that is at most a tile's side behind it.
+    /// Whether no cell of a row has a key, from one column to another that is at most a tile's side
+    /// behind it.
     pub(crate) fn is_bare(&self, left: usize, right: usize, y: usize) -> bool
         requires left { left ≤ right }
         requires near { right ≤ left + 64 }
@@ -216,7 +222,8 @@ impl Tiles {
     fn keys_of(&self, x: usize, y: usize) -> &[Key]
         requires column { x < 2 ^ 17 }
         requires row { y < 2 ^ 17 }
-        ensures { result.now ≡ keys_in (slice_get self.now.all.items (tile_number self.now.across x y)) }
+        ensures { result.now
+            ≡ keys_in (slice_get self.now.all.items (tile_number self.now.across x y)) }
     {
         match self.all.get(self.tile_of(x, y)) {
             Some(tile) => tile.keys.as_slice(),

@@ -10,8 +10,9 @@ use crate::walk_back::walk_back;
 use grid::{Cell, Map};
 use std::alloc::{AllocError, Global};
 
-/// A walk from one cell to another that should be shortest, empty where no walk leads there, and a table of what should be the
-/// shortest lengths from the first to each cell near it, and no greater than them elsewhere. Whether they are is for the certificate to say.
+/// A walk from one cell to another that should be shortest, empty where no walk leads there, and a
+/// table of what should be the shortest lengths from the first to each cell near it, and no greater
+/// than them elsewhere. Whether they are is for the certificate to say.
 pub fn search(alloc: Global, map: &Map, start: Cell, goal: Cell) -> Result<Proposal, SearchFault>
     ensures { FailsSearch map.now start goal result }
 {
@@ -44,7 +45,8 @@ fn propose_toward(
     Ok(Some(found(alloc, map, field, goal, Some(goal))?))
 }
 
-/// What a search found; the goal is given as the heading where the search went by the distance to it.
+/// What a search found; the goal is given as the heading where the search went by the distance to
+/// it.
 fn found(
     alloc: Global,
     map: &Map,

@@ -6,8 +6,9 @@ use grid::Cell;
 use std::alloc::{AllocError, Global};
 use std::mem;
 
-/// The cells whose keys may still fall. A bucket is as wide as a straight step, which leads from the bucket at hand into the next
-/// one; a diagonal step leads into that or the one after it. So no step lowers a key of the bucket at hand.
+/// The cells whose keys may still fall. A bucket is as wide as a straight step, which leads from
+/// the bucket at hand into the next one; a diagonal step leads into that or the one after it. So no
+/// step lowers a key of the bucket at hand.
 #[derive(Drop)]
 pub(crate) struct Wave {
     next: Vec<Cell>,
@@ -25,7 +26,8 @@ impl Wave {
         })
     }
 
-    /// Makes the next bucket the one at hand, and answers whether all is done. The bucket two after it begins with a key.
+    /// Makes the next bucket the one at hand, and answers whether all is done. The bucket two after
+    /// it begins with a key.
     pub(crate) fn advance(&mut self, now: &mut Vec<Cell>, later_from: u64) -> bool {
         now.clear();
         mem::swap(now, &mut self.next);

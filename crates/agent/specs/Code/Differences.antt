@@ -7,4 +7,5 @@ use Rattle.agent.specs.Records.{SaysDue, SaysPlan, SaysAgent}
 abbrev pub IsDifference : List ℕ → List ℕ → Difference → Type 0
 IsDifference due bytes Damaged = SaysDue due bytes → ⊥
 IsDifference due bytes WrongPlan = SaysDue due bytes × (SaysPlan due bytes → ⊥)
-IsDifference due bytes WrongAgent = SaysDue due bytes × SaysPlan due bytes × (SaysAgent due bytes → ⊥)
+IsDifference due bytes WrongAgent =
+    SaysDue due bytes × SaysPlan due bytes × (SaysAgent due bytes → ⊥)

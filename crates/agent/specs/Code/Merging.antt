@@ -1,5 +1,6 @@
 -- Counters raised by entries, both going forward.
-use Rattle.std.specs.Prelude.{◌≡◌, ℕ, ◌<◌, nat_lt, ◌==◌, if◌then◌else◌, List, [], ◌∷◌, ◌++◌, max, Option, None, Some}
+use Rattle.std.specs.Prelude.{◌≡◌, ℕ, ◌<◌, nat_lt, ◌==◌, if◌then◌else◌, List}
+use Rattle.std.specs.Prelude.{[], ◌∷◌, ◌++◌, max, Option, None, Some}
 use Rattle.std.specs.List.{AllByRecursion}
 use Rattle.model.specs.declared.entry.Entry.{Entry}
 use Rattle.agent.specs.declared.counters.Counter.{Counter}
@@ -13,8 +14,10 @@ abbrev pub StartsAbove : ℕ → List Counter → Type 0
 StartsAbove agent [] = Unit {0}
 StartsAbove agent (c ∷ counters) = agent < c.agent
 
--- counters begin with those of lesser agents, then there is the agent's own or a gap for it, then the others
-pub record AreParted (agent : ℕ) (counters lesser : List Counter) (own : Option ℕ) (others : List Counter) : Type 0 where
+-- counters begin with those of lesser agents, then there is the agent's own or a gap for it, then
+-- the others
+pub record AreParted (agent : ℕ) (counters lesser : List Counter) (own : Option ℕ)
+    (others : List Counter) : Type 0 where
   pub parts : counters ≡ lesser ++ (own_counter agent own ++ others)
   pub are_lesser : AllByRecursion (λ c. c.agent < agent) lesser
   pub has_gap : own ≡ None → StartsAbove agent others
@@ -24,7 +27,10 @@ abbrev pub merged_with : Entry → (List Counter → List Counter) → List Coun
 merged_with entry rest [] = record { agent = entry.agent; done = entry.done } ∷ rest []
 merged_with entry rest (c ∷ counters) =
     if nat_lt c.agent entry.agent then c ∷ merged_with entry rest counters
-    else (if c.agent == entry.agent then record { agent = entry.agent; done = max c.done entry.done } ∷ rest counters
+    else (if c.agent == entry.agent then record {
+      agent = entry.agent;
+      done = max c.done entry.done;
+    } ∷ rest counters
     else record { agent = entry.agent; done = entry.done } ∷ rest (c ∷ counters))
 
 -- the counters, raised by the entries

@@ -15,7 +15,8 @@ pub record IsGapFor (counters : List Counter) (agent i : ℕ) : Type 0 where
   pub lesser_before : (j : ℕ) → j < i → agent_at counters j < agent
   pub greater_after : (j : ℕ) → i ≤ j → j < length counters → agent < agent_at counters j
 
--- the counters rise: those of lesser agents, then perhaps the agent's own, then those of greater ones
+-- the counters rise: those of lesser agents, then perhaps the agent's own, then those of greater
+-- ones
 pub record AreAround (agent : ℕ) (counters below above : List Counter) : Type 0 where
   pub own : List Counter
   pub parts : counters ≡ below ++ own ++ above

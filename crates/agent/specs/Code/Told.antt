@@ -7,4 +7,5 @@ use Rattle.agent.specs.declared.counters.Counter.{Counter}
 abbrev pub told_entries : List Counter → List Entry
 told_entries [] = []
 told_entries (c ∷ counters) =
-    if c.done == 0 then told_entries counters else record { agent = c.agent; done = c.done } ∷ told_entries counters
+    if c.done == 0 then told_entries counters else record { agent = c.agent; done = c.done }
+    ∷ told_entries counters

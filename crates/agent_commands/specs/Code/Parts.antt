@@ -5,7 +5,13 @@ use Rattle.model.specs.Plan.{Plan}
 use Rattle.agent.specs.Agents.{AgentOn}
 use Rattle.agent_commands.specs.AgentCommand.{IsClaimed, IsNotBeside}
 use Rattle.agent_commands.specs.declared.agent_fault.AgentFault.{AgentFault}
-use Rattle.agent_commands.specs.declared.agent_fault.AgentFault.TheVariants.{OpenFailed, TapeExists, NoTape, File, PlanDamaged, TapeEmptied, OtherPlan}
+use Rattle.agent_commands.specs.declared.agent_fault.AgentFault.TheVariants.{OpenFailed}
+use Rattle.agent_commands.specs.declared.agent_fault.AgentFault.TheVariants.{TapeExists}
+use Rattle.agent_commands.specs.declared.agent_fault.AgentFault.TheVariants.{NoTape}
+use Rattle.agent_commands.specs.declared.agent_fault.AgentFault.TheVariants.{File}
+use Rattle.agent_commands.specs.declared.agent_fault.AgentFault.TheVariants.{PlanDamaged}
+use Rattle.agent_commands.specs.declared.agent_fault.AgentFault.TheVariants.{TapeEmptied}
+use Rattle.agent_commands.specs.declared.agent_fault.AgentFault.TheVariants.{OtherPlan}
 use Rattle.robot.specs.FileTape.{file_state}
 use Rattle.robot.specs.declared.file_tape.FileTape.{FileTape}
 use Rattle.robot.specs.declared.guarded_tape.GuardedTape.{GuardedTape}
@@ -36,16 +42,20 @@ pub record IsSameTape {F : Type 0} (old new : FileTape F) : Type 0 where
   pub synced : old.disk.synced ≡ true → new.disk.synced ≡ true
 
 -- a tape is taken of which the claim holds
-abbrev pub IsTakenTape : {F : Type 0} → (F → Option (List ℕ)) → TapeClaim → Plan → FileTape F → FileTape F → Type 0
+abbrev pub IsTakenTape
+    : {F : Type 0} → (F → Option (List ℕ)) → TapeClaim → Plan → FileTape F → FileTape F → Type 0
 IsTakenTape remaining claim p tape taken = IsSameTape tape taken × IsClaimed remaining claim p taken
 
 -- why a tape that was opened is not taken
-abbrev pub IsNotTaken : {F : Type 0} → (F → Option (List ℕ)) → TapeClaim → Plan → FileTape F → AgentFault → Type 0
-IsNotTaken remaining claim p tape TapeExists = (claim ≡ New) × (record_length ≤ length (file_state tape).contents)
+abbrev pub IsNotTaken
+    : {F : Type 0} → (F → Option (List ℕ)) → TapeClaim → Plan → FileTape F → AgentFault → Type 0
+IsNotTaken remaining claim p tape TapeExists =
+    (claim ≡ New) × (record_length ≤ length (file_state tape).contents)
 IsNotTaken remaining claim p tape NoTape = claim ≡ Kept
 IsNotTaken remaining claim p tape OpenFailed = Unit {0}
 IsNotTaken remaining claim p tape (File fault) = IsLost fault
 IsNotTaken remaining claim p tape PlanDamaged = IsNotBeside remaining claim p tape PlanDamaged
 IsNotTaken remaining claim p tape TapeEmptied = IsNotBeside remaining claim p tape TapeEmptied
-IsNotTaken remaining claim p tape (OtherPlan apart) = IsNotBeside remaining claim p tape (OtherPlan apart)
+IsNotTaken remaining claim p tape (OtherPlan apart) =
+    IsNotBeside remaining claim p tape (OtherPlan apart)
 IsNotTaken remaining claim p tape _ = ⊥

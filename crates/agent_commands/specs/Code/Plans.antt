@@ -1,5 +1,6 @@
 -- What the parts owe each other that keep a plan beside a tape.
-use Rattle.std.specs.Prelude.{◌≡◌, ◌≢◌, ℕ, Bool, true, false, List, Option, None, Some, IfSome, MatchOption, Result, Ok, Err}
+use Rattle.std.specs.Prelude.{◌≡◌, ◌≢◌, ℕ, Bool, true, false, List, Option}
+use Rattle.std.specs.Prelude.{None, Some, IfSome, MatchOption, Result, Ok, Err}
 use Rattle.std.specs.Io.KnownBytes.{Consumes}
 use Rattle.text_io.specs.declared.counted.Counted.{Counted}
 use Rattle.text_io.specs.Text.{BeginsWith}
@@ -15,9 +16,12 @@ use Rattle.robot.specs.declared.file_tape.FileTapeFault.TheVariants.{TapeFailed,
 use Rattle.tape_claim.specs.declared.TapeClaim.{TapeClaim}
 use Rattle.tape_claim.specs.declared.TapeClaim.TheVariants as claim
 use Rattle.agent_commands.specs.Code.Parts.{IsLost}
-use Rattle.agent_commands.specs.KeptPlan.{HasMark, HasNoPlan, IsAkin, IsKeptIn, IsOtherPlan, mark_line}
+use Rattle.agent_commands.specs.KeptPlan.{HasMark, HasNoPlan, IsAkin}
+use Rattle.agent_commands.specs.KeptPlan.{IsKeptIn, IsOtherPlan, mark_line}
 use Rattle.agent_commands.specs.declared.agent_fault.AgentFault.{AgentFault}
-use Rattle.agent_commands.specs.declared.agent_fault.AgentFault.TheVariants.{OpenFailed, NoTape, File, PlanDamaged, TapeEmptied, OtherPlan}
+use Rattle.agent_commands.specs.declared.agent_fault.AgentFault.TheVariants.{OpenFailed, NoTape}
+use Rattle.agent_commands.specs.declared.agent_fault.AgentFault.TheVariants.{File, PlanDamaged}
+use Rattle.agent_commands.specs.declared.agent_fault.AgentFault.TheVariants.{TapeEmptied, OtherPlan}
 use Rattle.agent_commands.specs.declared.agent_part.PartAndTerms.{PartAndTerms}
 use Rattle.agent_commands.specs.declared.kept_plan.PlanTask.{PlanTask}
 use Rattle.agent_commands.specs.declared.kept_plan.PlanTask.TheVariants.{Nothing, Sync, Write}
@@ -65,25 +69,31 @@ IsTermsFor claim.Kept p t = t ≡ terms.Kept p
 
 -- an agent's part, if there is one, with terms
 abbrev pub IsOnTerms : Option AgentPart → Terms → Option PartAndTerms → Type 0
-IsOnTerms own t result = MatchOption result (own ≡ None) (λ it. (own ≡ Some it.own) × (it.terms ≡ t))
+IsOnTerms own t result =
+    MatchOption result (own ≡ None) (λ it. (own ≡ Some it.own) × (it.terms ≡ t))
 
 -- there is no such agent, or this is what it needs, and on which terms
 abbrev pub IsPartOnTerms : TapeClaim → PlanAtHand → ℕ → Option PartAndTerms → Type 0
 IsPartOnTerms claim it i None = track_of it.dependencies i ≡ None
-IsPartOnTerms claim it i (Some part) = IsPartOf it.dependencies part.own × (part.own.agent ≡ i) × IsTermsFor claim it.plan part.terms
+IsPartOnTerms claim it i (Some part) =
+    IsPartOf it.dependencies part.own × (part.own.agent ≡ i) × IsTermsFor claim it.plan part.terms
 
 abbrev pub ReadsPartAndTerms
-    : {M P : Type 0} → (M → Option (List ℕ)) → (P → Option (List ℕ)) → ℕ → TapeClaim → Counted M → Counted M → Counted P → Counted P
+    : {M P : Type 0} → (M → Option (List ℕ)) → (P → Option (List ℕ)) → ℕ → TapeClaim → Counted M
+    → Counted M → Counted P → Counted P
     → Result (Option PartAndTerms) PlannedFault → Type 0
 ReadsPartAndTerms map_left plan_left i claim old_map new_map old_plan new_plan (Ok part) =
-    (it : PlanAtHand) × ReadsAtHand map_left plan_left old_map new_map old_plan new_plan (Ok it) × IsPartOnTerms claim it i part
+    (it : PlanAtHand) × ReadsAtHand map_left plan_left old_map new_map old_plan new_plan (Ok it)
+    × IsPartOnTerms claim it i part
 ReadsPartAndTerms map_left plan_left i claim old_map new_map old_plan new_plan (Err fault) =
     ReadsAtHand map_left plan_left old_map new_map old_plan new_plan (Err fault)
 
 -- ---- comparing
 
--- What is still to be done where a plan is kept, and that at hand is akin to it: nothing, and a sync, only where the file says what it should.
-pub record IsTaskFor (kept : KeptPlan) (p : Plan) (has_record : Bool) (task : PlanTask) : Type 0 where
+-- What is still to be done where a plan is kept, and that at hand is akin to it: nothing, and a
+-- sync, only where the file says what it should.
+pub record IsTaskFor (kept : KeptPlan) (p : Plan) (has_record : Bool)
+    (task : PlanTask) : Type 0 where
   pub akin : IsAkin kept.plan p
   pub stored : kept.is_marked ≡ true → has_record ≡ true
   pub same : task ≢ Write → p ≡ kept.plan
@@ -98,12 +108,14 @@ IsNoTaskFor kept p has_record _ = ⊥
 -- a plan is kept, and this is to be done to its file
 abbrev pub IsKeptTask : {F : Type 0} → (F → Option (List ℕ)) → Plan → Bool → PlanTask → Type 0
 IsKeptTask {F} remaining p has_record task =
-    (file : F) × (kept : KeptPlan) × IsKeptIn remaining file kept.is_marked kept.plan × IsTaskFor kept p has_record task
+    (file : F) × (kept : KeptPlan) × IsKeptIn remaining file kept.is_marked kept.plan
+    × IsTaskFor kept p has_record task
 
 -- why the file beside a kept tape doesn't let the plan at hand by
 abbrev pub IsNotLetBy : {F : Type 0} → (F → Option (List ℕ)) → Plan → Bool → AgentFault → Type 0
 IsNotLetBy {F} remaining p has_record PlanDamaged = (file : F) × HasNoPlan remaining file
-IsNotLetBy {F} remaining p has_record TapeEmptied = (has_record ≡ false) × ((file : F) × HasMark remaining file)
+IsNotLetBy {F} remaining p has_record TapeEmptied =
+    (has_record ≡ false) × ((file : F) × HasMark remaining file)
 IsNotLetBy {F} remaining p has_record (OtherPlan apart) = IsOtherPlan remaining p
 IsNotLetBy {F} remaining p has_record NoTape = Unit {0}
 IsNotLetBy {F} remaining p has_record OpenFailed = Unit {0}

@@ -1,5 +1,6 @@
 -- Where agents are, on the map or off it, and where a step takes them.
-use Rattle.std.specs.Prelude.{◌≡◌, ℕ, pos, neg_ℤ, ◌≤ℤ◌, ◌<◌, ◌^◌, List, length, get_or, Option, MatchOption, Some, slice_get}
+use Rattle.std.specs.Prelude.{◌≡◌, ℕ, pos, neg_ℤ, ◌≤ℤ◌, ◌<◌, ◌^◌}
+use Rattle.std.specs.Prelude.{List, length, get_or, Option, MatchOption, Some, slice_get}
 use Rattle.grid.specs.declared.cell.Cell.{Cell}
 use Rattle.model.specs.declared.act.Act.{Act}
 use Rattle.model.specs.Plan.{Position, position_of, moved, Course, position_at}
@@ -32,19 +33,28 @@ IsNear p = IsWithin 1000000 p
 -- the cell whose column and row are below 2^16 that is in this place, if there is one
 abbrev pub IsNamedCell : Position → Option Cell → Type 0
 IsNamedCell p answer =
-    MatchOption answer ((cell : Cell) → position_of cell ≡ p → cell.x < 2 ^ 16 → cell.y < 2 ^ 16 → ⊥)
+    MatchOption answer ((cell : Cell) → position_of cell ≡ p → cell.x < 2 ^ 16
+    → cell.y < 2 ^ 16 → ⊥)
     (λ cell. (position_of cell ≡ p) × (cell.x < 2 ^ 16) × (cell.y < 2 ^ 16))
 
 -- the act with the number leads there; past the last the agent stays
 abbrev pub ActLeads : List Act → ℕ → Position → Position → Type 0
-ActLeads acts number from to = MatchOption (slice_get acts number) (to ≡ from) (λ act. to ≡ moved act from)
+ActLeads acts number from to =
+    MatchOption (slice_get acts number) (to ≡ from) (λ act. to ≡ moved act from)
 
 -- the step of an agent; where there is no such agent, anything may stand for it
 abbrev pub step_in : List Step → ℕ → Step
-step_in steps i = get_or steps i (record { from = record { x = pos 0; y = pos 0 }; to = record { x = pos 0; y = pos 0 } })
+step_in steps i =
+    get_or steps i (record {
+      from = record { x = pos 0; y = pos 0 };
+      to = record { x = pos 0; y = pos 0 };
+    })
 
--- the steps are those of the agents from where they are at the one time to where they are at the other
+-- the steps are those of the agents from where they are at the one time to where they are at the
+-- other
 pub record AreSteps (courses : List Course) (before after : ℕ) (steps : List Step) : Type 0 where
   pub count : length steps ≡ length courses
-  pub from : (i : ℕ) (course : Course) → slice_get courses i ≡ Some course → as_position (step_in steps i).from ≡ position_at course before
-  pub to : (i : ℕ) (course : Course) → slice_get courses i ≡ Some course → as_position (step_in steps i).to ≡ position_at course after
+  pub from : (i : ℕ) (course : Course) → slice_get courses i ≡ Some course
+      → as_position (step_in steps i).from ≡ position_at course before
+  pub to : (i : ℕ) (course : Course) → slice_get courses i ≡ Some course
+      → as_position (step_in steps i).to ≡ position_at course after

@@ -22,8 +22,11 @@ key_in (Vertex time cell) i j = key_with time 1 i j
 key_in (Swap step) i j = key_with (step + 1) 2 i j
 
 -- the agent has the conflict with just those after it that take the opposite step
-pub record IsConflictRow (m : Grid) (p : Plan) (steps : List Step) (conflict : Conflict) (i : ℕ) : Type 0 where
+pub record IsConflictRow (m : Grid) (p : Plan) (steps : List Step) (conflict : Conflict)
+    (i : ℕ) : Type 0 where
   pub has : (j : ℕ) → i < j → slice_get steps j ≡ Some (reversed (step_in steps i))
       → HasPlanFault m p (fault_between conflict i j) × IsFaultTold p (fault_between conflict i j)
-  pub only : (fault : PlanFault) → HasPlanFault m p fault → IsFaultTold p fault → key_of fault ≡ key_in conflict i (key_of fault).second
-      → (i < (key_of fault).second) × (slice_get steps (key_of fault).second ≡ Some (reversed (step_in steps i)))
+  pub only : (fault : PlanFault) → HasPlanFault m p fault → IsFaultTold p fault
+      → key_of fault ≡ key_in conflict i (key_of fault).second
+      → (i < (key_of fault).second)
+      × (slice_get steps (key_of fault).second ≡ Some (reversed (step_in steps i)))

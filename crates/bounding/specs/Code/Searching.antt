@@ -7,4 +7,6 @@ use Rattle.bounding.specs.Bounding.{last_cell}
 
 -- what the agent with the number needs at least by itself
 abbrev pub IsBoundAt : Grid → List Track → ℕ → ℕ → Type 0
-IsBoundAt m tracks i b = (track : Track) × (slice_get tracks i ≡ Some track) × IsLeastSteps m track.start (last_cell track) (Some b)
+IsBoundAt m tracks i b =
+    (track : Track) × (slice_get tracks i ≡ Some track)
+    × IsLeastSteps m track.start (last_cell track) (Some b)

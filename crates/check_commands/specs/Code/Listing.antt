@@ -2,7 +2,8 @@
 use Rattle.std.specs.Prelude.{ℕ, Bool, true, false, if◌then◌else◌, List, [], ◌∷◌, ◌++◌, codes}
 use Rattle.std.specs.List.{flat_map}
 use Rattle.depgraph.specs.Rotations.{turn_of}
-use Rattle.check_commands.specs.FaultsText.{Told, comma, of_fit, of_plan, of_turn, told_json, line_of_told}
+use Rattle.check_commands.specs.FaultsText.{Told, comma, of_fit, of_plan}
+use Rattle.check_commands.specs.FaultsText.{of_turn, told_json, line_of_told}
 use Rattle.ending.specs.Pieces.{pieces_text}
 use Rattle.check_commands.specs.declared.told.Against.{Against}
 use Rattle.check_commands.specs.declared.told.Against.TheVariants as against
@@ -39,6 +40,8 @@ items_text json (first ∷ others) = told_text json first ++ others_text json ot
 -- how it ends
 abbrev pub end_text : Bool → (listed agents : ℕ) → (more : Bool) → List ℕ
 end_text false listed agents more =
-    pieces_text ((codes "faults ", listed) ∷ (codes " agents ", agents) ∷ []) ++ (if more then codes " more\n" else codes "\n")
+    pieces_text ((codes "faults ", listed) ∷ (codes " agents ", agents) ∷ [])
+    ++ (if more then codes " more\n" else codes "\n")
 end_text true listed agents more =
-    pieces_text ((codes "],\"agents\":", agents) ∷ []) ++ (if more then codes ",\"more\":true}\n" else codes ",\"more\":false}\n")
+    pieces_text ((codes "],\"agents\":", agents) ∷ [])
+    ++ (if more then codes ",\"more\":true}\n" else codes ",\"more\":false}\n")

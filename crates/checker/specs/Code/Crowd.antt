@@ -1,5 +1,6 @@
 -- What a step does to walkers, and to the squares among which they go.
-use Rattle.std.specs.Prelude.{◌≡◌, ◌≢◌, ℕ, ◌+◌, ◌-◌, ◌%◌, ◌^◌, ◌<◌, ◌≤◌, ◌⊎◌, List, length, get_or, cond, ◌==◌}
+use Rattle.std.specs.Prelude.{◌≡◌, ◌≢◌, ℕ, ◌+◌, ◌-◌, ◌%◌, ◌^◌, ◌<◌}
+use Rattle.std.specs.Prelude.{◌≤◌, ◌⊎◌, List, length, get_or, cond, ◌==◌}
 use Rattle.model.specs.declared.act.Act.{Act}
 use Rattle.model.specs.declared.act.Act.TheVariants.{N, E, S, W, Wait}
 use Rattle.checker.specs.declared.board.Square.{Square}
@@ -17,7 +18,8 @@ number_of_act S = 2
 number_of_act W = 3
 number_of_act Wait = 4
 
--- the mark that an act in the opposite direction leaves, where the marks of the step begin with the first; none does of a wait
+-- the mark that an act in the opposite direction leaves, where the marks of the step begin with the
+-- first; none does of a wait
 abbrev pub against_of : ℕ → Act → ℕ
 against_of first N = first + 2
 against_of first E = first + 3
@@ -79,18 +81,21 @@ pub record IsInside (turns : Turns) (count place : ℕ) : Type 0 where
   pub there : (act : Act) → led_to turns act place < count
 
 abbrev pub AreInside : Turns → ℕ → List Walker → Type 0
-AreInside turns count walkers = (k : ℕ) → k < length walkers → IsInside turns count (walker_at walkers k).place
+AreInside turns count walkers =
+    (k : ℕ) → k < length walkers → IsInside turns count (walker_at walkers k).place
 
 -- the squares have the grounds that they had
 pub record KeepGrounds (old new : List Square) : Type 0 where
   pub count : length new ≡ length old
   pub each : (place : ℕ) → ground_in (square_at new place) ≡ ground_in (square_at old place)
 
--- The act is allowed, as far as the squares tell: it leads to the walker's ground, where nobody came in this step, and nobody came in this step
--- from there.
-pub record IsAllowed (turns : Turns) (act : Act) (walker : Walker) (squares : List Square) : Type 0 where
+-- The act is allowed, as far as the squares tell: it leads to the walker's ground, where nobody
+-- came in this step, and nobody came in this step from there.
+pub record IsAllowed (turns : Turns) (act : Act) (walker : Walker)
+    (squares : List Square) : Type 0 where
   pub ground : ground_in (square_at squares (led_to turns act walker.place)) ≡ walker.ground
-  pub nobody : IsOfStep turns.first (mark_in (square_at squares (led_to turns act walker.place))) → ⊥
+  pub nobody
+      : IsOfStep turns.first (mark_in (square_at squares (led_to turns act walker.place))) → ⊥
   pub against : mark_in (square_at squares walker.place) ≢ (turn_by turns act).against
 
 -- the act is not allowed, for one of these reasons
@@ -100,13 +105,18 @@ IsActRefused turns act walker squares =
     ⊎ IsOfStep turns.first (mark_in (square_at squares (led_to turns act walker.place)))
     ⊎ (mark_in (square_at squares walker.place) ≡ (turn_by turns act).against)
 
--- The act left its mark where it led; where the walker was, a mark of the step stays, and any other is gone; all other marks stay.
+-- The act left its mark where it led; where the walker was, a mark of the step stays, and any other
+-- is gone; all other marks stay.
 pub record IsMarked (turns : Turns) (act : Act) (place : ℕ) (old new : List Square) : Type 0 where
   pub own : mark_in (square_at new (led_to turns act place)) ≡ (turn_by turns act).mark
-  pub others : (other : ℕ) → other ≢ led_to turns act place → IsOfStep turns.first (mark_in (square_at old other))
+  pub others : (other : ℕ) → other ≢ led_to turns act place
+      → IsOfStep turns.first (mark_in (square_at old other))
       → mark_in (square_at new other) ≡ mark_in (square_at old other)
-  pub left : place ≢ led_to turns act place → (IsOfStep turns.first (mark_in (square_at old place)) → ⊥) → mark_in (square_at new place) ≡ 0
-  pub elsewhere : (other : ℕ) → other ≢ led_to turns act place → other ≢ place → mark_in (square_at new other) ≡ mark_in (square_at old other)
+  pub left : place ≢ led_to turns act place
+      → (IsOfStep turns.first (mark_in (square_at old place)) → ⊥)
+      → mark_in (square_at new place) ≡ 0
+  pub elsewhere : (other : ℕ) → other ≢ led_to turns act place → other ≢ place
+      → mark_in (square_at new other) ≡ mark_in (square_at old other)
 
 -- ---- a step of all walkers
 
@@ -121,28 +131,40 @@ comes_to turns acts walkers k = led_to turns (act_at acts k) (walker_at walkers 
 -- each walker is where its act led
 pub record AreLed (turns : Turns) (acts : List Act) (old new : List Walker) : Type 0 where
   pub count : length new ≡ length old
-  pub each : (k : ℕ) → k < length old → walker_at new k ≡ record (walker_at old k) { place = comes_to turns acts old k }
+  pub each : (k : ℕ) → k < length old
+      → walker_at new k ≡ record (walker_at old k) { place = comes_to turns acts old k }
 
--- The first so many walkers come to their own ground, no two to one square, and none from where one goes that came before it.
-pub record AreAllowed (turns : Turns) (acts : List Act) (walkers : List Walker) (squares : List Square) (count : ℕ) : Type 0 where
-  pub ground : (k : ℕ) → k < count → ground_in (square_at squares (comes_to turns acts walkers k)) ≡ (walker_at walkers k).ground
-  pub apart : (j k : ℕ) → j < k → k < count → comes_to turns acts walkers j ≢ comes_to turns acts walkers k
-  pub against : (j k : ℕ) → j < k → k < count → comes_to turns acts walkers j ≡ (walker_at walkers k).place
+-- The first so many walkers come to their own ground, no two to one square, and none from where one
+-- goes that came before it.
+pub record AreAllowed (turns : Turns) (acts : List Act) (walkers : List Walker)
+    (squares : List Square) (count : ℕ) : Type 0 where
+  pub ground : (k : ℕ) → k < count → ground_in (square_at squares (comes_to turns acts walkers k))
+      ≡ (walker_at walkers k).ground
+  pub apart : (j k : ℕ) → j < k → k < count
+      → comes_to turns acts walkers j ≢ comes_to turns acts walkers k
+  pub against
+      : (j k : ℕ) → j < k → k < count → comes_to turns acts walkers j ≡ (walker_at walkers k).place
       → (turn_by turns (act_at acts j)).mark ≢ (turn_by turns (act_at acts k)).against
 
 -- the first so many walkers left their marks
 abbrev pub AreMarked : Turns → List Act → List Walker → List Square → ℕ → Type 0
 AreMarked turns acts walkers squares count =
-    (k : ℕ) → k < count → mark_in (square_at squares (comes_to turns acts walkers k)) ≡ (turn_by turns (act_at acts k)).mark
+    (k : ℕ) → k < count → mark_in (square_at squares (comes_to turns acts walkers k))
+    ≡ (turn_by turns (act_at acts k)).mark
 
 -- ---- what is suspected
 
--- A walker comes to ground that isn't its own, or two come to one square, or one goes against another that came before it to where it was.
+-- A walker comes to ground that isn't its own, or two come to one square, or one goes against
+-- another that came before it to where it was.
 abbrev pub AreSuspect : Turns → List Act → List Walker → List Square → Type 0
 AreSuspect turns acts walkers squares =
-    ((k : ℕ) × (k < length walkers) × (ground_in (square_at squares (comes_to turns acts walkers k)) ≢ (walker_at walkers k).ground))
-    ⊎ ((j : ℕ) × (k : ℕ) × (j < k) × (k < length walkers) × (comes_to turns acts walkers j ≡ comes_to turns acts walkers k))
-    ⊎ ((j : ℕ) × (k : ℕ) × (j < k) × (k < length walkers) × (comes_to turns acts walkers j ≡ (walker_at walkers k).place)
+    ((k : ℕ) × (k < length walkers)
+    × (ground_in (square_at squares (comes_to turns acts walkers k))
+    ≢ (walker_at walkers k).ground))
+    ⊎ ((j : ℕ) × (k : ℕ) × (j < k) × (k < length walkers)
+    × (comes_to turns acts walkers j ≡ comes_to turns acts walkers k))
+    ⊎ ((j : ℕ) × (k : ℕ) × (j < k) × (k < length walkers)
+    × (comes_to turns acts walkers j ≡ (walker_at walkers k).place)
     × ((turn_by turns (act_at acts j)).mark ≡ (turn_by turns (act_at acts k)).against))
 
 -- ---- the marks of one step after another
@@ -157,7 +179,8 @@ IsWalkerAt walkers place = (k : ℕ) × (k < length walkers) × ((walker_at walk
 -- each mark is one of the step whose marks begin with the first, and a walker is there
 abbrev pub AreMarksOf : ℕ → List Walker → List Square → Type 0
 AreMarksOf first walkers squares =
-    (place : ℕ) → (mark_in (square_at squares place) ≡ 0) ⊎ (IsOfStep first (mark_in (square_at squares place)) × IsWalkerAt walkers place)
+    (place : ℕ) → (mark_in (square_at squares place) ≡ 0)
+    ⊎ (IsOfStep first (mark_in (square_at squares place)) × IsWalkerAt walkers place)
 
 -- no mark is one of both steps
 abbrev pub AreApart : ℕ → ℕ → Type 0

@@ -1,5 +1,6 @@
 -- The squares of a board: the cells of a map, and a rim around them.
-use Rattle.std.specs.Prelude.{◌≡◌, ℕ, ◌+◌, ◌*◌, ◌/◌, ◌%◌, ◌<◌, ◌≤◌, ◌⊎◌, List, length, get_or, cond, ◌==◌, Some}
+use Rattle.std.specs.Prelude.{◌≡◌, ℕ, ◌+◌, ◌*◌, ◌/◌, ◌%◌, ◌<◌, ◌≤◌}
+use Rattle.std.specs.Prelude.{◌⊎◌, List, length, get_or, cond, ◌==◌, Some}
 use Rattle.grid.specs.declared.cell.Cell.{Cell}
 use Rattle.grid.specs.Map.{Grid, terrain_at}
 use Rattle.grid.specs.declared.terrain.Terrain.{Terrain}
@@ -61,12 +62,15 @@ pub record IsSquareOf (m : Grid) (place number : ℕ) : Type 0 where
 -- a square to which a walker may go is that of a cell
 pub record IsBoard (m : Grid) (squares : List Square) : Type 0 where
   pub size : length squares ≡ (m.height + 2) * wide_of m
-  pub cells : (place : ℕ) → IsOpen (ground_in (square_at squares place)) → IsSquareOf m place (ground_in (square_at squares place))
+  pub cells : (place : ℕ) → IsOpen (ground_in (square_at squares place))
+      → IsSquareOf m place (ground_in (square_at squares place))
 
--- each of the first so many cells, row by row, is told by its square: a cell that is open is not taken for one that is blocked
+-- each of the first so many cells, row by row, is told by its square: a cell that is open is not
+-- taken for one that is blocked
 abbrev pub ShowsCells : Grid → List Square → ℕ → Type 0
 ShowsCells m squares count =
-    (cell : Cell) (number : ℕ) → place_in m.width cell < count → HasGround m cell number → ground_in (square_at squares (place_on m cell)) ≡ number
+    (cell : Cell) (number : ℕ) → place_in m.width cell < count → HasGround m cell number
+    → ground_in (square_at squares (place_on m cell)) ≡ number
 
 -- nobody came to any square
 abbrev pub AreUnmarked : List Square → Type 0

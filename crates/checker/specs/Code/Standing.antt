@@ -1,5 +1,7 @@
--- Where agents stand, as a list of cells, and a table of the agents that were last put in each cell.
-use Rattle.std.specs.Prelude.{◌≡◌, ℕ, ◌+◌, ◌*◌, ◌<◌, ◌≤◌, ◌⊎◌, List, length, get_or, Option, Some, None, IfSome}
+-- Where agents stand, as a list of cells, and a table of the agents that were last put in each
+-- cell.
+use Rattle.std.specs.Prelude.{◌≡◌, ℕ, ◌+◌, ◌*◌, ◌<◌, ◌≤◌, ◌⊎◌}
+use Rattle.std.specs.Prelude.{List, length, get_or, Option, Some, None, IfSome}
 use Rattle.grid.specs.declared.cell.Cell.{Cell}
 use Rattle.grid.specs.Map.{Grid}
 use Rattle.checker.specs.declared.meeting.Pair.{Pair}
@@ -22,7 +24,8 @@ AreOnGrid m cells = (i : ℕ) → i < length cells → IsOnGrid m (cell_in cells
 
 -- the table has each agent in its cell
 abbrev pub IsStandingTable : ℕ → List Cell → List ℕ → Type 0
-IsStandingTable width cells table = (i : ℕ) → i < length cells → entry_at width table (cell_in cells i) ≡ i
+IsStandingTable width cells table =
+    (i : ℕ) → i < length cells → entry_at width table (cell_in cells i) ≡ i
 
 -- pairs of agents in order: by the first, and then by the second
 abbrev pub rank_of : ℕ → ℕ → ℕ
@@ -46,12 +49,14 @@ pub record AreSwapped (now next : List Cell) (i j : ℕ) : Type 0 where
   pub there : cell_in next i ≡ cell_in now j
   pub back : cell_in next j ≡ cell_in now i
 
--- The cell of the agent has an entry, of an agent in that cell, which is the agent itself or one before it; and in that case the pair
--- comes no later than that of the two.
-pub record IsEntrySound (width : ℕ) (cells : List Cell) (table : List ℕ) (best : Option Pair) (i : ℕ) : Type 0 where
+-- The cell of the agent has an entry, of an agent in that cell, which is the agent itself or one
+-- before it; and in that case the pair comes no later than that of the two.
+pub record IsEntrySound (width : ℕ) (cells : List Cell) (table : List ℕ) (best : Option Pair)
+    (i : ℕ) : Type 0 where
   pub order : entry_at width table (cell_in cells i) ≤ i
   pub same : cell_in cells (entry_at width table (cell_in cells i)) ≡ cell_in cells i
-  pub found : (entry_at width table (cell_in cells i) ≡ i) ⊎ NoLater best (entry_at width table (cell_in cells i)) i
+  pub found : (entry_at width table (cell_in cells i) ≡ i)
+      ⊎ NoLater best (entry_at width table (cell_in cells i)) i
 
 -- the least pair of a kind, if there is one
 pub record IsLeastPair (Kind : ℕ → ℕ → Type 0) (answer : Option Pair) : Type 0 where

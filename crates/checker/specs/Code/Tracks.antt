@@ -1,5 +1,6 @@
 -- The cells of an agent, one act after another.
-use Rattle.std.specs.Prelude.{◌≡◌, ℕ, ◌<◌, ◌≤◌, List, [], ◌∷◌, length, Option, Some, None, MatchOption}
+use Rattle.std.specs.Prelude.{◌≡◌, ℕ, ◌<◌, ◌≤◌, List, []}
+use Rattle.std.specs.Prelude.{◌∷◌, length, Option, Some, None, MatchOption}
 use Rattle.grid.specs.declared.cell.Cell.{Cell}
 use Rattle.model.specs.declared.act.Act.{Act}
 use Rattle.model.specs.Plan.{Course}
@@ -19,9 +20,11 @@ track_along course = record { start = course.start; later = cells_along course.s
 -- each cell along the acts is one that a map may have
 abbrev pub StaysInRange : Cell → List Act → Type 0
 StaysInRange c acts =
-    (t : ℕ) → ((cell_after c (cells_along c acts) t).x < 65536) × ((cell_after c (cells_along c acts) t).y < 65536)
+    (t : ℕ) → ((cell_after c (cells_along c acts) t).x < 65536)
+    × ((cell_after c (cells_along c acts) t).y < 65536)
 
--- the cells that are left of a walk: its next one, if there is one, and those to which the acts lead from there
+-- the cells that are left of a walk: its next one, if there is one, and those to which the acts
+-- lead from there
 abbrev pub cells_from : Option Cell → List Act → List Cell
 cells_from None acts = []
 cells_from (Some c) acts = c ∷ cells_along c acts
@@ -38,4 +41,5 @@ pub record IsCourseKept (course : Course) : Type 0 where
 -- there is no such agent, or its track is that along the course
 abbrev pub HasCourse : Checked → ℕ → Option Course → Type 0
 HasCourse c i None = track_of c.timetable i ≡ None
-HasCourse c i (Some course) = (track_of c.timetable i ≡ Some (track_along course)) × IsCourseKept course
+HasCourse c i (Some course) =
+    (track_of c.timetable i ≡ Some (track_along course)) × IsCourseKept course

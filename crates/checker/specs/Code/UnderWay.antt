@@ -21,7 +21,8 @@ pub record IsWalker (m : Grid) (courses : List Course) (t : ℕ) (walker : Walke
   pub may_go : IsOpen walker.ground
 
 abbrev pub AreWalkers : Grid → List Course → ℕ → List Walker → Type 0
-AreWalkers m courses t walkers = (k : ℕ) → k < length walkers → IsWalker m courses t (walker_at walkers k)
+AreWalkers m courses t walkers =
+    (k : ℕ) → k < length walkers → IsWalker m courses t (walker_at walkers k)
 
 -- the agent's acts are over, and it holds its square
 pub record IsAtRest (m : Grid) (course : Course) (t : ℕ) (squares : List Square) : Type 0 where
@@ -34,15 +35,18 @@ abbrev pub IsAmong : List Walker → ℕ → Type 0
 IsAmong walkers i = (k : ℕ) × (k < length walkers) × ((walker_at walkers k).agent ≡ i)
 
 -- each agent is one of the walkers or at rest
-pub record AreUnderWay (m : Grid) (courses : List Course) (t : ℕ) (walkers : List Walker) (squares : List Square) : Type 0 where
+pub record AreUnderWay (m : Grid) (courses : List Course) (t : ℕ) (walkers : List Walker)
+    (squares : List Square) : Type 0 where
   pub board : IsBoard m squares
   pub walkers_are : AreWalkers m courses t walkers
-  pub agents : (i : ℕ) (course : Course) → slice_get courses i ≡ Some course → IsAmong walkers i ⊎ IsAtRest m course t squares
+  pub agents : (i : ℕ) (course : Course) → slice_get courses i ≡ Some course → IsAmong walkers i
+      ⊎ IsAtRest m course t squares
 
 -- the acts are those of the walkers in the step, and waits behind their last
 abbrev pub AreActs : List Course → ℕ → List Walker → List Act → Type 0
 AreActs courses step walkers acts =
-    (k : ℕ) (course : Course) → k < length walkers → slice_get courses (walker_at walkers k).agent ≡ Some course → act_at acts k ≡ get_or course.acts step Wait
+    (k : ℕ) (course : Course) → k < length walkers → slice_get courses (walker_at walkers k).agent
+    ≡ Some course → act_at acts k ≡ get_or course.acts step Wait
 
 -- each agent is the walker of its number
 pub record AreAllAgents (count : ℕ) (walkers : List Walker) : Type 0 where

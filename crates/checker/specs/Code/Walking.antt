@@ -1,5 +1,6 @@
 -- Where the acts of a step lead, and which agents have one.
-use Rattle.std.specs.Prelude.{◌≡◌, ℕ, ◌+◌, ◌<◌, ◌⊎◌, List, length, map, Bool, false, nat_lt, ◌==◌, ◌&&◌, ◌||◌, Option, Some, None, MatchOption, slice_get}
+use Rattle.std.specs.Prelude.{◌≡◌, ℕ, ◌+◌, ◌<◌, ◌⊎◌, List, length, map, Bool, false}
+use Rattle.std.specs.Prelude.{nat_lt, ◌==◌, ◌&&◌, ◌||◌, Option, Some, None, MatchOption, slice_get}
 use Rattle.grid.specs.declared.cell.Cell.{Cell}
 use Rattle.grid.specs.Map.{Grid}
 use Rattle.model.specs.declared.act.Act.{Act}
@@ -10,7 +11,8 @@ pub use Rattle.checker.specs.Moving.{IsOnGrid, IsFirst, ArePassable, HasBadStart
 -- the cells are where the agents stand at the time
 pub record AreAt (courses : List Course) (t : ℕ) (cells : List Cell) : Type 0 where
   pub count : length cells ≡ length courses
-  pub each : (i : ℕ) (course : Course) → slice_get courses i ≡ Some course → position_of (cell_in cells i) ≡ position_at course t
+  pub each : (i : ℕ) (course : Course) → slice_get courses i ≡ Some course
+      → position_of (cell_in cells i) ≡ position_at course t
 
 abbrev pub start_cells : List Course → List Cell
 start_cells courses = map (λ course. course.start) courses
@@ -28,7 +30,8 @@ has_act courses step i = is_within_acts step (slice_get courses i)
 -- ---- faults of one agent
 
 abbrev pub HasBadMove : Grid → List Course → ℕ → ℕ → Type 0
-HasBadMove m courses step i = MatchOption (slice_get courses i) ⊥ (λ course. IsBadMove m course step)
+HasBadMove m courses step i =
+    MatchOption (slice_get courses i) ⊥ (λ course. IsBadMove m course step)
 
 -- no move before the step is bad
 abbrev pub HasNoBadMove : Grid → List Course → ℕ → Type 0
@@ -40,7 +43,8 @@ HasNoBadMove m courses step = (i s : ℕ) → s < step → HasBadMove m courses 
 abbrev pub LeadsBeside : Cell → Act → Cell → Type 0
 LeadsBeside from act to =
     (position_of to ≡ moved act (position_of from))
-    ⊎ (((c : Cell) → position_of c ≡ moved act (position_of from) → ⊥) × ((to.x ≡ 65535) ⊎ (to.y ≡ 65535)))
+    ⊎ (((c : Cell) → position_of c ≡ moved act (position_of from) → ⊥)
+    × ((to.x ≡ 65535) ⊎ (to.y ≡ 65535)))
 
 -- the character of a terrain is that of land or of swamp
 abbrev pub is_land_character : ℕ → Bool
@@ -57,4 +61,6 @@ pub record IsAhead (m : Grid) (course : Course) (step : ℕ) (cell : Cell) : Typ
   pub good : IsBadMove m course step → ⊥
 
 abbrev pub IsAdvanced : Grid → List Course → ℕ → List Cell → Type 0
-IsAdvanced m courses step cells = (i : ℕ) (course : Course) → slice_get courses i ≡ Some course → IsAhead m course step (cell_in cells i)
+IsAdvanced m courses step cells =
+    (i : ℕ) (course : Course) → slice_get courses i ≡ Some course
+    → IsAhead m course step (cell_in cells i)

@@ -20,7 +20,8 @@ abbrev pub IsClean : Grid → Plan → ℕ → Type 0
 IsClean m p t = (fault : PlanFault) → HasPlanFault m p fault → (key_of fault).time < t → ⊥
 
 -- there was no fault up to the time, and the cells and the table are those of the time
-pub record IsWatched (m : Grid) (p : Plan) (t : ℕ) (cells : List Cell) (entries : List ℕ) : Type 0 where
+pub record IsWatched (m : Grid) (p : Plan) (t : ℕ) (cells : List Cell)
+    (entries : List ℕ) : Type 0 where
   pub at : AreAt p.courses t cells
   pub on_map : AreOnGrid m cells
   pub size : length entries ≡ m.width * m.height
@@ -29,7 +30,8 @@ pub record IsWatched (m : Grid) (p : Plan) (t : ℕ) (cells : List Cell) (entrie
 
 -- the same at a time, or the least fault
 abbrev pub IsWatchedAt : Grid → Plan → ℕ → List Cell → List ℕ → Option PlanFault → Type 0
-IsWatchedAt m p t cells entries answer = MatchOption answer (IsWatched m p t cells entries) (IsLeastFault m p)
+IsWatchedAt m p t cells entries answer =
+    MatchOption answer (IsWatched m p t cells entries) (IsLeastFault m p)
 
 -- there was no fault up to the time, and these are the cells of the time
 pub record IsCleanUpTo (m : Grid) (p : Plan) (t : ℕ) : Type 0 where
@@ -38,16 +40,18 @@ pub record IsCleanUpTo (m : Grid) (p : Plan) (t : ℕ) : Type 0 where
   pub on_map : AreOnGrid m cells
   pub clean : IsClean m p (t + 1)
 
--- There was no fault up to the time, the agents under way are where they are at the time, and all marks are of the step that led there,
--- which has the marks of the step after the next.
-pub record IsSeen (m : Grid) (p : Plan) (t : ℕ) (walkers : List Walker) (squares : List Square) : Type 0 where
+-- There was no fault up to the time, the agents under way are where they are at the time, and all
+-- marks are of the step that led there, which has the marks of the step after the next.
+pub record IsSeen (m : Grid) (p : Plan) (t : ℕ) (walkers : List Walker)
+    (squares : List Square) : Type 0 where
   pub under_way : AreUnderWay m p.courses t walkers squares
   pub clean : IsClean m p (t + 1)
   pub marks : AreMarksOf (first_mark (t + 1)) walkers squares
 
 -- the same, or the least fault
 abbrev pub IsSeenAt : Grid → Plan → ℕ → List Walker → List Square → Option PlanFault → Type 0
-IsSeenAt m p t walkers squares answer = MatchOption answer (IsSeen m p t walkers squares) (IsLeastFault m p)
+IsSeenAt m p t walkers squares answer =
+    MatchOption answer (IsSeen m p t walkers squares) (IsLeastFault m p)
 
 -- the walkers are the same agents, in the same order
 pub record AreSameAgents (old new : List Walker) : Type 0 where

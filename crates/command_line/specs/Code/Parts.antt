@@ -9,7 +9,8 @@ use Rattle.command_line.specs.declared.command_line.LineFault.TheVariants.{BadCo
 use Rattle.command_line.specs.declared.help.CommandText.{CommandText}
 use Rattle.command_line.specs.declared.help.Word.{Word}
 use Rattle.command_line.specs.declared.help.Word.TheVariants.{Cell, Flag, Named, Required}
-use Rattle.command_line.specs.Words.{Usage, command_of, commands, named_cell, named_flag, named_option, required_word}
+use Rattle.command_line.specs.Words.{Usage, command_of, commands, named_cell}
+use Rattle.command_line.specs.Words.{named_flag, named_option, required_word}
 
 -- a fault that is no want of help
 abbrev pub IsRefusal : LineFault → Type 0
@@ -18,7 +19,8 @@ IsRefusal fault = (fault ≡ OutOfMemory) ⊎ ((text : String Global) × (fault 
 -- the rows have a value of each word that the command with this name requires
 abbrev pub HasWords : Text → List Row → Type 0
 HasWords name rows =
-    MatchOption (find (λ u. bytes_eq u.name name) commands) ⊥ (λ u. AllByRecursion (λ word. IsTrue (is_some (first_of word rows))) u.required)
+    MatchOption (find (λ u. bytes_eq u.name name) commands) ⊥
+    (λ u. AllByRecursion (λ word. IsTrue (is_some (first_of word rows))) u.required)
 
 -- a word of a command as clap takes it
 abbrev pub rule_of_word : Word → Rule

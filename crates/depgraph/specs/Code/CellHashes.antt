@@ -20,4 +20,5 @@ scattered h = (h.y / 2 * 65536 + h.x / 4) * SCATTER % 2 ^ 64
 
 -- the cell's tile, some more of it, and the place in it
 abbrev pub finished : CellHasher → ℕ
-finished h = scattered h / 2 ^ 40 + scattered h / 2 ^ 32 % 32 * 2 ^ 24 + (h.y % 2 * 4 + h.x % 4) * 2 ^ 29
+finished h =
+    scattered h / 2 ^ 40 + scattered h / 2 ^ 32 % 32 * 2 ^ 24 + (h.y % 2 * 4 + h.x % 4) * 2 ^ 29

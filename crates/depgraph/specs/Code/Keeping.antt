@@ -15,7 +15,8 @@ use Rattle.depgraph.specs.Code.Placing.{IsTimeline, IsPlacing}
 use Rattle.depgraph.specs.Code.Waits.{AreWaits}
 
 -- the paths, what their moves wait for, and the visits of a timetable
-pub record AreKeptVisits (tt : Timetable) (cells : List Cell) (times ends : List ℕ) (needs : List Wait) (visits : List Visit) (visit_ends : List ℕ) : Type 0 where
+pub record AreKeptVisits (tt : Timetable) (cells : List Cell) (times ends : List ℕ)
+    (needs : List Wait) (visits : List Visit) (visit_ends : List ℕ) : Type 0 where
   pub graphed : IsGraphed tt
   pub are_cells : cells ≡ all_entered tt.tracks
   pub are_times : times ≡ all_times tt.tracks
@@ -26,13 +27,15 @@ pub record AreKeptVisits (tt : Timetable) (cells : List Cell) (times ends : List
   pub are_needs : AreWaits ends visits visit_ends needs
 
 -- the paths, and what their moves wait for, by visits that need not be kept
-pub record AreKept (tt : Timetable) (cells : List Cell) (times ends : List ℕ) (needs : List Wait) : Type 0 where
+pub record AreKept (tt : Timetable) (cells : List Cell) (times ends : List ℕ)
+    (needs : List Wait) : Type 0 where
   pub visits : List Visit
   pub visit_ends : List ℕ
   pub kept : AreKeptVisits tt cells times ends needs visits visit_ends
 
 -- the visits of a timetable, and its visited cells, each with its number, in order of first visit
-pub record HasVisits (tt : Timetable) (visits : List Visit) (visit_ends : List ℕ) (entries : List (Cell × ℕ)) : Type 0 where
+pub record HasVisits (tt : Timetable) (visits : List Visit) (visit_ends : List ℕ)
+    (entries : List (Cell × ℕ)) : Type 0 where
   pub cells : List Cell
   pub times : List ℕ
   pub ends : List ℕ
@@ -55,7 +58,8 @@ route_in tt i = route_by tt i (track_of tt i)
 -- what the visit before asks of an agent
 abbrev pub need_of : ℕ → Option Visit → Option Need
 need_of i None = None
-need_of i (Some v) = if v.agent == i then None else Some (record { agent = v.agent; count = v.index + 1 })
+need_of i (Some v) =
+    if v.agent == i then None else Some (record { agent = v.agent; count = v.index + 1 })
 
 -- whom a wait is for, if for anybody
 abbrev pub asked_of : Wait → Option (ℕ × ℕ)

@@ -23,4 +23,5 @@ pub record ArePaths (tracks : List Track) (cells : List Cell) (times ends : List
   pub are_cells : cells ≡ all_entered tracks
   pub are_times : times ≡ all_times tracks
   pub count : length ends ≡ length tracks
-  pub are_ends : (i : ℕ) → i < length tracks → get_or ends i 0 ≡ length (all_entered (take (i + 1) tracks))
+  pub are_ends
+      : (i : ℕ) → i < length tracks → get_or ends i 0 ≡ length (all_entered (take (i + 1) tracks))

@@ -1,5 +1,6 @@
 -- What one agent needs of a graph, as lists keep it.
-use Rattle.std.specs.Prelude.{ℕ, ◌-◌, ◌<◌, ◌≤◌, ◌==◌, if◌then◌else◌, List, take, drop, length, get_or, map, Option, None, Some}
+use Rattle.std.specs.Prelude.{ℕ, ◌-◌, ◌<◌, ◌≤◌, ◌==◌, if◌then◌else◌, List, take}
+use Rattle.std.specs.Prelude.{drop, length, get_or, map, Option, None, Some}
 use Rattle.std.specs.List.{range_with_len}
 use Rattle.grid.specs.declared.cell.Cell.{Cell}
 use Rattle.model.specs.Dependency.{Need}
@@ -34,7 +35,8 @@ part_by number agent names numbers needs ends = record {
 }
 
 -- The lists are those of a part: each cell has a name, and each path a cell.
-pub record IsShare (number agent : ℕ) (names : List Cell) (numbers : List ℕ) (needs : List Wait) (ends : List ℕ) : Type 0 where
+pub record IsShare (number agent : ℕ) (names : List Cell) (numbers : List ℕ) (needs : List Wait)
+    (ends : List ℕ) : Type 0 where
   pub of_graph : IsOfGraph (part_by number agent names numbers needs ends)
   pub known : AreKnown names numbers
   pub rising : (i : ℕ) → i < length ends → begin_in ends i < get_or ends i 0
@@ -44,8 +46,10 @@ abbrev pub entries_among : {X : Type 0} → List ℕ → ℕ → List X → List
 entries_among ends i xs = take (get_or ends i 0 - begin_in ends i) (drop (begin_in ends i) xs)
 
 -- There is such an agent, and its entries in the lists of all agents are those of its part.
-pub record HasShare (number agent : ℕ) (names : List Cell) (all_numbers : List ℕ) (all_needs : List Wait) (ends : List ℕ) : Type 0 where
+pub record HasShare (number agent : ℕ) (names : List Cell) (all_numbers : List ℕ)
+    (all_needs : List Wait) (ends : List ℕ) : Type 0 where
   pub is_agent : agent < length ends
   pub numbers_end : get_or ends agent 0 ≤ length all_numbers
   pub needs_end : get_or ends agent 0 ≤ length all_needs
-  pub share : IsShare number agent names (entries_among ends agent all_numbers) (entries_among ends agent all_needs) ends
+  pub share : IsShare number agent names (entries_among ends agent all_numbers)
+      (entries_among ends agent all_needs) ends

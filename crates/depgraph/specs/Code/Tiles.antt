@@ -1,5 +1,6 @@
 -- Where the numbers of cells stand: those of a tile, 16 x 16 cells, side by side.
-use Rattle.std.specs.Prelude.{◌≡◌, ℕ, ◌+◌, ◌*◌, ◌/◌, ◌%◌, ◌<◌, ◌≤◌, ◌⊎◌, List, length, get_or, Some, slice_get}
+use Rattle.std.specs.Prelude.{◌≡◌, ℕ, ◌+◌, ◌*◌, ◌/◌, ◌%◌, ◌<◌}
+use Rattle.std.specs.Prelude.{◌≤◌, ◌⊎◌, List, length, get_or, Some, slice_get}
 use Rattle.grid.specs.declared.cell.Cell.{Cell}
 use Rattle.depgraph.specs.declared.tiles.Tiles.{Tiles}
 
@@ -30,7 +31,8 @@ pub record IsCovered (t : Tiles) (cell : Cell) : Type 0 where
 -- each tile that has a part has it alone; the first part, which none has, has no numbers
 pub record AreTiles (t : Tiles) : Type 0 where
   pub within : (i : ℕ) → get_or t.parts.items i 0 * 256 + 256 ≤ length t.numbers.items
-  pub apart : (i j : ℕ) → 0 < get_or t.parts.items i 0 → get_or t.parts.items i 0 ≡ get_or t.parts.items j 0 → i ≡ j
+  pub apart : (i j : ℕ) → 0 < get_or t.parts.items i 0
+      → get_or t.parts.items i 0 ≡ get_or t.parts.items j 0 → i ≡ j
   pub first : (i : ℕ) → i < 256 → get_or t.numbers.items i 0 ≡ 0
   pub whole : length t.numbers.items ≡ length t.numbers.items / 256 * 256
 
@@ -56,4 +58,5 @@ pub record IsNumbered (old new : Tiles) (cell : Cell) (next number : ℕ) : Type
 pub record AreHeld (t : Tiles) (names : List Cell) : Type 0 where
   pub covered : (n : ℕ) (c : Cell) → slice_get names n ≡ Some c → IsCovered t c
   pub named : (n : ℕ) (c : Cell) → slice_get names n ≡ Some c → number_held t c ≡ n + 1
-  pub known : (n : ℕ) (c : Cell) → IsCovered t c → number_held t c ≡ n + 1 → slice_get names n ≡ Some c
+  pub known
+      : (n : ℕ) (c : Cell) → IsCovered t c → number_held t c ≡ n + 1 → slice_get names n ≡ Some c

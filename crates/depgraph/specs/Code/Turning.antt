@@ -12,7 +12,8 @@ use Rattle.depgraph.specs.Code.Placing.{IsTimeline, IsPlacing}
 use Rattle.depgraph.specs.Code.Waits.{no_wait, AreWaits, AreAhead}
 
 -- what the moves of a timetable wait for by its visits, and which moves of the same step
-pub record AreLaid (tt : Timetable) (ends : List ℕ) (waits : List Wait) (ahead : List ℕ) : Type 0 where
+pub record AreLaid (tt : Timetable) (ends : List ℕ) (waits : List Wait)
+    (ahead : List ℕ) : Type 0 where
   pub graphed : IsGraphed tt
   pub arrivals : List Arrival
   pub step_ends : List ℕ
@@ -27,7 +28,8 @@ pub record AreLaid (tt : Timetable) (ends : List ℕ) (waits : List Wait) (ahead
 pub record AreAllRotations (tt : Timetable) (turns : List Turn) : Type 0 where
   pub sound : (n : ℕ) (r : Turn) → slice_get turns n ≡ Some r → IsRotation tt r.step r.agents
   pub whole : (r : Turn) → IsRotation tt r.step r.agents → (n : ℕ) × (slice_get turns n ≡ Some r)
-  pub different : (n m i : ℕ) (r s : Turn) → n < m → slice_get turns n ≡ Some r → slice_get turns m ≡ Some s → r.step ≡ s.step
+  pub different : (n m i : ℕ) (r s : Turn) → n < m → slice_get turns n ≡ Some r
+      → slice_get turns m ≡ Some s → r.step ≡ s.step
       → slice_get r.agents 0 ≡ Some i → slice_get s.agents 0 ≡ Some i → ⊥
 
 -- the agents of entries, the first of which is known: each waits for the next

@@ -1,5 +1,6 @@
 -- How an event is told from its line.
-use Rattle.std.specs.Prelude.{◌≡◌, ℕ, ◌+◌, ◌^◌, ◌==◌, if◌then◌else◌, List, [], ◌∷◌, ◌++◌, length, codes, Option, Some, None}
+use Rattle.std.specs.Prelude.{◌≡◌, ℕ, ◌+◌, ◌^◌, ◌==◌, if◌then◌else◌, List, []}
+use Rattle.std.specs.Prelude.{◌∷◌, ◌++◌, length, codes, Option, Some, None}
 use Rattle.text_io.specs.Text.{space, line_feed}
 use Rattle.text_io.specs.Reading.{LeadsBy}
 use Rattle.model.specs.declared.event.Event.{Event}
@@ -25,7 +26,8 @@ with_front b (Some parts) = Some (b ∷ parts.0, parts.1)
 -- what stands before the first space, and what behind it
 abbrev pub cut_at_space : List ℕ → Option (List ℕ × List ℕ)
 cut_at_space [] = None
-cut_at_space (b ∷ bytes) = if b == space then Some ([], bytes) else with_front b (cut_at_space bytes)
+cut_at_space (b ∷ bytes) =
+    if b == space then Some ([], bytes) else with_front b (cut_at_space bytes)
 
 -- an event that names an agent
 abbrev pub with_agent : (ℕ → Event) → Option ℕ → Option Event
@@ -40,7 +42,8 @@ with_both event (Some i) (Some n) = Some (event i n)
 
 abbrev pub with_parts : (ℕ → ℕ → Event) → ℕ → Option (List ℕ × List ℕ) → Option Event
 with_parts event limit None = None
-with_parts event limit (Some parts) = with_both event (numeral_below (2 ^ 32) parts.0) (numeral_below limit parts.1)
+with_parts event limit (Some parts) =
+    with_both event (numeral_below (2 ^ 32) parts.0) (numeral_below limit parts.1)
 
 -- what is told of the bytes behind a word, or else something other
 abbrev pub told_or : (List ℕ → Option Event) → Option (List ℕ) → Option Event → Option Event
@@ -67,8 +70,11 @@ event_of line =
 
 -- the line of the event stands at the front, then its LF, and then the rest
 abbrev pub IsBehindEvent : Event → List ℕ → List ℕ → Type 0
-IsBehindEvent event bytes rest = (line : List ℕ) × (bytes ≡ line ++ line_feed ∷ rest) × SpellsEvent event line
+IsBehindEvent event bytes rest =
+    (line : List ℕ) × (bytes ≡ line ++ line_feed ∷ rest) × SpellsEvent event line
 
 -- the line of the event stands at the front with its LF, and they have so many bytes
 abbrev pub BeginsWithEvent : Event → ℕ → List ℕ → Type 0
-BeginsWithEvent event count bytes = (line rest : List ℕ) × (bytes ≡ line ++ line_feed ∷ rest) × SpellsEvent event line × (count ≡ length line + 1)
+BeginsWithEvent event count bytes =
+    (line rest : List ℕ) × (bytes ≡ line ++ line_feed ∷ rest) × SpellsEvent event line
+    × (count ≡ length line + 1)

@@ -10,8 +10,10 @@ use Rattle.event_text.specs.declared.header.Headers.{Headers}
 use Rattle.event_text.specs.Taking.{NoMoreEvents}
 
 -- no more events came, whatever the version is called
-pub stopped_as : {R : Type 0} (remaining : R → Option (List ℕ)) (first now : Counted R) (headers : Headers) (version read : Option Version) (events : List Event)
-    (outcome : Outcome (List Event) EventFault) → read ≡ version → NoMoreEvents headers remaining first now version events outcome
+pub stopped_as : {R : Type 0} (remaining : R → Option (List ℕ)) (first now : Counted R)
+    (headers : Headers) (version read : Option Version) (events : List Event)
+    (outcome : Outcome (List Event) EventFault) → read ≡ version
+    → NoMoreEvents headers remaining first now version events outcome
     → NoMoreEvents headers remaining first now read events outcome
 stopped_as remaining first now headers version read events outcome e h =
     subst (λ v. NoMoreEvents headers remaining first now v events outcome) (sym e) h

@@ -9,4 +9,6 @@ use Rattle.agent.specs.CountedTape.{counted_state}
 
 -- the message of version 2 with all that it knows
 abbrev pub message_told : AgentOn CountedTape → Message
-message_told a = whole_message (length a.part.moves) a.part.agent (finished_moves (state_of counted_state a)) (known_in a.heard)
+message_told a =
+    whole_message (length a.part.moves) a.part.agent (finished_moves (state_of counted_state a))
+    (known_in a.heard)

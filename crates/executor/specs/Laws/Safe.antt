@@ -11,16 +11,23 @@ use Rattle.executor.specs.SafeRuns.{IsSafeRun}
 use Rattle.executor.specs.Standing.{RunnerState, StandsAt}
 
 module _
-    (every : (v : Version) (tt : Timetable) (later earlier : History) → IsConflictFree tt → IsRun v tt (later ++ earlier) → IsSafe tt earlier)
-    (never : (v : Version) (tt : Timetable) (step : ℕ) (agents : List ℕ) (h : History) (place i : ℕ) (track : Track)
-    → IsConflictFree tt → IsRotation tt step agents → IsRun v tt h → slice_get agents place ≡ Some i → track_of tt i ≡ Some track → kept_starts h i ≤ moves_before track step)
+    (every : (v : Version) (tt : Timetable) (later earlier : History) → IsConflictFree tt
+    → IsRun v tt (later ++ earlier) → IsSafe tt earlier)
+    (never : (v : Version) (tt : Timetable) (step : ℕ) (agents : List ℕ) (h : History) (place i : ℕ)
+    (track : Track)
+    → IsConflictFree tt → IsRotation tt step agents → IsRun v tt h → slice_get agents place ≡ Some i
+    → track_of tt i ≡ Some track → kept_starts h i ≤ moves_before track step)
   where
-    pub safe-by : (v : Version) (tt : Timetable) (h : History) → IsConflictFree tt → IsRun v tt h → IsSafeRun v tt h
+    pub safe-by : (v : Version) (tt : Timetable) (h : History) → IsConflictFree tt → IsRun v tt h
+        → IsSafeRun v tt h
     safe-by v tt h free run = record {
       run = run;
       safe = λ later earlier parts. every v tt later earlier free (subst (IsRun v tt) parts run);
-      rotations = λ step agents place i track turns member there. never v tt step agents h place i track free turns run member there;
+      rotations =
+          λ step agents place i track turns member there. never v tt step agents h place i track
+          free turns run member there;
     }
 
-    pub safe-run : (r : RunnerState) (h : History) → StandsAt r h → IsSafeRun r.version r.timetable h
+    pub safe-run
+        : (r : RunnerState) (h : History) → StandsAt r h → IsSafeRun r.version r.timetable h
     safe-run r h stands = safe-by r.version r.timetable h stands.conflict_free stands.run

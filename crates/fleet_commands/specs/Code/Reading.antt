@@ -8,11 +8,16 @@ use Rattle.model.specs.Timetable.{Timetable}
 use Rattle.fleet_commands.specs.FoundTapes.{Found, AreFoundIn}
 use Rattle.fleet_commands.specs.HandoverCommand.{IsFirstUnknown, IsNotOneRun}
 use Rattle.fleet_commands.specs.declared.handover_fault.HandoverFault.{HandoverFault}
-use Rattle.fleet_commands.specs.declared.handover_fault.HandoverFault.TheVariants.{BadTape, NotOneRun, OutOfMemory}
+use Rattle.fleet_commands.specs.declared.handover_fault.HandoverFault.TheVariants.{BadTape}
+use Rattle.fleet_commands.specs.declared.handover_fault.HandoverFault.TheVariants.{NotOneRun}
+use Rattle.fleet_commands.specs.declared.handover_fault.HandoverFault.TheVariants.{OutOfMemory}
 
--- the tapes were read, and not all are known, or they are not those of one run, or memory was refused
-abbrev pub IsNotKnownBy : {F : Type 0} → (F → Option (List ℕ)) → Timetable → Option ℕ → HandoverFault → Type 0
-IsNotKnownBy file_left tt without (BadTape i) = (found : List Found) × AreFoundIn file_left tt found × IsFirstUnknown without found i
+-- the tapes were read, and not all are known, or they are not those of one run, or memory was
+-- refused
+abbrev pub IsNotKnownBy
+    : {F : Type 0} → (F → Option (List ℕ)) → Timetable → Option ℕ → HandoverFault → Type 0
+IsNotKnownBy file_left tt without (BadTape i) =
+    (found : List Found) × AreFoundIn file_left tt found × IsFirstUnknown without found i
 IsNotKnownBy file_left tt without NotOneRun = IsNotOneRun file_left tt without
 IsNotKnownBy file_left tt without OutOfMemory = ⊤
 IsNotKnownBy file_left tt without _ = ⊥

@@ -1,10 +1,14 @@
 -- How the reader of a map follows a line of the header, a byte at a time.
-use Rattle.std.specs.Prelude.{ℕ, ◌+◌, ◌-◌, ◌*◌, min, ◌==◌, if◌then◌else◌, nat_lt, List, length, slice_index, codes, fold, Option, Some, None}
+use Rattle.std.specs.Prelude.{ℕ, ◌+◌, ◌-◌, ◌*◌, min, ◌==◌, if◌then◌else◌, nat_lt}
+use Rattle.std.specs.Prelude.{List, length, slice_index, codes, fold, Option, Some, None}
 use Rattle.std.specs.Char.{is_ascii_digit}
 use Rattle.grid.specs.declared.header_line.HeaderLine.{HeaderLine}
-use Rattle.grid.specs.declared.header_line.HeaderLine.TheVariants.{TypeLine, HeightLine, WidthLine, MapLine}
+use Rattle.grid.specs.declared.header_line.HeaderLine.TheVariants.{TypeLine, HeightLine}
+use Rattle.grid.specs.declared.header_line.HeaderLine.TheVariants.{WidthLine, MapLine}
 use Rattle.grid.specs.declared.header_line.Progress.{Progress}
-use Rattle.grid.specs.declared.header_line.Progress.TheVariants.{Word, Gap, GapReturn, Octile, Number, Tail, Return, OtherValue, OtherForm}
+use Rattle.grid.specs.declared.header_line.Progress.TheVariants.{Word, Gap, GapReturn}
+use Rattle.grid.specs.declared.header_line.Progress.TheVariants.{Octile, Number, Tail}
+use Rattle.grid.specs.declared.header_line.Progress.TheVariants.{Return, OtherValue, OtherForm}
 use Rattle.grid.specs.declared.header_line.Saying.{Saying}
 use Rattle.grid.specs.declared.header_line.Saying.TheVariants.{Whole, Size, NoSize, NoForm}
 use Rattle.text_io.specs.Text.{carriage_return, is_blank}
@@ -26,7 +30,9 @@ tail_step n b = if is_blank b then Tail n else (if b == carriage_return then Ret
 
 abbrev pub octile_step : ℕ → ℕ → Progress
 octile_step i b =
-    if nat_lt i 6 then (if slice_index (codes "octile") i == b then Octile (i + 1) else OtherForm) else tail_step None b
+    if nat_lt i 6 then
+    (if slice_index (codes "octile") i == b then Octile (i + 1) else OtherForm) else
+    tail_step None b
 
 -- the number with one more digit; past the greatest size it stays one past it
 abbrev pub with_digit : ℕ → ℕ → ℕ
@@ -34,7 +40,8 @@ with_digit n b = min (n * 10 + (b - 48)) 65536
 
 abbrev pub size_step : ℕ → Progress
 size_step b =
-    if is_ascii_digit b then Number (with_digit 0 b) else (if b == carriage_return then GapReturn else OtherValue)
+    if is_ascii_digit b then Number (with_digit 0 b) else
+    (if b == carriage_return then GapReturn else OtherValue)
 
 abbrev pub after_gap : HeaderLine → ℕ → Progress
 after_gap TypeLine b = octile_step 0 b
@@ -57,7 +64,8 @@ header_step line (Word i) b =
 header_step line Gap b = if is_blank b then Gap else after_gap line b
 header_step line GapReturn b = OtherValue
 header_step line (Octile i) b = octile_step i b
-header_step line (Number n) b = if is_ascii_digit b then Number (with_digit n b) else tail_step (Some n) b
+header_step line (Number n) b =
+    if is_ascii_digit b then Number (with_digit n b) else tail_step (Some n) b
 header_step line (Tail n) b = tail_step n b
 header_step line (Return n) b = broken n
 header_step line OtherValue b = OtherValue

@@ -31,4 +31,5 @@ pub record IsPut (old : Marks) (cell : Cell) (mark : ℕ) (new : Marks) : Type 0
 
 -- there is a mark at the place
 abbrev pub HasMarkRoom : Marks → (row column : ℕ) → Type 0
-HasMarkRoom marks row column = (r : MarkRow) × (slice_get marks.rows.items row ≡ Some r) × (column < length r.marks.items)
+HasMarkRoom marks row column =
+    (r : MarkRow) × (slice_get marks.rows.items row ≡ Some r) × (column < length r.marks.items)

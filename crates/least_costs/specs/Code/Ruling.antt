@@ -12,10 +12,12 @@ IsImplied asked rule = (track : Track) → MeetsAll asked track → Meets track 
 
 -- and each of these
 abbrev pub AreImplied : List Constraint → List Constraint → Type 0
-AreImplied asked rules = (k : ℕ) (rule : Constraint) → slice_get rules k ≡ Some rule → IsImplied asked rule
+AreImplied asked rules =
+    (k : ℕ) (rule : Constraint) → slice_get rules k ≡ Some rule → IsImplied asked rule
 
 abbrev pub AreTimed : List Constraint → List Timed → Type 0
-AreTimed asked timed = (k : ℕ) (t : Timed) → slice_get timed k ≡ Some t → IsImplied asked t.constraint
+AreTimed asked timed =
+    (k : ℕ) (t : Timed) → slice_get timed k ≡ Some t → IsImplied asked t.constraint
 
 -- no rule asks for more
 pub record AreRules (asked : List Constraint) (rules : Rules) : Type 0 where

@@ -5,4 +5,5 @@ use Rattle.least_costs.specs.declared.states.State.{State}
 
 -- a state is in the cell at the time
 abbrev pub HasState : List State → Cell → ℕ → Type 0
-HasState states c t = (k : ℕ) × (s : State) × (slice_get states k ≡ Some s) × (s.cell ≡ c) × (s.time ≡ t)
+HasState states c t =
+    (k : ℕ) × (s : State) × (slice_get states k ≡ Some s) × (s.cell ≡ c) × (s.time ≡ t)

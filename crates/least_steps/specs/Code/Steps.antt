@@ -1,6 +1,8 @@
--- The eight steps by their numbers: to the north, the west, the east and the south, and the diagonal ones to the northwest, the northeast, the
--- southwest and the southeast. A set of steps is a byte, with a bit for each.
-use Rattle.std.specs.Prelude.{◌≡◌, ◌==◌, ℕ, ◌+◌, ◌-◌, ◌*◌, ◌<◌, ◌↔◌, Bool, true, IsTrue, if◌then◌else◌, nat_lt}
+-- The eight steps by their numbers: to the north, the west, the east and the south, and the
+-- diagonal ones to the northwest, the northeast, the southwest and the southeast. A set of steps is
+-- a byte, with a bit for each.
+use Rattle.std.specs.Prelude.{◌≡◌, ◌==◌, ℕ, ◌+◌, ◌-◌, ◌*◌, ◌<◌}
+use Rattle.std.specs.Prelude.{◌↔◌, Bool, true, IsTrue, if◌then◌else◌, nat_lt}
 use Rattle.std.specs.Int.{bit_at}
 use Rattle.std.specs.Int.Bits.{bit_and, bit_or}
 use Rattle.grid.specs.declared.cell.Cell.{Cell}
@@ -53,9 +55,12 @@ AreLegal m c steps = (step : ℕ) → step < 8 → HasStep steps step ↔ IsLega
 
 -- the set of these of four steps
 abbrev pub set_with : Bool → Bool → Bool → Bool → ℕ
-set_with a b c d = (if a then 1 else 0) + 2 * (if b then 1 else 0) + 4 * (if c then 1 else 0) + 8 * (if d then 1 else 0)
+set_with a b c d =
+    (if a then 1 else 0) + 2 * (if b then 1 else 0) + 4 * (if c then 1 else 0) + 8
+    * (if d then 1 else 0)
 
--- the test says whether a straight step leads into the column of the other cell, in the row of the first
+-- the test says whether a straight step leads into the column of the other cell, in the row of the
+-- first
 abbrev pub IsAlongRow : Grid → Cell → Cell → Bool → Type 0
 IsAlongRow m u v b = IsTrue b ↔ IsStraightStep m u (record { x = v.x; y = u.y })
 
@@ -75,14 +80,62 @@ pub record StepTurn : Type 0 where
 
 abbrev pub turn_behind : ℕ → StepTurn
 turn_behind n =
-    if n == 0 then record { always = 1; first_unless = 64; first = 18; second_unless = 128; second = 36 }
-    else if n == 1 then record { always = 2; first_unless = 32; first = 17; second_unless = 128; second = 72 }
-    else if n == 2 then record { always = 4; first_unless = 16; first = 33; second_unless = 64; second = 136 }
-    else if n == 3 then record { always = 8; first_unless = 16; first = 66; second_unless = 32; second = 132 }
-    else if n == 4 then record { always = 19; first_unless = 0; first = 0; second_unless = 0; second = 0 }
-    else if n == 5 then record { always = 37; first_unless = 0; first = 0; second_unless = 0; second = 0 }
-    else if n == 6 then record { always = 74; first_unless = 0; first = 0; second_unless = 0; second = 0 }
-    else if n == 7 then record { always = 140; first_unless = 0; first = 0; second_unless = 0; second = 0 }
+    if n == 0 then record {
+      always = 1;
+      first_unless = 64;
+      first = 18;
+      second_unless = 128;
+      second = 36;
+    }
+    else if n == 1 then record {
+      always = 2;
+      first_unless = 32;
+      first = 17;
+      second_unless = 128;
+      second = 72;
+    }
+    else if n == 2 then record {
+      always = 4;
+      first_unless = 16;
+      first = 33;
+      second_unless = 64;
+      second = 136;
+    }
+    else if n == 3 then record {
+      always = 8;
+      first_unless = 16;
+      first = 66;
+      second_unless = 32;
+      second = 132;
+    }
+    else if n == 4 then record {
+      always = 19;
+      first_unless = 0;
+      first = 0;
+      second_unless = 0;
+      second = 0;
+    }
+    else if n == 5 then record {
+      always = 37;
+      first_unless = 0;
+      first = 0;
+      second_unless = 0;
+      second = 0;
+    }
+    else if n == 6 then record {
+      always = 74;
+      first_unless = 0;
+      first = 0;
+      second_unless = 0;
+      second = 0;
+    }
+    else if n == 7 then record {
+      always = 140;
+      first_unless = 0;
+      first = 0;
+      second_unless = 0;
+      second = 0;
+    }
     else record { always = 255; first_unless = 0; first = 0; second_unless = 0; second = 0 }
 
 abbrev pub side_of : ℕ → ℕ → ℕ → ℕ
@@ -92,7 +145,8 @@ side_of legal unless side = if bit_and legal unless == 0 then side else 0
 abbrev pub onward_of : ℕ → ℕ → ℕ
 onward_of by legal =
     let t = turn_behind by in
-    bit_and legal (bit_or (bit_or t.always (side_of legal t.first_unless t.first)) (side_of legal t.second_unless t.second))
+    bit_and legal (bit_or (bit_or t.always (side_of legal t.first_unless t.first))
+    (side_of legal t.second_unless t.second))
 
 -- the straight ones that don't lead back
 abbrev pub not_back : ℕ → ℕ

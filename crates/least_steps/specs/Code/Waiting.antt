@@ -5,7 +5,8 @@ use Rattle.walks.specs.Walk.{IsOn}
 use Rattle.least_steps.specs.declared.open_list.Open.{Open}
 use Rattle.least_steps.specs.declared.open_list.OpenList.{OpenList}
 use Rattle.least_steps.specs.Code.Estimate.{least_number}
-use Rattle.least_steps.specs.Code.Exploring.{Advances, Comes, Exploration, Has, IsArrival, IsLeft, IsNumberOf}
+use Rattle.least_steps.specs.Code.Exploring.{Advances, Comes, Exploration, Has}
+use Rattle.least_steps.specs.Code.Exploring.{IsArrival, IsLeft, IsNumberOf}
 
 abbrev pub IsPlaceAmong : List Open → Open → Type 0
 IsPlaceAmong places p = (j : ℕ) × (slice_get places j ≡ Some p)
@@ -15,11 +16,15 @@ abbrev pub IsPlaceAmongFrom : ℕ → List Open → Open → Type 0
 IsPlaceAmongFrom i places p = (j : ℕ) × (i ≤ j) × (slice_get places j ≡ Some p)
 
 abbrev pub IsInBucket : {Z : Type 0} → List (Vec Open Z) → Open → Type 0
-IsInBucket {Z = Z} buckets p = (i : ℕ) × (b : Vec Open Z) × (slice_get buckets i ≡ Some b) × IsPlaceAmong b.items p
+IsInBucket {Z = Z} buckets p =
+    (i : ℕ) × (b : Vec Open Z) × (slice_get buckets i ≡ Some b) × IsPlaceAmong b.items p
 
 -- in one of the lists
 abbrev pub IsOpenPlace : OpenList → Open → Type 0
-IsOpenPlace waiting p = IsPlaceAmong waiting.now.items p ⊎ (IsPlaceAmong waiting.next.items p ⊎ (IsPlaceAmong waiting.later.items p ⊎ IsInBucket waiting.buckets p))
+IsOpenPlace waiting p =
+    IsPlaceAmong waiting.now.items p
+    ⊎ (IsPlaceAmong waiting.next.items p
+    ⊎ (IsPlaceAmong waiting.later.items p ⊎ IsInBucket waiting.buckets p))
 
 -- what waits is what did
 pub record IsSame (old new : OpenList) : Type 0 where
@@ -45,24 +50,31 @@ IsFar e goal c n = (found : ℕ) × Has e goal found × (found ≤ n + least_num
 -- A cell that has this number is done, or waits, here or among others.
 abbrev pub IsMinded : Exploration → OpenList → ℕ → List Open → Cell → Cell → ℕ → Type 0
 IsMinded e waiting i others goal c n =
-    IsLeft e c n ⊎ (IsFar e goal c n ⊎ ((by : ℕ) × (IsOpenPlace waiting (record { number = n; cell = c; by = by }) ⊎ IsPlaceAmongFrom i others (record { number = n; cell = c; by = by }))))
+    IsLeft e c n ⊎ (IsFar e goal c n
+    ⊎ ((by : ℕ) × (IsOpenPlace waiting (record { number = n; cell = c; by = by })
+    ⊎ IsPlaceAmongFrom i others (record { number = n; cell = c; by = by }))))
 
 -- each cell is but this one
 abbrev pub AreMindedBut : Exploration → OpenList → ℕ → List Open → Cell → Cell → ℕ → Type 0
 AreMindedBut e waiting i others goal d k =
-    (c : Cell) (n : ℕ) → IsOn e.map c → IsNumberOf e c n → IsMinded e waiting i others goal c n ⊎ ((c ≡ d) × (n ≡ k))
+    (c : Cell) (n : ℕ) → IsOn e.map c → IsNumberOf e c n → IsMinded e waiting i others goal c n
+    ⊎ ((c ≡ d) × (n ≡ k))
 
 abbrev pub AreMinded : Exploration → OpenList → ℕ → List Open → Cell → Type 0
-AreMinded e waiting i others goal = (c : Cell) (n : ℕ) → IsOn e.map c → IsNumberOf e c n → IsMinded e waiting i others goal c n
+AreMinded e waiting i others goal =
+    (c : Cell) (n : ℕ) → IsOn e.map c → IsNumberOf e c n → IsMinded e waiting i others goal c n
 
 -- from one state to the next
-pub record Goes (e : Exploration) (waiting : OpenList) (f : Exploration) (opened : OpenList) : Type 0 where
+pub record Goes (e : Exploration) (waiting : OpenList) (f : Exploration)
+    (opened : OpenList) : Type 0 where
   pub advances : Advances e f
   pub sound : IsSoundList e waiting → IsSoundList f opened
-  pub kept : (i : ℕ) (others : List Open) (goal c : Cell) (n : ℕ) → AreMindedBut e waiting i others goal c n → AreMindedBut f opened i others goal c n
+  pub kept : (i : ℕ) (others : List Open) (goal c : Cell) (n : ℕ)
+      → AreMindedBut e waiting i others goal c n → AreMindedBut f opened i others goal c n
 
 -- a search that has begun, and has places of these others before it, from an index on
-pub record IsSearchFrom (e : Exploration) (waiting : OpenList) (i : ℕ) (others : List Open) (goal : Cell) : Type 0 where
+pub record IsSearchFrom (e : Exploration) (waiting : OpenList) (i : ℕ) (others : List Open)
+    (goal : Cell) : Type 0 where
   pub begins : Has e e.start 6625109
   pub sound : IsSoundList e waiting
   pub kept : AreMinded e waiting i others goal

@@ -10,10 +10,12 @@ pub same_place : (u v : Cell) → position_of u ≡ position_of v → u ≡ v
 same_place u v e =
     let across : u.x ≡ v.x = ap (λ p. nat_abs p.x) e in
     let down : u.y ≡ v.y = ap (λ p. nat_abs p.y) e in
-    ap {A = ℕ} {B = Cell} (λ x. record { x = x; y = u.y }) across ∙ ap {A = ℕ} {B = Cell} (λ y. record { x = v.x; y = y }) down
+    ap {A = ℕ} {B = Cell} (λ x. record { x = x; y = u.y }) across
+    ∙ ap {A = ℕ} {B = Cell} (λ y. record { x = v.x; y = y }) down
 
 -- after the last act the agent stays
-pub position_after-end : (p : Position) (acts : List Act) (t : ℕ) → length acts ≤ t → position_after p acts t ≡ position_after p acts (length acts)
+pub position_after-end : (p : Position) (acts : List Act) (t : ℕ) → length acts ≤ t
+    → position_after p acts t ≡ position_after p acts (length acts)
 position_after-end p [] t h = refl
 position_after-end p (a ∷ acts) zero h = absurd (omega (arith, h))
 position_after-end p (a ∷ acts) (suc t) h = position_after-end (moved a p) acts t (omega (arith, h))

@@ -1,7 +1,9 @@
 -- What the events change that bring agents on.
-use Rattle.std.proofs.Common.{◌≡◌, ℕ, ◌+◌, ◌<◌, ◌≤◌, eqb, Bool, true, false, cond, [], ◌∷◌, ◌++◌, length, max, Some, None, inl, inr, arith, refl, sym, ap, subst, ◌∙◌}
+use Rattle.std.proofs.Common.{◌≡◌, ℕ, ◌+◌, ◌<◌, ◌≤◌, eqb, Bool, true, false, cond, [], ◌∷◌, ◌++◌}
+use Rattle.std.proofs.Common.{length, max, Some, None, inl, inr, arith, refl, sym, ap, subst, ◌∙◌}
 use Rattle.std.specs.Prelude.{Option, ◌&&◌, nat_lt, slice_get}
-use Rattle.std.proofs.lemmas.Bool.{cases_eq, cond-true, cond-false, cond_both, and_from, and_left, and_right, eqb-true, eq-eqb, ne_eqb, le-ltb, false≢true}
+use Rattle.std.proofs.lemmas.Bool.{cases_eq, cond-true, cond-false, cond_both, and_from, and_left}
+use Rattle.std.proofs.lemmas.Bool.{and_right, eqb-true, eq-eqb, ne_eqb, le-ltb, false≢true}
 use Rattle.std.proofs.lemmas.List.{append-nil}
 use Rattle.std.proofs.lemmas.Option.{slice_get_within}
 use Rattle.model.specs.declared.event.Event.{Event}
@@ -12,10 +14,14 @@ use Rattle.model.specs.declared.why.Why.TheVariants.{Broken, AlreadyMoving, AtEn
 use Rattle.model.specs.Timetable.{Track, Timetable, moves, track_of}
 use Rattle.model.specs.Dependency.{Need, need, IsMet}
 use Rattle.model.specs.Messages.{Message, told, message_said, number_told}
-use Rattle.model.specs.History.{Answer, moving, arrived, at, between, refused, History, armed_of, is_broken, is_said, is_heard, is_opened, is_begun, is_ended, is_store_failed, kept_starts, done, is_moving, told_of, messages, known}
+use Rattle.model.specs.History.{Answer, moving, arrived, at, between, refused}
+use Rattle.model.specs.History.{History, armed_of, is_broken, is_said, is_heard, is_opened}
+use Rattle.model.specs.History.{is_begun, is_ended, is_store_failed, kept_starts, done, is_moving}
+use Rattle.model.specs.History.{told_of, messages, known}
 use Rattle.model.specs.Rules.{path_cell, stored, unless_waiting, deliver_answer, answer}
 use Rattle.model.specs.Completion.{history_after, IsAnswerRefused, AreAccepted}
-use Rattle.model.specs.Ready.{IsReady, StayReady, KeepsOthers, finish_events, rest_events, ComesToRest, MovesOn, SpeaksUp, Learns}
+use Rattle.model.specs.Ready.{IsReady, StayReady, KeepsOthers, finish_events, rest_events}
+use Rattle.model.specs.Ready.{ComesToRest, MovesOn, SpeaksUp, Learns}
 use Rattle.model.specs.Laws.Entries.{entries-told}
 use Rattle.model.specs.Laws.Runs.{answer-is, level}
 
@@ -60,7 +66,8 @@ module _ (v : Version) (tab : Timetable) where
   with_event h e = record { event = e; answer = answer v tab h e } ∷ h
 
   -- who is ready stays so where one is ready and nothing of the others changes
-  pub others-ready : (i : ℕ) (h new : History) → KeepsOthers v tab i h new → IsReady new i → StayReady h new
+  pub others-ready
+      : (i : ℕ) (h new : History) → KeepsOthers v tab i h new → IsReady new i → StayReady h new
   others-ready i h new others ready k was =
       elim (cases_eq k i) [
         | inl same ↦ subst (IsReady new) (sym same) ready
@@ -80,7 +87,8 @@ module _ (v : Version) (tab : Timetable) where
     known = λ k j apart. refl;
   }
 
-  then-keeps : (i : ℕ) (h mid new : History) → KeepsOthers v tab i h mid → KeepsOthers v tab i mid new → KeepsOthers v tab i h new
+  then-keeps : (i : ℕ) (h mid new : History) → KeepsOthers v tab i h mid
+      → KeepsOthers v tab i mid new → KeepsOthers v tab i h new
   then-keeps i h mid new first second = record {
     broken = λ k apart. second.broken k apart ∙ first.broken k apart;
     armed = λ k apart. second.armed k apart ∙ first.armed k apart;
@@ -103,7 +111,9 @@ module _ (v : Version) (tab : Timetable) where
     opened : is_opened (answer v tab h (Restart i)) ≡ true
     opened =
         ap is_opened (answer-is v tab h (Restart i) track there)
-        ∙ cond_both (is_moving h i) (between (path_cell track (done h i)) (path_cell track (done h i + 1)) (done h i)) (at (path_cell track (done h i)) (done h i))
+        ∙ cond_both (is_moving h i)
+        (between (path_cell track (done h i)) (path_cell track (done h i + 1)) (done h i))
+        (at (path_cell track (done h i)) (done h i))
         (λ r. is_opened r ≡ true) (λ e. refl) (λ e. refl)
 
     restart-accepted : IsAnswerRefused (answer v tab h (Restart i)) → ⊥
@@ -135,7 +145,8 @@ module _ (v : Version) (tab : Timetable) where
     known : (k j : ℕ) → known v tab new k j ≡ known v tab h k j
     others : KeepsOthers v tab i h new
 
-  module _ (h : History) (i : ℕ) (track : Track) (there : track_of tab i ≡ Some track) (sound : is_broken h i ≡ false) (unarmed : armed_of h i ≡ None) where
+  module _ (h : History) (i : ℕ) (track : Track) (there : track_of tab i ≡ Some track)
+      (sound : is_broken h i ≡ false) (unarmed : armed_of h i ≡ None) where
     abbrev to : Answer
     to = arrived (path_cell track (done h i + 1))
 
@@ -150,8 +161,10 @@ module _ (v : Version) (tab : Timetable) where
     settled going =
         let r = finishes (moving-from h i going) in
         let unfailed : is_store_failed (answer v tab h (Finish i)) ≡ false = ap is_store_failed r in
-        let ended : (a : Option ℕ) → is_ended (answer v tab h (Finish i)) a ≡ true = λ a. ap (λ x. is_ended x a) r in
-        let one : counted (eqb i i && is_ended (answer v tab h (Finish i)) (armed_of h i)) ≡ 1 = both_hold (eqb i i) _ 1 0 (own i) (ended (armed_of h i)) in
+        let ended : (a : Option ℕ) → is_ended (answer v tab h (Finish i)) a ≡ true =
+        λ a. ap (λ x. is_ended x a) r in
+        let one : counted (eqb i i && is_ended (answer v tab h (Finish i)) (armed_of h i)) ≡ 1 =
+        both_hold (eqb i i) _ 1 0 (own i) (ended (armed_of h i)) in
         record {
           ready = record {
             sound = second_fails (eqb i i) _ true (is_broken h i) unfailed ∙ sound;
@@ -166,17 +179,22 @@ module _ (v : Version) (tab : Timetable) where
             armed = λ k apart. first_fails (eqb i k) _ None (armed_of h k) (other k i apart);
             begun = λ k apart. omega arith;
             finished = λ k apart. (
-                let none : counted (eqb i k && is_ended (answer v tab h (Finish i)) (armed_of h k)) ≡ 0 = first_fails (eqb i k) _ 1 0 (other k i apart) in
+                let none : counted (eqb i k && is_ended (answer v tab h (Finish i)) (armed_of h k))
+                ≡ 0 = first_fails (eqb i k) _ 1 0 (other k i apart) in
                 omega (arith, none));
             known = λ k j apart. refl;
           };
         }
 
     -- where it makes a move
-    settles : (going : Bool) → is_moving h i ≡ going → done h i ≤ kept_starts h i → kept_starts h i ≤ done h i + 1
-        → AreAccepted v tab h (finish_events going i) × Settles i h (history_after v tab h (finish_events going i))
-    settles true going low high =
-        ((accepted_as (answer v tab h (Finish i)) to (finishes going) refl, tt), settled (eqb-true (kept_starts h i) (done h i + 1) going))
+    settles : (going : Bool) → is_moving h i ≡ going → done h i ≤ kept_starts h i
+        → kept_starts h i ≤ done h i + 1
+        → AreAccepted v tab h (finish_events going i)
+        × Settles i h (history_after v tab h (finish_events going i))
+    settles true going low high = (
+      (accepted_as (answer v tab h (Finish i)) to (finishes going) refl, tt),
+      settled (eqb-true (kept_starts h i) (done h i + 1) going),
+    )
     settles false still low high =
         let level = level h i low high still in (
           tt,
@@ -191,16 +209,20 @@ module _ (v : Version) (tab : Timetable) where
 
   -- ---- coming to rest
 
-  pub comes_to_rest : (h : History) (i : ℕ) (track : Track) → track_of tab i ≡ Some track → done h i ≤ kept_starts h i → kept_starts h i ≤ done h i + 1
-      → (anew going : Bool) → is_moving h i ≡ going → (anew ≡ false → (is_broken h i ≡ false) × (armed_of h i ≡ None))
-      → AreAccepted v tab h (rest_events anew going i) × ComesToRest v tab anew i h (history_after v tab h (rest_events anew going i))
+  pub comes_to_rest : (h : History) (i : ℕ) (track : Track) → track_of tab i ≡ Some track
+      → done h i ≤ kept_starts h i → kept_starts h i ≤ done h i + 1
+      → (anew going : Bool) → is_moving h i ≡ going
+      → (anew ≡ false → (is_broken h i ≡ false) × (armed_of h i ≡ None))
+      → AreAccepted v tab h (rest_events anew going i)
+      × ComesToRest v tab anew i h (history_after v tab h (rest_events anew going i))
   comes_to_rest h i track there low high true going e sound =
       let first = opens h i track there in
       let mid = with_event h (Restart i) in
       let begun_same = first.begun in
       let done_same = first.finished in
       let rest = settles mid i track there first.sound first.unarmed going
-      (ap (λ n. eqb n (done mid i + 1)) first.begun ∙ ap (λ n. eqb (kept_starts h i) (n + 1)) first.finished ∙ e)
+      (ap (λ n. eqb n (done mid i + 1)) first.begun ∙ ap (λ n. eqb (kept_starts h i) (n + 1))
+      first.finished ∙ e)
       (omega (arith, low, begun_same, done_same)) (omega (arith, high, begun_same, done_same)) in (
         (restart-accepted h i track there, rest.0),
         record {
@@ -208,7 +230,9 @@ module _ (v : Version) (tab : Timetable) where
           finished = rest.1.finished ∙ first.begun;
           messages = rest.1.messages ∙ first.messages;
           known = λ kept. absurd (false≢true (sym kept));
-          others = then-keeps i h mid (history_after v tab mid (finish_events going i)) first.others rest.1.others;
+          others =
+              then-keeps i h mid (history_after v tab mid (finish_events going i)) first.others
+              rest.1.others;
         },
       )
   comes_to_rest h i track there low high false going e sound =
@@ -226,11 +250,15 @@ module _ (v : Version) (tab : Timetable) where
 
   -- ---- a move
 
-  unless-met : (known : ℕ → ℕ) (o : Option Need) (r : Answer) → IsMet known o → unless_waiting known o r ≡ r
+  unless-met : (known : ℕ → ℕ) (o : Option Need) (r : Answer) → IsMet known o
+      → unless_waiting known o r ≡ r
   unless-met known None r met = refl
-  unless-met known (Some n) r met = cond-false (nat_lt (known n.agent) n.count) (refused (Waits n.agent n.count)) r (le-ltb (known n.agent) n.count met)
+  unless-met known (Some n) r met =
+      cond-false (nat_lt (known n.agent) n.count) (refused (Waits n.agent n.count)) r
+      (le-ltb (known n.agent) n.count met)
 
-  module _ (h : History) (i : ℕ) (track : Track) (there : track_of tab i ≡ Some track) (ready : IsReady h i) (less : done h i < moves track)
+  module _ (h : History) (i : ℕ) (track : Track) (there : track_of tab i ≡ Some track)
+      (ready : IsReady h i) (less : done h i < moves track)
       (met : IsMet (known v tab h i) (need tab i track (done h i))) where
     abbrev onto : Answer
     onto = moving (path_cell track (done h i + 1))
@@ -240,8 +268,10 @@ module _ (v : Version) (tab : Timetable) where
         answer-is v tab h (Start i) track there
         ∙ cond-false (is_broken h i) (refused Broken) _ ready.sound
         ∙ cond-false (is_moving h i) (refused AlreadyMoving) _ (still-from h i ready.still)
-        ∙ cond-false (eqb (done h i) (moves track)) (refused AtEnd) _ (ne_eqb (done h i) (moves track) (λ e. omega (arith, e, less)))
-        ∙ unless-met (known v tab h i) (need tab i track (done h i)) (stored (armed_of h i) onto) met
+        ∙ cond-false (eqb (done h i) (moves track)) (refused AtEnd) _
+        (ne_eqb (done h i) (moves track) (λ e. omega (arith, e, less)))
+        ∙ unless-met (known v tab h i) (need tab i track (done h i))
+        (stored (armed_of h i) onto) met
         ∙ ap (λ a. stored a onto) ready.unarmed
 
     abbrev begun : History
@@ -262,19 +292,24 @@ module _ (v : Version) (tab : Timetable) where
       broken = λ k apart. first_fails (eqb i k) _ true (is_broken h k) (other k i apart);
       armed = λ k apart. first_fails (eqb i k) _ None (armed_of h k) (other k i apart);
       begun = λ k apart. (
-          let none : counted (eqb i k && is_begun (answer v tab h (Start i)) (armed_of h k)) ≡ 0 = first_fails (eqb i k) _ 1 0 (other k i apart) in
+          let none : counted (eqb i k && is_begun (answer v tab h (Start i)) (armed_of h k)) ≡ 0 =
+          first_fails (eqb i k) _ 1 0 (other k i apart) in
           omega (arith, none));
       finished = λ k apart. omega arith;
       known = λ k j apart. refl;
     }
 
-    pub moves_on : AreAccepted v tab h (Start i ∷ Finish i ∷ []) × MovesOn v tab i h (history_after v tab h (Start i ∷ Finish i ∷ []))
+    pub moves_on : AreAccepted v tab h (Start i ∷ Finish i ∷ [])
+        × MovesOn v tab i h (history_after v tab h (Start i ∷ Finish i ∷ []))
     moves_on =
-        let sound : is_broken begun i ≡ false = second_fails (eqb i i) _ true (is_broken h i) unfailed ∙ ready.sound in
-        let unarmed : armed_of begun i ≡ None = second_fails (eqb i i) _ None (armed_of h i) unfailed ∙ ready.unarmed in
+        let sound : is_broken begun i ≡ false =
+        second_fails (eqb i i) _ true (is_broken h i) unfailed ∙ ready.sound in
+        let unarmed : armed_of begun i ≡ None =
+        second_fails (eqb i i) _ None (armed_of h i) unfailed ∙ ready.unarmed in
         let done_same : done begun i ≡ done h i = omega arith in
         let begun_now = begun-own in
-        let ended = settles begun i track there sound unarmed true (moving-from begun i (omega (arith, begun_now, done_same)))
+        let ended = settles begun i track there sound unarmed true
+        (moving-from begun i (omega (arith, begun_now, done_same)))
         (omega (arith, begun_now, done_same)) (omega (arith, begun_now, done_same)) in
         let new = with_event begun (Finish i) in
         let keeps = then-keeps i h begun new begin-keeps ended.1.others in (
@@ -290,44 +325,70 @@ module _ (v : Version) (tab : Timetable) where
 
   -- ---- a message
 
-  tells-own : (w : Version) (i d : ℕ) (knows : ℕ → ℕ) → i < length tab.tracks → d ≤ told (message_said w (length tab.tracks) i d knows) i
-  tells-own One i d knows within = (let same = cond-true (eqb i i) (max d 0) 0 (own i) in omega (arith, same))
+  tells-own : (w : Version) (i d : ℕ) (knows : ℕ → ℕ) → i < length tab.tracks
+      → d ≤ told (message_said w (length tab.tracks) i d knows) i
+  tells-own One i d knows within =
+      (let same = cond-true (eqb i i) (max d 0) 0 (own i) in omega (arith, same))
   tells-own Two i d knows within =
-      let all = entries-told (number_told i d knows) 0 (length tab.tracks) i (omega arith) (omega (arith, within)) in
+      let all = entries-told (number_told i d knows) 0 (length tab.tracks) i (omega arith)
+      (omega (arith, within)) in
       let same = cond-true (eqb i i) d (knows i) (own i) in
       omega (arith, all, same)
 
-  module _ (h : History) (i : ℕ) (track : Track) (there : track_of tab i ≡ Some track) (ready : IsReady h i) where
+  module _ (h : History) (i : ℕ) (track : Track) (there : track_of tab i ≡ Some track)
+      (ready : IsReady h i) where
     speaks : is_said (answer v tab h (Say i)) ≡ true
-    speaks = ap is_said (answer-is v tab h (Say i) track there) ∙ ap is_said (cond-false (is_broken h i) (refused Broken) _ ready.sound)
+    speaks =
+        ap is_said (answer-is v tab h (Say i) track there)
+        ∙ ap is_said (cond-false (is_broken h i) (refused Broken) _ ready.sound)
 
     abbrev pub message : Message
     message = message_said v (length tab.tracks) i (done h i) (known v tab h i)
 
-    pub speaks_up : AreAccepted v tab h (Say i ∷ []) × SpeaksUp v tab i h (history_after v tab h (Say i ∷ [])) message
+    pub speaks_up : AreAccepted v tab h (Say i ∷ [])
+        × SpeaksUp v tab i h (history_after v tab h (Say i ∷ [])) message
     speaks_up = (
       ((λ why. false≢true (ap is_said (sym why.1) ∙ speaks)), tt),
       record {
-        ready = λ k was. record { sound = was.sound; unarmed = was.unarmed; still = (let still = was.still in omega (arith, still)) };
+        ready =
+            λ k was. record {
+              sound = was.sound;
+              unarmed = was.unarmed;
+              still = (let still = was.still in omega (arith, still));
+            };
         finished = λ k. omega arith;
-        messages = ap (λ l. messages v tab h ++ l) (cond-true (is_said (answer v tab h (Say i))) (message ∷ []) [] speaks);
+        messages =
+            ap (λ l. messages v tab h ++ l)
+            (cond-true (is_said (answer v tab h (Say i))) (message ∷ []) [] speaks);
         known = λ k j. refl;
-        tells = tells-own v i (done h i) (known v tab h i) (slice_get_within tab.tracks i track there);
+        tells =
+            tells-own v i (done h i) (known v tab h i) (slice_get_within tab.tracks i track there);
       },
     )
 
     pub learns : (m : ℕ) (message : Message) → slice_get (messages v tab h) m ≡ Some message
-        → AreAccepted v tab h (Deliver i m ∷ []) × Learns v tab i h (history_after v tab h (Deliver i m ∷ [])) message
+        → AreAccepted v tab h (Deliver i m ∷ [])
+        × Learns v tab i h (history_after v tab h (Deliver i m ∷ [])) message
     learns m message kept = (
       ((λ why. false≢true (ap is_heard (sym why.1) ∙ hears)), tt),
       record {
-        ready = λ k was. record { sound = was.sound; unarmed = was.unarmed; still = (let still = was.still in omega (arith, still)) };
+        ready =
+            λ k was. record {
+              sound = was.sound;
+              unarmed = was.unarmed;
+              still = (let still = was.still in omega (arith, still));
+            };
         finished = λ k. omega arith;
         messages = append-nil (messages v tab h);
-        known = λ k j. cond_both (eqb i k && is_heard (answer v tab h (Deliver i m))) (max (known v tab h k j) (told_of (slice_get (messages v tab h) m) j)) (known v tab h k j)
+        known =
+            λ k j. cond_both (eqb i k && is_heard (answer v tab h (Deliver i m)))
+            (max (known v tab h k j) (told_of (slice_get (messages v tab h) m) j))
+            (known v tab h k j)
             (λ n. known v tab h k j ≤ n) (λ e. omega arith) (λ e. omega arith);
         learns = λ j. (
-            let raised = both_hold (eqb i i) (is_heard (answer v tab h (Deliver i m))) (max (known v tab h i j) (told_of (slice_get (messages v tab h) m) j)) (known v tab h i j) (own i) hears in
+            let raised = both_hold (eqb i i) (is_heard (answer v tab h (Deliver i m)))
+            (max (known v tab h i j) (told_of (slice_get (messages v tab h) m) j))
+            (known v tab h i j) (own i) hears in
             let told_is = ap (λ o. told_of o j) kept in
             omega (arith, raised, told_is));
       },

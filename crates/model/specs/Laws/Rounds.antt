@@ -1,14 +1,17 @@
 -- Going on and on by a function of numbers: among finitely many it comes round.
-use Rattle.std.proofs.Common.{◌≡◌, ℕ, zero, suc, ◌+◌, ◌<◌, ◌≤◌, eqb, Bool, true, false, cond, List, [], ◌∷◌, length, Some, inl, inr, arith, refl, sym, ap, subst, ◌∙◌}
+use Rattle.std.proofs.Common.{◌≡◌, ℕ, zero, suc, ◌+◌, ◌<◌, ◌≤◌, eqb, Bool, true, false, cond, List}
+use Rattle.std.proofs.Common.{[], ◌∷◌, length, Some, inl, inr, arith, refl, sym, ap, subst, ◌∙◌}
 use Rattle.std.specs.Prelude.{◌⊎◌, Option, slice_get}
-use Rattle.std.proofs.lemmas.Bool.{cases_Bool, cases_lt, cond-true, cond-false, cond_both, eqb-true, eqb-false}
+use Rattle.std.proofs.lemmas.Bool.{cases_Bool, cases_lt, cond-true, cond-false}
+use Rattle.std.proofs.lemmas.Bool.{cond_both, eqb-true, eqb-false}
 use Rattle.std.proofs.lemmas.Option.{same_Some, none-some}
 
 -- ---- searching
 
 -- the least of so many numbers that passes a test, or none does
 pub first_that : (n : ℕ) (p : ℕ → Bool)
-    → ((k : ℕ) × (k < n) × (p k ≡ true) × ((l : ℕ) → l < k → p l ≡ false)) ⊎ ((k : ℕ) → k < n → p k ≡ false)
+    → ((k : ℕ) × (k < n) × (p k ≡ true) × ((l : ℕ) → l < k → p l ≡ false))
+    ⊎ ((k : ℕ) → k < n → p k ≡ false)
 first_that zero p = inr (λ k less. absurd (omega (arith, less)))
 first_that (suc n) p = elim (first_that n p) [
   | inl found ↦ let within = found.1 in inl (found.0, omega (arith, within), found.2, found.3)
@@ -16,14 +19,20 @@ first_that (suc n) p = elim (first_that n p) [
     | inl passes ↦ inl (n, omega arith, passes, none)
     | inr fails ↦ inr (λ k less. elim (cases_lt k n) [
       | inl before ↦ none k before
-      | inr past ↦ let same : n ≡ k = omega (arith, less, past) in subst (λ m. p m ≡ false) same fails
+      | inr past ↦ let same : n ≡ k = omega (arith, less, past) in
+          subst (λ m. p m ≡ false) same fails
     ])
   ]
 ]
 
 -- where one of so many has the least value
 pub least_at : (n : ℕ) (f : ℕ → ℕ) → (m : ℕ) × (m < suc n) × ((k : ℕ) → k < suc n → f m ≤ f k)
-least_at zero f = (0, omega arith, λ k less. let same : 0 ≡ k = omega (arith, less) in subst (λ m. f 0 ≤ f m) same (omega arith))
+least_at zero f = (
+  0,
+  omega arith,
+  λ k less. let same : 0 ≡ k = omega (arith, less) in
+      subst (λ m. f 0 ≤ f m) same (omega arith),
+)
 least_at (suc n) f =
     let before = least_at n f in
     elim (cases_lt (f (suc n)) (f before.0)) [
@@ -32,7 +41,8 @@ least_at (suc n) f =
         omega arith,
         λ k within. elim (cases_lt k (suc n)) [
           | inl earlier ↦ let most = before.2 k earlier in omega (arith, most, less)
-          | inr past ↦ let same : suc n ≡ k = omega (arith, within, past) in subst (λ m. f (suc n) ≤ f m) same (omega arith)
+          | inr past ↦ let same : suc n ≡ k = omega (arith, within, past) in
+              subst (λ m. f (suc n) ≤ f m) same (omega arith)
         ],
       )
       | inr most ↦ (
@@ -40,25 +50,29 @@ least_at (suc n) f =
         (let within = before.1 in omega (arith, within)),
         λ k within. elim (cases_lt k (suc n)) [
           | inl earlier ↦ before.2 k earlier
-          | inr past ↦ let same : suc n ≡ k = omega (arith, within, past) in subst (λ m. f before.0 ≤ f m) same most
+          | inr past ↦ let same : suc n ≡ k = omega (arith, within, past) in
+              subst (λ m. f before.0 ≤ f m) same most
         ],
       )
     ]
 
 -- of more numbers than there are values, two have the same
-pub two_alike : (n : ℕ) (f : ℕ → ℕ) → ((k : ℕ) → k ≤ n → f k < n) → (p : ℕ) × (q : ℕ) × (p < q) × (q ≤ n) × (f p ≡ f q)
+pub two_alike : (n : ℕ) (f : ℕ → ℕ) → ((k : ℕ) → k ≤ n → f k < n) → (p : ℕ) × (q : ℕ) × (p < q)
+    × (q ≤ n) × (f p ≡ f q)
 two_alike zero f within = absurd (let none = within 0 (omega arith) in omega (arith, none))
 two_alike (suc n) f within = elim (first_that (suc n) (λ k. eqb (f k) (f (suc n)))) [
   | inl found ↦ (found.0, suc n, found.1, omega arith, eqb-true (f found.0) (f (suc n)) found.2)
   | inr apart ↦
-      let fewer = two_alike n (λ k. moved (f k)) (λ k least. moved-within k least (apart k (omega (arith, least)))) in
+      let fewer = two_alike n (λ k. moved (f k))
+      (λ k least. moved-within k least (apart k (omega (arith, least)))) in
       let less = fewer.2 in
       let most = fewer.3 in (
         fewer.0,
         fewer.1,
         less,
         omega (arith, most),
-        same fewer.0 fewer.1 (apart fewer.0 (omega (arith, less, most))) (apart fewer.1 (omega (arith, most))) fewer.4,
+        same fewer.0 fewer.1 (apart fewer.0 (omega (arith, less, most)))
+            (apart fewer.1 (omega (arith, most))) fewer.4,
       )
 ] where
   moved : ℕ → ℕ
@@ -79,15 +93,23 @@ two_alike (suc n) f within = elim (first_that (suc n) (λ k. eqb (f k) (f (suc n
         | inr past ↦ absurd (value (omega (arith, past, here)))
       ])
 
-  same : (p q : ℕ) → eqb (f p) (f (suc n)) ≡ false → eqb (f q) (f (suc n)) ≡ false → moved (f p) ≡ moved (f q) → f p ≡ f q
+  same : (p q : ℕ) → eqb (f p) (f (suc n)) ≡ false → eqb (f q) (f (suc n)) ≡ false
+      → moved (f p) ≡ moved (f q) → f p ≡ f q
   same p q other_p other_q e = elim (cases_Bool (eqb (f p) n)) [
     | inl last_p ↦ elim (cases_Bool (eqb (f q) n)) [
       | inl last_q ↦ eqb-true (f p) n last_p ∙ sym (eqb-true (f q) n last_q)
-      | inr early_q ↦ absurd (eqb-false (f q) (f (suc n)) other_q (sym (cond-false (eqb (f q) n) (f (suc n)) (f q) early_q) ∙ sym e ∙ cond-true (eqb (f p) n) (f (suc n)) (f p) last_p))
+      | inr early_q ↦ absurd
+          (eqb-false (f q) (f (suc n)) other_q
+          (sym (cond-false (eqb (f q) n) (f (suc n)) (f q) early_q) ∙ sym e
+          ∙ cond-true (eqb (f p) n) (f (suc n)) (f p) last_p))
     ]
     | inr early_p ↦ elim (cases_Bool (eqb (f q) n)) [
-      | inl last_q ↦ absurd (eqb-false (f p) (f (suc n)) other_p (sym (cond-false (eqb (f p) n) (f (suc n)) (f p) early_p) ∙ e ∙ cond-true (eqb (f q) n) (f (suc n)) (f q) last_q))
-      | inr early_q ↦ sym (cond-false (eqb (f p) n) (f (suc n)) (f p) early_p) ∙ e ∙ cond-false (eqb (f q) n) (f (suc n)) (f q) early_q
+      | inl last_q ↦ absurd
+          (eqb-false (f p) (f (suc n)) other_p
+          (sym (cond-false (eqb (f p) n) (f (suc n)) (f p) early_p) ∙ e ∙ cond-true (eqb (f q) n)
+          (f (suc n)) (f q) last_q))
+      | inr early_q ↦ sym (cond-false (eqb (f p) n) (f (suc n)) (f p) early_p) ∙ e
+          ∙ cond-false (eqb (f q) n) (f (suc n)) (f q) early_q
     ]
   ]
 
@@ -109,7 +131,8 @@ turned-next f zero x = refl
 turned-next f (suc k) x = ap f (turned-next f k x)
 
 -- what comes round after so many turns has been everywhere by then
-pub comes_round : (f : ℕ → ℕ) (n x : ℕ) → turned f (suc n) x ≡ x → (k : ℕ) → (l : ℕ) × (l < suc n) × (turned f k x ≡ turned f l x)
+pub comes_round : (f : ℕ → ℕ) (n x : ℕ) → turned f (suc n) x ≡ x → (k : ℕ) → (l : ℕ) × (l < suc n)
+    × (turned f k x ≡ turned f l x)
 comes_round f n x back zero = (0, omega arith, refl)
 comes_round f n x back (suc k) =
     let before = comes_round f n x back k in
@@ -135,9 +158,12 @@ round-length f (suc n) x = (let rest = round-length f n (f x) in omega (arith, r
 pub round-at : (f : ℕ → ℕ) (n x k : ℕ) → k < n → slice_get (round f n x) k ≡ Some (turned f k x)
 round-at f zero x k less = absurd (omega (arith, less))
 round-at f (suc n) x zero less = refl
-round-at f (suc n) x (suc k) less = round-at f n (f x) k (omega (arith, less)) ∙ ap {A = ℕ} {B = Option ℕ} (λ y. Some y) (turned-next f k x)
+round-at f (suc n) x (suc k) less =
+    round-at f n (f x) k (omega (arith, less)) ∙ ap {A = ℕ} {B = Option ℕ} (λ y. Some y)
+    (turned-next f k x)
 
-pub round-is : (f : ℕ → ℕ) (n x k y : ℕ) → slice_get (round f n x) k ≡ Some y → (k < n) × (y ≡ turned f k x)
+pub round-is
+    : (f : ℕ → ℕ) (n x k y : ℕ) → slice_get (round f n x) k ≡ Some y → (k < n) × (y ≡ turned f k x)
 round-is f zero x k y there = absurd (none-some y there)
 round-is f (suc n) x zero y there = (omega arith, sym (same_Some x y there))
 round-is f (suc n) x (suc k) y there =

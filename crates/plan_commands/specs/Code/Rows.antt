@@ -1,5 +1,6 @@
 -- The cells of all agents, time by time, as the code goes through them.
-use Rattle.std.specs.Prelude.{◌≡◌, ℕ, ◌+◌, ◌≤◌, zero, suc, List, [], ◌∷◌, length, map, Option, Some, Result, slice_get}
+use Rattle.std.specs.Prelude.{◌≡◌, ℕ, ◌+◌, ◌≤◌, zero, suc, List, []}
+use Rattle.std.specs.Prelude.{◌∷◌, length, map, Option, Some, Result, slice_get}
 use Rattle.grid.specs.declared.cell.Cell.{Cell}
 use Rattle.text_io.specs.declared.counted.Counted.{Counted}
 use Rattle.model.specs.Plan.{Course, Plan, position_of, position_at}
@@ -23,7 +24,8 @@ rows_from courses t (suc count) = row_at courses t ∷ rows_from courses (t + 1)
 abbrev pub rows_of_courses : List Course → List (List Cell)
 rows_of_courses courses = rows_from courses 0 (count_of_times courses)
 
--- the agent's cells are in range, and are where its acts lead, which are no more than a plan may have
+-- the agent's cells are in range, and are where its acts lead, which are no more than a plan may
+-- have
 pub record IsWalked (course : Course) : Type 0 where
   pub in_range : StaysInRange course.start course.acts
   pub places : (t : ℕ) → position_of (cell_at (track_along course) t) ≡ position_at course t
@@ -38,7 +40,8 @@ IsNoAgent p agent = (i : ℕ) × (agent ≡ Some i) × (length p.courses ≤ i)
 
 -- what is asked for of the plan was shown
 pub record EndsByRows
-    {W : Type 0} (contents : W → Option (List ℕ)) (p : Plan) (agent : Option ℕ) (old new : Counted W) (end : End) : Type 0 where
+    {W : Type 0} (contents : W → Option (List ℕ)) (p : Plan) (agent : Option ℕ)
+    (old new : Counted W) (end : End) : Type 0 where
   pub answer : Result (List (List Cell)) PathFault
   pub shows : ShowsRows p agent answer
   pub ends : EndsByPath contents old new end answer

@@ -13,16 +13,19 @@ pub record IsCellInRange (c : Cell) : Type 0 where
 
 -- the acts of the agent with the course; past the last, anything may stand for them
 abbrev pub acts_of_agent : List Course → ℕ → List Act
-acts_of_agent courses i = (get_or courses i (record { start = record { x = 0; y = 0 }; acts = [] })).acts
+acts_of_agent courses i =
+    (get_or courses i (record { start = record { x = 0; y = 0 }; acts = [] })).acts
 
 -- the act of an agent in a step of its block
 abbrev pub act_in : List (List Act) → ℕ → ℕ → Act
 act_in stretches i step = get_or (get_or stretches i []) step Wait
 
 -- each agent's acts in the block from the step on
-pub record AreStretches (courses : List Course) (step : ℕ) (stretches : List (List Act)) : Type 0 where
+pub record AreStretches (courses : List Course) (step : ℕ)
+    (stretches : List (List Act)) : Type 0 where
   pub count : length stretches ≡ length courses
-  pub each : (i : ℕ) → i < length courses → IsStretch (acts_of_agent courses i) step (get_or stretches i [])
+  pub each : (i : ℕ) → i < length courses
+      → IsStretch (acts_of_agent courses i) step (get_or stretches i [])
 
 -- the first step of the block that a step is in
 abbrev pub begun : ℕ → ℕ

@@ -10,9 +10,11 @@ use Rattle.proof_text.specs.ProofText.{ProofLeads, header_due}
 use Rattle.proof_check.specs.declared.progress.Progress.{Progress}
 use Rattle.proof_check.specs.Code.Progressing.{IsProgress, due_of}
 
--- The lines so far were taken and are right, and the progress is what they said. The next one has this number.
+-- The lines so far were taken and are right, and the progress is what they said. The next one has
+-- this number.
 pub record HasReadLines
-    {R : Type 0} {ahead : ℕ} (remaining : R → Option (List ℕ)) (first : Counted R) (m : Grid) (ends : List Ends) (now : Source R ahead) (p : Progress)
+    {R : Type 0} {ahead : ℕ} (remaining : R → Option (List ℕ)) (first : Counted R) (m : Grid)
+    (ends : List Ends) (now : Source R ahead) (p : Progress)
     (number : ℕ) : Type 0 where
   pub before : List (List ℕ)
   pub taken : HasTaken remaining first now before

@@ -6,7 +6,8 @@ use Rattle.optimality.specs.declared.constraint.Ends.{Ends}
 use Rattle.optimality.specs.declared.node.Node.{Node}
 use Rattle.optimality.specs.Judging.{LeafIsLow, Subtree, children}
 use Rattle.proof_text.specs.declared.proof_fault.ProofFault.{ProofFault}
-use Rattle.proof_text.specs.declared.proof_fault.ProofFault.TheVariants.{LeafTooLow, NoSuchAgent, OffMap}
+use Rattle.proof_text.specs.declared.proof_fault.ProofFault.TheVariants.{LeafTooLow, NoSuchAgent}
+use Rattle.proof_text.specs.declared.proof_fault.ProofFault.TheVariants.{OffMap}
 use Rattle.proof_text.specs.ProofLines.{HasAgents, HasCells}
 use Rattle.proof_text.specs.ProofText.{ProofDue, bound_due, header_due, nodes_due, objective_due}
 use Rattle.proof_text.specs.Code.ProofReading.{IsUnjudged}
@@ -61,28 +62,35 @@ pub record StaysAt (old new : Progress) : Type 0 where
   pub demands : new.judge.trail.demands ≡ old.judge.trail.demands
 
 -- the next node was gone to: it isn't due any more, and what is asked is what is asked there
-pub record HasGoneTo (ends : List Ends) (others : List DueNode) (next : DueNode) (old new : Progress) : Type 0 where
+pub record HasGoneTo (ends : List Ends) (others : List DueNode) (next : DueNode)
+    (old new : Progress) : Type 0 where
   pub stage : new.stage ≡ old.stage
   pub nodes : new.nodes ≡ old.nodes
   pub due : new.due.items ≡ others
-  pub demands : new.judge.trail.demands.items ≡ (subtree_of ends old.judge.trail.demands.items next).demands
-  pub rest : subtrees ends new.judge.trail.demands.items others ≡ subtrees ends old.judge.trail.demands.items others
+  pub demands : new.judge.trail.demands.items
+      ≡ (subtree_of ends old.judge.trail.demands.items next).demands
+  pub rest : subtrees ends new.judge.trail.demands.items others
+      ≡ subtrees ends old.judge.trail.demands.items others
 
 -- the children of a node became due in its place
 pub record HasSplit (ends : List Ends) (node : Node) (above : ℕ) (old new : Progress) : Type 0 where
   pub stage : new.stage ≡ old.stage
   pub nodes : new.nodes ≡ old.nodes
   pub due : subtrees ends new.judge.trail.demands.items new.due.items
-      ≡ children ends node (record { demands = old.judge.trail.demands.items; above = above }) ++ subtrees ends old.judge.trail.demands.items old.due.items
+      ≡ children ends node (record { demands = old.judge.trail.demands.items; above = above })
+      ++ subtrees ends old.judge.trail.demands.items old.due.items
 
 -- why a leaf is refused
 abbrev pub IsLeafRefused : Grid → List Ends → Aim → List Demand → ℕ → ProofFault → Type 0
 IsLeafRefused m ends aim demands number fault =
-    IsUnjudged fault ⊎ ((least : ℕ) × (fault ≡ LeafTooLow number least) × LeafIsLow m ends aim.objective aim.bound demands least)
+    IsUnjudged fault ⊎ ((least : ℕ) × (fault ≡ LeafTooLow number least)
+    × LeafIsLow m ends aim.objective aim.bound demands least)
 
 -- which node is due next
 pub record NextDue (ends : List Ends) (aim : Aim) (p : Progress) : Type 0 where
   pub others : List DueNode
   pub next : DueNode
   pub items : p.due.items ≡ others ++ next ∷ []
-  pub is_due : due_of p ≡ nodes_due aim.objective aim.bound p.nodes (subtree_of ends p.judge.trail.demands.items next ∷ subtrees ends p.judge.trail.demands.items others)
+  pub is_due : due_of p ≡ nodes_due aim.objective aim.bound p.nodes
+      (subtree_of ends p.judge.trail.demands.items next ∷ subtrees ends
+      p.judge.trail.demands.items others)

@@ -38,13 +38,15 @@ IsTimely (Second node) = node_time node < 65536
 -- the agent costs so much at least under the first demands
 abbrev pub HoldsKept : Grid → List Ends → List Demand → Kept → Type 0
 HoldsKept m ends demands kept =
-    (own : Ends) → slice_get ends kept.agent ≡ Some own → CostsAtLeast m own (constraints_of (take kept.asked demands) kept.agent) kept.cost
+    (own : Ends) → slice_get ends kept.agent ≡ Some own
+    → CostsAtLeast m own (constraints_of (take kept.asked demands) kept.agent) kept.cost
 
 abbrev pub asked_numbers : List Kept → List ℕ
 asked_numbers kept = map (λ (k : Kept). k.asked) kept
 
 -- What was kept holds, the newest last, and none of it was found under more than so many demands.
-pub record AreKeptWithin (m : Grid) (ends : List Ends) (demands : List Demand) (count : ℕ) (kept : List Kept) : Type 0 where
+pub record AreKeptWithin (m : Grid) (ends : List Ends) (demands : List Demand) (count : ℕ)
+    (kept : List Kept) : Type 0 where
   pub rising : RisesTo (asked_numbers kept) count
   pub hold : AllByRecursion (HoldsKept m ends demands) kept
 
@@ -55,10 +57,14 @@ IsTrail m ends demands kept = AreKeptWithin m ends demands (length demands) kept
 abbrev pub AreTables : Grid → List Ends → List GoalView → Type 0
 AreTables m [] tables = tables ≡ []
 AreTables m (own ∷ ends) tables =
-    (others : List GoalView) × (tables ≡ record { map = m; goal = own.goal } ∷ others) × AreTables m ends others
+    (others : List GoalView) × (tables ≡ record { map = m; goal = own.goal } ∷ others)
+    × AreTables m ends others
 
 -- no agent costs less than its number, and one below the limit is what it costs at least
-pub record AreFoundLeast (m : Grid) (ends : List Ends) (demands : List Demand) (limit : ℕ) (numbers : List ℕ) : Type 0 where
+pub record AreFoundLeast (m : Grid) (ends : List Ends) (demands : List Demand) (limit : ℕ)
+    (numbers : List ℕ) : Type 0 where
   pub count : length numbers ≡ length ends
-  pub least : (k n : ℕ) (own : Ends) → slice_get numbers k ≡ Some n → slice_get ends k ≡ Some own → CostsAtLeast m own (constraints_of demands k) n
-  pub costs : (k n : ℕ) (own : Ends) → slice_get numbers k ≡ Some n → slice_get ends k ≡ Some own → n < limit → IsLeastCost m own (constraints_of demands k) n
+  pub least : (k n : ℕ) (own : Ends) → slice_get numbers k ≡ Some n → slice_get ends k ≡ Some own
+      → CostsAtLeast m own (constraints_of demands k) n
+  pub costs : (k n : ℕ) (own : Ends) → slice_get numbers k ≡ Some n → slice_get ends k ≡ Some own
+      → n < limit → IsLeastCost m own (constraints_of demands k) n

@@ -14,4 +14,5 @@ IsUnjudged fault = (fault ≡ OutOfMemory) ⊎ (fault ≡ NotTight)
 
 -- why a line was refused: no answer was found, or the line has the fault at its LF
 abbrev pub ProofRefuses : Grid → List Ends → ProofDue → ℕ → List ℕ → ProofFault → Type 0
-ProofRefuses m ends due number line fault = IsUnjudged fault ⊎ HasProofFault m ends fault at_line_feed due number line
+ProofRefuses m ends due number line fault =
+    IsUnjudged fault ⊎ HasProofFault m ends fault at_line_feed due number line

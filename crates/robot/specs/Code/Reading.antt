@@ -1,5 +1,6 @@
 -- What was taken of the input, and what it asks for.
-use Rattle.std.specs.Prelude.{◌≡◌, ℕ, ◌<◌, ◌≤◌, List, [], ◌∷◌, ◌++◌, length, take, Option, None, Some, ⊤}
+use Rattle.std.specs.Prelude.{◌≡◌, ℕ, ◌<◌, ◌≤◌, List, [], ◌∷◌}
+use Rattle.std.specs.Prelude.{◌++◌, length, take, Option, None, Some, ⊤}
 use Rattle.std.specs.List.{AllByRecursion}
 use Rattle.std.specs.Io.KnownBytes.{Consumes, IsAtEnd as IsSpent}
 use Rattle.text_io.specs.declared.counted.Counted.{Counted}
@@ -10,7 +11,8 @@ use Rattle.text_io.specs.Source.{source_reader}
 use Rattle.text_io.specs.Text.{IsLine, ended}
 use Rattle.robot.specs.Requests as requests
 use Rattle.robot.specs.declared.request.Request.{Request}
-use Rattle.robot.specs.declared.request.Request.TheVariants.{Start, Finish, Say, Tell, Held, May, Hear}
+use Rattle.robot.specs.declared.request.Request.TheVariants.{Start, Finish, Say, Tell}
+use Rattle.robot.specs.declared.request.Request.TheVariants.{Held, May, Hear}
 use Rattle.robot.specs.declared.input_lines.NextLine.{NextLine}
 use Rattle.robot.specs.declared.input_lines.NextLine.TheVariants.{Line, LastLine, End, Failed}
 
@@ -34,31 +36,38 @@ abbrev pub IsLineKept : List ℕ → List ℕ → Option ℕ → Type 0
 IsLineKept line room (Some count) = (count ≤ length room) × (line ≡ take count room)
 IsLineKept line room None = length room < length line
 
--- After the lines before it, what stands behind their last LF is a beginning of a line, and no more came.
+-- After the lines before it, what stands behind their last LF is a beginning of a line, and no more
+-- came.
 pub record HasRest
-    {R : Type 0} {ahead : ℕ} (remaining : R → Option (List ℕ)) (first : Counted R) (now : Source R ahead) (before : List (List ℕ)) (rest : List ℕ) : Type 0 where
+    {R : Type 0} {ahead : ℕ} (remaining : R → Option (List ℕ)) (first : Counted R)
+    (now : Source R ahead) (before : List (List ℕ)) (rest : List ℕ) : Type 0 where
   pub delivered : List ℕ
-  pub consumed : Consumes (remaining (counted_inner first)) (remaining (counted_inner (source_reader now))) delivered
+  pub consumed : Consumes (remaining (counted_inner first))
+      (remaining (counted_inner (source_reader now))) delivered
   pub in_order : delivered ≡ ended before ++ rest
   pub are_lines : AllByRecursion IsLine before
   pub is_line : IsLine rest
 
 -- and there the input ended
 pub record IsInputOver
-    {R : Type 0} {ahead : ℕ} (remaining : R → Option (List ℕ)) (first : Counted R) (now : Source R ahead) (before : List (List ℕ)) (rest : List ℕ) : Type 0 where
+    {R : Type 0} {ahead : ℕ} (remaining : R → Option (List ℕ)) (first : Counted R)
+    (now : Source R ahead) (before : List (List ℕ)) (rest : List ℕ) : Type 0 where
   pub has_rest : HasRest remaining first now before rest
   pub spent : IsSpent (remaining (counted_inner (source_reader now)))
   pub failures : failures_of (source_reader now) ≡ failures_of first
 
 -- what came after the lines before it
-abbrev pub LineCame : {R : Type 0} {ahead : ℕ} → (R → Option (List ℕ)) → Counted R → Source R ahead → List (List ℕ) → List ℕ → NextLine → Type 0
+abbrev pub LineCame : {R : Type 0} {ahead : ℕ} → (R → Option (List ℕ)) → Counted R → Source R ahead
+    → List (List ℕ) → List ℕ → NextLine → Type 0
 LineCame remaining first now before room (Line kept) =
     (line : List ℕ) × IsLineKept line room kept × HasTaken remaining first now (before ++ line ∷ [])
 LineCame remaining first now before room (LastLine kept) =
-    (line : List ℕ) × IsLineKept line room kept × (0 < length line) × IsInputOver remaining first now before line
+    (line : List ℕ) × IsLineKept line room kept × (0 < length line)
+    × IsInputOver remaining first now before line
 LineCame remaining first now before room End = IsInputOver remaining first now before []
 LineCame remaining first now before room Failed =
-    (rest : List ℕ) × HasRest remaining first now before rest × Rises (failures_of first) (failures_of (source_reader now))
+    (rest : List ℕ) × HasRest remaining first now before rest
+    × Rises (failures_of first) (failures_of (source_reader now))
 
 -- a line that its LF ended leaves fewer bytes that can come
 abbrev pub LeavesLessBehind : NextLine → ℕ → ℕ → Type 0

@@ -34,7 +34,8 @@ telling_one f = record { plan = f.plan; message = own_message f.from f.done }
 -- the bytes say more of the agent than it has finished
 abbrev pub IsMoreIn : Timetable → (i done : ℕ) → List ℕ → StaleWord → Type 0
 IsMoreIn tt i done bytes w =
-    (t : Telling) × BytesTell bytes t × (t.message.sender ≡ w.sender) × (stale_number tt i done t ≡ Some w.number)
+    (t : Telling) × BytesTell bytes t × (t.message.sender ≡ w.sender)
+    × (stale_number tt i done t ≡ Some w.number)
 
 -- or no more
 abbrev pub IsNoMoreIn : Timetable → (i done : ℕ) → List ℕ → Type 0

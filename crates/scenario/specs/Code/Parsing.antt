@@ -1,5 +1,7 @@
 -- How the reader of a scenario follows a line: what its parts are seen as.
-use Rattle.std.specs.Prelude.{◌≡◌, ℕ, ◌+◌, ◌-◌, ◌^◌, ◌<◌, min, Bool, true, false, ◌&&◌, ◌||◌, ◌==◌, if◌then◌else◌, nat_lt, List, [], ◌∷◌, ◌++◌, length, take, drop, Option, Some, None, ◌⊎◌, codes}
+use Rattle.std.specs.Prelude.{◌≡◌, ℕ, ◌+◌, ◌-◌, ◌^◌, ◌<◌, min, Bool, true}
+use Rattle.std.specs.Prelude.{false, ◌&&◌, ◌||◌, ◌==◌, if◌then◌else◌, nat_lt, List, [], ◌∷◌}
+use Rattle.std.specs.Prelude.{◌++◌, length, take, drop, Option, Some, None, ◌⊎◌, codes}
 use Rattle.std.specs.List.{list_all, position_or_len}
 use Rattle.std.specs.Char.{is_ascii_digit}
 use Rattle.std.specs.Str.{bytes_eq}
@@ -14,7 +16,8 @@ use Rattle.scenario.specs.declared.scen_fault.ScenFault.TheVariants.{OutOfMemory
 use Rattle.scenario.specs.Fields.{without_leading}
 use Rattle.scenario.specs.Query.{Query, point}
 use Rattle.scenario.specs.ScenText.{IsSkipped, IsVersion, SpellsRow}
-use Rattle.scenario.specs.ScenFault.{ScenDue, version_due, row_due, ScenFollows, Fields, value_of, is_number, HasScenFault}
+use Rattle.scenario.specs.ScenFault.{ScenDue, version_due, row_due, ScenFollows}
+use Rattle.scenario.specs.ScenFault.{Fields, value_of, is_number, HasScenFault}
 
 -- the lines of a scenario's text are right, one after another
 abbrev pub ScenLeads : ScenDue → List (List ℕ) → ScenDue → Type 0
@@ -74,7 +77,9 @@ pub record IsShortNumber (bytes digits : List ℕ) (n : ℕ) (rest : List ℕ) :
 
 -- what digits spell that follow those of a number, if the bytes are digits alone
 abbrev pub spelled_after : ℕ → List ℕ → Option ℕ
-spelled_after start bytes = if list_all is_ascii_digit bytes then Some (min (digits_value_after 10 start bytes) most_told) else None
+spelled_after start bytes =
+    if list_all is_ascii_digit bytes then Some
+    (min (digits_value_after 10 start bytes) most_told) else None
 
 -- where the first point stands, or the number of bytes
 abbrev pub point_at : List ℕ → ℕ
@@ -90,15 +95,19 @@ after_of bytes = drop (point_at bytes + 1) bytes
 -- one to seven digits, and then nothing, or a point and one to twelve digits
 abbrev pub is_listed_form : List ℕ → Bool
 is_listed_form bytes =
-    nat_lt 0 (length (whole_of bytes)) && nat_lt (length (whole_of bytes)) 8 && nat_lt (length (after_of bytes)) 13
+    nat_lt 0 (length (whole_of bytes)) && nat_lt (length (whole_of bytes)) 8
+    && nat_lt (length (after_of bytes)) 13
     && (nat_lt 0 (length (after_of bytes)) || point_at bytes == length bytes)
 
 abbrev pub is_listed : List ℕ → Bool
-is_listed bytes = is_listed_form bytes && list_all is_ascii_digit (whole_of bytes) && list_all is_ascii_digit (after_of bytes)
+is_listed bytes =
+    is_listed_form bytes && list_all is_ascii_digit (whole_of bytes) && list_all is_ascii_digit
+    (after_of bytes)
 
 -- the number that the digits around the point spell together
 abbrev pub listed_value : List ℕ → ℕ
-listed_value bytes = digits_value_after 10 (digits_value_after 10 0 (whole_of bytes)) (after_of bytes)
+listed_value bytes =
+    digits_value_after 10 (digits_value_after 10 0 (whole_of bytes)) (after_of bytes)
 
 -- the row that nine fields spell
 abbrev pub query_of : Fields → Query
@@ -120,11 +129,15 @@ due_after true = row_due
 
 -- why a line was refused: there was no memory, or the line has the fault wherever it is over
 abbrev pub RefusesLine : ScenDue → ℕ → List ℕ → ScenFault → Type 0
-RefusesLine due number line fault = (fault ≡ OutOfMemory) ⊎ ((place : Place) → IsOver place → HasScenFault fault place due number line)
+RefusesLine due number line fault =
+    (fault ≡ OutOfMemory)
+    ⊎ ((place : Place) → IsOver place → HasScenFault fault place due number line)
 
 -- start and goal lie within the size
 abbrev pub are_in_grid : Numbers → Bool
-are_in_grid n = nat_lt n.start_x n.width && nat_lt n.start_y n.height && nat_lt n.goal_x n.width && nat_lt n.goal_y n.height
+are_in_grid n =
+    nat_lt n.start_x n.width && nat_lt n.start_y n.height && nat_lt n.goal_x n.width
+    && nat_lt n.goal_y n.height
 
 -- `1` or `1.0`
 abbrev pub is_one : List ℕ → Bool
@@ -134,10 +147,14 @@ is_one number = bytes_eq number (codes "1") || bytes_eq number (codes "1.0")
 abbrev pub is_version : List ℕ → Bool
 is_version content =
     bytes_eq (take 7 content) (codes "version")
-    && nat_lt (length (without_leading (drop 7 content))) (length (drop 7 content)) && is_one (without_leading (drop 7 content))
+    && nat_lt (length (without_leading (drop 7 content))) (length (drop 7 content))
+    && is_one (without_leading (drop 7 content))
 
--- A right line was added to those so far: whether there was a version before and is one now, and the rows before and now.
+-- A right line was added to those so far: whether there was a version before and is one now, and
+-- the rows before and now.
 abbrev pub Adds : Bool → Bool → List Query → List Query → List ℕ → Type 0
-Adds false now old new line = ((IsSkipped line × (now ≡ false)) ⊎ (IsVersion line × (now ≡ true))) × (new ≡ old)
+Adds false now old new line =
+    ((IsSkipped line × (now ≡ false)) ⊎ (IsVersion line × (now ≡ true))) × (new ≡ old)
 Adds true now old new line =
-    (now ≡ true) × ((IsSkipped line × (new ≡ old)) ⊎ ((q : Query) × SpellsRow q line × (new ≡ old ++ q ∷ [])))
+    (now ≡ true) × ((IsSkipped line × (new ≡ old))
+    ⊎ ((q : Query) × SpellsRow q line × (new ≡ old ++ q ∷ [])))

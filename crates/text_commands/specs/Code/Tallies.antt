@@ -1,12 +1,14 @@
 -- How many rows there are of each kind, as they are counted.
-use Rattle.std.specs.Prelude.{◌≡◌, ℕ, ◌+◌, ◌==◌, ◌&&◌, Bool, false, true, if◌then◌else◌, List, [], ◌∷◌, ◌++◌, codes, count_by, length, map, max, sum_by}
+use Rattle.std.specs.Prelude.{◌≡◌, ℕ, ◌+◌, ◌==◌, ◌&&◌, Bool, false, true, if◌then◌else◌, List}
+use Rattle.std.specs.Prelude.{[], ◌∷◌, ◌++◌, codes, count_by, length, map, max, sum_by}
 use Rattle.text_io.specs.Text.{line_feed}
 use Rattle.text_commands.specs.declared.row_line.RowLine.{RowLine}
 use Rattle.ending.specs.declared.status.Status.{Status}
 use Rattle.ending.specs.declared.status.Status.TheVariants.{Done, Fault}
 use Rattle.text_commands.specs.declared.tally.Tally.{Tally}
 use Rattle.ending.specs.Pieces.{pieces_text}
-use Rattle.text_commands.specs.RowsCommand.{has_other_size, is_agreed, is_otherwise, is_unreached, most_steps, steps_of}
+use Rattle.text_commands.specs.RowsCommand.{has_other_size, is_agreed, is_otherwise}
+use Rattle.text_commands.specs.RowsCommand.{is_unreached, most_steps, steps_of}
 
 -- 1 for yes
 abbrev pub one_if : Bool → ℕ
@@ -38,9 +40,11 @@ tally_status t = if (t.differ == 0) && ((t.unreachable == 0) && (t.size == 0)) t
 -- the words of the last line with their numbers
 abbrev pub tally_pieces : Bool → Tally → List (List ℕ × ℕ)
 tally_pieces false t =
-    (codes "rows ", t.rows) ∷ (codes " agree ", t.agree) ∷ (codes " differ ", t.differ) ∷ (codes " unreachable ", t.unreachable) ∷ (codes " size ", t.size) ∷ []
+    (codes "rows ", t.rows) ∷ (codes " agree ", t.agree) ∷ (codes " differ ", t.differ)
+    ∷ (codes " unreachable ", t.unreachable) ∷ (codes " size ", t.size) ∷ []
 tally_pieces true t =
-    (codes "rows ", t.rows) ∷ (codes " sum ", t.sum) ∷ (codes " greatest ", t.greatest) ∷ (codes " unreachable ", t.unreachable) ∷ (codes " size ", t.size) ∷ []
+    (codes "rows ", t.rows) ∷ (codes " sum ", t.sum) ∷ (codes " greatest ", t.greatest)
+    ∷ (codes " unreachable ", t.unreachable) ∷ (codes " size ", t.size) ∷ []
 
 abbrev pub tally_line : Bool → Tally → List ℕ
 tally_line straight t = pieces_text (tally_pieces straight t) ++ line_feed ∷ []

@@ -1,4 +1,5 @@
--- How far apart two cells are on a map without obstacles, as a number of which a straight step is 6625109 and a diagonal one 2744210 more.
+-- How far apart two cells are on a map without obstacles, as a number of which a straight step is
+-- 6625109 and a diagonal one 2744210 more.
 use Rattle.std.specs.Prelude.{ℕ, ◌+◌, ◌-◌, ◌*◌, ◌^◌, max, Option, None, Some}
 use Rattle.std.specs.Int.{abs_diff}
 use Rattle.grid.specs.declared.cell.Cell.{Cell}

@@ -1,5 +1,6 @@
 -- What a table says of each place, and of each cell of a map.
-use Rattle.std.specs.Prelude.{◌≡◌, ℕ, ◌+◌, ◌*◌, ◌≤◌, List, map, Option, None, Bool, true, false, nat_eq, slice_index_or}
+use Rattle.std.specs.Prelude.{◌≡◌, ℕ, ◌+◌, ◌*◌, ◌≤◌, List, map}
+use Rattle.std.specs.Prelude.{Option, None, Bool, true, false, nat_eq, slice_index_or}
 use Rattle.std.specs.List.{range_with_len}
 use Rattle.walks.specs.declared.beyond.Beyond.{Beyond}
 use Rattle.scenario.specs.declared.length.Length.{Length}
@@ -24,12 +25,16 @@ abbrev pub number_as : Bool → Tiles → List (Option Length) → (width x y : 
 number_as true t table width x y = number_at t x y
 number_as false t table width x y = entry_number table width x y
 
--- The number of a cell by which tightness is tested. It may be less than that of its entry, where that was rounded.
+-- The number of a cell by which tightness is tested. It may be less than that of its entry, where
+-- that was rounded.
 abbrev pub number_on : Entries → (width x y : ℕ) → ℕ
 number_on (Listed keys) width x y = entry_number (table_entries (Listed keys)) width x y
-number_on (Found t) width x y = number_as (nat_eq t.width width) t (table_entries (Found t)) width x y
+number_on (Found t) width x y =
+    number_as (nat_eq t.width width) t (table_entries (Found t)) width x y
 
 -- in a row and the row below it a search found no key from one column to another
 abbrev pub IsBeyond : Entries → (width left right y : ℕ) → Type 0
 IsBeyond entries width left right y =
-    (b : Option Beyond) × ((i j : ℕ) → left ≤ i → i ≤ right → y ≤ j → j ≤ y + 1 → number_on entries width i j ≡ beyond_number b i j)
+    (b : Option Beyond)
+    × ((i j : ℕ) → left ≤ i → i ≤ right → y ≤ j → j ≤ y + 1
+    → number_on entries width i j ≡ beyond_number b i j)

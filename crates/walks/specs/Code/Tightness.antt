@@ -1,5 +1,6 @@
 -- How a table is tested to be tight: row by row, by blocks of four cells that share a corner.
-use Rattle.std.specs.Prelude.{bit_and, ℕ, ◌≡◌, ◌+◌, ◌-◌, ◌<◌, ◌≤◌, Bool, true, false, slice_index, Option, Some, None}
+use Rattle.std.specs.Prelude.{bit_and, ℕ, ◌≡◌, ◌+◌, ◌-◌, ◌<◌, ◌≤◌}
+use Rattle.std.specs.Prelude.{Bool, true, false, slice_index, Option, Some, None}
 use Rattle.grid.specs.declared.terrain.Terrain.{Terrain}
 use Rattle.grid.specs.Terrain.{Class, land, swamp, water, blocked, class_of}
 use Rattle.grid.specs.Map.{Grid, terrain_at}
@@ -57,7 +58,9 @@ KeepsSide p q = AreSame p q → AreWithinStep 6625109 p.key q.key
 
 -- the diagonal steps of four cells that share a corner: upper left and right, lower left and right
 abbrev pub KeepsDiagonals : Corner → Corner → Corner → Corner → Type 0
-KeepsDiagonals a b c d = AreSame a b × AreSame a c × AreSame a d → AreWithinStep 9369319 a.key d.key × AreWithinStep 9369319 b.key c.key
+KeepsDiagonals a b c d =
+    AreSame a b × AreSame a c × AreSame a d → AreWithinStep 9369319 a.key d.key
+    × AreWithinStep 9369319 b.key c.key
 
 -- of four such cells, the steps from the upper left one and the diagonal ones
 abbrev pub KeepsBlock : Corner → Corner → Corner → Corner → Type 0
@@ -66,15 +69,19 @@ KeepsBlock a b c d = KeepsSide a b × KeepsSide a c × KeepsDiagonals a b c d
 -- four cells that share a corner, by the upper left one
 abbrev pub KeepsBlockAt : Grid → (ℕ → ℕ → ℕ) → (x y : ℕ) → Type 0
 KeepsBlockAt m numbers x y =
-    KeepsBlock (corner_at m numbers x y) (corner_at m numbers (x + 1) y) (corner_at m numbers x (y + 1)) (corner_at m numbers (x + 1) (y + 1))
+    KeepsBlock (corner_at m numbers x y) (corner_at m numbers (x + 1) y)
+    (corner_at m numbers x (y + 1)) (corner_at m numbers (x + 1) (y + 1))
 
 -- what a row holds of a column of its strip
 abbrev pub corner_in : Corners → ℕ → Corner
-corner_in corners i = record { grounds = slice_index corners.grounds i; key = slice_index corners.keys i }
+corner_in corners i =
+    record { grounds = slice_index corners.grounds i; key = slice_index corners.keys i }
 
 -- four cells that share a corner, by the place of the upper left one in two rows one below another
 abbrev pub KeepsBlockIn : Corners → Corners → ℕ → Type 0
-KeepsBlockIn upper lower i = KeepsBlock (corner_in upper i) (corner_in upper (i + 1)) (corner_in lower i) (corner_in lower (i + 1))
+KeepsBlockIn upper lower i =
+    KeepsBlock (corner_in upper i) (corner_in upper (i + 1)) (corner_in lower i)
+    (corner_in lower (i + 1))
 
 -- the first so many blocks of two rows
 abbrev pub KeepsRows : ℕ → Corners → Corners → Type 0
@@ -90,12 +97,18 @@ TellsSame p c = (p.grounds ≡ c.grounds) × ((c.grounds ≡ 0 → ⊥) → p.ke
 
 -- what the cells of a row say, from one column to another
 abbrev pub AreCorners : Grid → (ℕ → ℕ → ℕ) → (left right y : ℕ) → Corners → Type 0
-AreCorners m numbers left right y corners = (x : ℕ) → left ≤ x → x ≤ right → TellsSame (corner_in corners (x - left)) (corner_at m numbers x y)
+AreCorners m numbers left right y corners =
+    (x : ℕ) → left ≤ x → x ≤ right
+    → TellsSame (corner_in corners (x - left)) (corner_at m numbers x y)
 
 -- each block whose upper left cell is in a band of rows, and in a column from one to before another
 abbrev pub KeepsPatch : Grid → (ℕ → ℕ → ℕ) → (left right top : ℕ) → Type 0
-KeepsPatch m numbers left right top = (y : ℕ) → top ≤ y → y < top + 64 → y < m.height → (x : ℕ) → left ≤ x → x < right → KeepsBlockAt m numbers x y
+KeepsPatch m numbers left right top =
+    (y : ℕ) → top ≤ y → y < top + 64 → y < m.height → (x : ℕ) → left ≤ x → x < right
+    → KeepsBlockAt m numbers x y
 
 -- each block whose upper left cell is in a band of rows
 abbrev pub KeepsBand : Grid → (ℕ → ℕ → ℕ) → (top : ℕ) → Type 0
-KeepsBand m numbers top = (y : ℕ) → top ≤ y → y < top + 64 → y < m.height → (x : ℕ) → x < m.width → KeepsBlockAt m numbers x y
+KeepsBand m numbers top =
+    (y : ℕ) → top ≤ y → y < top + 64 → y < m.height → (x : ℕ) → x < m.width
+    → KeepsBlockAt m numbers x y

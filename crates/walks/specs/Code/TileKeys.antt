@@ -1,5 +1,6 @@
 -- What the tiles of a search say of each cell.
-use Rattle.std.specs.Prelude.{ℕ, ◌+◌, ◌*◌, ◌/◌, ◌%◌, ◌^◌, nat_lt, if◌then◌else◌, List, [], Option, None, Some, slice_get}
+use Rattle.std.specs.Prelude.{ℕ, ◌+◌, ◌*◌, ◌/◌, ◌%◌, ◌^◌, nat_lt}
+use Rattle.std.specs.Prelude.{if◌then◌else◌, List, [], Option, None, Some, slice_get}
 use Rattle.walks.specs.declared.keys.Key.{Key}
 use Rattle.scenario.specs.declared.length.Length.{Length}
 use Rattle.walks.specs.declared.tiles.Tile.{Tile}
@@ -18,7 +19,8 @@ tile_number across x y = y / 64 * across + x / 64
 
 -- the key of a cell
 abbrev pub key_at : Tiles → (x y : ℕ) → Option Key
-key_at t x y = slice_get (keys_in (slice_get t.all.items (tile_number t.across x y))) (y % 64 * 64 + x % 64)
+key_at t x y =
+    slice_get (keys_in (slice_get t.all.items (tile_number t.across x y))) (y % 64 * 64 + x % 64)
 
 abbrev pub number_by : ℕ → Option Key → ℕ
 number_by beyond None = beyond

@@ -1,4 +1,5 @@
--- The numbers of lengths are ordered as the lengths are: 9369319² = 2 * 6625109² - 1, and one part is less than 6625109.
+-- The numbers of lengths are ordered as the lengths are: 9369319² = 2 * 6625109² - 1, and one part
+-- is less than 6625109.
 use Rattle.std.proofs.Common.{ℕ, ◌+◌, ◌-◌, ◌*◌, ◌<◌, ◌≤◌, inl, inr, arith}
 use Rattle.std.proofs.lemmas.Bool.{cases_lt}
 use Rattle.std.proofs.lemmas.Nat.{mul-le, mul-lt}
@@ -26,18 +27,21 @@ above_root x y h =
           omega (arith, squares, h))
     ]
 
-pub less_key : (a b c d : ℕ) → d < 6625109 → IsLess a b c d → a * 6625109 + b * 9369319 < c * 6625109 + d * 9369319
+pub less_key : (a b c d : ℕ) → d < 6625109 → IsLess a b c d
+    → a * 6625109 + b * 9369319 < c * 6625109 + d * 9369319
 less_key a b c d small (inl h) = omega (arith, h.0, h.1)
 less_key a b c d small (inr (inl h)) =
     let k = below_root (a - c) (d - b) h.2 (omega (arith, small)) in omega (arith, k, h.0, h.1)
 less_key a b c d small (inr (inr h)) =
     let k = above_root (c - a) (b - d) h.2 in omega (arith, k, h.0, h.1)
 
-pub at_most_key : (a b c d : ℕ) → d < 6625109 → IsAtMost a b c d → a * 6625109 + b * 9369319 ≤ c * 6625109 + d * 9369319
+pub at_most_key : (a b c d : ℕ) → d < 6625109 → IsAtMost a b c d
+    → a * 6625109 + b * 9369319 ≤ c * 6625109 + d * 9369319
 at_most_key a b c d small (inl h) = let k = less_key a b c d small h in omega (arith, k)
 at_most_key a b c d small (inr h) = omega (arith, h.0, h.1)
 
-pub at_most_from_key : (a b c d : ℕ) → b < 6625109 → a * 6625109 + b * 9369319 ≤ c * 6625109 + d * 9369319 → IsAtMost a b c d
+pub at_most_from_key : (a b c d : ℕ) → b < 6625109
+    → a * 6625109 + b * 9369319 ≤ c * 6625109 + d * 9369319 → IsAtMost a b c d
 at_most_from_key a b c d small h =
     elim (total a b c d) [
       | inl less ↦ inl less
