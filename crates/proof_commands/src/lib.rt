@@ -3,10 +3,10 @@
 
 mod ends;
 mod leaf_again;
-mod leaf_text;
+mod leaf_words;
 pub mod optimal_command;
 mod shown;
 
 pub use leaf_again::read_leaf;
-pub use leaf_text::{leaf_text, least_cost};
+pub use leaf_words::{leaf_text, least_cost};
 pub use optimal_command::optimal_cmd;
