@@ -1,12 +1,13 @@
 -- The line names the fault, and the ending has its words.
 use Rattle.std.proofs.Common.{◌∙◌, inl, inr, ap, subst, sym}
 use Rattle.text_io.specs.FaultWords.{words_text}
-use Rattle.ending.specs.Ending.{End, end_of, rejected}
+use Rattle.ending.specs.Ending.{End, end_of, gave_up, rejected}
 use Rattle.ending.specs.Rewriting.{EndsByLine}
 use Rattle.proof_text.specs.FaultWords.{proof_fault_words}
 use Rattle.proof_text.specs.declared.proof_fault.ProofFault.{ProofFault}
 use Rattle.proof_commands.specs.OptimalCommand.{EndsUnproved}
 use Rattle.proof_commands.specs.ShownText.{refused_line}
+use Rattle.proof_commands.proofs.Unproved.{unproved}
 use Rattle.proof_commands.proofs.optimal_command.refuse.Goals as goal
 
 pub returns-in-NoSuchAgent : goal.returns-in-NoSuchAgent
@@ -23,3 +24,8 @@ returns-in-NoSuchAgent g c =
         | inr leaf ↦ subst Told (sym leaf.2) (subst Named leaf.2 named)
       ]
     ]
+
+pub returns-in_default : goal.returns-in_default
+returns-in_default g c =
+    unproved g.W.Write.contents c.args.json c.args.out.now _ c.args.fault c.in_default.not-NoSuchAgent c.in_default.not-OffMap c.in_default.not-LeafTooLow
+    (c.gave_up.ensures ∙ ap gave_up c.words-in_default.ensures)
