@@ -160,14 +160,14 @@ fn put_other_format<R: Files>(
     page.say(".\n");
 }
 
-/// The first other file that begins like what this one is read as.
+/// The first file that is read as something else and begins like what this one is read as.
 fn exchanged_with<'a, R: Files>(
     rt: &R,
     files: &[NamedFile<'a>],
     file: NamedFile<'_>,
 ) -> Option<NamedFile<'a>> {
     for other in files {
-        if other.path != file.path && begins_like(rt, other.path, file.origin) {
+        if !is_format_of(other.origin, file.origin) && begins_like(rt, other.path, file.origin) {
             return Some(*other);
         }
     }

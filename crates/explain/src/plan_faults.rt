@@ -28,7 +28,7 @@ pub(crate) fn explain_plan<R: Files>(
     page: &mut Page,
 ) {
     let map = file_of(files, Origin::Map);
-    let plan = file_of(files, Origin::Plan);
+    let plan = file_of(files, told.origin);
     if let (Some(map), Some(plan)) = (map, plan) {
         put_title(map, plan, told.number(0), page);
         explain_on_map(rt, [map.path, plan.path], told, page);
