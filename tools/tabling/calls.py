@@ -24,8 +24,8 @@ from whole_file import draft
 REFUSED, BAD_LINE, NOT_DONE = 1, 2, 3
 SECONDS = 600.0
 BAR = 30
-# For how long a worker's Python waits for another job.
-IDLE = 60
+# For how long a worker's Python waits for another batch, and goes on with one, in seconds.
+IDLE, PATIENCE = 60, 0.5
 # How many results that don't fit any more are named.
 MOST_REASONS = 10
 
@@ -71,10 +71,19 @@ def hold_options(parser: argparse.ArgumentParser, given: argparse.Namespace) -> 
         parser.error("--jobs: a number above 0 is wanted")
 
 
-def lines_told() -> Iterator[str]:
-    """The lines of standard input. Who tells one waits for what is answered, so no line lies in between unseen."""
+def batches_told() -> Iterator[list[str]]:
+    """The lines of standard input, each a list of jobs. Who tells one waits for what is answered, so no line lies in between unseen."""
     while select.select([sys.stdin], [], [], IDLE)[0] and (line := sys.stdin.readline()):
-        yield line
+        yield json.loads(line)
+
+
+def in_time(batch: Sequence[str]) -> Iterator[str]:
+    """The first jobs of a batch, as many as there is time for."""
+    last = time.monotonic() + PATIENCE
+    for job in batch:
+        yield job
+        if time.monotonic() > last:
+            return
 
 
 def show_bar(done: int, count: int, begun: float) -> None:
@@ -140,12 +149,14 @@ class Tool(abc.ABC):
         return 0
 
     def do_as_told(self, given: argparse.Namespace) -> None:
-        """For a worker of a cluster: a line a job on standard input, and each time a line with its result on standard output."""
+        """For a worker of a cluster: a line a batch on standard input, and each time a line a result on standard output, and an empty one."""
         work = self.work_of(given, Program(given.program))
         # Found here once, and not by each job's process.
         _ = work.judge
-        for row in workers.on_this_machine(map(self.kind.unpacked, lines_told()), work, 1):
-            print(json.dumps(row), flush=True)
+        for batch in batches_told():
+            for row in workers.on_this_machine(map(self.kind.unpacked, in_time(batch)), work, 1):
+                print(json.dumps(row), flush=True)
+            print(flush=True)
 
     def do_all(self, given: argparse.Namespace) -> None:
         work = self.work_of(given, Program(given.program))

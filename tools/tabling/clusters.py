@@ -17,8 +17,8 @@ from tabling.work import Work
 
 # What talks with the cluster.
 LINK = pathlib.Path(__file__).resolve().with_name("dask_link.py")
-# The most jobs of a batch, how long a worker goes on with one, in seconds, and how many batches wait for each of its threads.
-MOST_OF_A_BATCH, PATIENCE, AHEAD = 32, 0.5, 2
+# The most jobs of a batch, and how many batches wait for each thread of a worker.
+MOST_OF_A_BATCH, AHEAD = 32, 2
 # How often a job is handed out that gets no answer, and how many batches without one show that the cluster can't work.
 TRIES, MOST_SILENT = 3, 20
 
@@ -124,7 +124,7 @@ def linked(address: Optional[str], work: Work) -> Iterator[Optional[Link]]:
         return
     program = str(work.program.path.resolve())
     words = [sys.executable, str(work.tool), "--told", "--program", program, "--seconds", str(work.seconds), *work.options]
-    command = [sys.executable, str(LINK), address, str(PATIENCE), f"mapf-{os.urandom(16).hex()}", *words]
+    command = [sys.executable, str(LINK), address, f"mapf-{os.urandom(16).hex()}", *words]
     # In a session of its own: whoever stops this call by its terminal stops the link by its end alone, which says nothing.
     process = subprocess.Popen(command, stdin=subprocess.PIPE, stdout=subprocess.PIPE, text=True, start_new_session=True)
     try:

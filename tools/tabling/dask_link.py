@@ -1,7 +1,7 @@
 """The link of a call to a Dask cluster: a process that does nothing else. It imports Dask and connects while the call looks for its jobs, and the call
 needn't wait until Dask has ended.
 
-Usage: dask_link.py ADDRESS PATIENCE CALL WORD..
+Usage: dask_link.py ADDRESS CALL WORD..
 
 The words start a Python that answers jobs, and the call names it on each worker. A line of standard input is a batch of jobs, as an object of JSON. A
 line of standard output says that a batch has ended, and how; the first line says that the cluster is there, or why it isn't. The end of standard input
@@ -17,7 +17,6 @@ import logging
 import os
 import subprocess
 import sys
-import time
 import warnings
 from typing import Any, Deque
 
@@ -40,30 +39,24 @@ def a_python(idle: Deque[Python], words: list[str]) -> Python:
     return subprocess.Popen(words, stdin=subprocess.PIPE, stdout=subprocess.PIPE, text=True)
 
 
-def answers(call: str, words: list[str], jobs: list[str], patience: float) -> list[str]:
+def answers(call: str, words: list[str], jobs: list[str]) -> list[str]:
     """What a worker does with a batch: the answers to the first of these jobs, as many as there was time for. It goes to workers by value, with all that
     it names here."""
     from distributed import get_worker
 
     # Each thread of a worker takes a Python of its own, and gives it back.
     idle = vars(get_worker()).setdefault(call, collections.deque())
-    kept = a_python(idle, words)
-    begun, lines = time.monotonic(), []
-    for job in jobs:
-        try:
-            kept.stdin.write(f"{job}\n")
-            kept.stdin.flush()
-            line = kept.stdout.readline()
-        except OSError:
-            line = ""
-        if not line.endswith("\n"):
-            kept.kill()
-            kept.wait()
+    kept, lines = a_python(idle, words), []
+    with contextlib.suppress(OSError):
+        print(json.dumps(jobs), file=kept.stdin, flush=True)
+    for line in kept.stdout:
+        # Behind its last answer.
+        if line == "\n":
+            idle.append(kept)
             return lines
         lines.append(line)
-        if time.monotonic() - begun > patience:
-            break
-    idle.append(kept)
+    kept.kill()
+    kept.wait()
     return lines
 
 
@@ -74,8 +67,8 @@ def in_a_line(fault: BaseException) -> str:
 class Link:
     """A client of the cluster that hands out the batches of a call."""
 
-    def __init__(self, patience: float, call: str, words: list[str], out: asyncio.WriteTransport):
-        self.patience, self.call, self.words, self.out = patience, call, words, out
+    def __init__(self, call: str, words: list[str], out: asyncio.WriteTransport):
+        self.call, self.words, self.out = call, words, out
         self.client: Any = None
         # Kept, since a batch that nobody waits for is dropped.
         self.first: list[Any] = []
@@ -84,7 +77,7 @@ class Link:
         self.out.write(f"{json.dumps(said)}\n".encode())
 
     def handed_out(self, jobs: list[str], **where: object) -> Any:
-        return self.client.submit(answers, self.call, self.words, jobs, self.patience, pure=False, **where)
+        return self.client.submit(answers, self.call, self.words, jobs, pure=False, **where)
 
     async def connect(self, address: str) -> None:
         """Connects, and has workers start their Pythons by batches of no jobs: jobs may come later."""
@@ -120,13 +113,13 @@ class Link:
         return {"batch": batch, "lines": lines, "fault": fault, "threads": sum((await self.client.nthreads()).values())}
 
 
-async def serve(address: str, patience: str, call: str, *words: str) -> None:
+async def serve(address: str, call: str, *words: str) -> None:
     """Takes batches until the call ends."""
     loop, reader = asyncio.get_running_loop(), asyncio.StreamReader(limit=sys.maxsize)
     await loop.connect_read_pipe(lambda: asyncio.StreamReaderProtocol(reader), sys.stdin)
     # Neither end of a pipe waits here: else this process and the call might wait for one another.
     out, _ = await loop.connect_write_pipe(asyncio.BaseProtocol, sys.stdout)
-    link = Link(float(patience), call, list(words), out)
+    link = Link(call, list(words), out)
     running = {asyncio.ensure_future(link.connect(address))}
     async for line in reader:
         task = asyncio.ensure_future(link.see_to(line))
