@@ -162,6 +162,27 @@ def of_early_workers(harness: Harness, two: Cluster) -> Iterator[Outcome]:
     yield compared("workers that begin while files are read", ran, (status, found_in(room, "early.csv")), (0, DUE))
 
 
+def starter_of(pid: int) -> int:
+    """What has started a process that may be gone. A list of what a process has started lacks what its threads have."""
+    with contextlib.suppress(OSError):
+        return int(pathlib.Path(f"/proc/{pid}/status").read_text(encoding="utf-8").partition("\nPPid:")[2].split()[0])
+    return 0
+
+
+def of_left_pythons(harness: Harness, two: Cluster) -> Iterator[Outcome]:
+    """Workers forget the Pythons of former calls that have ended."""
+    room, _ = slow_room(harness)
+    ended(two.run(room, "--maps", "maps", "scens", "-o", "one.csv")[1])
+    waiting = [pid for pid, command in processes_of(ROOT / "tools") if "--told" in command]
+    left = [pid for pid in waiting if starter_of(pid) in [worker.pid for worker in two.workers]]
+    for pid in left:
+        os.kill(pid, signal.SIGKILL)
+    ran, process = two.run(room, "--maps", "maps", "scens", "-o", "another.csv")
+    status = ended(process).status
+    forgotten = wait_until(lambda: not any(pathlib.Path(f"/proc/{pid}").exists() for pid in left))
+    yield compared("Pythons of a former call", ran, (status, len(left) >= 2, forgotten), (0, True, True))
+
+
 def of_a_killed_worker(harness: Harness, two: Cluster) -> Iterator[Outcome]:
     room, program = slow_room(harness)
     ran, process = two.run(room, "--maps", "maps", "scens", "-o", "worker.csv", program=program)
@@ -253,6 +274,7 @@ def outcomes(harness: Harness) -> Iterator[Outcome]:
         yield from of_verdicts(harness, two)
         yield from of_kept_pythons(harness, two)
         yield from of_early_workers(harness, two)
+        yield from of_left_pythons(harness, two)
         yield from of_a_killed_python(harness, two)
         yield from of_a_killed_link(harness, two)
         yield from of_a_killed_worker(harness, two)

@@ -29,13 +29,21 @@ UNUSED = ("numpy", "pandas")
 Python = subprocess.Popen
 
 
-def a_python(idle: Deque[Python], words: list[str]) -> Python:
-    """One that waits for jobs, else a new one. A Python that has waited for too long has ended."""
+def drop_ended(pythons: dict[str, Deque[Python]]) -> None:
+    """Lets go of those of former calls: a Python that has ended is still a process and two pipes, until it is asked for and forgotten."""
+    for call, idle in list(pythons.items()):
+        if idle and all(kept.poll() is not None for kept in list(idle)):
+            pythons.pop(call, None)
+
+
+def a_python(pythons: dict[str, Deque[Python]], call: str, words: list[str]) -> Python:
+    """One that waits for jobs of the call, else a new one. A Python that has waited for too long has ended."""
     with contextlib.suppress(IndexError):
         while True:
-            kept = idle.pop()
+            kept = pythons[call].pop()
             if kept.poll() is None:
                 return kept
+    drop_ended(pythons)
     return subprocess.Popen(words, stdin=subprocess.PIPE, stdout=subprocess.PIPE, text=True)
 
 
@@ -44,9 +52,10 @@ def answers(call: str, words: list[str], jobs: list[str]) -> list[str]:
     it names here."""
     from distributed import get_worker
 
+    pythons = vars(get_worker()).setdefault("mapf_pythons", {})
     # Each thread of a worker takes a Python of its own, and gives it back.
-    idle = vars(get_worker()).setdefault(call, collections.deque())
-    kept, lines = a_python(idle, words), []
+    idle = pythons.setdefault(call, collections.deque())
+    kept, lines = a_python(pythons, call, words), []
     with contextlib.suppress(OSError):
         print(json.dumps(jobs), file=kept.stdin, flush=True)
     for line in kept.stdout:
