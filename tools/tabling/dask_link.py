@@ -24,7 +24,7 @@ from typing import Any, Deque
 WITHOUT_WORKERS = 30.0
 # What a client raises whose scheduler has gone: of batches that it waits for, and of what it asks then.
 GONE = (asyncio.CancelledError, concurrent.futures.CancelledError, OSError)
-# A client that connects imports these to say their versions, and that takes longer than all else does. Here nothing needs them.
+# A client that connects imports these, if it can, to say their versions. That takes longer than all else, and nothing here needs them.
 UNUSED = ("numpy", "pandas")
 Python = subprocess.Popen
 
@@ -97,8 +97,8 @@ class Link:
             threads = await self.client.nthreads()
             self.first = [self.handed_out([], workers=[worker]) for worker, count in threads.items() for _ in range(count)]
             self.tell(threads=sum(threads.values()))
-        # Whatever a cluster fails of, the results of the call are kept.
-        except Exception as fault:
+        # Whatever a cluster fails of, the call is told: it waits for that.
+        except (Exception, asyncio.CancelledError) as fault:
             self.tell(bad=in_a_line(fault))
 
     async def see_to(self, line: bytes) -> None:
@@ -137,9 +137,11 @@ async def serve(address: str, call: str, *words: str) -> None:
 
 
 def import_dask() -> None:
-    """Dask's modules are imported as they are, and not those that lie here and have their names."""
+    """Imports Dask, and nothing that it can do without."""
+    # What lies here isn't meant where Dask imports a module of the same name.
     here = os.path.dirname(os.path.realpath(__file__))
     sys.path[:] = [folder for folder in sys.path if folder != here]
+    # For Python a module that is None here isn't installed.
     sys.modules.update(dict.fromkeys(UNUSED))
     # The collector looks through all modules again and again, and finds nothing.
     gc.disable()
