@@ -9,11 +9,12 @@ import signal
 import socket
 import subprocess
 import time
-from typing import Iterator
+from typing import Iterator, Optional
 
-from harness import Ended, Harness, Outcome, compared, shown
+from harness import ROOT, Ended, Harness, Outcome, compared, shown
 from job_rooms import Room
 from judge_jobs import JOBS, csv_of, differing, judge_room
+from processes import children, processes_of, wait_until
 from pythons import python_with
 from tabling import LANE_RIGHT, RIGHT
 from texts import LANE
@@ -135,15 +136,51 @@ def of_a_killed_python(harness: Harness, two: Cluster) -> Iterator[Outcome]:
 
 
 def of_kept_pythons(harness: Harness, two: Cluster) -> Iterator[Outcome]:
-    """Each of the two workers does all its jobs with one Python: a program sees it as what started the process that started it."""
+    """Both workers get jobs, and each does all of its own with one Python: a program sees it as what started the process that started it. No job ends
+    before two Pythons were seen."""
     room, _ = slow_room(harness)
     told = room.folder / "pythons"
-    see = f'test "$1" = rows && case "$*" in */scens/*) sed -n "s/^PPid:[^0-9]*//p" /proc/$PPID/status >>{shlex.quote(str(told))};; esac'
-    program = room.script("seeing", f'{see}\nexec {shlex.quote(str(harness.program))} "$@"')
+    see = f'sed -n "s/^PPid:[^0-9]*//p" /proc/$PPID/status >>{shlex.quote(str(told))}'
+    both = f"until test $(sort -u {shlex.quote(str(told))} | wc -l) -ge 2; do sleep 0.1; done"
+    program = room.script("seeing", f'test "$1" = rows && {see} && {both}\nexec {shlex.quote(str(harness.program))} "$@"')
     ran, process = two.run(room, "--maps", "maps", "scens", "-o", "kept.csv", program=program)
     wrote = (ended(process).status, found_in(room, "kept.csv"))
     seen = told.read_text().split() if told.exists() else []
-    yield compared("how many Pythons two workers need", ran, (*wrote, len(seen), len(set(seen)) <= 2), (0, DUE, len(DUE), True))
+    yield compared("how many Pythons two workers need", ran, (*wrote, len(seen), len(set(seen))), (0, DUE, len(DUE), 2))
+
+
+def of_early_workers(harness: Harness, two: Cluster) -> Iterator[Outcome]:
+    """Workers begin while files are read: here a scenario can't be read before a Python of a worker has asked the program for its version."""
+    room, _ = slow_room(harness)
+    begun = shlex.quote(str(room.folder / "begun"))
+    lines = f'case "$*" in --version) >{begun};; scen*/7.scen) until test -e {begun}; do sleep 0.1; done;; esac'
+    program = room.script("holding", f'{lines}\nexec {shlex.quote(str(harness.program))} "$@"')
+    ran, process = two.run(room, "--maps", "maps", "scens", "-o", "early.csv", program=program)
+    status = ended(process).status
+    # What still waits needn't.
+    (room.folder / "begun").touch()
+    yield compared("workers that begin while files are read", ran, (status, found_in(room, "early.csv")), (0, DUE))
+
+
+def starter_of(pid: int) -> int:
+    """What has started a process that may be gone. A list of what a process has started lacks what its threads have."""
+    with contextlib.suppress(OSError):
+        return int(pathlib.Path(f"/proc/{pid}/status").read_text(encoding="utf-8").partition("\nPPid:")[2].split()[0])
+    return 0
+
+
+def of_left_pythons(harness: Harness, two: Cluster) -> Iterator[Outcome]:
+    """Workers forget the Pythons of former calls that have ended."""
+    room, _ = slow_room(harness)
+    ended(two.run(room, "--maps", "maps", "scens", "-o", "one.csv")[1])
+    waiting = [pid for pid, command in processes_of(ROOT / "tools") if "--told" in command]
+    left = [pid for pid in waiting if starter_of(pid) in [worker.pid for worker in two.workers]]
+    for pid in left:
+        os.kill(pid, signal.SIGKILL)
+    ran, process = two.run(room, "--maps", "maps", "scens", "-o", "another.csv")
+    status = ended(process).status
+    forgotten = wait_until(lambda: not any(pathlib.Path(f"/proc/{pid}").exists() for pid in left))
+    yield compared("Pythons of a former call", ran, (status, len(left) >= 2, forgotten), (0, True, True))
 
 
 def of_a_killed_worker(harness: Harness, two: Cluster) -> Iterator[Outcome]:
@@ -177,7 +214,58 @@ def of_a_killed_scheduler(harness: Harness, two: Cluster) -> Iterator[Outcome]:
     yield compared("what was left is judged", ran, (here.status, found_in(room, "scheduler.csv")), (0, DUE))
 
 
+def links() -> list[int]:
+    """The processes that talk with a cluster."""
+    return [pid for pid, command in processes_of(ROOT / "tools") if "dask_link.py" in command]
+
+
+def link_of(process: "subprocess.Popen[bytes]") -> Optional[int]:
+    with contextlib.suppress(OSError):
+        return next((pid for pid in children(process.pid) if pid in links()), None)
+    return None
+
+
+def of_a_killed_link(harness: Harness, two: Cluster) -> Iterator[Outcome]:
+    """A call whose link is killed keeps what it has, and a call that is killed leaves no link."""
+    room, program = slow_room(harness)
+    words = ["--maps", "maps", "scens", "-o", "link.csv"]
+    ran, process = two.run(room, *words, program=program)
+    wait_for_results(room, "link.csv", process)
+    link = link_of(process)
+    if link:
+        os.kill(link, signal.SIGKILL)
+    answer = ended(process)
+    found = found_in(room, "link.csv")
+    line = f"rows: the Dask cluster {two.address} failed, the process that is linked to it has ended; the same call judges what is left"
+    is_part = BEFORE <= len(found) < len(DUE) and set(found) <= set(DUE)
+    yield compared("a link that is killed", ran, (bool(link), answer.status, is_part, answer.err.decode().splitlines()[1:]), (True, 3, True, [line]))
+    before = len(found)
+    ran, process = two.run(room, *words, program=program)
+    wait_until(lambda: len(room.rows("link.csv")) > before or process.poll() is not None, LONGEST)
+    link = link_of(process)
+    process.kill()
+    ended(process)
+    yield compared("a call that is killed", ran, (bool(link), wait_until(lambda: link not in links(), LONGEST)), (True, True))
+    ran, process = two.run(room, *words, program=program)
+    yield compared("a call behind both", ran, (ended(process).status, found_in(room, "link.csv")), (0, DUE))
+
+
+def without_dask(harness: Harness) -> Iterator[Outcome]:
+    """A Python that lacks Dask, or has one that can't be used."""
+    for name, text, status, why in (
+        ("no Dask", "raise ImportError", 2, "--dask needs the Python package `distributed`, as Debian's python3-distributed"),
+        ("a bad Dask", "1 / 0", 3, "the Dask cluster tcp://here:1 failed, ZeroDivisionError: division by zero; the same call judges what is left"),
+    ):
+        room, _ = slow_room(harness)
+        room.file("distributed.py", text.encode())
+        command = [*room.words("--maps", "maps", "scens", "-o", "none.csv"), "--dask", "tcp://here:1"]
+        answer = harness.run(command, folder=room.folder, more={"PYTHONPATH": str(room.folder)})
+        wrote = (answer.status, answer.err.decode().splitlines()[1:], found_in(room, "none.csv"))
+        yield compared(name, shown(command), wrote, (status, [f"rows: {why}"], []))
+
+
 def outcomes(harness: Harness) -> Iterator[Outcome]:
+    yield from without_dask(harness)
     python = python_with("distributed")
     if not python or not shutil.which("dask-scheduler") or not shutil.which("dask-worker"):
         yield Outcome("a cluster", lacks="python3-distributed")
@@ -185,6 +273,9 @@ def outcomes(harness: Harness) -> Iterator[Outcome]:
     with cluster(harness, python) as two:
         yield from of_verdicts(harness, two)
         yield from of_kept_pythons(harness, two)
+        yield from of_early_workers(harness, two)
+        yield from of_left_pythons(harness, two)
         yield from of_a_killed_python(harness, two)
+        yield from of_a_killed_link(harness, two)
         yield from of_a_killed_worker(harness, two)
         yield from of_a_killed_scheduler(harness, two)

@@ -11,21 +11,21 @@ from typing import ClassVar, Iterator, Optional, Sequence
 
 from mapf.program import Program, usual_program
 from tabling import clusters, workers
-from tabling.clusters import BadCluster
+from tabling.clusters import BadCluster, Cluster, Link, NoDask
 from tabling.jobs import BadJobs, Job
 from tabling.marks import Marker, version_of
 from tabling.page import page
 from tabling.results import BadResults, Results
 from tabling.summary import summary
-from tabling.tables import FAILED
+from tabling.tables import FAILED, Row
 from tabling.work import Work
 from whole_file import draft
 
 REFUSED, BAD_LINE, NOT_DONE = 1, 2, 3
 SECONDS = 600.0
 BAR = 30
-# For how long a worker's Python waits for another job.
-IDLE = 60
+# For how long a worker's Python waits for another batch, and goes on with one, in seconds.
+IDLE, PATIENCE = 60, 0.5
 # How many results that don't fit any more are named.
 MOST_REASONS = 10
 
@@ -71,10 +71,19 @@ def hold_options(parser: argparse.ArgumentParser, given: argparse.Namespace) -> 
         parser.error("--jobs: a number above 0 is wanted")
 
 
-def lines_told() -> Iterator[str]:
-    """The lines of standard input. Who tells one waits for what is answered, so no line lies in between unseen."""
+def batches_told() -> Iterator[list[str]]:
+    """The lines of standard input, each a list of jobs. Who tells one waits for what is answered, so no line lies in between unseen."""
     while select.select([sys.stdin], [], [], IDLE)[0] and (line := sys.stdin.readline()):
-        yield line
+        yield json.loads(line)
+
+
+def in_time(batch: Sequence[str]) -> Iterator[str]:
+    """The first jobs of a batch, as many as there is time for."""
+    last = time.monotonic() + PATIENCE
+    for job in batch:
+        yield job
+        if time.monotonic() > last:
+            return
 
 
 def show_bar(done: int, count: int, begun: float) -> None:
@@ -125,7 +134,7 @@ class Tool(abc.ABC):
         except (BadJobs, UnicodeError) as fault:
             self.say(str(fault))
             return REFUSED
-        except ImportError:
+        except NoDask:
             self.say("--dask needs the Python package `distributed`, as Debian's python3-distributed")
             return BAD_LINE
         except BadResults as fault:
@@ -140,32 +149,19 @@ class Tool(abc.ABC):
         return 0
 
     def do_as_told(self, given: argparse.Namespace) -> None:
-        """For a worker of a cluster: a line a job on standard input, and each time a line with its result on standard output."""
+        """For a worker of a cluster: a line a batch on standard input, and each time a line a result on standard output, and an empty one."""
         work = self.work_of(given, Program(given.program))
         # Found here once, and not by each job's process.
         _ = work.judge
-        for row in workers.on_this_machine(map(self.kind.unpacked, lines_told()), work, 1):
-            print(json.dumps(row), flush=True)
+        for batch in batches_told():
+            for row in workers.on_this_machine(map(self.kind.unpacked, in_time(batch)), work, 1):
+                print(json.dumps(row), flush=True)
+            print(flush=True)
 
     def do_all(self, given: argparse.Namespace) -> None:
-        k, n = given.shard
-        program = Program(given.program)
-        if given.dask:
-            clusters.begin_import()
-        listed = self.jobs_of(given, program)
-        jobs, work = listed[k - 1 :: n], self.work_of(given, program)
-        self.say(f"{version_of(program)} {self.does} {len(jobs)} {self.things}")
-        warning = self.warning(jobs)
-        if warning:
-            self.say(warning)
-        results = Results(given.output, work.table, more_columns(listed), given.retry)
-        try:
-            if given.prune:
-                self.say(f"{results.prune(listed)} results are dropped, since their jobs are gone")
-            left = self.still_to_do(jobs, listed, results, work)
-            self.do(left, work, results, given)
-        finally:
-            results.close()
+        work = self.work_of(given, Program(given.program))
+        with clusters.linked(given.dask, work) as link:
+            results = self.do_listed(self.jobs_of(given, work.program), work, given, link)
         for line in summary(work.table, results.rows):
             self.say(line.text)
         for comparison in work.table.comparisons(results.rows):
@@ -174,6 +170,24 @@ class Tool(abc.ABC):
         if given.page:
             with draft(page(work.table, results.rows, f"Results of {results.path.name}"), given.page) as made:
                 made.put()
+
+    def do_listed(self, listed: Sequence[Job], work: Work, given: argparse.Namespace, link: Optional[Link]) -> Results:
+        """Sees to it that each job of this call has a result."""
+        k, n = given.shard
+        jobs = listed[k - 1 :: n]
+        self.say(f"{version_of(work.program)} {self.does} {len(jobs)} {self.things}")
+        warning = self.warning(jobs)
+        if warning:
+            self.say(warning)
+        results = Results(given.output, work.table, more_columns(listed), given.retry)
+        try:
+            if given.prune:
+                self.say(f"{results.prune(listed)} results are dropped, since their jobs are gone")
+            left = self.still_to_do(jobs, listed, results, work)
+            self.put(Cluster(link, left, work).results() if link else workers.on_this_machine(left, work, given.processes), len(left), results)
+        finally:
+            results.close()
+        return results
 
     def still_to_do(self, jobs: Sequence[Job], listed: Sequence[Job], results: Results, work: Work) -> list[Job]:
         """The jobs without a result that fits. What is wrong with those that stand is said."""
@@ -188,13 +202,12 @@ class Tool(abc.ABC):
             self.say(f"and {len(reasons) - MOST_REASONS} more")
         return left
 
-    def do(self, jobs: Sequence[Job], work: Work, results: Results, given: argparse.Namespace) -> None:
-        """Works on jobs, and puts down each result as soon as it is there."""
+    def put(self, answers: Iterator[Row], count: int, results: Results) -> None:
+        """Puts down each result as soon as it is there."""
         begun, is_shown = time.monotonic(), sys.stderr.isatty()
-        answers = clusters.on_a_cluster(jobs, work, given.dask) if given.dask else workers.on_this_machine(jobs, work, given.processes)
         for done, row in enumerate(answers, 1):
             results.put(row)
             if is_shown:
-                show_bar(done, len(jobs), begun)
-        if is_shown and jobs:
+                show_bar(done, count, begun)
+        if is_shown and count:
             print(file=sys.stderr)
